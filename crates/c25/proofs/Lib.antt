@@ -1,0 +1,4 @@
+pub mod Ends
+pub mod Entries
+pub mod Loaded
+pub mod OutputLines

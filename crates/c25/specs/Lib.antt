@@ -1,0 +1,6 @@
+pub mod Entries
+pub mod FaultText
+pub mod Image
+pub mod Refusal
+pub mod Chain
+pub mod OutcomeText

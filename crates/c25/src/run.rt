@@ -1,0 +1,64 @@
+//! A run of instructions on a board.
+
+ghost use Rattle.std.specs.Prelude.{◌≡◌, ◌<◌, ◌^◌, IfOk, IsOkUnless};
+ghost use Rattle.c25_meaning.specs.Fits.{FitsMemory};
+ghost use Rattle.c25_meaning.specs.Placing.{run_of_insns};
+ghost use Rattle.c25.specs.Chain.{EndsAs};
+
+use crate::fault::Fault;
+use crate::image::{Image, image_of};
+use c25_board::board::{Board, Outcome};
+use c25_board::ports::{ListSink, NoSamples};
+use c25_meaning::insn::Insn;
+use c25_meaning::registers::Regs;
+use std::alloc::Global;
+
+/// What the chain answers.
+#[derive(Debug, Drop)]
+pub struct Chain {
+    /// The Intel hex text of page 0; empty so far.
+    pub page0: String,
+    /// The Intel hex text of page 1; empty so far.
+    pub page1: String,
+    /// The linker's map; empty so far.
+    pub map: String,
+    /// A listing for each source; none so far.
+    pub listings: Vec<String>,
+    /// The outputs in order: each a port, 0 to 15, and a word.
+    pub outputs: Vec<(u16, u16)>,
+    /// The registers at the end.
+    pub regs: Regs,
+    /// The 65,536 words of data memory at the end, with block B0's at 200h to 2FFh wherever B0 is
+    /// seen.
+    pub memory: Vec<u16>,
+    /// How the run ended.
+    pub outcome: Outcome,
+    /// How many steps were done.
+    pub steps: u32,
+}
+
+/// Runs n steps of instructions that stand one behind another from program address 0.
+pub(crate) fn run_insns(alloc: Global, insns: &[Insn], n: u32) -> Result<Chain, Fault>
+    requires { FitsMemory insns.now }
+    ensures ends { IfOk result (EndsAs n (run_of_insns insns.now n)) }
+    ensures refused { IsOkUnless result Fault.NoMemory }
+{
+    let Image { words, marks } = image_of(alloc, insns)?;
+    let sink = ListSink::new(alloc);
+    let mut board = Board::new(alloc, &words, marks, NoSamples, sink)?;
+    let outcome = board.run(n);
+    if let Outcome::SinkFault(_) = outcome {
+        return Err(Fault::NoMemory);
+    }
+    Ok(Chain {
+        page0: String::new(alloc),
+        page1: String::new(alloc),
+        map: String::new(alloc),
+        listings: Vec::new(alloc),
+        outputs: board.sink().words().to_vec(alloc)?,
+        regs: board.regs(),
+        memory: board.data().to_vec(alloc)?,
+        outcome,
+        steps: board.steps(),
+    })
+}

@@ -1,0 +1,7 @@
+use Rattle.std.proofs.Common.{◌≡◌, ◌++◌, drop, map}
+use Rattle.c25_meaning.specs.StatementLine.{written_of}
+use Rattle.c25_asm.specs.View.{operands_view}
+use Rattle.c25_asm.proofs.reading.kinds_of.Given as goal
+
+abbrev pub invariant-loop-operand : goal.invariant-loop-operand
+invariant-loop-operand l = l.kinds.items ++ map written_of (operands_view (drop l.operand-index l.operands)) ≡ map written_of (operands_view l.operands)

@@ -1,0 +1,4 @@
+pub mod Told
+pub mod View
+pub mod Trees
+pub mod Sizes

@@ -1,0 +1,18 @@
+//! The assembler: the instructions of a source.
+#![tactic(auto)]
+
+mod emission;
+mod failure;
+mod fields;
+mod forms;
+mod operands;
+mod phases;
+mod progress;
+mod reading;
+mod shapes;
+mod sheet;
+pub mod source;
+mod statement;
+#[cfg(test)]
+mod tests;
+mod trees;

@@ -1,0 +1,51 @@
+//! Both phases over all lines of a source.
+
+ghost use Rattle.std.specs.Prelude.{◌≡◌, IfOk, map};
+ghost use Rattle.std.specs.Str.Lines.{lines};
+ghost use Rattle.c25_meaning.specs.Source.{start, passed, finished};
+ghost use Rattle.c25_meaning.specs.Fits.{FitsMemory};
+ghost use Rattle.c25_asm.specs.Told.{TellsAt};
+ghost use Rattle.c25_asm.specs.View.{texts_of, progress_of, meaning_of};
+
+use crate::emission::{emit, nothing};
+use crate::failure::SourceError;
+use crate::progress::Progress;
+use crate::source::Source;
+use std::alloc::{AllocError, Global};
+
+/// The lines of a text.
+pub(crate) fn lines_of(alloc: Global, text: &str) -> Result<Vec<&str>, AllocError>
+    ensures { IfOk result (λ v. texts_of v.items ≡ lines text.now) }
+{
+    text.lines().collect(alloc)
+}
+
+/// The first phase over all lines.
+pub(crate) fn pass_all(alloc: Global, lines: &[&str]) -> Result<Progress, SourceError>
+    ensures { TellsAt (passed 1 (texts_of lines.now) start) result progress_of }
+{
+    let mut progress = Progress::new(alloc);
+    for (index, line) in lines.iter().enumerate() {
+        progress.pass_text(alloc, index + 1, line)?;
+    }
+    Ok(progress)
+}
+
+/// The second phase over all instructions.
+pub(crate) fn finish(alloc: Global, progress: Progress) -> Result<Source, SourceError>
+    ensures told { TellsAt (finished (progress_of progress)) result meaning_of }
+    ensures fits { IfOk result (λ s. FitsMemory s.insns.items) }
+{
+    let Progress {
+        symbols,
+        names: _,
+        size: _,
+        items,
+    } = progress;
+    let mut symbols = symbols;
+    let mut source = nothing(alloc);
+    for item in &items {
+        emit(alloc, &mut symbols, item, &mut source)?;
+    }
+    Ok(source)
+}

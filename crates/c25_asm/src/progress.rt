@@ -1,0 +1,152 @@
+//! What the lines so far have made.
+
+ghost use Rattle.std.specs.Prelude.{◌≡◌, ◌≤◌, length};
+ghost use Rattle.std.specs.List.{sum_by};
+ghost use Rattle.c25_meaning.specs.Source.{place};
+ghost use Rattle.c25_asm.specs.Sizes.{item_size};
+
+use crate::failure::{Failure, SourceError};
+use crate::forms::form_row;
+use crate::reading::read_line;
+use crate::statement::{Item, LineStatement, Operation};
+use c25_expr::symbols::{DefineError, Symbols};
+use c25_isa::size_of;
+use c25_meaning::statement::FaultKind;
+use c25_meaning::value::{Base, Value};
+use std::alloc::Global;
+
+/// How many words `.text` can have.
+const MOST_WORDS: u32 = 65536;
+
+/// How many names can be defined.
+const MOST_NAMES: u32 = 65535;
+
+/// What the lines so far have made: the names that they define, the words that `.text` has, and the
+/// instructions.
+#[derive(Drop)]
+pub(crate) struct Progress {
+    pub(crate) symbols: Symbols,
+    pub(crate) names: u32,
+    pub(crate) size: u32,
+    pub(crate) items: Vec<Item>,
+    ghost counted: { length symbols.entries ≡ names },
+    ghost few: { names ≤ 65535 },
+    ghost in_text: { size ≤ 65536 },
+    ghost sized: { sum_by item_size items.items ≡ size },
+}
+
+/// A place in `.text`.
+pub(crate) fn place(offset: u32) -> Value
+    requires { offset ≤ 65536 }
+    ensures { result ≡ place offset }
+{
+    Value {
+        base: Base::Section(0),
+        offset: offset as i32,
+    }
+}
+
+impl Progress {
+    ghost use Rattle.std.specs.Prelude.{Ok, Err, Some, None};
+    ghost use Rattle.std.specs.Option.{option_map};
+    ghost use Rattle.c25_meaning.specs.Table.{size};
+    ghost use Rattle.c25_meaning.specs.Statement.{form_row};
+    ghost use Rattle.c25_meaning.specs.Source as meaning;
+    ghost use Rattle.c25_asm.specs.Told.{Tells, TellsAt};
+    ghost use Rattle.c25_asm.specs.View.{progress_of, operation_of, statement_of};
+
+    /// Nothing yet.
+    pub(crate) fn new(alloc: Global) -> Progress
+        ensures { progress_of result ≡ meaning.start }
+    {
+        Progress {
+            symbols: Symbols::new(alloc),
+            names: 0,
+            size: 0,
+            items: Vec::new(alloc),
+        }
+    }
+
+    /// A name that stands for nothing yet stands for the next place from now on.
+    #[tactic(auto, unfolding(c25_meaning::specs::Source::define))]
+    fn define(&mut self, name: &str) -> Result<(), Failure>
+        ensures { Tells (meaning.define name.now (progress_of self.old)) result (λ _. progress_of self.new) }
+    {
+        if self.symbols.get(name).is_some() {
+            return Err(Failure::Faulty(FaultKind::Defined));
+        }
+        if self.names >= MOST_NAMES {
+            return Err(Failure::Faulty(FaultKind::TooLarge));
+        }
+        match self.symbols.define(name, place(self.size)) {
+            Ok(()) => {
+                self.names += 1;
+                Ok(())
+            }
+            Err(_) => Err(Failure::NoMemory),
+        }
+    }
+
+    fn label(&mut self, label: Option<&str>) -> Result<(), Failure>
+        ensures { Tells (meaning.label (option_map (λ t. t.now) label.entry) (progress_of self.old)) result (λ _. progress_of self.new) }
+    {
+        match label {
+            Some(name) => self.define(name),
+            None => Ok(()),
+        }
+    }
+
+    /// An instruction of so many words at the next place.
+    #[tactic(auto, unfolding(c25_meaning::specs::Source::put))]
+    fn put(&mut self, line: usize, operation: Operation) -> Result<(), Failure>
+        ensures { Tells (meaning.put line (operation_of operation) (size (form_row operation.form)) (progress_of self.old)) result (λ _. progress_of self.new) }
+    {
+        let words = u32::from(size_of(form_row(operation.form)));
+        if self.size + words > MOST_WORDS {
+            return Err(Failure::Faulty(FaultKind::TooLarge));
+        }
+        self.items.push(Item {
+            line,
+            offset: self.size,
+            operation,
+        })?;
+        self.size += words;
+        Ok(())
+    }
+
+    /// One line more.
+    #[tactic(auto, unfolding(c25_meaning::specs::Source::pass))]
+    fn pass(&mut self, line: usize, statement: LineStatement<'_>) -> Result<(), Failure>
+        ensures { Tells (meaning.pass line (statement_of statement.entry) (progress_of self.old)) result (λ _. progress_of self.new) }
+    {
+        let LineStatement { label, operation } = statement;
+        self.label(label)?;
+        match operation {
+            Some(operation) => self.put(line, operation),
+            None => Ok(()),
+        }
+    }
+
+    fn pass_line(&mut self, alloc: Global, line: usize, text: &str) -> Result<(), Failure>
+        ensures { Tells (meaning.read_and_pass line text.now (progress_of self.old)) result (λ _. progress_of self.new) }
+    {
+        let statement = read_line(alloc, text)?;
+        self.pass(line, statement)
+    }
+
+    /// One line's text more.
+    #[tactic(auto, unfolding(c25_meaning::specs::Source::pass_text))]
+    pub(crate) fn pass_text(
+        &mut self,
+        alloc: Global,
+        line: usize,
+        text: &str,
+    ) -> Result<(), SourceError>
+        ensures { TellsAt (meaning.pass_text line text.now (progress_of self.old)) result (λ _. progress_of self.new) }
+    {
+        match self.pass_line(alloc, line, text) {
+            Ok(()) => Ok(()),
+            Err(failure) => Err(failure.at_line(line)),
+        }
+    }
+}

@@ -1,0 +1,110 @@
+//! One line of a source.
+
+ghost use Rattle.std.specs.Prelude.{◌≡◌, IfOk, map};
+ghost use Rattle.std.specs.Option.{option_map};
+ghost use Rattle.c25_meaning.specs.StatementLine.{line_fault, spelled, operation_of, operation_in, read_line, written_of};
+ghost use Rattle.c25_text.specs.View.{parts_of};
+ghost use Rattle.c25_asm.specs.Told.{Tells};
+ghost use Rattle.c25_asm.specs.View as view;
+ghost use Rattle.c25_asm.specs.View.{pieces_of, operands_view, statement_of};
+
+use crate::failure::Failure;
+use crate::operands;
+use crate::shapes::form_of;
+use crate::statement::{LineStatement, Operation};
+use crate::trees::exprs_of;
+use c25_isa::mnemonic;
+use c25_meaning::line::LineFault;
+use c25_meaning::mnemonic::Spelling;
+use c25_meaning::statement::{FaultKind, Written};
+use c25_text::line::{Line, split_line};
+use c25_text::tokens::Token;
+use std::alloc::{AllocError, Global};
+
+fn line_fault(fault: LineFault) -> FaultKind
+    ensures { result ≡ line_fault fault }
+{
+    match fault {
+        LineFault::BadLabel => FaultKind::BadLabel,
+        LineFault::BadConstant => FaultKind::BadConstant,
+        LineFault::OpenQuote => FaultKind::OpenQuote,
+        LineFault::StrayText => FaultKind::StrayText,
+    }
+}
+
+fn spelled(word: &str) -> Result<Spelling, FaultKind>
+    ensures { result ≡ spelled word.now }
+{
+    mnemonic(word).ok_or(FaultKind::UnknownMnemonic)
+}
+
+fn tokens_of<'a>(alloc: Global, line: &Line<'a>) -> Result<Vec<Token<'a>>, AllocError>
+    ensures { IfOk result (λ v. pieces_of v.items ≡ (parts_of line.now).pieces) }
+{
+    line.tokens().collect(alloc)
+}
+
+fn kinds_of(alloc: Global, operands: &[&[Token<'_>]]) -> Result<Vec<Written>, AllocError>
+    ensures { IfOk result (λ v. v.items ≡ map written_of (operands_view operands.now)) }
+{
+    let mut kinds = Vec::new(alloc);
+    for operand in operands {
+        kinds.push(operands::written_of(operand))?;
+    }
+    Ok(kinds)
+}
+
+/// The instruction of these operands.
+#[tactic(auto, unfolding(c25_meaning::specs::StatementLine::operation_of))]
+fn operation_of(
+    alloc: Global,
+    spelling: Spelling,
+    operands: &[&[Token<'_>]],
+) -> Result<Operation, Failure>
+    ensures { Tells (operation_of spelling (operands_view operands.now)) result view.operation_of }
+{
+    let kinds = kinds_of(alloc, operands)?;
+    match form_of(spelling, kinds.as_slice()) {
+        Ok(form) => {
+            let trees = exprs_of(alloc, operands)?;
+            Ok(Operation { form, trees })
+        }
+        Err(fault) => Err(Failure::Faulty(fault)),
+    }
+}
+
+/// The instruction of a line, if it has one.
+#[tactic(auto, unfolding(c25_meaning::specs::StatementLine::operation_in))]
+fn operation_in(alloc: Global, line: &Line<'_>) -> Result<Option<Operation>, Failure>
+    ensures { Tells (operation_in (parts_of line.now).word (parts_of line.now).pieces) result (λ o. option_map view.operation_of o) }
+{
+    let Some(word) = line.word else {
+        return Ok(None);
+    };
+    match spelled(word.text) {
+        Ok(spelling) => {
+            let tokens = tokens_of(alloc, line)?;
+            let operands = operands::operands_of(alloc, tokens.as_slice())?;
+            let operation = operation_of(alloc, spelling, operands.as_slice())?;
+            Ok(Some(operation))
+        }
+        Err(fault) => Err(Failure::Faulty(fault)),
+    }
+}
+
+/// What a line says.
+#[tactic(auto, unfolding(c25_meaning::specs::StatementLine::read_line))]
+pub(crate) fn read_line(alloc: Global, text: &str) -> Result<LineStatement<'_>, Failure>
+    ensures { Tells (read_line text.now) result statement_of }
+{
+    match split_line(text) {
+        Ok(line) => {
+            let operation = operation_in(alloc, &line)?;
+            Ok(LineStatement {
+                label: line.label,
+                operation,
+            })
+        }
+        Err(fault) => Err(Failure::Faulty(line_fault(fault))),
+    }
+}

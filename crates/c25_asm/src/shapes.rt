@@ -1,0 +1,220 @@
+//! The form of an instruction by the kinds of its operands.
+
+ghost use Rattle.std.specs.Prelude.{◌≡◌, ◌+◌, ◌≤◌, ◌<◌, ◌^◌, Ok, Err, slice_get, length};
+ghost use Rattle.std.specs.List.{list_all};
+ghost use Rattle.c25_meaning.specs.Forms as forms;
+
+use c25_meaning::insn::Change;
+use c25_meaning::mnemonic::{
+    JumpName, LongName, MemName, Mnemonic, PlainName, ShortName, Spelling,
+};
+use c25_meaning::statement::{AddrForm, FaultKind, Form, Written};
+
+fn is_expression(operand: Written) -> bool
+    ensures { result ≡ forms.is_expression operand }
+{
+    match operand {
+        Written::Expression => true,
+        _ => false,
+    }
+}
+
+fn all_expressions(operands: &[Written]) -> bool
+    ensures { result ≡ list_all forms.is_expression operands.now }
+{
+    operands.iter().all(|operand| is_expression(*operand))
+}
+
+fn others(index: usize, operands: &[Written]) -> bool
+    ensures { result ≡ forms.others index operands.now }
+{
+    match operands {
+        [] => true,
+        [first, rest @ ..] => {
+            if index == 0 {
+                all_expressions(rest)
+            } else {
+                is_expression(*first) && others(index - 1, rest)
+            }
+        }
+    }
+}
+
+fn counted(low: usize, high: usize, operands: &[Written]) -> Result<(), FaultKind>
+    ensures { result ≡ forms.counted low high operands.now }
+{
+    if operands.len() < low || high < operands.len() {
+        Err(FaultKind::OperandCount)
+    } else {
+        Ok(())
+    }
+}
+
+fn more_behind(operand: Option<Written>) -> usize
+    ensures value { result ≡ forms.more_behind operand }
+    ensures bound { result ≤ 1 }
+{
+    match operand {
+        Some(Written::Indirect(_)) => 1,
+        _ => 0,
+    }
+}
+
+fn addr_written(operand: Option<Written>) -> Result<AddrForm, FaultKind>
+    ensures { result ≡ forms.addr_written operand }
+{
+    match operand {
+        Some(Written::Expression) => Ok(AddrForm::Direct),
+        Some(Written::Indirect(change)) => Ok(AddrForm::Indirect(change)),
+        _ => Err(FaultKind::OperandForm),
+    }
+}
+
+#[tactic(auto, unfolding(c25_meaning::specs::Forms::memory))]
+fn memory(
+    index: usize,
+    low: usize,
+    high: usize,
+    operands: &[Written],
+) -> Result<AddrForm, FaultKind>
+    requires { high < 256 }
+    ensures { result ≡ forms.memory index low high operands.now }
+{
+    let operand = operands.get(index).copied();
+    counted(low, high + more_behind(operand), operands)?;
+    let addr = addr_written(operand)?;
+    if others(index, operands) {
+        Ok(addr)
+    } else {
+        Err(FaultKind::OperandForm)
+    }
+}
+
+#[tactic(auto, unfolding(c25_meaning::specs::Forms::expressions))]
+fn expressions(low: usize, high: usize, operands: &[Written]) -> Result<(), FaultKind>
+    ensures { result ≡ forms.expressions low high operands.now }
+{
+    counted(low, high, operands)?;
+    if all_expressions(operands) {
+        Ok(())
+    } else {
+        Err(FaultKind::OperandForm)
+    }
+}
+
+fn change_written(default: Change, operand: Option<Written>) -> Result<Change, FaultKind>
+    ensures { result ≡ forms.change_written default operand }
+{
+    match operand {
+        None => Ok(default),
+        Some(Written::Indirect(change)) => Ok(change),
+        _ => Err(FaultKind::OperandForm),
+    }
+}
+
+fn jump_change(name: JumpName) -> Change
+    ensures { result ≡ forms.jump_change name }
+{
+    match name {
+        JumpName::Banz => Change::Decrement,
+        _ => Change::Keep,
+    }
+}
+
+#[tactic(auto, unfolding(c25_meaning::specs::Forms::jumping))]
+fn jumping(name: JumpName, operands: &[Written]) -> Result<Change, FaultKind>
+    ensures { result ≡ forms.jumping name operands.now }
+{
+    let operand = operands.get(1).copied();
+    counted(1, 2 + more_behind(operand), operands)?;
+    let change = change_written(jump_change(name), operand)?;
+    if others(1, operands) {
+        Ok(change)
+    } else {
+        Err(FaultKind::OperandForm)
+    }
+}
+
+#[tactic(auto, unfolding(c25_meaning::specs::Forms::norm))]
+fn norm(operands: &[Written]) -> Result<Change, FaultKind>
+    ensures { result ≡ forms.norm operands.now }
+{
+    counted(0, 1, operands)?;
+    change_written(Change::Increment, operands.first().copied())
+}
+
+fn plain_change(name: PlainName, operands: &[Written]) -> Result<Change, FaultKind>
+    ensures { result ≡ forms.plain_change name operands.now }
+{
+    match name {
+        PlainName::Norm => norm(operands),
+        PlainName::Spm | PlainName::Fort | PlainName::Cmpr => {
+            expressions(1, 1, operands)?;
+            Ok(Change::Keep)
+        }
+        _ => {
+            expressions(0, 0, operands)?;
+            Ok(Change::Keep)
+        }
+    }
+}
+
+fn short_form(name: ShortName, operands: &[Written]) -> Result<Form, FaultKind>
+    ensures { result ≡ forms.row_form (Mnemonic.Short name) operands.now }
+{
+    let count = match name {
+        ShortName::Lark => 2,
+        _ => 1,
+    };
+    expressions(count, count, operands)?;
+    Ok(Form::Short(name))
+}
+
+fn long_form(name: LongName, operands: &[Written]) -> Result<Form, FaultKind>
+    ensures { result ≡ forms.row_form (Mnemonic.Long name) operands.now }
+{
+    let least = match name {
+        LongName::Lrlk => 2,
+        _ => 1,
+    };
+    expressions(least, 2, operands)?;
+    Ok(Form::Long(name))
+}
+
+fn row_form(mnemonic: Mnemonic, operands: &[Written]) -> Result<Form, FaultKind>
+    ensures { result ≡ forms.row_form mnemonic operands.now }
+{
+    match mnemonic {
+        Mnemonic::Mem(name) => Ok(Form::Mem(name, memory(0, 1, 1, operands)?)),
+        Mnemonic::Shifted(name) => Ok(Form::Shifted(name, memory(0, 1, 2, operands)?)),
+        Mnemonic::ArMem(name) => Ok(Form::ArMem(name, memory(1, 2, 2, operands)?)),
+        Mnemonic::Port(name) => Ok(Form::Port(name, memory(0, 2, 2, operands)?)),
+        Mnemonic::Bit(name) => Ok(Form::Bit(name, memory(0, 2, 2, operands)?)),
+        Mnemonic::Short(name) => short_form(name, operands),
+        Mnemonic::Long(name) => long_form(name, operands),
+        Mnemonic::LongMem(name) => Ok(Form::LongMem(name, memory(1, 2, 2, operands)?)),
+        Mnemonic::Jump(name) => Ok(Form::Jump(name, jumping(name, operands)?)),
+        Mnemonic::Plain(name) => Ok(Form::Plain(name, plain_change(name, operands)?)),
+    }
+}
+
+/// The form of an instruction by the kinds of its operands.
+pub fn form_of(spelling: Spelling, operands: &[Written]) -> Result<Form, FaultKind>
+    ensures { result ≡ forms.form_of spelling operands.now }
+{
+    match spelling {
+        Spelling::Row(mnemonic) => row_form(mnemonic, operands),
+        Spelling::Zac => {
+            expressions(0, 0, operands)?;
+            Ok(Form::Short(ShortName::Lack))
+        }
+        Spelling::Nop => {
+            expressions(0, 0, operands)?;
+            Ok(Form::Mem(MemName::Mar, AddrForm::Direct))
+        }
+        Spelling::Larp => {
+            expressions(1, 1, operands)?;
+            Ok(Form::Mem(MemName::Mar, AddrForm::Indirect(Change::Keep)))
+        }
+    }
+}

@@ -1,0 +1,81 @@
+//! The expressions of a line's operands.
+
+ghost use Rattle.std.specs.Prelude.{◌≡◌};
+ghost use Rattle.c25_meaning.specs.StatementLine.{no_trees, with_operand, all_trees, trees_in};
+ghost use Rattle.c25_asm.specs.Told.{Tells};
+ghost use Rattle.c25_asm.specs.Trees.{ReadsTree};
+ghost use Rattle.c25_asm.specs.View.{pieces_of, operands_view, trees_of, so_far};
+
+use crate::failure::Failure;
+use crate::operands::written_of;
+use c25_expr::reading::{ExprError, read_expr};
+use c25_expr::tree::Expr;
+use c25_meaning::statement::{FaultKind, Written};
+use c25_text::tokens::Token;
+use std::alloc::Global;
+
+/// The expression of an operand.
+fn tree_in(alloc: Global, tokens: &[Token<'_>]) -> Result<Expr, ExprError>
+    ensures { ReadsTree (pieces_of tokens.now) result }
+{
+    read_expr(alloc, tokens)
+}
+
+/// The expressions of the operands so far, and whether one of those was too deep.
+#[derive(Drop)]
+struct Trees {
+    exprs: Vec<Expr>,
+    deep: bool,
+}
+
+impl Trees {
+    fn new(alloc: Global) -> Trees
+        ensures { so_far result ≡ no_trees }
+    {
+        Trees {
+            exprs: Vec::new(alloc),
+            deep: false,
+        }
+    }
+
+    /// One operand more.
+    #[tactic(auto, unfolding(c25_meaning::specs::StatementLine::with_operand))]
+    fn add(&mut self, alloc: Global, tokens: &[Token<'_>]) -> Result<(), Failure>
+        ensures { Tells (with_operand (so_far self.old) (pieces_of tokens.now)) result (λ _. so_far self.new) }
+    {
+        if written_of(tokens) != Written::Expression {
+            return Ok(());
+        }
+        match tree_in(alloc, tokens) {
+            Ok(expr) => self.exprs.push(expr)?,
+            Err(ExprError::TooDeep) => self.deep = true,
+            Err(ExprError::BadExpression) => {
+                return Err(Failure::Faulty(FaultKind::BadExpression));
+            }
+            Err(ExprError::NoMemory(_)) => return Err(Failure::NoMemory),
+        }
+        Ok(())
+    }
+
+    fn finish(self) -> Result<Vec<Expr>, Failure>
+        ensures { Tells (all_trees (so_far self)) result (λ v. trees_of v.items) }
+    {
+        let Trees { exprs, deep } = self;
+        if deep {
+            Err(Failure::Faulty(FaultKind::TooDeep))
+        } else {
+            Ok(exprs)
+        }
+    }
+}
+
+/// The expressions of the operands that are such.
+pub(crate) fn exprs_of(alloc: Global, operands: &[&[Token<'_>]]) -> Result<Vec<Expr>, Failure>
+    ensures { Tells (trees_in (operands_view operands.now)) result (λ v. trees_of v.items) }
+{
+    let mut trees = Trees::new(alloc);
+    for operand in operands {
+        trees.add(alloc, operand)?;
+    }
+    trees.finish()
+}

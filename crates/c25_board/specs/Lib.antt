@@ -1,0 +1,4 @@
+pub mod Memories
+pub mod Outputs
+pub mod Board
+pub mod Run

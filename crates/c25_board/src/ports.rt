@@ -1,0 +1,93 @@
+//! What gives samples and takes outputs.
+
+ghost use Rattle.std.specs.Prelude.{◌≡◌, ℕ, ◌∷◌, [], ◌++◌, List, OnSome, IfNone, OnOk, OnErr, slice_get};
+ghost use Rattle.c25_meaning.specs.State.{taken};
+ghost use Rattle.c25_core.specs.Sink.{HasFailed};
+
+use c25_core::SinkFailed;
+use std::alloc::Global;
+
+/// Samples for each input port.
+pub trait Feed {
+    /// The samples that each port has left.
+    ghost left: { Self → ℕ → List ℕ };
+
+    /// Takes the next sample of a port, 0 to 15. It is None only where the port has none left, and
+    /// then nothing changes.
+    fn take(&mut self, port: u16) -> Option<u16>
+        ensures sample { result ≡ slice_get (left self.old port) 0 }
+        ensures some { OnSome result (left self.new ≡ taken (left self.old) port) }
+        ensures none { IfNone result (left self.new ≡ left self.old) };
+}
+
+/// Where outputs go.
+pub trait Sink {
+    /// What was put, oldest first: each a port and a word.
+    ghost written: { Self → List (ℕ × ℕ) };
+
+    /// How often the sink has refused, up to 2^64 - 1.
+    ghost failures: { Self → ℕ };
+
+    /// Puts a word out at a port, 0 to 15. A refused one writes nothing, and is counted.
+    fn put(&mut self, port: u16, word: u16) -> Result<(), SinkFailed>
+        ensures ok { OnOk result (written self.new ≡ written self.old ++ (port, word) ∷ []) }
+        ensures steady { OnOk result (failures self.new ≡ failures self.old) }
+        ensures err { OnErr result (written self.new ≡ written self.old) }
+        ensures failed { OnErr result (HasFailed (failures self.old) (failures self.new)) };
+}
+
+/// No samples at any port.
+#[derive(Clone, Copy, Debug)]
+pub struct NoSamples;
+
+impl Feed for NoSamples {
+    ghost left = { λ _ _. [] };
+
+    fn take(&mut self, _port: u16) -> Option<u16> {
+        None
+    }
+}
+
+/// A list that grows with each output. It refuses one where memory is refused.
+#[derive(Drop)]
+pub struct ListSink {
+    words: Vec<(u16, u16)>,
+    failures: u64,
+}
+
+impl ListSink {
+    ghost use Rattle.c25_board.specs.Outputs.{outputs_of};
+
+    /// An empty list, which takes no memory yet.
+    pub fn new(alloc: Global) -> ListSink
+        ensures { outputs_of result ≡ [] }
+    {
+        ListSink {
+            words: Vec::new(alloc),
+            failures: 0,
+        }
+    }
+
+    /// What was put: each a port and a word, oldest first.
+    pub fn words(&self) -> &[(u16, u16)]
+        ensures { result.now ≡ outputs_of self.now }
+    {
+        self.words.as_slice()
+    }
+}
+
+impl Sink for ListSink {
+    ghost written = { λ sink. sink.words.items };
+
+    ghost failures = { λ sink. sink.failures };
+
+    fn put(&mut self, port: u16, word: u16) -> Result<(), SinkFailed> {
+        match self.words.push((port, word)) {
+            Ok(()) => Ok(()),
+            Err(_) => {
+                self.failures = self.failures.saturating_add(1);
+                Err(SinkFailed)
+            }
+        }
+    }
+}

@@ -1,0 +1,52 @@
+//! A board with a program of four instructions.
+
+use crate::board::{Board, Outcome};
+use crate::ports::{Feed, ListSink, NoSamples, Sink};
+use c25_meaning::mark::Mark;
+use c25_meaning::stop::Stop;
+use std::test::Fail;
+
+/// `LACK 65`, `SACL 60h`, `OUT 60h,PA1` and a branch to itself (SPRU014, the instructions' pages).
+const PROGRAM: [u16; 5] = [0xca41, 0x6060, 0xe160, 0xff80, 0x0003];
+
+#[test]
+fn runs_are_one_run(rt: HostRuntime) -> Result<(), Fail> {
+    let mut marks = Vec::new(rt.alloc());
+    for address in 0..3 {
+        marks.push(Mark { address, size: 1 })?;
+    }
+    marks.push(Mark {
+        address: 3,
+        size: 2,
+    })?;
+    let sink = ListSink::new(rt.alloc());
+    let mut board = Board::new(rt.alloc(), &PROGRAM, marks, NoSamples, sink)?;
+    assert_eq!(rt; board.run(2), Outcome::Ran);
+    assert_eq!(rt; board.sink().words().len(), 0);
+    assert_eq!(rt; board.run(7), Outcome::Ran);
+    assert_eq!(rt; board.steps(), 9);
+    assert_eq!(rt; board.sink().words(), [(1, 0x41)].as_slice());
+    assert_eq!(rt; board.regs().pc, 3);
+    assert_eq!(rt; board.regs().acc, 0x41);
+    assert_eq!(rt; board.data().get(0x60).copied(), Some(0x41));
+    Ok(())
+}
+
+#[test]
+fn words_that_are_no_instruction_are_not_run(rt: HostRuntime) -> Result<(), Fail> {
+    let marks = Vec::new(rt.alloc());
+    let sink = ListSink::new(rt.alloc());
+    let mut board = Board::new(rt.alloc(), &PROGRAM, marks, NoSamples, sink)?;
+    assert_eq!(rt; board.run(1), Outcome::Left(0, Stop::OutOfCode));
+    assert_eq!(rt; board.run(0), Outcome::Ran);
+    Ok(())
+}
+
+#[test]
+fn ports_without_samples_are_dry(rt: HostRuntime) -> Result<(), Fail> {
+    assert_eq!(rt; NoSamples.take(2), None);
+    let mut sink = ListSink::new(rt.alloc());
+    assert!(rt; sink.put(15, 0xffff).is_ok());
+    assert_eq!(rt; sink.words(), [(15, 0xffff)].as_slice());
+    Ok(())
+}

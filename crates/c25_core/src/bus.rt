@@ -1,0 +1,88 @@
+//! What the processor needs around it.
+
+ghost use Rattle.std.specs.Prelude.{◌≡◌, ◌∷◌, [], ◌++◌, ℕ, OnOk, OnErr, slice_get, OnSome, IfNone};
+ghost use Rattle.c25_meaning.specs.State.{World, taken};
+ghost use Rattle.c25_meaning.specs.Memory.{put};
+ghost use Rattle.c25_core.specs.Sink.{HasFailed};
+
+use c25_meaning::stop::Stop;
+use thiserror::Error;
+
+/// Why a step was not done. Core and bus are then as before it, the sink's count of failures apart.
+#[derive(Clone, Copy, PartialEq, Eq, Debug, Error)]
+pub enum Halt {
+    /// The code was left.
+    #[error("the code was left: {0:?}")]
+    Stop(Stop),
+    /// The sink failed to take a word in this very step.
+    #[error("the sink failed")]
+    Sink,
+}
+
+/// What a step did.
+#[derive(Clone, Copy, PartialEq, Eq, Debug)]
+pub enum Tick {
+    /// It ran one instruction, or one repetition of one.
+    Ran,
+    /// It ran none, since the processor sleeps.
+    Slept,
+}
+
+/// The sink did not take a word.
+#[derive(Clone, Copy, PartialEq, Eq, Debug, Error)]
+#[error("the sink failed")]
+pub struct SinkFailed;
+
+/// Data and program memory, the places of the instructions, and ports. Block B0 is always at data
+/// addresses 200h to 2FFh here: the processor itself finds it where CNF puts it.
+pub trait Bus {
+    /// The memories, places, samples and outputs that the bus stands for.
+    ghost world: { Self → World };
+
+    /// How often the sink has failed.
+    ghost failures: { Self → ℕ };
+
+    /// A word of data memory.
+    fn data(&self, address: u16) -> u16
+        ensures { result ≡ (world self.now).words address };
+
+    /// Writes a word of data memory.
+    fn set_data(&mut self, address: u16, word: u16)
+        ensures after { world self.new
+            ≡ record (world self.old) { words = put (world self.old).words address word } }
+        ensures failures { failures self.new ≡ failures self.old };
+
+    /// A word of program memory.
+    fn program(&self, address: u16) -> u16
+        ensures { result ≡ (world self.now).program address };
+
+    /// Writes a word of program memory.
+    fn set_program(&mut self, address: u16, word: u16)
+        ensures after { world self.new
+            ≡ record (world self.old) { program = put (world self.old).program address word } }
+        ensures failures { failures self.new ≡ failures self.old };
+
+    /// The number of words of the instruction that begins at a program address, where one does.
+    fn size_at(&self, address: u16) -> Option<u16>
+        ensures { result ≡ (world self.now).starts address };
+
+    /// Whether a program word belongs to an instruction.
+    fn is_code(&self, address: u16) -> bool
+        ensures { result ≡ (world self.now).code address };
+
+    /// Takes the next sample of a port, or None where no sample is left there.
+    fn input(&mut self, port: u16) -> Option<u16>
+        ensures sample { result ≡ slice_get ((world self.old).samples port) 0 }
+        ensures some { OnSome result (world self.new
+            ≡ record (world self.old) { samples = taken (world self.old).samples port }) }
+        ensures none { IfNone result (world self.new ≡ world self.old) }
+        ensures failures { failures self.new ≡ failures self.old };
+
+    /// Puts a word out at a port. An error changes nothing but the count of failures.
+    fn output(&mut self, port: u16, word: u16) -> Result<(), SinkFailed>
+        ensures ok { OnOk result (world self.new
+            ≡ record (world self.old) { outputs = (world self.old).outputs ++ (port, word) ∷ [] }) }
+        ensures steady { OnOk result (failures self.new ≡ failures self.old) }
+        ensures err { OnErr result (world self.new ≡ world self.old) }
+        ensures failed { OnErr result (HasFailed (failures self.old) (failures self.new)) };
+}

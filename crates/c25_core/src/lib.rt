@@ -1,0 +1,27 @@
+//! The processor: one step at a time, over any bus (SPRU014).
+#![tactic(auto)]
+
+mod accumulator;
+mod ar_mem;
+mod bit;
+mod bus;
+mod execute;
+mod fetch;
+mod interrupt;
+mod jump;
+mod long;
+mod long_mem;
+mod mem;
+mod memory;
+mod operand;
+mod plain;
+mod port;
+mod processor;
+mod shifted;
+mod short;
+mod stack;
+mod status;
+mod step;
+
+pub use bus::{Bus, Halt, SinkFailed, Tick};
+pub use processor::Core;

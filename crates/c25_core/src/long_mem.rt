@@ -1,0 +1,54 @@
+//! The instructions with a second word and an operand in memory.
+
+ghost use Rattle.std.specs.Prelude.{◌≡◌};
+ghost use Rattle.c25_meaning.specs.Effect.{long_mem_effect, plus_product, to, word_product};
+ghost use Rattle.c25_meaning.specs.State.{data_at};
+
+use crate::accumulator::{plus_product, word_product};
+use crate::bus::Bus;
+use crate::memory::{read_data, read_program, write_data};
+use c25_meaning::mnemonic::LongMemName;
+use c25_meaning::registers::Registers;
+
+/// A += p, T = m and P = m times the program word.
+fn multiply(registers: &mut Registers, word: u16, factor: u16)
+    ensures { registers.new
+        ≡ record (plus_product registers.old) { t = word; p = word_product word factor } }
+{
+    plus_product(registers);
+    registers.t = word;
+    registers.p = word_product(word, factor);
+}
+
+/// Any of the instructions, with its operand at this address; `at` is the second word, gone up by
+/// the repetitions that are done.
+pub fn long_mem<B: Bus>(
+    registers: &mut Registers,
+    bus: &mut B,
+    name: LongMemName,
+    at: u16,
+    address: u16,
+)
+    ensures after { long_mem_effect name at (data_at registers.old.cnf (B.world bus.old) address)
+        address registers.old (B.world bus.old)
+        ≡ to registers.new (B.world bus.new) }
+    ensures failures { B.failures bus.new ≡ B.failures bus.old }
+{
+    let cnf = registers.cnf;
+    let word = read_data(bus, cnf, address);
+    match name {
+        LongMemName::Macd => {
+            multiply(registers, word, read_program(bus, cnf, at));
+            write_data(bus, cnf, address.wrapping_add(1), word);
+        }
+        LongMemName::Mac => multiply(registers, word, read_program(bus, cnf, at)),
+        LongMemName::Blkp => {
+            let moved = read_program(bus, cnf, at);
+            write_data(bus, cnf, address, moved);
+        }
+        LongMemName::Blkd => {
+            let moved = read_data(bus, cnf, at);
+            write_data(bus, cnf, address, moved);
+        }
+    }
+}

@@ -1,0 +1,115 @@
+//! The processor.
+
+ghost use Rattle.std.specs.Prelude.{◌≡◌, ◌↔◌, ◌&&◌, not, true, OnErr, IfOk};
+ghost use Rattle.c25_meaning.specs.State.{Outcome};
+ghost use Rattle.c25_meaning.specs.Reset.{reset};
+ghost use Rattle.c25_meaning.specs.Status.{regs_of};
+ghost use Rattle.c25_meaning.specs.Step.{begun};
+ghost use Rattle.c25_meaning.specs.WordStep.{WordStep};
+ghost use Rattle.c25_core.specs.Met.{IsMet, state_of};
+
+use crate::bus::{Bus, Halt, Tick};
+use crate::fetch::fetch;
+use crate::interrupt::begin;
+use crate::status::regs_of;
+use crate::step::turn;
+use bitflags::Flags;
+use c25_meaning::lines::Lines;
+use c25_meaning::registers::{Acc, ArNumber, DataPage, ProductShift, Registers, Regs};
+use std::marker::Model;
+
+/// The processor: all that it holds between two steps. Memories and ports are the bus's.
+#[derive(Clone, Copy)]
+pub struct Core {
+    registers: Registers,
+}
+
+impl Model for Core {
+    ghost use Rattle.c25_meaning.specs.declared.registers.Registers.{Registers};
+
+    ghost Value = { Registers };
+
+    ghost view = { λ core. core.registers };
+
+    ghost inverse = { λ r. record { registers = r } };
+}
+
+impl Core {
+    /// A processor after reset: INTM, SXM, C, XF, HM and FSM are 1, all else is 0.
+    #[tactic(auto, unfolding(c25_meaning::specs::Reset::reset))]
+    pub fn new() -> Core
+        ensures { result ≡ reset }
+    {
+        Core {
+            registers: Registers {
+                acc: Acc {
+                    value: 0,
+                    ov: false,
+                    c: true,
+                },
+                p: 0,
+                t: 0,
+                ar: [0; 8],
+                pc: 0,
+                rptc: 0,
+                stack: [0; 8],
+                arp: ArNumber::new(0),
+                arb: ArNumber::new(0),
+                dp: DataPage::new(0),
+                pm: ProductShift::None,
+                ovm: false,
+                intm: true,
+                cnf: false,
+                sxm: true,
+                tc: false,
+                hm: true,
+                fsm: true,
+                xf: true,
+                fo: false,
+                txm: false,
+                latched: Lines::empty(),
+                asleep: false,
+                shadowed: false,
+                repeating: false,
+                repeated: 0,
+            },
+        }
+    }
+
+    /// The registers as a debugger shows them.
+    pub fn regs(&self) -> Regs
+        ensures { result ≡ regs_of self.now }
+    {
+        regs_of(&self.registers)
+    }
+
+    /// Whether the next step begins an instruction: no repeat is running, and the processor is
+    /// awake.
+    pub fn settled(&self) -> bool
+        ensures { result ≡ (not self.now.repeating && not self.now.asleep) }
+    {
+        !self.registers.repeating && !self.registers.asleep
+    }
+
+    /// One step: latches the interrupt lines of the step, takes an interrupt where one may be
+    /// taken, and, unless asleep, runs the instruction at PC. `bio` is the level of the BIO pin,
+    /// true for 1. `Halt::Stop` tells why the code was left, `Halt::Sink` that the bus did not
+    /// take an output. After either all is as before the step, but for the sink's count of
+    /// failures.
+    pub fn step<B: Bus>(&mut self, lines: Lines, bio: bool, bus: &mut B) -> Result<Tick, Halt>
+        ensures step { (outcome : Outcome)
+            × WordStep lines bio (state_of self.old (B.world bus.old)) outcome
+            × IsMet outcome result self.new (B.world bus.old) (B.world bus.new)
+            (B.failures bus.old) (B.failures bus.new) }
+        ensures tick { IfOk result (λ tick. (tick ≡ Tick.Slept)
+            ↔ ((begun lines (state_of self.old (B.world bus.old))).asleep ≡ true)) }
+        ensures halt { OnErr result (self.new ≡ self.old) }
+    {
+        let mut registers = self.registers;
+        begin(&mut registers, bus, lines);
+        let insn = fetch(&registers, bus);
+        let tick = turn(&mut registers, bus, &insn, bio)?;
+        self.registers = registers;
+        Ok(tick)
+    }
+}

@@ -1,0 +1,78 @@
+//! One step, once its lines are latched and its instruction is fetched.
+
+ghost use Rattle.std.specs.Prelude.{◌≡◌, ◌↔◌, ◌<◌, true, IfOk};
+ghost use Rattle.std.specs.Option.{ForSome};
+ghost use Rattle.c25_meaning.specs.Step.{advanced, executed, is_unrepeatable, stepped};
+ghost use Rattle.c25_meaning.specs.Table.{InRange, size_of};
+ghost use Rattle.c25_core.specs.Met.{IsMet};
+
+use crate::bus::{Bus, Halt, Tick};
+use crate::execute::execute;
+use c25_isa::size_of;
+use c25_meaning::insn::Insn;
+use c25_meaning::mnemonic::{MemName, PlainName, ShortName};
+use c25_meaning::registers::Registers;
+use c25_meaning::stop::Stop;
+
+/// Whether an instruction may not be repeated.
+fn is_unrepeatable(insn: &Insn) -> bool
+    ensures { result ≡ is_unrepeatable insn.now }
+{
+    match insn {
+        Insn::Jump(_, _, _, _) | Insn::Long(_, _, _) => true,
+        Insn::Mem(name, _) => *name == MemName::Rpt,
+        Insn::Short(name, _, _) => *name == ShortName::Rptk,
+        Insn::Plain(name, _) => matches!(
+            *name,
+            PlainName::Cala | PlainName::Bacc | PlainName::Ret | PlainName::Trap | PlainName::Idle
+        ),
+        _ => false,
+    }
+}
+
+/// Moves PC behind an instruction of this size, or in a repeat counts the repetition and leaves PC
+/// until the last one; the shadow of `EINT` ends.
+fn advance(registers: &mut Registers, size: u16)
+    ensures { registers.new ≡ advanced size registers.old }
+{
+    registers.shadowed = false;
+    if registers.repeating && 0 < registers.rptc {
+        registers.rptc -= 1;
+        registers.repeated = registers.repeated.wrapping_add(1);
+        return;
+    }
+    registers.pc = registers.pc.wrapping_add(size);
+    registers.repeating = false;
+    registers.repeated = 0;
+}
+
+/// Runs the instruction, or stops where there is none, unless the processor sleeps.
+#[tactic(auto, unfolding(c25_meaning::specs::Step::stepped))]
+pub fn turn<B: Bus>(
+    registers: &mut Registers,
+    bus: &mut B,
+    insn: &Option<Insn>,
+    bio: bool,
+) -> Result<Tick, Halt>
+    requires { ForSome insn.now InRange }
+    ensures met { IsMet (stepped bio insn.now registers.old (B.world bus.old))
+        result registers.new (B.world bus.old) (B.world bus.new)
+        (B.failures bus.old) (B.failures bus.new) }
+    ensures tick { IfOk result (λ tick. (tick ≡ Tick.Slept) ↔ (registers.old.asleep ≡ true)) }
+{
+    if registers.asleep {
+        return Ok(Tick::Slept);
+    }
+    match insn {
+        None => Err(Halt::Stop(Stop::OutOfCode)),
+        Some(insn) => {
+            if registers.repeating && is_unrepeatable(insn) {
+                return Err(Halt::Stop(Stop::BadRepeat));
+            }
+            let repeated = registers.repeated;
+            advance(registers, size_of(insn.mnemonic()));
+            execute(registers, bus, insn, repeated, bio)?;
+            Ok(Tick::Ran)
+        }
+    }
+}

@@ -1,0 +1,183 @@
+//! A bus for tests: two memories, the places of instructions, one sample at most for each port, and
+//! a sink that can be closed.
+
+ghost use Rattle.std.specs.Prelude.{◌≡◌, IfOk, OnOk, OnErr, vec_len};
+ghost use Rattle.c25_meaning.specs.State.{size_at, is_code};
+ghost use Rattle.c25_meaning.specs.Table.{InRange};
+
+use crate::generator::Generator;
+use crate::sum::Sum;
+use c25_core::{Bus, SinkFailed};
+use c25_isa::encode;
+use c25_meaning::insn::Insn;
+use c25_meaning::mark::Mark;
+use std::alloc::{AllocError, Global};
+
+/// What lies around the processor in a test.
+#[derive(Drop)]
+pub struct Bench {
+    words: Vec<u16>,
+    program: Vec<u16>,
+    /// Where instructions stand.
+    pub marks: Vec<Mark>,
+    /// The sample of each port.
+    pub samples: [Option<u16>; 16],
+    /// What was put out, a port and a word each.
+    pub outputs: Vec<(u16, u16)>,
+    /// The sink takes no word.
+    pub closed: bool,
+    failures: u64,
+    ghost words_full: { vec_len words ≡ 65536 },
+    ghost program_full: { vec_len program ≡ 65536 },
+}
+
+/// A memory of zeros.
+fn zeros(alloc: Global) -> Result<Vec<u16>, AllocError>
+    ensures { IfOk result (λ words. vec_len words ≡ 65536) }
+{
+    Vec::from_elem(alloc, 0, 65536)
+}
+
+impl Bench {
+    /// A bench whose memories are all 0, without instructions and samples.
+    pub fn new(alloc: Global) -> Result<Bench, AllocError> {
+        Ok(Bench {
+            words: zeros(alloc)?,
+            program: zeros(alloc)?,
+            marks: Vec::new(alloc),
+            samples: [None; 16],
+            outputs: Vec::new(alloc),
+            closed: false,
+            failures: 0,
+        })
+    }
+
+    /// Puts an instruction of these words at an address.
+    pub fn place(
+        &mut self,
+        address: u16,
+        first: u16,
+        second: Option<u16>,
+    ) -> Result<(), AllocError> {
+        self.program[usize::from(address)] = first;
+        if let Some(second) = second {
+            self.program[usize::from(address.wrapping_add(1))] = second;
+        }
+        let size = if second.is_some() { 2 } else { 1 };
+        self.marks.push(Mark { address, size })?;
+        Ok(())
+    }
+
+    /// Puts an instruction at an address, and gives the address behind it.
+    pub fn place_insn(&mut self, address: u16, insn: &Insn) -> Result<u16, AllocError>
+        requires { InRange insn.now }
+    {
+        let code = encode(insn);
+        let words = code.as_slice();
+        let first = words.first().copied().unwrap_or(0);
+        let second = words.get(1).copied();
+        self.place(address, first, second)?;
+        Ok(address.wrapping_add(if second.is_some() { 2 } else { 1 }))
+    }
+
+    /// Takes away the instructions and the outputs; their words stay.
+    pub fn clear(&mut self) {
+        self.marks.clear();
+        self.outputs.clear();
+    }
+
+    /// Fills both memories.
+    pub fn fill(&mut self, generator: &mut Generator) {
+        for address in 0..=u16::MAX {
+            self.words[usize::from(address)] = generator.word();
+        }
+        for address in 0..=u16::MAX {
+            self.program[usize::from(address)] = generator.word();
+        }
+    }
+
+    /// Writes eight data words.
+    pub fn write_eight(&mut self, address: u16, eight: &[u16; 8]) {
+        let mut at = address;
+        for word in eight {
+            self.words[usize::from(at)] = *word;
+            at = at.wrapping_add(1);
+        }
+    }
+
+    /// The sum of both memories.
+    pub fn sum(&self) -> Sum {
+        let mut sum = Sum::new();
+        sum.add_all(self.words.as_slice());
+        sum.add_all(self.program.as_slice());
+        sum
+    }
+
+    /// Adds what was put out to a sum.
+    pub fn add_outputs(&self, sum: &mut Sum) {
+        for (port, word) in self.outputs.as_slice() {
+            sum.add_all(&[*port, *word]);
+        }
+    }
+}
+
+impl Bus for Bench {
+    ghost use Rattle.c25_core_tests.specs.Worlds.{world_of};
+
+    ghost world = { λ b. world_of b.words.items b.program.items b.marks.items b.samples b.outputs.items };
+
+    ghost failures = { λ b. b.failures };
+
+    fn data(&self, address: u16) -> u16 {
+        self.words[usize::from(address)]
+    }
+
+    #[tactic(auto, using(crate::proofs::Writes::memory_of_set))]
+    fn set_data(&mut self, address: u16, word: u16) {
+        self.words[usize::from(address)] = word;
+    }
+
+    fn program(&self, address: u16) -> u16 {
+        self.program[usize::from(address)]
+    }
+
+    #[tactic(auto, using(crate::proofs::Writes::memory_of_set))]
+    fn set_program(&mut self, address: u16, word: u16) {
+        self.program[usize::from(address)] = word;
+    }
+
+    #[tactic(auto, unfolding(c25_meaning::specs::State::size_at))]
+    fn size_at(&self, address: u16) -> Option<u16> {
+        self.marks
+            .iter()
+            .find(|mark| mark.address == address)
+            .map(|mark| mark.size)
+    }
+
+    #[tactic(auto, unfolding(c25_meaning::specs::State::is_code))]
+    fn is_code(&self, address: u16) -> bool {
+        self.marks.iter().any(|mark| {
+            mark.address <= address
+                && u32::from(address) < u32::from(mark.address) + u32::from(mark.size)
+        })
+    }
+
+    #[tactic(auto, using(crate::proofs::Writes::samples_of_set))]
+    fn input(&mut self, port: u16) -> Option<u16> {
+        let index = usize::from(port);
+        if index >= 16 {
+            return None;
+        }
+        let sample = self.samples[index]?;
+        self.samples[index] = None;
+        Some(sample)
+    }
+
+    fn output(&mut self, port: u16, word: u16) -> Result<(), SinkFailed> {
+        if !self.closed && self.outputs.push((port, word)).is_ok() {
+            return Ok(());
+        }
+        self.failures = self.failures.saturating_add(1);
+        Err(SinkFailed)
+    }
+}

@@ -1,0 +1,74 @@
+//! The processor over states of a fixed generator. Standard input has the rows of the opcode table:
+//! for each a name, the first word with operands 0, and the bits of it that hold operands. The file
+//! `stdout` has the answers of another model of the processor, written apart from this one.
+#![tactic(auto)]
+
+mod bench;
+mod case;
+mod generator;
+mod state;
+mod sum;
+
+use anyhow::{Result, bail};
+use bench::Bench;
+use c25_core::Tick;
+use case::Case;
+use generator::Generator;
+use sum::Sum;
+
+/// How many states each row goes through.
+const STATES: u32 = 300;
+
+/// A line of the table.
+fn read_row(line: &str) -> Option<(&str, u16, u16)> {
+    let (name, words) = line.split_once(' ')?;
+    let (base, operands) = words.split_once(' ')?;
+    let base = u16::from_str_radix(base, 16).ok()?;
+    let operands = u16::from_str_radix(operands, 16).ok()?;
+    Some((name, base, operands))
+}
+
+/// Prints how the first state of a row ends; how many of its states end without a stop; and the sums
+/// of how all of them end and of both memories then.
+fn run_row(
+    rt: &impl Print,
+    bench: &mut Bench,
+    generator: &mut Generator,
+    (name, base, operands): (&str, u16, u16),
+) -> Result<()> {
+    let mut sum = Sum::new();
+    let mut ran: u32 = 0;
+    for number in 0..STATES {
+        let case = Case::draw(generator, base, operands);
+        let end = case.run(bench, generator)?;
+        end.add_to(&mut sum);
+        bench.add_outputs(&mut sum);
+        if end.answer == Ok(Tick::Ran) {
+            ran += 1;
+        }
+        if number == 0 {
+            println!(rt; "{name} {:04X} {:04X}: {end}", case.first, case.second)?;
+        }
+    }
+    println!(rt; "{name} {ran} {sum} {}", bench.sum())?;
+    Ok(())
+}
+
+fn main(rt: HostRuntime) -> Result<()> {
+    let mut generator = Generator::new();
+    let mut bench = Bench::new(rt.alloc())?;
+    bench.fill(&mut generator);
+    for line in rt.lines(rt.alloc()) {
+        let line = line?;
+        let Some(row) = read_row(line.as_str()) else {
+            bail!("no row: {line}");
+        };
+        run_row(&rt, &mut bench, &mut generator, row)?;
+    }
+    Ok(())
+}
+
+#[cfg(test)]
+mod programs;
+#[cfg(test)]
+mod tests;

@@ -1,0 +1,119 @@
+//! States of the processor, made by instructions.
+
+ghost use Rattle.std.specs.Prelude.{◌<◌};
+ghost use Rattle.c25_meaning.specs.Table.{InRange};
+
+use crate::bench::Bench;
+use crate::generator::Generator;
+use bitflags::Flags;
+use c25_core::Core;
+use c25_meaning::insn::{Addr, Change, Insn, PlainOperand};
+use c25_meaning::lines::Lines;
+use c25_meaning::mnemonic::{ArMemName, JumpName, MemName, PlainName};
+use std::alloc::AllocError;
+
+/// An instruction with a direct operand.
+pub fn mem(name: MemName, low: u16) -> Insn
+    requires { low < 128 }
+    ensures { InRange result }
+{
+    Insn::Mem(name, Addr::Direct(low))
+}
+
+/// What the registers hold besides PC.
+#[derive(Clone, Copy)]
+pub struct State {
+    pub acc_high: u16,
+    pub acc_low: u16,
+    pub p_high: u16,
+    pub p_low: u16,
+    pub t: u16,
+    pub ar: [u16; 8],
+    /// Its top first.
+    pub stack: [u16; 8],
+    pub st0: u16,
+    pub st1: u16,
+}
+
+impl State {
+    /// Registers of which all but the flags of reset are 0.
+    pub fn new() -> State {
+        State {
+            acc_high: 0,
+            acc_low: 0,
+            p_high: 0,
+            p_low: 0,
+            t: 0,
+            ar: [0; 8],
+            stack: [0; 8],
+            st0: 0x0600,
+            st1: 0x07F0,
+        }
+    }
+
+    /// The next state of a generator.
+    pub fn draw(generator: &mut Generator) -> State {
+        State {
+            acc_high: generator.word(),
+            acc_low: generator.word(),
+            p_high: generator.word(),
+            p_low: generator.word(),
+            t: generator.word(),
+            ar: generator.eight(),
+            stack: generator.eight(),
+            st0: generator.word(),
+            st1: generator.word(),
+        }
+    }
+
+    /// Makes this state by a program at address 0, of 26 steps, which goes on at `start`. Its words
+    /// are at data addresses 60h to 77h.
+    pub fn make(&self, bench: &mut Bench, start: u16) -> Result<Core, AllocError> {
+        self.write_words(bench);
+        let mut at = 0;
+        for word in 0..8 {
+            at = bench.place_insn(at, &mem(MemName::Pshd, 0x67 - word))?;
+        }
+        for number in 0..8 {
+            let operand = Addr::Direct(0x68 + number);
+            at = bench.place_insn(at, &Insn::ArMem(ArMemName::Lar, number, operand))?;
+        }
+        at = bench.place_insn(at, &mem(MemName::Lt, 0x70))?;
+        at = bench.place_insn(at, &mem(MemName::Mpyu, 0x71))?;
+        at = bench.place_insn(at, &mem(MemName::Lph, 0x72))?;
+        at = bench.place_insn(at, &mem(MemName::Lt, 0x73))?;
+        at = bench.place_insn(at, &mem(MemName::Zalh, 0x74))?;
+        at = bench.place_insn(at, &mem(MemName::Or, 0x75))?;
+        at = bench.place_insn(at, &mem(MemName::Lst1, 0x76))?;
+        let switch = if self.st0 / 0x200 % 2 == 1 {
+            PlainName::Dint
+        } else {
+            PlainName::Eint
+        };
+        at = bench.place_insn(at, &Insn::Plain(switch, PlainOperand::Nothing))?;
+        at = bench.place_insn(at, &mem(MemName::Lst, 0x77))?;
+        bench.place_insn(at, &Insn::Jump(JumpName::B, start, Change::Keep, None))?;
+        let mut core = Core::new();
+        for _ in 0..26 {
+            let _ = core.step(Lines::empty(), true, bench);
+        }
+        Ok(core)
+    }
+
+    /// Writes the words from which the state is made.
+    fn write_words(&self, bench: &mut Bench) {
+        bench.write_eight(0x60, &self.stack);
+        bench.write_eight(0x68, &self.ar);
+        let rest = [
+            self.p_low,
+            1,
+            self.p_high,
+            self.t,
+            self.acc_high,
+            self.acc_low,
+            self.st1,
+            self.st0,
+        ];
+        bench.write_eight(0x70, &rest);
+    }
+}

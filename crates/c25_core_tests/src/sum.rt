@@ -1,0 +1,32 @@
+//! Sums over words, to compare many at once.
+
+use std::fmt;
+
+/// A sum in which the order of the words counts (FNV-1a, a word at a time).
+#[derive(Clone, Copy)]
+pub struct Sum(u32);
+
+impl Sum {
+    /// The sum of no words.
+    pub fn new() -> Sum {
+        Sum(0x811C_9DC5)
+    }
+
+    /// Adds a word.
+    pub fn add(&mut self, word: u16) {
+        self.0 = (self.0 ^ u32::from(word)).wrapping_mul(0x0100_0193);
+    }
+
+    /// Adds words.
+    pub fn add_all(&mut self, words: &[u16]) {
+        for word in words {
+            self.add(*word);
+        }
+    }
+}
+
+impl fmt::Display for Sum {
+    fn fmt<W: fmt::Write>(&self, f: &mut fmt::Formatter<W>) -> fmt::Result {
+        write!(f, "{:08X}", self.0)
+    }
+}

@@ -1,0 +1,273 @@
+//! Single instructions in states made by instructions.
+
+ghost use Rattle.c25_meaning.specs.Table.{InRange};
+
+use crate::bench::Bench;
+use crate::state::{State, mem};
+use bitflags::Flags;
+use c25_core::{Bus, Halt, Tick};
+use c25_meaning::insn::{Addr, Change, Insn, PlainOperand};
+use c25_meaning::lines::Lines;
+use c25_meaning::mnemonic::{
+    JumpName, LongName, MemName, PlainName, PortName, ShiftedName, ShortName,
+};
+use c25_meaning::registers::Regs;
+use c25_meaning::stop::Stop;
+use std::process::Abort;
+use std::test::Fail;
+
+/// The carry in ST1, and OV and OVM in ST0.
+const C: u16 = 0x200;
+
+const OV: u16 = 0x1000;
+
+const OVM: u16 = 0x800;
+
+/// The state of these 32 bits in the accumulator.
+fn with_acc(high: u16, low: u16) -> State {
+    State {
+        acc_high: high,
+        acc_low: low,
+        ..State::new()
+    }
+}
+
+/// The registers after an instruction in a state, with this word at data address 40h.
+fn after(
+    rt: &(impl Abort + AllocGlobal),
+    state: &State,
+    word: u16,
+    insn: &Insn,
+) -> Result<Regs, Fail>
+    requires { InRange insn.now }
+{
+    let mut bench = Bench::new(rt.alloc())?;
+    bench.place_insn(0x100, insn)?;
+    bench.set_data(0x40, word);
+    let mut core = state.make(&mut bench, 0x100)?;
+    assert_eq!(rt; core.step(Lines::empty(), true, &mut bench), Ok(Tick::Ran));
+    assert!(rt; core.settled());
+    Ok(core.regs())
+}
+
+#[test]
+fn mpya_adds_the_old_product(rt: HostRuntime) -> Result<(), Fail> {
+    let state = State {
+        t: 2,
+        p_low: 5,
+        ..State::new()
+    };
+    let regs = after(&rt, &state, 3, &mem(MemName::Mpya, 0x40))?;
+    assert_eq!(rt; (regs.acc, regs.p), (5, 6));
+    Ok(())
+}
+
+#[test]
+fn sixteen_steps_of_subc_divide(rt: HostRuntime) -> Result<(), Fail> {
+    let mut bench = Bench::new(rt.alloc())?;
+    let next = bench.place_insn(0x100, &Insn::Short(ShortName::Rptk, 0, 15))?;
+    bench.place_insn(next, &mem(MemName::Subc, 0x40))?;
+    bench.set_data(0x40, 7);
+    let mut core = with_acc(0, 41).make(&mut bench, 0x100)?;
+    for _ in 0..17 {
+        assert_eq!(rt; core.step(Lines::empty(), true, &mut bench), Ok(Tick::Ran));
+    }
+    assert!(rt; core.settled());
+    assert_eq!(rt; (core.regs().acc, core.regs().pc), (0x0006_0005, 0x102));
+    Ok(())
+}
+
+#[test]
+fn subc_overflows_without_saturating(rt: HostRuntime) -> Result<(), Fail> {
+    let regs = after(&rt, &with_acc(0x8000, 0), 1, &mem(MemName::Subc, 0x40))?;
+    assert_eq!(rt; (regs.acc, regs.st0 & OV, regs.st1 & C), (0, OV, C));
+    Ok(())
+}
+
+#[test]
+fn carry_of_neg_addh_and_subh(rt: HostRuntime) -> Result<(), Fail> {
+    let no_carry = State {
+        st1: 0x07F0 - C,
+        ..State::new()
+    };
+    let neg = Insn::Plain(PlainName::Neg, PlainOperand::Nothing);
+    let regs = after(&rt, &no_carry, 0, &neg)?;
+    assert_eq!(rt; (regs.acc, regs.st1 & C), (0, C));
+    let regs = after(&rt, &State::new(), 1, &mem(MemName::Addh, 0x40))?;
+    assert_eq!(rt; (regs.acc, regs.st1 & C), (0x0001_0000, C));
+    let state = State {
+        acc_high: 1,
+        ..no_carry
+    };
+    let regs = after(&rt, &state, 1, &mem(MemName::Subh, 0x40))?;
+    assert_eq!(rt; (regs.acc, regs.st1 & C), (0, 0));
+    Ok(())
+}
+
+#[test]
+fn bv_and_bnv_clear_ov(rt: HostRuntime) -> Result<(), Fail> {
+    let state = State {
+        st0: 0x0600 + OV,
+        ..State::new()
+    };
+    let regs = after(
+        &rt,
+        &state,
+        0,
+        &Insn::Jump(JumpName::Bv, 9, Change::Keep, None),
+    )?;
+    assert_eq!(rt; (regs.pc, regs.st0), (9, 0x0600));
+    let regs = after(
+        &rt,
+        &state,
+        0,
+        &Insn::Jump(JumpName::Bnv, 9, Change::Keep, None),
+    )?;
+    assert_eq!(rt; (regs.pc, regs.st0), (0x102, 0x0600));
+    Ok(())
+}
+
+#[test]
+fn a_next_register_is_loaded(rt: HostRuntime) -> Result<(), Fail> {
+    let state = State {
+        st0: 0x4600,
+        ..State::new()
+    };
+    let insn = Insn::Mem(MemName::Mar, Addr::Indirect(Change::Keep, Some(5)));
+    let regs = after(&rt, &state, 0, &insn)?;
+    assert_eq!(rt; (regs.st0 / 0x2000, regs.st1 / 0x2000), (5, 2));
+    Ok(())
+}
+
+#[test]
+fn block_b0_is_no_data_under_cnf(rt: HostRuntime) -> Result<(), Fail> {
+    let mut bench = Bench::new(rt.alloc())?;
+    let current = Addr::Indirect(Change::Keep, None);
+    let next = bench.place_insn(0x100, &Insn::Shifted(ShiftedName::Sacl, current, 0))?;
+    bench.place_insn(next, &Insn::Mem(MemName::Zals, current))?;
+    bench.set_data(0x200, 0x1234);
+    let state = State {
+        acc_low: 0x5678,
+        ar: [0x200; 8],
+        st1: 0x17F0,
+        ..State::new()
+    };
+    let mut core = state.make(&mut bench, 0x100)?;
+    assert_eq!(rt; core.step(Lines::empty(), true, &mut bench), Ok(Tick::Ran));
+    assert_eq!(rt; core.step(Lines::empty(), true, &mut bench), Ok(Tick::Ran));
+    assert_eq!(rt; (core.regs().acc, bench.data(0x200)), (0, 0x1234));
+    Ok(())
+}
+
+#[test]
+fn a_branch_is_not_repeated(rt: HostRuntime) -> Result<(), Fail> {
+    let mut bench = Bench::new(rt.alloc())?;
+    let next = bench.place_insn(0x100, &Insn::Short(ShortName::Rptk, 0, 0))?;
+    bench.place_insn(next, &Insn::Jump(JumpName::B, 0, Change::Keep, None))?;
+    let mut core = State::new().make(&mut bench, 0x100)?;
+    assert_eq!(rt; core.step(Lines::empty(), true, &mut bench), Ok(Tick::Ran));
+    let before = core.regs();
+    let stopped = core.step(Lines::INT0, true, &mut bench);
+    assert_eq!(rt; stopped, Err(Halt::Stop(Stop::BadRepeat)));
+    assert_eq!(rt; core.regs(), before);
+    assert!(rt; !core.settled());
+    Ok(())
+}
+
+#[test]
+fn sums_saturate_under_ovm(rt: HostRuntime) -> Result<(), Fail> {
+    let addk = Insn::Short(ShortName::Addk, 0, 1);
+    let mut state = with_acc(0x7FFF, 0xFFFF);
+    let regs = after(&rt, &state, 0, &addk)?;
+    assert_eq!(rt;
+        (regs.acc, regs.st0 & OV, regs.st1 & C),
+        (0x8000_0000, OV, 0)
+    );
+    state.st0 = 0x0600 + OVM;
+    let regs = after(&rt, &state, 0, &addk)?;
+    assert_eq!(rt;
+        (regs.acc, regs.st0 & OV, regs.st1 & C),
+        (0x7FFF_FFFF, OV, 0)
+    );
+    let regs = after(&rt, &State::new(), 0, &Insn::Short(ShortName::Subk, 0, 1))?;
+    assert_eq!(rt;
+        (regs.acc, regs.st0 & OV, regs.st1 & C),
+        (0xFFFF_FFFF, 0, 0)
+    );
+    Ok(())
+}
+
+#[test]
+fn reversed_carry_orders_a_transform(rt: HostRuntime) -> Result<(), Fail> {
+    let mut bench = Bench::new(rt.alloc())?;
+    let change = Addr::Indirect(Change::ReverseAdd, None);
+    let mut at = 0x100;
+    for _ in 0..4 {
+        at = bench.place_insn(at, &Insn::Mem(MemName::Mar, change))?;
+    }
+    let state = State {
+        ar: [8, 0, 0, 0, 0, 0, 0, 0],
+        st0: 0x2600,
+        ..State::new()
+    };
+    let mut core = state.make(&mut bench, 0x100)?;
+    for want in [8, 4, 12, 2] {
+        assert_eq!(rt; core.step(Lines::empty(), true, &mut bench), Ok(Tick::Ran));
+        assert_eq!(rt; core.regs().ar[1], want);
+    }
+    Ok(())
+}
+
+#[test]
+fn the_shifted_product_keeps_its_sign(rt: HostRuntime) -> Result<(), Fail> {
+    let state = State {
+        p_high: 0xFFFF,
+        p_low: 0xFFC0,
+        st1: 0x03F3,
+        ..State::new()
+    };
+    let pac = Insn::Plain(PlainName::Pac, PlainOperand::Nothing);
+    let regs = after(&rt, &state, 0, &pac)?;
+    assert_eq!(rt; regs.acc, 0xFFFF_FFFF);
+    Ok(())
+}
+
+#[test]
+fn the_stack_holds_eight_words(rt: HostRuntime) -> Result<(), Fail> {
+    let mut bench = Bench::new(rt.alloc())?;
+    let mut at = 0x100;
+    for number in 1..10 {
+        at = bench.place_insn(at, &Insn::Long(LongName::Lalk, number, 0))?;
+        at = bench.place_insn(at, &Insn::Plain(PlainName::Push, PlainOperand::Nothing))?;
+    }
+    for _ in 0..9 {
+        at = bench.place_insn(at, &Insn::Plain(PlainName::Pop, PlainOperand::Nothing))?;
+    }
+    let mut core = State::new().make(&mut bench, 0x100)?;
+    for _ in 0..18 {
+        assert_eq!(rt; core.step(Lines::empty(), true, &mut bench), Ok(Tick::Ran));
+    }
+    for want in [9, 8, 7, 6, 5, 4, 3, 2, 2] {
+        assert_eq!(rt; core.step(Lines::empty(), true, &mut bench), Ok(Tick::Ran));
+        assert_eq!(rt; core.regs().acc, want);
+    }
+    Ok(())
+}
+
+#[test]
+fn a_closed_sink_changes_nothing(rt: HostRuntime) -> Result<(), Fail> {
+    let mut bench = Bench::new(rt.alloc())?;
+    let out = Insn::Port(PortName::Out, Addr::Direct(0x40), 3);
+    bench.place_insn(0x100, &out)?;
+    let mut core = State::new().make(&mut bench, 0x100)?;
+    bench.closed = true;
+    assert_eq!(rt;
+        core.step(Lines::empty(), true, &mut bench),
+        Err(Halt::Sink)
+    );
+    assert_eq!(rt; core.regs().pc, 0x100);
+    bench.closed = false;
+    assert_eq!(rt; core.step(Lines::empty(), true, &mut bench), Ok(Tick::Ran));
+    assert_eq!(rt; bench.outputs.as_slice(), [(3, 0)].as_slice());
+    Ok(())
+}

@@ -1,0 +1,84 @@
+-- From what is found to what the grammar says.
+use Rattle.std.proofs.Common.{◌≡◌, ℕ, ◌+◌, ◌<◌, ◌≤◌, true, false, List, length, get_or, drop, reverse, Option, Some, None, Result, Ok, Err, is_some, refl, sym, ap, subst, ◌∙◌, arith}
+use Rattle.std.specs.Option.{is_none, option_map}
+use Rattle.std.specs.Result.{IsErrOf}
+use Rattle.std.proofs.lemmas.List.{at_drop_more, drop_all}
+use Rattle.std.proofs.lemmas.Bool.{false≢true}
+use Rattle.c25_meaning.specs.Tree.{Tree, Mark, mark_of, IsTreeOf, depth}
+use Rattle.c25_meaning.specs.Reading.{State, Found, start, step, finished, run, run_on}
+use Rattle.c25_text.specs.View.{piece_of}
+use Rattle.c25_text.specs.declared.tokens.Token.{Token}
+use Rattle.c25_expr.specs.Completes.{nesting, opens, completes}
+use Rattle.c25_expr.specs.Postfix.{runs}
+use Rattle.c25_expr.specs.View.{marks_of}
+use Rattle.c25_expr.specs.declared.reading.ExprError.{ExprError}
+use Rattle.c25_expr.proofs.Complete.{run_complete, run_tree, run_items}
+use Rattle.c25_expr.proofs.Reach.{reach, reach-depth, nesting-reach, depth_ended}
+use Rattle.c25_expr.proofs.Accepts.{HasShape, is_some-run}
+use Rattle.c25_expr.proofs.Rooms.{runs_postfix}
+
+-- one token more
+pub run_more : (ts : List Token) (i : ℕ) (d : Token) (s : State) (o : Option State) → i < length ts → step s (mark_of (piece_of (get_or ts i d))) ≡ o → run (marks_of (drop i ts)) s ≡ run_on (run (marks_of (drop (i + 1) ts))) o
+run_more ts i d s o l e =
+    at_drop_more (λ us. run (marks_of us) s) ts i d l
+    ∙ ap (run_on (run (marks_of (drop (i + 1) ts)))) e
+
+-- where nothing is found there is no tree
+pub no_tree : (ms : List Mark) → run ms start ≡ None → (e : Tree) → IsTreeOf ms e → ⊥
+no_tree ms h e t = absurd (apart _ (sym h ∙ run_complete e ms t))
+  where
+    apart : (f : Found) → None ≡ Some f → ⊥
+    apart f h = cc
+
+none_from : (o : Option Found) → is_some o ≡ false → o ≡ None
+none_from None h = refl
+none_from (Some f) h = absurd (false≢true (sym h))
+
+some_from : (o : Option Found) → is_some o ≡ true → (f : Found) × (o ≡ Some f)
+some_from None h = absurd (false≢true h)
+some_from (Some f) h = (f, refl)
+
+-- where the rest does not complete what was read nothing is found
+pub not_completed : (ms rest : List Mark) (s : State) → HasShape s → run rest s ≡ run ms start → completes rest (is_none s.current) (opens s.frames) ≡ false → run ms start ≡ None
+not_completed ms rest s shape told h = sym told ∙ none_from (run rest s) (is_some-run rest s shape ∙ h)
+
+-- where it completes it, the tree is as deep as what is open
+pub completed : (ms rest : List Mark) (s : State) (n : ℕ) → HasShape s → run rest s ≡ run ms start → n ≡ nesting s.frames → 64 < n → completes rest (is_none s.current) (opens s.frames) ≡ true → (e : Tree) × IsTreeOf ms e × (64 < depth e)
+completed ms rest s n shape told same more h =
+    let found = some_from (run rest s) (is_some-run rest s shape ∙ h) in
+    let f : Found = found.0 in
+    (f.tree, run_tree f ms (sym told ∙ found.1), omega (arith, reach-depth rest s f found.1, nesting-reach s))
+
+-- behind the last token
+pub run_end : (ts : List Token) (i : ℕ) (s : State) → length ts ≤ i → run (marks_of (drop i ts)) s ≡ finished s
+run_end ts i s l = ap (λ us. run (marks_of us) s) (drop_all i ts l)
+
+tree_same : (x y : Tree) → Some x ≡ Some y → x ≡ y
+tree_same x y h = cc
+
+-- what is found at the end is the tree of the tokens, and not too deep
+pub ended : (ms : List Mark) (s : State) (e : Tree) → run ms start ≡ finished s → option_map (λ (f : Found). f.tree) (finished s) ≡ Some e → reach s ≤ 64 → IsTreeOf ms e × (depth e ≤ 64)
+ended ms s e told h shallow = by_found (finished s) refl h
+  where
+    by_found : (o : Option Found) → finished s ≡ o → option_map (λ (f : Found). f.tree) o ≡ Some e → IsTreeOf ms e × (depth e ≤ 64)
+    by_found None is h = cc
+    by_found (Some f) is h =
+        let same : f.tree ≡ e = tree_same f.tree e h in
+        (subst (IsTreeOf ms) same (run_tree f ms (told ∙ is)), omega (arith, depth_ended s.frames s.current s.items f is, ap depth same, shallow))
+
+-- and it runs
+pub ended_runs : (ms : List Mark) (s : State) (f : Found) → run ms start ≡ finished s → reach s ≤ 64 → finished s ≡ Some f → runs (reverse f.items) 0 ≡ true
+ended_runs ms s f told shallow h =
+    let tree = run_tree f ms (told ∙ h) in
+    runs_postfix f.tree f.items tree.grouped (omega (arith, depth_ended s.frames s.current s.items f h, shallow)) (run_items f ms (told ∙ h))
+
+-- the error of a result
+abbrev error_of : {T : Type 0} → Result T ExprError → Option ExprError
+error_of (Ok x) = None
+error_of (Err f) = Some f
+
+pub err_same : {T : Type 0} (f g : ExprError) → IsErrOf {T = T} (Err f) g → f ≡ g
+err_same f g h = let e : Some f ≡ Some g = ap error_of h in cc
+
+pub as_unit : {T : Type 0} (f g : ExprError) → IsErrOf {T = T} (Err f) g → IsErrOf {T = Unit {0}} (Err f) g
+as_unit f g h = ap (λ (x : ExprError). Err x) (err_same f g h)

@@ -1,0 +1,12 @@
+pub mod Accepts
+pub mod Complete
+pub mod Finishes
+pub mod Found
+pub mod Frames
+pub mod Lasts
+pub mod Names
+pub mod Reach
+pub mod Rooms
+pub mod Sound
+pub mod Trees
+pub mod Valued

@@ -1,0 +1,64 @@
+-- Expressions in postfix order: what items stand for, the trees that they build, and the operands that wait.
+use Rattle.std.specs.Prelude.{ℕ, ◌+◌, ◌-◌, Bool, ◌&&◌, ◌==◌, nat_lt, nat_le, List, [], ◌∷◌}
+use Rattle.std.specs.String.{string_bytes}
+use Rattle.c25_meaning.specs.Tree as tree
+use Rattle.c25_meaning.specs.Tree.{Tree}
+use Rattle.c25_meaning.specs.Reading as reading
+use Rattle.c25_meaning.specs.Reading.{Push, Wrap, Apply, Combine}
+use Rattle.c25_expr.specs.declared.tree.Item.{Item}
+use Rattle.c25_expr.specs.declared.tree.Item.TheVariants.{Constant, Name, Here, Group, Unary, Binary}
+
+-- what an item of an expression stands for
+abbrev pub item_of : Item → reading.Item
+item_of (Constant n) = Push (tree.Constant n)
+item_of (Name s) = Push (tree.Name (string_bytes s))
+item_of Here = Push tree.Here
+item_of Group = Wrap
+item_of (Unary op) = Apply op
+item_of (Binary op) = Combine op
+
+-- the last tree; `$` where there is none
+abbrev pub last_tree : List Tree → Tree
+last_tree [] = tree.Single tree.Here
+last_tree (t ∷ ts) = t
+
+-- the trees before the last
+abbrev pub other_trees : List Tree → List Tree
+other_trees [] = []
+other_trees (t ∷ ts) = ts
+
+-- what an item makes of trees, the last first
+abbrev pub built_one : reading.Item → List Tree → List Tree
+built_one (Push l) ts = tree.Single l ∷ ts
+built_one Wrap ts = tree.Group (last_tree ts) ∷ other_trees ts
+built_one (Apply op) ts = tree.Unary op (last_tree ts) ∷ other_trees ts
+built_one (Combine op) ts = tree.Binary op (last_tree (other_trees ts)) (last_tree ts) ∷ other_trees (other_trees ts)
+
+-- the trees that items build, both the last first
+abbrev pub built : List reading.Item → List Tree
+built [] = []
+built (i ∷ is) = built_one i (built is)
+
+-- how many operands may wait while an expression is valued: 8 levels of operators in each of 64 nested groups
+-- and outside them, and one more
+abbrev pub most_waiting : ℕ
+most_waiting = 521
+
+-- whether an item finds its operands, and room for its result, where so many operands wait
+abbrev pub fits : reading.Item → ℕ → Bool
+fits (Push l) n = nat_lt n most_waiting
+fits Wrap n = nat_lt 0 n
+fits (Apply op) n = nat_lt 0 n && nat_le n most_waiting
+fits (Combine op) n = nat_lt 1 n && nat_le n most_waiting
+
+-- how many operands wait behind an item
+abbrev pub height : reading.Item → ℕ → ℕ
+height (Push l) n = n + 1
+height Wrap n = n
+height (Apply op) n = n
+height (Combine op) n = n - 1
+
+-- whether items, the first first, find their operands and room, and leave one operand
+abbrev pub runs : List reading.Item → ℕ → Bool
+runs [] n = n == 1
+runs (i ∷ is) n = fits i n && runs is (height i n)

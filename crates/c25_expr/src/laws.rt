@@ -1,0 +1,23 @@
+//! Laws of expressions: what the definitions say, as facts about all tokens. The functions do nothing.
+
+ghost use Rattle.std.specs.Prelude.{◌≡◌, ◌↔◌, ◌<◌, ◌≤◌, List, Ok, Err};
+ghost use Rattle.c25_meaning.specs.Tree.{Mark, Tree, IsTreeOf, depth};
+ghost use Rattle.c25_meaning.specs.Reading.{tree_in};
+ghost use Rattle.c25_meaning.specs.declared.expression.ExpressionFault.{ExpressionFault};
+
+/// Tokens have one tree at most.
+pub fn one_tree()
+    ensures { (marks : List Mark) (e f : Tree) → IsTreeOf marks e → IsTreeOf marks f → e ≡ f }
+{}
+
+/// The tree of tokens as a function is the tree of the grammar.
+pub fn trees_are_read()
+    ensures read { (marks : List Mark) (e : Tree) → (IsTreeOf marks e × (depth e ≤ 64))
+        ↔ (tree_in marks ≡ Ok e) }
+    // No tree has these tokens.
+    ensures none { (marks : List Mark) → ((e : Tree) → ¬ IsTreeOf marks e)
+        ↔ (tree_in marks ≡ Err ExpressionFault.BadExpression) }
+    // Their tree is too deep.
+    ensures deep { (marks : List Mark) → ((e : Tree) × IsTreeOf marks e × (64 < depth e))
+        ↔ (tree_in marks ≡ Err ExpressionFault.TooDeep) }
+{}

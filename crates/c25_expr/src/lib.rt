@@ -1,0 +1,16 @@
+//! Expressions: their trees, the symbols of a module, and values.
+#![tactic(auto)]
+
+mod builder;
+#[cfg(test)]
+mod cases;
+mod completes;
+pub mod laws;
+mod operators;
+pub mod reading;
+mod signs;
+pub mod symbols;
+#[cfg(test)]
+mod tests;
+pub mod tree;
+pub mod value;

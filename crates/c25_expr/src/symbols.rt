@@ -1,0 +1,159 @@
+//! The symbols of a module, in order of definition.
+
+ghost use Rattle.std.specs.Prelude.{◌≡◌, ◌≢◌, ◌↔◌, [], ◌∷◌, ◌++◌, IsSome, IsErrOf, OnOk, OnErr};
+ghost use Rattle.c25_meaning.specs.Value.{predefined};
+
+use c25_meaning::no_memory::NoMemory;
+use c25_meaning::value::{Base, Value};
+use indexmap::IndexMap;
+use std::alloc::{AllocError, AllocFailed, Global};
+use std::marker::Model;
+use thiserror::Error;
+
+/// Why a name is not defined.
+#[derive(Clone, Copy, PartialEq, Eq, Debug, Error)]
+pub enum DefineError {
+    /// A growth was refused (9).
+    #[error("NoMemory")]
+    NoMemory(NoMemory),
+    /// The name stands for something already (26).
+    #[error("Defined")]
+    Defined,
+}
+
+impl From<AllocError> for DefineError {
+    ghost use Rattle.c25_expr.specs.declared.symbols.DefineError.TheVariants.{Defined};
+
+    ghost from_gives = { λ _ e. e ≢ Defined };
+
+    fn from(_error: AllocError) -> Self {
+        DefineError::NoMemory(NoMemory)
+    }
+}
+
+impl<T: Drop> From<AllocFailed<T>> for DefineError {
+    ghost use Rattle.c25_expr.specs.declared.symbols.DefineError.TheVariants.{Defined};
+
+    ghost from_gives = { λ _ e. e ≢ Defined };
+
+    fn from(_error: AllocFailed<T>) -> Self {
+        DefineError::NoMemory(NoMemory)
+    }
+}
+
+/// What names stand for, in order of definition, and the current place. The names `AR0` to `AR7` and
+/// `PA0` to `PA15` stand for their numbers and are not among those that were defined.
+#[derive(Drop)]
+pub struct Symbols {
+    alloc: Global,
+    entries: IndexMap<String, Value>,
+    here: Value,
+}
+
+impl Model for Symbols {
+    ghost use Rattle.c25_meaning.specs.Value.{Table};
+    ghost use Rattle.c25_expr.specs.Symbols.{texts};
+
+    ghost Value = { Table };
+
+    ghost view = { λ s. record { entries = texts s.entries.entries; here = s.here } };
+}
+
+impl Symbols {
+    ghost use Rattle.c25_meaning.specs.Value.{value_named, start_of_text};
+
+    /// No names but the predefined ones, at the start of `.text`.
+    pub fn new(alloc: Global) -> Self
+        ensures { result ≡ record { entries = []; here = start_of_text } }
+    {
+        Symbols {
+            alloc,
+            entries: IndexMap::new(alloc),
+            here: Value {
+                base: Base::Section(0),
+                offset: 0,
+            },
+        }
+    }
+
+    /// What a name stands for: an AR or PA name, in either case, for its number; another for what it
+    /// was defined as.
+    pub fn get(&self, name: &str) -> Option<Value>
+        ensures { result ≡ value_named self.now name.now }
+    {
+        match predefined(name.as_bytes()) {
+            Some(number) => Some(Value {
+                base: Base::Absolute,
+                offset: i32::from(number),
+            }),
+            None => self.entries.get(name).copied(),
+        }
+    }
+
+    /// The current place.
+    pub(crate) fn here(&self) -> Value
+        ensures { result ≡ self.now.here }
+    {
+        self.here
+    }
+
+    /// Moves the current place, which `$` stands for.
+    pub fn set_here(&mut self, here: Value)
+        ensures { self.new ≡ record self.old { here = here } }
+    {
+        self.here = here;
+    }
+
+    /// Defines a name that stands for nothing yet. It comes last in the order of definition.
+    pub fn define(&mut self, name: &str, value: Value) -> Result<(), DefineError>
+        ensures defined { IsErrOf result DefineError.Defined
+            ↔ IsSome (value_named self.old name.now) }
+        ensures ok { OnOk result (self.new
+            ≡ record self.old { entries = self.old.entries ++ (name.now, value) ∷ [] }) }
+        ensures err { OnErr result (self.new ≡ self.old) }
+    {
+        if self.get(name).is_some() {
+            return Err(DefineError::Defined);
+        }
+        let name = String::from_str(self.alloc, name)?;
+        self.entries.insert(name, value)?;
+        Ok(())
+    }
+}
+
+/// The number of a predefined name.
+fn predefined(name: &[u8]) -> Option<u8>
+    ensures { result ≡ predefined name.now }
+{
+    match name {
+        [a, b, d] => predefined_three(*a, *b, *d),
+        [a, b, c, d] => predefined_four(*a, *b, *c, *d),
+        _ => None,
+    }
+}
+
+fn predefined_three(a: u8, b: u8, d: u8) -> Option<u8>
+    ensures { result ≡ predefined (a ∷ b ∷ d ∷ []) }
+{
+    let a = a.to_ascii_uppercase();
+    let b = b.to_ascii_uppercase();
+    if a == b'A' && b == b'R' && d >= b'0' && d <= b'7' {
+        Some(d - b'0')
+    } else if a == b'P' && b == b'A' && d >= b'0' && d <= b'9' {
+        Some(d - b'0')
+    } else {
+        None
+    }
+}
+
+fn predefined_four(a: u8, b: u8, c: u8, d: u8) -> Option<u8>
+    ensures { result ≡ predefined (a ∷ b ∷ c ∷ d ∷ []) }
+{
+    let a = a.to_ascii_uppercase();
+    let b = b.to_ascii_uppercase();
+    if a == b'P' && b == b'A' && c == b'1' && d >= b'0' && d <= b'5' {
+        Some(d - 38)
+    } else {
+        None
+    }
+}

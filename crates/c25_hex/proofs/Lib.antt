@@ -1,0 +1,12 @@
+pub mod Ascending
+pub mod CellMaps
+pub mod Cuts
+pub mod Entries
+pub mod Held
+pub mod LineSteps
+pub mod Lines
+pub mod ReadBack
+pub mod Stretches
+pub mod Texts
+pub mod WordSteps
+pub mod WriterSteps

@@ -1,0 +1,21 @@
+//! Laws of hex texts.
+
+ghost use Rattle.std.specs.Prelude.{◌≡◌, ◌≢◌, ℕ, List, [], ◌∷◌, ◌++◌};
+ghost use Rattle.std.specs.Ordering.{nat_cmp};
+ghost use Rattle.std.specs.FinMap as map;
+ghost use Rattle.c25_meaning.specs.Hex.{SpellsWords};
+ghost use Rattle.c25_meaning.specs.HexText.{written};
+ghost use Rattle.c25_meaning.specs.WordMap.{IsWordMap};
+
+/// What is written for words is read back as these words.
+pub fn written_texts_are_read_back()
+    ensures { (words : map.FinMap nat_cmp ℕ) → IsWordMap words → SpellsWords (written words) words }
+{}
+
+/// What begins a written text, the text without its last LF aside, spells no words.
+pub fn no_prefix_spells_words()
+    ensures cut { (words other : map.FinMap nat_cmp ℕ) (front rest : List ℕ) → IsWordMap words
+        → written words ≡ front ++ rest → rest ≢ [] → rest ≢ 10 ∷ [] → ¬ (SpellsWords front other) }
+    ensures without_last { (words : map.FinMap nat_cmp ℕ) (front : List ℕ) → IsWordMap words
+        → written words ≡ front ++ 10 ∷ [] → SpellsWords front words }
+{}

@@ -1,0 +1,150 @@
+//! A hex text as far as it has been read.
+
+ghost use Rattle.std.specs.Prelude.{◌≡◌, ◌≤◌, ◌<◌, ◌+◌, ◌^◌, length, slice_index, is_some, IsTrue, OnOk, MatchResult, Ok, Err, vec_len};
+ghost use Rattle.std.specs.List.{list_any};
+ghost use Rattle.c25_meaning.specs.Hex as spec;
+ghost use Rattle.c25_hex.specs.Cells.{cells_map, has_odd_pair, same_given};
+ghost use Rattle.c25_hex.specs.View.{LineGives, code_of, state_of};
+
+use crate::error::LineError;
+use crate::kind::Kind;
+use crate::line::{all_blank, bytes_of, kind_of};
+use crate::state::Reader;
+use c25_meaning::hex_fault::HexFault;
+use std::alloc::Global;
+
+fn any_given(cells: &[Option<u8>]) -> bool
+    ensures { result ≡ list_any is_some cells.now }
+{
+    cells.iter().any(|cell| cell.is_some())
+}
+
+/// Whether one of these bytes is given already.
+fn gives_again(cells: &[Option<u8>], place: usize, bytes: &[u8]) -> bool
+    requires { place + length bytes.now ≤ length cells.now }
+    ensures { result ≡ spec.gives_again (cells_map cells.now) place bytes.now }
+{
+    any_given(&cells[place..place + bytes.len()])
+}
+
+fn same_given(high: Option<u8>, low: Option<u8>) -> bool
+    ensures { result ≡ same_given high low }
+{
+    high.is_some() == low.is_some()
+}
+
+fn has_odd_pair(cells: &[Option<u8>]) -> bool
+    ensures { result ≡ has_odd_pair cells.now }
+{
+    let mut rest = cells;
+    while let [high, low, after @ ..] = rest {
+        if !same_given(*high, *low) {
+            return true;
+        }
+        rest = after;
+    }
+    any_given(rest)
+}
+
+/// Whether one byte alone of a word is given.
+fn has_odd_word(cells: &[Option<u8>]) -> bool
+    ensures { result ≡ spec.has_odd_word (cells_map cells.now) }
+{
+    has_odd_pair(cells)
+}
+
+/// Puts bytes from a place on.
+fn put_bytes(cells: &mut Vec<Option<u8>>, place: usize, bytes: &[u8])
+    requires { place + length bytes.now ≤ vec_len cells.old }
+    ensures put { cells_map cells.new.items ≡ spec.put_bytes (cells_map cells.old.items) place bytes.now }
+    ensures sized { vec_len cells.new ≡ vec_len cells.old }
+{
+    for i in 0..bytes.len() {
+        cells[place + i] = Some(bytes[i]);
+    }
+}
+
+/// The number of two bytes of a line.
+fn pair_at(bytes: &[u8], at: usize) -> usize
+    requires { at + 2 ≤ length bytes.now }
+    ensures pair { result ≡ spec.pair_at bytes.now at }
+    ensures bound { result < 2 ^ 16 }
+{
+    256 * bytes[at] as usize + bytes[at + 1] as usize
+}
+
+impl Reader {
+    /// Takes the bytes of a line of data.
+    #[tactic(auto, unfolding(c25_meaning::specs::Hex::with_bytes))]
+    fn take_bytes(&mut self, address: usize, bytes: &[u8]) -> Result<(), HexFault>
+        requires address_in { address < 2 ^ 16 }
+        requires short { length bytes.now < 2 ^ 8 }
+        ensures { MatchResult result
+            (λ _. spec.with_bytes (state_of self.old) address bytes.now ≡ Ok (state_of self.new))
+            (λ f. spec.with_bytes (state_of self.old) address bytes.now ≡ Err f) }
+    {
+        let count = bytes.len();
+        let place = self.base + address;
+        if address + count > 65_536 || (count > 0 && place + count > 131_072) {
+            return Err(HexFault::AddressRange);
+        }
+        if count == 0 {
+            return Ok(());
+        }
+        if gives_again(&self.bytes, place, bytes) {
+            return Err(HexFault::Twice);
+        }
+        put_bytes(&mut self.bytes, place, bytes);
+        Ok(())
+    }
+
+    /// Takes a line whose form is right.
+    #[tactic(auto, unfolding(c25_meaning::specs::Hex::effect))]
+    fn take_effect(&mut self, kind: Kind, bytes: &[u8]) -> Result<(), HexFault>
+        requires long { 5 ≤ length bytes.now }
+        requires counted { length bytes.now ≡ slice_index bytes.now 0 + 5 }
+        requires kind { code_of kind ≡ slice_index bytes.now 3 }
+        requires fits { IsTrue (spec.count_fits (slice_index bytes.now 3) (slice_index bytes.now 0)) }
+        ensures { MatchResult result
+            (λ _. spec.effect (state_of self.old) bytes.now ≡ Ok (state_of self.new))
+            (λ f. spec.effect (state_of self.old) bytes.now ≡ Err f) }
+    {
+        let count = bytes[0] as usize;
+        match kind {
+            Kind::Data => self.take_bytes(pair_at(bytes, 1), &bytes[4..4 + count]),
+            Kind::End => {
+                if has_odd_word(&self.bytes) {
+                    return Err(HexFault::OddWord);
+                }
+                self.ended = true;
+                Ok(())
+            }
+            Kind::SegmentBase => {
+                self.base = 16 * pair_at(bytes, 4);
+                Ok(())
+            }
+            Kind::LinearBase => {
+                self.base = 65_536 * pair_at(bytes, 4);
+                Ok(())
+            }
+            Kind::SegmentStart | Kind::LinearStart => Ok(()),
+        }
+    }
+
+    /// Reads one line more.
+    #[tactic(auto, unfolding(c25_meaning::specs::Hex::after_line))]
+    pub(crate) fn take_line(&mut self, alloc: Global, line: &[u8]) -> Result<(), LineError>
+        ensures { LineGives (λ _. state_of self.new) result (spec.after_line (state_of self.old) line.now) }
+    {
+        if all_blank(line) {
+            return Ok(());
+        }
+        if self.ended {
+            return Err(LineError::Fault(HexFault::AfterEnd));
+        }
+        let bytes = bytes_of(alloc, line)?;
+        let kind = kind_of(&bytes)?;
+        self.take_effect(kind, &bytes)?;
+        Ok(())
+    }
+}

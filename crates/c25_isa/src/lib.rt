@@ -1,0 +1,123 @@
+//! The instruction set of the TMS320C25 (SPRU014, "Assembly Language Instructions"): the words of
+//! an instruction, the instruction of words, names and printed texts.
+//!
+//! Each family of instructions has a module. Its macro holds the family's rows of the opcode table,
+//! each once.
+#![tactic(auto)]
+
+ghost use Rattle.std.specs.Prelude.{◌≡◌, Some, IfSome};
+ghost use Rattle.c25_meaning.specs.Table.{words, size, InRange, Reads};
+ghost use Rattle.c25_meaning.specs.declared.insn.Insn.{Insn};
+
+mod addr;
+mod ar_mem;
+mod bit;
+mod jump;
+mod long;
+mod long_mem;
+mod mem;
+mod names;
+mod plain;
+mod port;
+mod rows;
+mod shifted;
+mod short;
+mod text;
+
+use arrayvec::ArrayVec;
+use c25_meaning::insn::Insn;
+use c25_meaning::mnemonic::Mnemonic;
+pub use names::mnemonic;
+pub use text::show;
+
+/// The one or two words of an instruction, in the order of their addresses.
+pub type Code = ArrayVec<u16, 2>;
+
+/// The words of an instruction whose operands are in range. No memory is taken.
+pub fn encode(insn: &Insn) -> Code
+    requires { InRange insn.now }
+    ensures { result.items ≡ words insn.now }
+{
+    let mut code = Code::new();
+    match *insn {
+        Insn::Mem(name, addr) => code.push(mem::encode(name, addr)),
+        Insn::Shifted(name, addr, shift) => code.push(shifted::encode(name, addr, shift)),
+        Insn::ArMem(name, register, addr) => code.push(ar_mem::encode(name, register, addr)),
+        Insn::Port(name, addr, port) => code.push(port::encode(name, addr, port)),
+        Insn::Bit(name, addr, number) => code.push(bit::encode(name, addr, number)),
+        Insn::Short(name, register, number) => code.push(short::encode(name, register, number)),
+        Insn::Long(name, number, high) => {
+            code.push(long::encode(name, number, high));
+            code.push(number);
+        }
+        Insn::LongMem(name, word, addr) => {
+            code.push(long_mem::encode(name, word, addr));
+            code.push(word);
+        }
+        Insn::Jump(name, word, change, next) => {
+            code.push(jump::encode(name, word, change, next));
+            code.push(word);
+        }
+        Insn::Plain(name, operand) => code.push(plain::encode(name, operand)),
+    }
+    code
+}
+
+/// The instruction that two words read as, the second being the word behind the first. An
+/// instruction of one word leaves the second free. `None` where no row of the table has the words:
+/// the reserved change of an auxiliary register, low bits without a next register, and words of no
+/// opcode. No memory is taken.
+pub fn decode(first: u16, second: u16) -> Option<Insn>
+    ensures found { IfSome result (Reads first second) }
+    ensures all { (insn : Insn) → Reads first second insn → result ≡ Some insn }
+{
+    if let Some(insn) = mem::decode(first) {
+        return Some(insn);
+    }
+    if let Some(insn) = shifted::decode(first) {
+        return Some(insn);
+    }
+    if let Some(insn) = ar_mem::decode(first) {
+        return Some(insn);
+    }
+    if let Some(insn) = port::decode(first) {
+        return Some(insn);
+    }
+    if let Some(insn) = bit::decode(first) {
+        return Some(insn);
+    }
+    if let Some(insn) = short::decode(first) {
+        return Some(insn);
+    }
+    if let Some(insn) = long::decode(first, second) {
+        return Some(insn);
+    }
+    if let Some(insn) = long_mem::decode(first, second) {
+        return Some(insn);
+    }
+    if let Some(insn) = jump::decode(first, second) {
+        return Some(insn);
+    }
+    plain::decode(first)
+}
+
+/// How many words the instructions of a row have, 1 or 2.
+pub fn size_of(mnemonic: Mnemonic) -> u16
+    ensures { result ≡ size mnemonic }
+{
+    match mnemonic {
+        Mnemonic::Mem(name) => mem::size_of(name),
+        Mnemonic::Shifted(name) => shifted::size_of(name),
+        Mnemonic::ArMem(name) => ar_mem::size_of(name),
+        Mnemonic::Port(name) => port::size_of(name),
+        Mnemonic::Bit(name) => bit::size_of(name),
+        Mnemonic::Short(name) => short::size_of(name),
+        Mnemonic::Long(name) => long::size_of(name),
+        Mnemonic::LongMem(name) => long_mem::size_of(name),
+        Mnemonic::Jump(name) => jump::size_of(name),
+        Mnemonic::Plain(name) => plain::size_of(name),
+    }
+}
+
+#[cfg(test)]
+mod tests;

@@ -1,0 +1,111 @@
+//! Instructions with a long address and a memory operand: two words, the first like those with a
+//! memory operand alone.
+
+ghost use Rattle.std.specs.Prelude.{◌≡◌, ℕ, ◌+◌, ◌*◌, ◌++◌, ◌≤◌, ◌^◌, Some, IfNone, IfSome, OnOk, string_bytes};
+ghost use Rattle.c25_meaning.specs.Table.{long_mem_row, SameLetters, size, first_word, Reads, AddrInRange};
+ghost use Rattle.c25_meaning.specs.Show.{show};
+ghost use Rattle.c25_meaning.specs.declared.mnemonic.LongMemName.{LongMemName};
+ghost use Rattle.c25_meaning.specs.declared.mnemonic.Mnemonic.TheVariants as family;
+ghost use Rattle.c25_meaning.specs.declared.insn.Addr.{Addr};
+ghost use Rattle.c25_meaning.specs.declared.insn.Insn.TheVariants as insn;
+
+use crate::{addr, rows, text};
+use c25_bits::Field;
+use c25_meaning::insn::{Addr, Insn};
+use c25_meaning::mnemonic::LongMemName;
+use std::alloc::AllocError;
+
+macro_rules! long_mem_rows {
+    ($what:ident $value:expr) => {
+        rows::$what! { LongMemName 2 $value;
+            Macd "MACD" 0x5c,
+            Mac "MAC" 0x5d,
+            Blkp "BLKP" 0xfc,
+            Blkd "BLKD" 0xfd,
+        }
+    };
+}
+
+/// A row's first word where every operand is 0.
+fn base_of(name: LongMemName) -> u16
+    ensures value { result ≡ (long_mem_row name).base }
+    ensures room { result + 256 ≤ 2 ^ 16 }
+{
+    long_mem_rows!(base_of name)
+}
+
+/// The row that has a high byte.
+fn name_at(high: u16) -> Option<LongMemName>
+    ensures found { IfSome result (λ name. (long_mem_row name).base ≡ 256 * high) }
+    ensures all { (name : LongMemName)
+        → (long_mem_row name).base ≡ 256 * high → result ≡ Some name }
+{
+    long_mem_rows!(name_at high)
+}
+
+/// A row's mnemonic.
+pub(crate) fn text_of(name: LongMemName) -> &'static str
+    ensures { result.now ≡ (long_mem_row name).name }
+{
+    long_mem_rows!(text_of name)
+}
+
+/// The row that a text names, in either case.
+pub(crate) fn named(text: &str) -> Option<LongMemName>
+    ensures found { IfSome result (λ name. SameLetters text.now (long_mem_row name).name) }
+    ensures none { IfNone result
+        ((name : LongMemName) → SameLetters text.now (long_mem_row name).name → ⊥) }
+{
+    long_mem_rows!(named text)
+}
+
+/// How many words an instruction of a row has.
+pub(crate) fn size_of(name: LongMemName) -> u16
+    ensures { result ≡ size (family.LongMem name) }
+{
+    long_mem_rows!(words_of name)
+}
+
+/// The first word of an instruction.
+pub(crate) fn encode(name: LongMemName, word: u16, addr: Addr) -> u16
+    requires { AddrInRange addr }
+    ensures { result ≡ first_word (insn.LongMem name word addr) }
+{
+    base_of(name) + addr::byte_of_addr(addr)
+}
+
+/// The instruction of this family that two words read as.
+pub(crate) fn decode(first: u16, second: u16) -> Option<Insn>
+    ensures found { IfSome result (Reads first second) }
+    ensures all { (name : LongMemName) (word : ℕ) (addr : Addr)
+        → Reads first second (insn.LongMem name word addr)
+        → result ≡ Some (insn.LongMem name word addr) }
+{
+    let name = name_at(Field::<8, 8>::get(first))?;
+    let addr = addr::addr_of_byte(Field::<0, 8>::get(first))?;
+    Some(Insn::LongMem(name, second, addr))
+}
+
+/// Appends an instruction's text.
+pub(crate) fn show(
+    out: &mut String,
+    name: LongMemName,
+    word: u16,
+    addr: Addr,
+) -> Result<(), AllocError>
+    ensures { OnOk result
+        (string_bytes out.new ≡ string_bytes out.old ++ show (insn.LongMem name word addr)) }
+{
+    out.push_str(text_of(name))?;
+    out.push_str(" ")?;
+    text::push_long(out, word)?;
+    out.push_str(",")?;
+    text::push_place(out, addr)?;
+    text::push_tail(out, addr)
+}
+
+/// All rows, for tests.
+#[cfg(test)]
+pub(crate) fn all() -> [LongMemName; 4] {
+    long_mem_rows!(all())
+}

@@ -1,0 +1,92 @@
+//! What a family's list of rows expands to. The macro of a family holds its rows, once, and hands
+//! them to one of the macros here, each of which makes one `match` of them, as in
+//! `mem_rows!(words_of name)`.
+//!
+//! A list begins with the family's enum and the number of words that its instructions have. A row
+//! is a name, its text, and the high byte of its first word, or the first and the last such byte.
+//! The families with long numbers and without a data word have the whole first word in place of its
+//! high byte.
+
+/// A name's first word where every operand is 0.
+macro_rules! base_of {
+    ($names:ident $words:literal $name:expr; $($row:ident $text:literal $high:literal $($last:literal)?,)*) => {
+        match $name {
+            $($names::$row => $high << 8,)*
+        }
+    };
+}
+
+/// The same, where the rows have the first word whole.
+macro_rules! word_of {
+    ($names:ident $words:literal $name:expr; $($row:ident $text:literal $word:literal $($last:literal)?,)*) => {
+        match $name {
+            $($names::$row => $word,)*
+        }
+    };
+}
+
+/// The name that has a high byte or a word.
+macro_rules! name_at {
+    ($names:ident $words:literal $value:expr; $($row:ident $text:literal $first:literal $($last:literal)?,)*) => {
+        match $value {
+            $($first $(..=$last)? => Some($names::$row),)*
+            _ => None,
+        }
+    };
+}
+
+/// The name that has a high byte or a word, and how far that is above the row's first.
+macro_rules! numbered_at {
+    ($names:ident $words:literal $value:expr; $($row:ident $text:literal $first:literal $($last:literal)?,)*) => {
+        match $value {
+            $(number @ $first $(..=$last)? => Some(($names::$row, number - $first)),)*
+            _ => None,
+        }
+    };
+}
+
+/// How many words an instruction has.
+macro_rules! words_of {
+    ($names:ident $words:literal $name:expr; $($row:ident $text:literal $($number:literal)+,)*) => {
+        match $name {
+            $($names::$row)|* => $words,
+        }
+    };
+}
+
+/// A name's text.
+macro_rules! text_of {
+    ($names:ident $words:literal $name:expr; $($row:ident $text:literal $($number:literal)+,)*) => {
+        match $name {
+            $($names::$row => $text,)*
+        }
+    };
+}
+
+/// The name that has a text, in either case.
+macro_rules! named {
+    ($names:ident $words:literal $name:expr; $($row:ident $text:literal $($number:literal)+,)*) => {
+        match $name {
+            $(text if text.eq_ignore_ascii_case($text) => Some($names::$row),)*
+            _ => None,
+        }
+    };
+}
+
+/// All names of a family.
+#[cfg(test)]
+macro_rules! all {
+    ($names:ident $words:literal $nothing:expr; $($row:ident $text:literal $($number:literal)+,)*) => {
+        [$($names::$row,)*]
+    };
+}
+
+#[cfg(test)]
+pub(crate) use all;
+pub(crate) use base_of;
+pub(crate) use name_at;
+pub(crate) use named;
+pub(crate) use numbered_at;
+pub(crate) use text_of;
+pub(crate) use word_of;
+pub(crate) use words_of;

@@ -1,0 +1,113 @@
+//! Instructions with a memory operand and a shift: one word, the shift in the high byte.
+
+ghost use Rattle.std.specs.Prelude.{◌≡◌, ℕ, pos, ◌+◌, ◌*◌, ◌%◌, ◌++◌, ◌<◌, ◌≤◌, ◌^◌, Some, IfNone, IfSome, OnOk, string_bytes};
+ghost use Rattle.c25_meaning.specs.Table.{shifted_row, SameLetters, size, placed, first_word, Reads, AddrInRange, shift_limit};
+ghost use Rattle.c25_meaning.specs.Show.{show};
+ghost use Rattle.c25_meaning.specs.declared.mnemonic.ShiftedName.{ShiftedName};
+ghost use Rattle.c25_meaning.specs.declared.mnemonic.Mnemonic.TheVariants as family;
+ghost use Rattle.c25_meaning.specs.declared.insn.Addr.{Addr};
+ghost use Rattle.c25_meaning.specs.declared.insn.Insn.TheVariants as insn;
+
+use crate::{addr, rows, text};
+use c25_bits::Field;
+use c25_meaning::insn::{Addr, Insn};
+use c25_meaning::mnemonic::ShiftedName;
+use std::alloc::AllocError;
+
+macro_rules! shifted_rows {
+    ($what:ident $value:expr) => {
+        rows::$what! { ShiftedName 1 $value;
+            Add "ADD" 0x00 0x0f,
+            Sub "SUB" 0x10 0x1f,
+            Lac "LAC" 0x20 0x2f,
+            Sacl "SACL" 0x60 0x67,
+            Sach "SACH" 0x68 0x6f,
+        }
+    };
+}
+
+/// A row's first word where every operand is 0.
+fn base_of(name: ShiftedName) -> u16
+    ensures value { result ≡ (shifted_row name).base }
+    ensures room { result + 256 * shift_limit name ≤ 2 ^ 16 }
+{
+    shifted_rows!(base_of name)
+}
+
+/// The row of a first word, and the number in its high byte.
+fn row_of(first: u16) -> Option<(ShiftedName, u16)>
+    ensures found { IfSome result (λ found. (found.1 < shift_limit found.0)
+        × ((shifted_row found.0).base + found.1 * 2 ^ 8 + first % 256 ≡ first)) }
+    ensures all { (name : ShiftedName) (shift low : ℕ) → shift < shift_limit name → low < 256
+        → (shifted_row name).base + placed (pos shift) 8 4 + low ≡ first
+        → result ≡ Some (name, shift) }
+{
+    shifted_rows!(numbered_at first >> 8)
+}
+
+/// A row's mnemonic.
+pub(crate) fn text_of(name: ShiftedName) -> &'static str
+    ensures { result.now ≡ (shifted_row name).name }
+{
+    shifted_rows!(text_of name)
+}
+
+/// The row that a text names, in either case.
+pub(crate) fn named(text: &str) -> Option<ShiftedName>
+    ensures found { IfSome result (λ name. SameLetters text.now (shifted_row name).name) }
+    ensures none { IfNone result
+        ((name : ShiftedName) → SameLetters text.now (shifted_row name).name → ⊥) }
+{
+    shifted_rows!(named text)
+}
+
+/// How many words an instruction of a row has.
+pub(crate) fn size_of(name: ShiftedName) -> u16
+    ensures { result ≡ size (family.Shifted name) }
+{
+    shifted_rows!(words_of name)
+}
+
+/// The first word of an instruction.
+pub(crate) fn encode(name: ShiftedName, addr: Addr, shift: u16) -> u16
+    requires shift_in_range { shift < shift_limit name }
+    requires addr_in_range { AddrInRange addr }
+    ensures { result ≡ first_word (insn.Shifted name addr shift) }
+{
+    base_of(name) + (shift << 8) + addr::byte_of_addr(addr)
+}
+
+/// The instruction of this family that a first word reads as.
+pub(crate) fn decode(first: u16) -> Option<Insn>
+    ensures found { (second : ℕ) → IfSome result (Reads first second) }
+    ensures all { (second : ℕ) (name : ShiftedName) (addr : Addr) (shift : ℕ)
+        → Reads first second (insn.Shifted name addr shift)
+        → result ≡ Some (insn.Shifted name addr shift) }
+{
+    let (name, shift) = row_of(first)?;
+    let addr = addr::addr_of_byte(Field::<0, 8>::get(first))?;
+    Some(Insn::Shifted(name, addr, shift))
+}
+
+/// Appends an instruction's text.
+pub(crate) fn show(
+    out: &mut String,
+    name: ShiftedName,
+    addr: Addr,
+    shift: u16,
+) -> Result<(), AllocError>
+    ensures { OnOk result
+        (string_bytes out.new ≡ string_bytes out.old ++ show (insn.Shifted name addr shift)) }
+{
+    out.push_str(text_of(name))?;
+    out.push_str(" ")?;
+    text::push_place(out, addr)?;
+    write!(out, ",{shift}")?;
+    text::push_tail(out, addr)
+}
+
+/// All rows, for tests.
+#[cfg(test)]
+pub(crate) fn all() -> [ShiftedName; 5] {
+    shifted_rows!(all())
+}

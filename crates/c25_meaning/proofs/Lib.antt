@@ -1,0 +1,14 @@
+pub mod FirstWords
+pub mod Image
+pub mod Keeps
+pub mod Keys
+pub mod Numbers
+pub mod OneRun
+pub mod OperandBytes
+pub mod Placing
+pub mod Readings
+pub mod RowBases
+pub mod RowNames
+pub mod Spelled
+pub mod Spellings
+pub mod WordMaps

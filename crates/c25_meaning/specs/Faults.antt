@@ -1,0 +1,44 @@
+-- The numbers and names of a source's faults.
+use Rattle.std.specs.Prelude.{ℕ, List, codes}
+use Rattle.c25_meaning.specs.declared.statement.FaultKind.{FaultKind}
+use Rattle.c25_meaning.specs.declared.statement.FaultKind.TheVariants as fault
+
+abbrev pub fault_number : FaultKind → ℕ
+fault_number fault.BadLabel = 10
+fault_number fault.BadConstant = 11
+fault_number fault.OpenQuote = 12
+fault_number fault.StrayText = 13
+fault_number fault.BadExpression = 20
+fault_number fault.TooDeep = 21
+fault_number fault.Undefined = 22
+fault_number fault.NotAbsolute = 23
+fault_number fault.DivideByZero = 24
+fault_number fault.ValueRange = 25
+fault_number fault.Defined = 26
+fault_number fault.NoFile = 30
+fault_number fault.UnknownMnemonic = 50
+fault_number fault.OperandCount = 51
+fault_number fault.OperandForm = 52
+fault_number fault.FieldRange = 53
+fault_number fault.TooLarge = 54
+fault_number fault.NotRelocatable = 55
+
+abbrev pub fault_name : FaultKind → List ℕ
+fault_name fault.BadLabel = codes "BadLabel"
+fault_name fault.BadConstant = codes "BadConstant"
+fault_name fault.OpenQuote = codes "OpenQuote"
+fault_name fault.StrayText = codes "StrayText"
+fault_name fault.BadExpression = codes "BadExpression"
+fault_name fault.TooDeep = codes "TooDeep"
+fault_name fault.Undefined = codes "Undefined"
+fault_name fault.NotAbsolute = codes "NotAbsolute"
+fault_name fault.DivideByZero = codes "DivideByZero"
+fault_name fault.ValueRange = codes "ValueRange"
+fault_name fault.Defined = codes "Defined"
+fault_name fault.NoFile = codes "NoFile"
+fault_name fault.UnknownMnemonic = codes "UnknownMnemonic"
+fault_name fault.OperandCount = codes "OperandCount"
+fault_name fault.OperandForm = codes "OperandForm"
+fault_name fault.FieldRange = codes "FieldRange"
+fault_name fault.TooLarge = codes "TooLarge"
+fault_name fault.NotRelocatable = codes "NotRelocatable"

@@ -1,0 +1,12 @@
+-- The texts of sources by their names.
+use Rattle.std.specs.Prelude.{ℕ, List, Option}
+use Rattle.std.specs.Map.{lookup}
+use Rattle.std.specs.Str.{bytes_eq}
+
+-- names and texts, in the order in which they were added
+abbrev pub Files : Type 0
+Files = List (List ℕ × List ℕ)
+
+-- the text of a name
+abbrev pub text_named : Files → List ℕ → Option (List ℕ)
+text_named files name = lookup (bytes_eq name) files

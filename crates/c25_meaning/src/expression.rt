@@ -1,0 +1,39 @@
+//! Operators of expressions.
+
+/// An operator before its operand.
+#[derive(Clone, Copy, PartialEq, Eq, Debug)]
+pub enum UnaryOperator {
+    Plus,
+    Minus,
+    Complement,
+}
+
+/// An operator between its operands.
+#[derive(Clone, Copy, PartialEq, Eq, Debug)]
+pub enum BinaryOperator {
+    Multiply,
+    Divide,
+    Remainder,
+    Add,
+    Subtract,
+    ShiftLeft,
+    ShiftRight,
+    Less,
+    LessOrEqual,
+    Greater,
+    GreaterOrEqual,
+    Equal,
+    NotEqual,
+    And,
+    ExclusiveOr,
+    Or,
+}
+
+/// Why tokens are no expression that is read.
+#[derive(Clone, Copy, PartialEq, Eq, Debug)]
+pub enum ExpressionFault {
+    /// The tokens are no expression (20).
+    BadExpression,
+    /// Parentheses and unary operators nest more than 64 deep (21).
+    TooDeep,
+}

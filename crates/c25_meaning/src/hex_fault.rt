@@ -1,0 +1,28 @@
+//! What is wrong with a hex text.
+
+/// Why a line, or the text, is not Intel hex of 16-bit words. The numbers are those of the
+/// fault lines.
+#[derive(Clone, Copy, Debug, PartialEq, Eq)]
+pub enum HexFault {
+    /// A line that is not blank does not begin with `:` (80).
+    BadStart,
+    /// A character behind the `:` is no hexadecimal digit (81).
+    BadDigit,
+    /// The digits are odd in number, the count is not that of the bytes, or the kind asks for
+    /// another count (82).
+    BadCount,
+    /// The bytes of a line do not add up to a multiple of 256 (83).
+    BadSum,
+    /// The kind is none of 00 to 05 (84).
+    BadKind,
+    /// At the end line one byte of a word is given and the other is not (85).
+    OddWord,
+    /// A byte is given twice, be it equal or not (86).
+    Twice,
+    /// The text ends without an end line (87).
+    NoEnd,
+    /// A line that is not blank follows the end line (88).
+    AfterEnd,
+    /// Bytes past the 65,536 of their base, or past the 131,072 of the address space (89).
+    AddressRange,
+}

@@ -1,0 +1,19 @@
+//! The definitions that the other crates' contracts cite, and the plain types that they share.
+#![tactic(auto)]
+
+pub mod expression;
+pub mod hex_fault;
+pub mod insn;
+pub mod laws;
+pub mod line;
+pub mod lines;
+pub mod mark;
+pub mod marks;
+pub mod mnemonic;
+pub mod no_memory;
+pub mod object;
+pub mod registers;
+pub mod statement;
+pub mod stop;
+pub mod value;
+pub mod word_map;

@@ -1,0 +1,50 @@
+//! Which lists of marks are those of a program.
+
+ghost use Rattle.std.specs.Prelude.{◌≡◌};
+ghost use Rattle.c25_meaning.specs.Marks.{fit_from};
+
+use crate::mark::Mark;
+
+/// Whether marks may be the instructions of one image: each has one or two words, they ascend, no
+/// two share a word, and each ends below address 65,536. It holds of no marks.
+pub fn marks_fit(marks: &[Mark]) -> bool
+    ensures { result ≡ fit_from 0 marks.now }
+{
+    let mut end = 0;
+    for mark in marks {
+        let after = u32::from(mark.address) + u32::from(mark.size);
+        if u32::from(mark.address) < end || mark.size < 1 || mark.size > 2 || after > 65_536 {
+            return false;
+        }
+        end = after;
+    }
+    true
+}
+
+#[cfg(test)]
+mod tests {
+    use super::*;
+
+    fn marks_of_three(sizes: [u16; 3], addresses: [u16; 3]) -> [Mark; 3] {
+        [0, 1, 2].map(|i: usize| Mark {
+            address: addresses[i % 3],
+            size: sizes[i % 3],
+        })
+    }
+
+    #[test]
+    fn marks_of_an_image_fit(rt: HostRuntime) {
+        let fit = |sizes, addresses| marks_fit(&marks_of_three(sizes, addresses));
+        assert_eq!(rt; marks_fit(&[]), true);
+        assert_eq!(rt; fit([1, 2, 1], [0, 1, 0xffff]), true);
+        assert_eq!(rt;
+            fit([1, 2, 2], [0, 1, 0xffff]),
+            false,
+            "it ends past the page"
+        );
+        assert_eq!(rt; fit([1, 2, 1], [0, 1, 2]), false, "two share a word");
+        assert_eq!(rt; fit([1, 1, 1], [0, 2, 1]), false, "they do not ascend");
+        assert_eq!(rt; fit([1, 3, 1], [0, 1, 9]), false, "one has three words");
+        assert_eq!(rt; fit([0, 1, 1], [0, 1, 9]), false, "one has none");
+    }
+}

@@ -1,0 +1,112 @@
+//! Instruction statements as they are written: an instruction without its numbers, what its operands
+//! fill, and what is wrong with a line.
+
+use crate::insn::Change;
+use crate::mnemonic::*;
+
+/// How the memory operand of an instruction is written.
+#[derive(Clone, Copy, PartialEq, Eq, Debug)]
+pub enum AddrForm {
+    /// By an expression.
+    Direct,
+    /// By the current auxiliary register; a next one may follow.
+    Indirect(Change),
+}
+
+/// An instruction without the numbers of its operands.
+#[derive(Clone, Copy, PartialEq, Eq, Debug)]
+pub enum Form {
+    Mem(MemName, AddrForm),
+    Shifted(ShiftedName, AddrForm),
+    ArMem(ArMemName, AddrForm),
+    Port(PortName, AddrForm),
+    Bit(BitName, AddrForm),
+    Short(ShortName),
+    Long(LongName),
+    LongMem(LongMemName, AddrForm),
+    Jump(JumpName, Change),
+    /// The change is that of `NORM`.
+    Plain(PlainName, Change),
+}
+
+/// What an operand's number fills.
+#[derive(Clone, Copy, PartialEq, Eq, Debug)]
+pub enum Field {
+    /// The low seven bits of an operand byte.
+    Low7,
+    /// The page of `LDPK`.
+    Page9,
+    /// A second word.
+    Word16,
+    /// A number below a limit: a shift, a register, a port, a bit code or a short constant.
+    Number(u16),
+    /// The factor of `MPYK`.
+    Signed13,
+    /// A word of `.word`.
+    Word,
+    /// A word of `.byte`.
+    Byte,
+}
+
+/// How an address goes into a field.
+#[derive(Clone, Copy, PartialEq, Eq, Debug)]
+pub enum RelocationKind {
+    /// Its low sixteen bits.
+    Word16,
+    /// Its low seven bits.
+    Low7,
+    /// Its page of 128 words.
+    Page9,
+}
+
+/// What is wrong with a line.
+#[derive(Clone, Copy, PartialEq, Eq, Debug)]
+pub enum FaultKind {
+    /// A label or name that is none, or is longer than 128 characters (10).
+    BadLabel,
+    /// A constant with a digit that its base does not have (11).
+    BadConstant,
+    /// A quote that is not closed (12).
+    OpenQuote,
+    /// A character that begins no token (13).
+    StrayText,
+    /// An operand that is no expression (20).
+    BadExpression,
+    /// An expression that nests more than 64 deep (21).
+    TooDeep,
+    /// A name that stands for nothing (22).
+    Undefined,
+    /// A place where an absolute value is asked for (23).
+    NotAbsolute,
+    /// A division by zero (24).
+    DivideByZero,
+    /// A value outside 32 signed bits, or a shift count outside 0 to 31 (25).
+    ValueRange,
+    /// A name that stands for something already (26).
+    Defined,
+    /// A file that is not there (30).
+    NoFile,
+    /// A first word that is no mnemonic (50).
+    UnknownMnemonic,
+    /// Too few operands, or too many (51).
+    OperandCount,
+    /// An operand of another form than the instruction takes (52).
+    OperandForm,
+    /// A number that its field does not take (53).
+    FieldRange,
+    /// More than 65,536 words, or more than 65,535 names (54).
+    TooLarge,
+    /// An address in a field that takes none (55).
+    NotRelocatable,
+}
+
+/// What an operand is by its tokens.
+#[derive(Clone, Copy, PartialEq, Eq, Debug)]
+pub enum Written {
+    /// Tokens of an expression, or of nothing.
+    Expression,
+    /// One of the seven indirect forms.
+    Indirect(Change),
+    /// One string.
+    Quoted,
+}

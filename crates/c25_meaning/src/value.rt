@@ -1,0 +1,51 @@
+//! Values of expressions.
+
+use std::error::Error;
+use std::fmt;
+
+/// Why an expression has no value.
+#[derive(Clone, Copy, PartialEq, Eq, Debug)]
+pub enum ValueFault {
+    /// A name stands for nothing (22).
+    Undefined,
+    /// An operator that takes absolute numbers alone was given a place (23).
+    NotAbsolute,
+    /// A divisor is zero (24).
+    DivideByZero,
+    /// A number outside 32 signed bits, or a shift count outside 0 to 31 (25).
+    ValueRange,
+}
+
+impl fmt::Display for ValueFault {
+    fn fmt<W: fmt::Write>(&self, f: &mut fmt::Formatter<W>) -> fmt::Result {
+        match self {
+            ValueFault::Undefined => write!(f, "Undefined"),
+            ValueFault::NotAbsolute => write!(f, "NotAbsolute"),
+            ValueFault::DivideByZero => write!(f, "DivideByZero"),
+            ValueFault::ValueRange => write!(f, "ValueRange"),
+        }
+    }
+}
+
+impl Error for ValueFault {}
+
+/// What a value counts from.
+#[derive(Clone, Copy, PartialEq, Eq, Debug, Default)]
+pub enum Base {
+    /// Nothing: the value is a plain number.
+    #[default]
+    Absolute,
+    /// The start of a section of this module, by the section's number.
+    Section(u8),
+    /// The address of an external symbol, by the symbol's number.
+    External(u16),
+}
+
+/// The value of an expression: a number that counts from a base.
+#[derive(Clone, Copy, PartialEq, Eq, Debug, Default)]
+pub struct Value {
+    /// What the number counts from.
+    pub base: Base,
+    /// The number.
+    pub offset: i32,
+}

@@ -1,0 +1,184 @@
+//! Which items may stand in a module, behind the items before them.
+
+ghost use Rattle.std.specs.Prelude.{◌≡◌, ◌+◌};
+ghost use Rattle.std.specs.List.{slice_get};
+ghost use Rattle.c25_meaning.specs.Module as spec;
+ghost use Rattle.c25_obj.specs.View.{body_data, section_data, symbol_data, sections_data, symbols_data};
+
+use crate::names::{is_section_name, is_symbol_name};
+use crate::parts::{Body, Section, Symbol};
+use c25_meaning::object::{FieldKind, ModuleMark, Relocation, RelocationBase, Scope, SymbolKind};
+
+fn is_text(section: &Section) -> bool
+    ensures { result ≡ spec.is_text (section_data section.now) }
+{
+    section.name.as_str() == ".text" && matches!(section.body, Body::Initialised(_))
+}
+
+fn begins_sections(before: &[Section], section: &Section) -> bool
+    ensures { result ≡ spec.begins_sections (sections_data before.now) (section_data section.now) }
+{
+    !before.is_empty() || is_text(section)
+}
+
+fn has_section(before: &[Section], name: &str) -> bool
+    ensures { result ≡ spec.has_section (sections_data before.now) name.now }
+{
+    for section in before {
+        if section.name.as_str() == name {
+            return true;
+        }
+    }
+    false
+}
+
+fn size_of(body: &Body) -> usize
+    ensures { result ≡ spec.body_size (body_data body.now) }
+{
+    match body {
+        Body::Uninitialised(size) => *size as usize,
+        Body::Initialised(words) => words.len(),
+    }
+}
+
+/// Whether the section may follow these.
+pub(crate) fn section_fits(before: &[Section], section: &Section) -> bool
+    ensures { result ≡ spec.section_fits (sections_data before.now) (section_data section.now) }
+{
+    is_section_name(section.name.as_bytes())
+        && size_of(&section.body) <= 65_536
+        && begins_sections(before, section)
+        && !has_section(before, &section.name)
+        && before.len() < 255
+}
+
+/// The words of a section by its number.
+fn words_at(sections: &[Section], number: u16) -> &[u16]
+    ensures { result.now ≡ spec.words_at (sections_data sections.now) number }
+{
+    match sections.get(number as usize) {
+        Some(
+            Section {
+                body: Body::Initialised(words),
+                ..
+            },
+        ) => words,
+        _ => &[],
+    }
+}
+
+fn is_from(section: u16, offset: u32, other_section: u16, other_offset: u32) -> bool
+    ensures { result ≡ spec.is_from section offset other_section other_offset }
+{
+    section < other_section || (section == other_section && offset <= other_offset)
+}
+
+fn past(offset: u16, size: u8) -> u32
+    ensures { result ≡ offset + size }
+{
+    u32::from(offset) + u32::from(size)
+}
+
+fn mark_after(before: &[ModuleMark], mark: &ModuleMark) -> bool
+    ensures { result ≡ spec.mark_after (spec.last_of before.now) mark.now }
+{
+    match before.last() {
+        None => true,
+        Some(last) => {
+            let end = past(last.offset, last.size);
+            is_from(last.section, end, mark.section, u32::from(mark.offset))
+        }
+    }
+}
+
+/// Whether the mark may follow these.
+pub(crate) fn mark_fits(sections: &[Section], before: &[ModuleMark], mark: &ModuleMark) -> bool
+    ensures { result ≡ spec.mark_fits (sections_data sections.now) before.now mark.now }
+{
+    (mark.size == 1 || mark.size == 2)
+        && mark.offset as usize + mark.size as usize <= words_at(sections, mark.section).len()
+        && mark_after(before, mark)
+}
+
+fn place_fits(sections: &[Section], symbol: &Symbol) -> bool
+    ensures { result ≡ spec.place_fits (sections_data sections.now) (symbol_data symbol.now) symbol.now.kind }
+{
+    match symbol.kind {
+        SymbolKind::Absolute => true,
+        SymbolKind::InSection(number) => (number as usize) < sections.len(),
+        SymbolKind::External => symbol.scope == Scope::Global && symbol.value == 0,
+    }
+}
+
+/// Whether the symbol may stand in a module with these sections, whatever its other symbols are.
+pub(crate) fn symbol_stands(sections: &[Section], symbol: &Symbol) -> bool
+    ensures { result ≡ spec.symbol_stands (sections_data sections.now) (symbol_data symbol.now) }
+{
+    is_symbol_name(symbol.name.as_bytes()) && place_fits(sections, symbol)
+}
+
+fn is_external(symbols: &[Symbol], number: u16) -> bool
+    ensures { result ≡ spec.is_external (slice_get (symbols_data symbols.now) number) }
+{
+    match symbols.get(number as usize) {
+        None => false,
+        Some(symbol) => symbol.kind == SymbolKind::External,
+    }
+}
+
+fn base_fits(sections: &[Section], symbols: &[Symbol], base: RelocationBase) -> bool
+    ensures { result ≡ spec.base_fits (sections_data sections.now) (symbols_data symbols.now) base }
+{
+    match base {
+        RelocationBase::Section(number) => (number as usize) < sections.len(),
+        RelocationBase::External(number) => is_external(symbols, number),
+    }
+}
+
+fn field_values(kind: FieldKind) -> u32
+    ensures { result ≡ spec.field_values kind }
+{
+    match kind {
+        FieldKind::Word16 => 65_536,
+        FieldKind::Low7 => 128,
+        FieldKind::Page9 => 512,
+    }
+}
+
+fn relocation_after(before: &[Relocation], relocation: &Relocation) -> bool
+    ensures { result ≡ spec.relocation_after (spec.last_of before.now) relocation.now }
+{
+    match before.last() {
+        None => true,
+        Some(last) => {
+            let end = past(last.offset, 1);
+            is_from(
+                last.section,
+                end,
+                relocation.section,
+                u32::from(relocation.offset),
+            )
+        }
+    }
+}
+
+fn field_is_clear(words: &[u16], relocation: &Relocation) -> bool
+    ensures { result ≡ spec.field_is_clear words.now relocation.now }
+{
+    let offset = relocation.offset as usize;
+    offset < words.len() && u32::from(words[offset]) % field_values(relocation.kind) == 0
+}
+
+/// Whether the relocation may follow these.
+pub(crate) fn relocation_fits(
+    sections: &[Section],
+    symbols: &[Symbol],
+    before: &[Relocation],
+    relocation: &Relocation,
+) -> bool
+    ensures { result ≡ spec.relocation_fits (sections_data sections.now) (symbols_data symbols.now) before.now relocation.now }
+{
+    base_fits(sections, symbols, relocation.base)
+        && relocation_after(before, relocation)
+        && field_is_clear(words_at(sections, relocation.section), relocation)
+}

@@ -1,0 +1,34 @@
+//! Modules of relocatable words as object records, and back.
+//!
+//! An object is `C25O`, a byte 1 for the version, and records of a tag, a four-byte length and a
+//! payload: sections (1), marks of instructions (2), symbols (3) and relocations (4), in this
+//! order, and a last record (255) without payload. Numbers are big-endian. A module has exactly one
+//! spelling, and no spelling begins another.
+#![tactic(auto)]
+
+mod codes;
+mod differing;
+mod failure;
+mod fields;
+mod fits;
+pub mod laws;
+mod made;
+mod making;
+mod named_payloads;
+mod names;
+mod parts;
+mod payloads;
+mod reading;
+mod spelling;
+mod writing;
+
+pub use failure::ReadError;
+pub use made::Module;
+pub use making::module;
+pub use parts::{Body, Parts, Section, Symbol};
+pub use reading::read_module;
+pub use spelling::spells;
+pub use writing::write_module;
+
+#[cfg(test)]
+mod tests;

@@ -1,0 +1,39 @@
+//! The lists that a module consists of.
+
+use c25_meaning::object::{ModuleMark, Relocation, Scope, SymbolKind};
+
+/// What a section has: a number of reserved words, or its words.
+#[derive(Debug, Drop)]
+pub enum Body {
+    /// So many words are reserved, and nothing is loaded there.
+    Uninitialised(u32),
+    /// The words that are loaded; a field that a relocation fills is 0 in its word.
+    Initialised(Vec<u16>),
+}
+
+/// A section: its name, and what it has.
+#[derive(Debug, Drop)]
+pub struct Section {
+    pub name: String,
+    pub body: Body,
+}
+
+/// A symbol. Its value is an offset in words where its kind is [`SymbolKind::InSection`], which may
+/// lie outside the section; it is 0 where its kind is [`SymbolKind::External`].
+#[derive(Debug, Drop)]
+pub struct Symbol {
+    pub kind: SymbolKind,
+    pub scope: Scope,
+    pub value: i32,
+    pub name: String,
+}
+
+/// The lists of a module, each in the order in which its records are written. Sections and symbols
+/// are named by their numbers from 0; marks and relocations ascend by section and offset.
+#[derive(Debug, Drop)]
+pub struct Parts {
+    pub sections: Vec<Section>,
+    pub marks: Vec<ModuleMark>,
+    pub symbols: Vec<Symbol>,
+    pub relocations: Vec<Relocation>,
+}

@@ -1,0 +1,211 @@
+//! The bytes of a module.
+
+ghost use Rattle.std.specs.Prelude.{◌≡◌, ◌++◌, ◌≤◌, ◌∷◌, length, IfOk, OnOk, string_bytes, [], true, All};
+ghost use Rattle.std.specs.List.{flat_map};
+ghost use Rattle.std.specs.Int.{w16, w32, to_be_bytes};
+ghost use Rattle.c25_meaning.specs.Module.{body_size, each_fits, section_fits};
+ghost use Rattle.c25_meaning.specs.Records as bytes;
+ghost use Rattle.c25_obj.specs.View.{body_data, section_data, symbol_data, sections_data, symbols_data, contents};
+
+use crate::codes::{base_code, base_index, field_code, kind_code, kind_section, scope_code};
+use crate::made::Module;
+use crate::parts::{Body, Section, Symbol};
+use c25_meaning::no_memory::NoMemory;
+use c25_meaning::object::{FieldKind, ModuleMark, Relocation, RelocationBase};
+use std::alloc::Global;
+
+/// What stands before a payload: its tag and its length.
+fn put_head(out: &mut Vec<u8>, tag: u8, length: u32) -> Result<(), NoMemory>
+    ensures { OnOk result (out.new.items ≡ out.old.items ++ tag ∷ to_be_bytes w32 length) }
+{
+    out.push(tag)?;
+    out.extend_from_slice(&length.to_be_bytes())?;
+    Ok(())
+}
+
+fn put_name(out: &mut Vec<u8>, name: &str) -> Result<(), NoMemory>
+    requires { length name.now ≤ 128 }
+    ensures { OnOk result (out.new.items ≡ out.old.items ++ bytes.counted name.now) }
+{
+    out.push(name.len() as u8)?;
+    out.extend_from_slice(name.as_bytes())?;
+    Ok(())
+}
+
+fn put_words(out: &mut Vec<u8>, words: &[u16]) -> Result<(), NoMemory>
+    ensures { OnOk result (out.new.items ≡ out.old.items ++ flat_map (to_be_bytes w16) words.now) }
+{
+    for word in words {
+        out.extend_from_slice(&word.to_be_bytes())?;
+    }
+    Ok(())
+}
+
+/// The length of a section's payload: flag, length of the name, the name, size, and the words.
+fn section_length(section: &Section) -> u32
+    requires named { length (string_bytes section.now.name) ≤ 32 }
+    requires sized { body_size (body_data section.now.body) ≤ 65536 }
+    ensures { result ≡ length (bytes.section_payload (section_data section.now)) }
+{
+    let without_words = section.name.len() as u32 + 6;
+    match &section.body {
+        Body::Uninitialised(_) => without_words,
+        Body::Initialised(words) => without_words + words.len() as u32 * 2,
+    }
+}
+
+fn put_section_payload(out: &mut Vec<u8>, section: &Section) -> Result<(), NoMemory>
+    requires named { length (string_bytes section.now.name) ≤ 32 }
+    requires sized { body_size (body_data section.now.body) ≤ 65536 }
+    ensures { OnOk result (out.new.items ≡ out.old.items ++ bytes.section_payload (section_data section.now)) }
+{
+    match &section.body {
+        Body::Uninitialised(size) => {
+            out.push(0)?;
+            put_name(out, &section.name)?;
+            out.extend_from_slice(&size.to_be_bytes())?;
+        }
+        Body::Initialised(words) => {
+            out.push(1)?;
+            put_name(out, &section.name)?;
+            out.extend_from_slice(&(words.len() as u32).to_be_bytes())?;
+            put_words(out, words)?;
+        }
+    }
+    Ok(())
+}
+
+fn put_section(out: &mut Vec<u8>, section: &Section) -> Result<(), NoMemory>
+    requires named { length (string_bytes section.now.name) ≤ 32 }
+    requires sized { body_size (body_data section.now.body) ≤ 65536 }
+    ensures { OnOk result (out.new.items ≡ out.old.items ++ bytes.section_entry (section_data section.now)) }
+{
+    put_head(out, 1, section_length(section))?;
+    put_section_payload(out, section)
+}
+
+/// A place: the number of a section, and an offset there.
+fn put_place(out: &mut Vec<u8>, section: u16, offset: u16) -> Result<(), NoMemory>
+    ensures { OnOk result (out.new.items ≡ out.old.items ++ (to_be_bytes w16 section ++ to_be_bytes w16 offset)) }
+{
+    out.extend_from_slice(&section.to_be_bytes())?;
+    out.extend_from_slice(&offset.to_be_bytes())?;
+    Ok(())
+}
+
+fn put_mark_payload(out: &mut Vec<u8>, mark: ModuleMark) -> Result<(), NoMemory>
+    ensures { OnOk result (out.new.items ≡ out.old.items ++ bytes.mark_payload mark) }
+{
+    put_place(out, mark.section, mark.offset)?;
+    out.push(mark.size)?;
+    Ok(())
+}
+
+fn put_mark(out: &mut Vec<u8>, mark: ModuleMark) -> Result<(), NoMemory>
+    ensures { OnOk result (out.new.items ≡ out.old.items ++ bytes.mark_entry mark) }
+{
+    put_head(out, 2, 5)?;
+    put_mark_payload(out, mark)
+}
+
+fn put_symbol_payload(out: &mut Vec<u8>, symbol: &Symbol) -> Result<(), NoMemory>
+    requires { length (string_bytes symbol.now.name) ≤ 128 }
+    ensures { OnOk result (out.new.items ≡ out.old.items ++ bytes.symbol_payload (symbol_data symbol.now)) }
+{
+    out.push(kind_code(symbol.kind))?;
+    out.push(scope_code(symbol.scope))?;
+    out.extend_from_slice(&kind_section(symbol.kind).to_be_bytes())?;
+    out.extend_from_slice(&symbol.value.to_be_bytes())?;
+    put_name(out, &symbol.name)
+}
+
+fn put_symbol(out: &mut Vec<u8>, symbol: &Symbol) -> Result<(), NoMemory>
+    requires { length (string_bytes symbol.now.name) ≤ 128 }
+    ensures { OnOk result (out.new.items ≡ out.old.items ++ bytes.symbol_entry (symbol_data symbol.now)) }
+{
+    put_head(out, 3, symbol.name.len() as u32 + 9)?;
+    put_symbol_payload(out, symbol)?;
+    Ok(())
+}
+
+fn put_kind_and_base(
+    out: &mut Vec<u8>,
+    kind: FieldKind,
+    base: RelocationBase,
+) -> Result<(), NoMemory>
+    ensures { OnOk result (out.new.items ≡ out.old.items ++ (bytes.field_code kind ∷ (bytes.base_code base ∷ to_be_bytes w16 (bytes.base_index base)))) }
+{
+    out.push(field_code(kind))?;
+    out.push(base_code(base))?;
+    out.extend_from_slice(&base_index(base).to_be_bytes())?;
+    Ok(())
+}
+
+fn put_relocation_payload(out: &mut Vec<u8>, relocation: &Relocation) -> Result<(), NoMemory>
+    ensures { OnOk result (out.new.items ≡ out.old.items ++ bytes.relocation_payload relocation.now) }
+{
+    put_place(out, relocation.section, relocation.offset)?;
+    put_kind_and_base(out, relocation.kind, relocation.base)?;
+    out.extend_from_slice(&relocation.addend.to_be_bytes())?;
+    Ok(())
+}
+
+fn put_relocation(out: &mut Vec<u8>, relocation: &Relocation) -> Result<(), NoMemory>
+    ensures { OnOk result (out.new.items ≡ out.old.items ++ bytes.relocation_entry relocation.now) }
+{
+    put_head(out, 4, 12)?;
+    put_relocation_payload(out, relocation)
+}
+
+fn put_sections(out: &mut Vec<u8>, sections: &[Section]) -> Result<(), NoMemory>
+    requires { each_fits section_fits [] (sections_data sections.now) ≡ true }
+    ensures { OnOk result (out.new.items ≡ out.old.items ++ flat_map bytes.section_entry (sections_data sections.now)) }
+{
+    for section in sections {
+        put_section(out, section)?;
+    }
+    Ok(())
+}
+
+fn put_marks(out: &mut Vec<u8>, marks: &[ModuleMark]) -> Result<(), NoMemory>
+    ensures { OnOk result (out.new.items ≡ out.old.items ++ flat_map bytes.mark_entry marks.now) }
+{
+    for mark in marks {
+        put_mark(out, *mark)?;
+    }
+    Ok(())
+}
+
+fn put_symbols(out: &mut Vec<u8>, symbols: &[Symbol]) -> Result<(), NoMemory>
+    requires { All (λ y. length (string_bytes y.name) ≤ 128) symbols.now }
+    ensures { OnOk result (out.new.items ≡ out.old.items ++ flat_map bytes.symbol_entry (symbols_data symbols.now)) }
+{
+    for symbol in symbols {
+        put_symbol(out, symbol)?;
+    }
+    Ok(())
+}
+
+fn put_relocations(out: &mut Vec<u8>, relocations: &[Relocation]) -> Result<(), NoMemory>
+    ensures { OnOk result (out.new.items ≡ out.old.items ++ flat_map bytes.relocation_entry relocations.now) }
+{
+    for relocation in relocations {
+        put_relocation(out, relocation)?;
+    }
+    Ok(())
+}
+
+/// The bytes of the module: its one spelling. It refuses for want of memory alone.
+pub fn write_module(alloc: Global, object: &Module) -> Result<Vec<u8>, NoMemory>
+    ensures { IfOk result (λ v. v.items ≡ bytes.spelling (contents object.now.parts)) }
+{
+    let parts = object.parts();
+    let mut out = Vec::new(alloc);
+    out.extend_from_slice(&[b'C', b'2', b'5', b'O', 1])?;
+    put_sections(&mut out, &parts.sections)?;
+    put_marks(&mut out, &parts.marks)?;
+    put_symbols(&mut out, &parts.symbols)?;
+    put_relocations(&mut out, &parts.relocations)?;
+    put_head(&mut out, 255, 0)?;
+    Ok(out)
+}

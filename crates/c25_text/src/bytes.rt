@@ -1,0 +1,59 @@
+//! The kinds of byte that lines are made of.
+
+ghost use Rattle.std.specs.Prelude.{◌≡◌};
+ghost use Rattle.c25_meaning.specs.Bytes.{is_blank, is_digit, is_letter, is_letter_or_digit, begins_name, goes_on_name, is_plain, is_field};
+ghost use Rattle.c25_meaning.specs.Bytes.{is_visible};
+
+pub(crate) fn is_blank(b: u8) -> bool
+    ensures { result ≡ is_blank b }
+{
+    b == b' ' || b == b'\t'
+}
+
+pub(crate) fn is_digit(b: u8) -> bool
+    ensures { result ≡ is_digit b }
+{
+    b >= b'0' && b <= b'9'
+}
+
+fn is_letter(b: u8) -> bool
+    ensures { result ≡ is_letter b }
+{
+    b >= b'A' && b <= b'Z' || b >= b'a' && b <= b'z'
+}
+
+pub(crate) fn is_letter_or_digit(b: u8) -> bool
+    ensures { result ≡ is_letter_or_digit b }
+{
+    is_letter(b) || is_digit(b)
+}
+
+pub(crate) fn begins_name(b: u8) -> bool
+    ensures { result ≡ begins_name b }
+{
+    is_letter(b) || b == b'_'
+}
+
+pub(crate) fn goes_on_name(b: u8) -> bool
+    ensures { result ≡ goes_on_name b }
+{
+    is_letter_or_digit(b) || b == b'_' || b == b'$'
+}
+
+pub(crate) fn is_plain(b: u8) -> bool
+    ensures { result ≡ is_plain b }
+{
+    b >= b' ' && b <= b'~' || b == b'\t'
+}
+
+pub(crate) fn is_visible(b: u8) -> bool
+    ensures { result ≡ is_visible b }
+{
+    b >= b'!' && b <= b'~'
+}
+
+pub(crate) fn is_field(b: u8) -> bool
+    ensures { result ≡ is_field b }
+{
+    !(is_blank(b) || b == b';')
+}

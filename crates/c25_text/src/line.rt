@@ -1,0 +1,167 @@
+//! The parts of a line.
+
+ghost use Rattle.std.specs.Prelude.{◌≡◌, ℕ, List, Ok, Err, length, slice_index, drop, nat_le, ◌&&◌, ◌<◌, ◌≤◌, MatchResult};
+ghost use Rattle.std.specs.Option.{option_map};
+ghost use Rattle.c25_meaning.specs.Line.{line_of, part_from, label_of, word_of, without_colon, is_name, is_comment_line, first_word, Operands, scan_from};
+ghost use Rattle.c25_text.specs.View.{parts_of, part_of, pieces_left};
+
+use crate::bytes::begins_name;
+use crate::lexemes::byte_at;
+use crate::runs::{all_go_on_name, all_visible, past_blanks, past_field};
+use crate::tokens::{Tokens, comment_from};
+use c25_meaning::line::LineFault;
+
+/// A part of a line that is no token: the place of its first byte, and its text, which is the slice of
+/// the line there.
+#[derive(Clone, Copy, Debug)]
+pub struct Word<'a> {
+    pub start: usize,
+    pub text: &'a str,
+}
+
+/// A line in its parts. They borrow the line.
+#[derive(Clone, Copy, Debug)]
+pub struct Line<'a> {
+    /// The label in column 1, without the colon that may end it.
+    pub label: Option<&'a str>,
+    /// The mnemonic, directive or macro name, as written: any run up to a blank or `;`.
+    pub word: Option<Word<'a>>,
+    /// The comment from its `;` on; of a comment line all of it.
+    pub comment: Option<Word<'a>>,
+    pub(crate) text: &'a str,
+    pub(crate) operands: usize,
+}
+
+impl<'a> Line<'a> {
+    /// The tokens of the operands, in order. The commas are among them, the first word is not. Each is
+    /// read where it is asked for, so a second walk costs as much as the first; none takes memory.
+    pub fn tokens(&self) -> Tokens<'a>
+        ensures { pieces_left result ≡ (parts_of self.now).pieces }
+    {
+        Tokens {
+            text: self.text,
+            at: self.operands,
+        }
+    }
+}
+
+/// The parts of a line without its end (LF or CRLF), or its leftmost fault: `BadLabel` where the run in
+/// column 1 is no label or a name among the operands is too long, `BadConstant` for a run that
+/// begins with a digit and is no constant, `OpenQuote` for a string that is not closed and a `'`
+/// that begins no character, `StrayText` for a character of no token.
+#[tactic(auto, using(crate::proofs::Scans::scan_end), unfolding(c25_meaning::specs::Line::statement_of))]
+pub fn split_line(text: &str) -> Result<Line<'_>, LineFault>
+    ensures { MatchResult result (λ l. line_of text.now ≡ Ok (parts_of l)) (λ f. line_of text.now ≡ Err f) }
+{
+    let bytes = text.as_bytes();
+    if is_comment_line(bytes) {
+        return Ok(Line {
+            label: None,
+            word: None,
+            comment: part_from(text, 0),
+            text,
+            operands: text.len(),
+        });
+    }
+    let label_end = past_field(bytes, 0);
+    let word_start = past_blanks(bytes, label_end);
+    let word_end = past_field(bytes, word_start);
+    let label = label_of(&text[..label_end])?;
+    let word = word_of(word_start, &text[word_start..word_end])?;
+    let stop = comment_from(bytes, word_end)?;
+    Ok(Line {
+        label,
+        word,
+        comment: part_from(text, stop),
+        text,
+        operands: word_end,
+    })
+}
+
+fn is_comment_line(text: &[u8]) -> bool
+    ensures { result ≡ is_comment_line text.now }
+{
+    byte_at(text, 0) == b'*' || byte_at(text, 0) == b';'
+}
+
+/// The text from a place on, if there is any.
+fn part_from(text: &str, start: usize) -> Option<Word<'_>>
+    requires within { start ≤ length text.now }
+    requires cut { start < length text.now → slice_index text.now start < 128 }
+    ensures { option_map part_of result ≡ part_from start (drop start text.now) }
+{
+    if start < text.len() {
+        Some(Word {
+            start,
+            text: &text[start..],
+        })
+    } else {
+        None
+    }
+}
+
+/// The label of the field in column 1.
+fn label_of(field: &str) -> Result<Option<&str>, LineFault>
+    ensures { MatchResult result (λ o. label_of field.now ≡ Ok (option_map (λ s. s.now) o)) (λ f. label_of field.now ≡ Err f) }
+{
+    if field.is_empty() {
+        return Ok(None);
+    }
+    let label = without_colon(field);
+    if is_label(label.as_bytes()) {
+        Ok(Some(label))
+    } else {
+        Err(LineFault::BadLabel)
+    }
+}
+
+/// A label without the colon that may end it.
+fn without_colon(field: &str) -> &str
+    ensures { result.now ≡ without_colon field.now }
+{
+    match field.as_bytes().split_last() {
+        Some((b':', front)) => &field[..front.len()],
+        _ => field,
+    }
+}
+
+fn is_label(name: &[u8]) -> bool
+    ensures { result ≡ (is_name name.now && nat_le (length name.now) 128) }
+{
+    let Some(first) = name.first() else {
+        return false;
+    };
+    begins_name(*first) && all_go_on_name(name) && name.len() <= 128
+}
+
+/// The mnemonic or directive.
+fn word_of(start: usize, text: &str) -> Result<Option<Word<'_>>, LineFault>
+    ensures { MatchResult result (λ o. word_of start text.now ≡ Ok (option_map part_of o)) (λ f. word_of start text.now ≡ Err f) }
+{
+    if text.is_empty() {
+        Ok(None)
+    } else if all_visible(text.as_bytes()) {
+        Ok(Some(Word { start, text }))
+    } else {
+        Err(LineFault::StrayText)
+    }
+}
+
+/// The first word of any text, whether it can be split or not: the run from column 1 up to a blank or
+/// `;`, which may be empty, and the blanks behind it are passed over, and the next such run is given.
+/// A comment line has none.
+pub fn first_word(text: &str) -> Option<&str>
+    ensures { option_map (λ s. s.now) result ≡ first_word text.now }
+{
+    let bytes = text.as_bytes();
+    if is_comment_line(bytes) {
+        return None;
+    }
+    let start = past_blanks(bytes, past_field(bytes, 0));
+    let end = past_field(bytes, start);
+    if start < end {
+        Some(&text[start..end])
+    } else {
+        None
+    }
+}

@@ -1,0 +1,75 @@
+//! How far the bytes of one kind go on.
+
+ghost use Rattle.std.specs.Prelude.{◌≡◌, ◌<◌, ◌≤◌, length, false, slice_index, drop};
+ghost use Rattle.std.specs.List.{prefix_len, list_all};
+ghost use Rattle.c25_meaning.specs.Bytes.{goes_on_name, is_letter_or_digit, is_blank, is_field, is_plain};
+ghost use Rattle.c25_meaning.specs.Bytes.{is_visible};
+ghost use Rattle.c25_meaning.specs.Line.{past_blanks, past_field};
+
+use crate::bytes::{goes_on_name, is_blank, is_field, is_letter_or_digit, is_plain, is_visible};
+
+pub(crate) fn name_run(text: &[u8]) -> usize
+    ensures value { result ≡ prefix_len goes_on_name text.now }
+    ensures bound { result ≤ length text.now }
+{
+    text.iter().take_while(|b| goes_on_name(**b)).count()
+}
+
+pub(crate) fn constant_run(text: &[u8]) -> usize
+    ensures value { result ≡ prefix_len is_letter_or_digit text.now }
+    ensures bound { result ≤ length text.now }
+{
+    text.iter().take_while(|b| is_letter_or_digit(**b)).count()
+}
+
+fn blank_run(text: &[u8]) -> usize
+    ensures value { result ≡ prefix_len is_blank text.now }
+    ensures bound { result ≤ length text.now }
+{
+    text.iter().take_while(|b| is_blank(**b)).count()
+}
+
+fn field_run(text: &[u8]) -> usize
+    ensures value { result ≡ prefix_len is_field text.now }
+    ensures bound { result ≤ length text.now }
+{
+    text.iter().take_while(|b| is_field(**b)).count()
+}
+
+pub(crate) fn all_plain(text: &[u8]) -> bool
+    ensures { result ≡ list_all is_plain text.now }
+{
+    text.iter().all(|b| is_plain(*b))
+}
+
+pub(crate) fn all_visible(text: &[u8]) -> bool
+    ensures { result ≡ list_all is_visible text.now }
+{
+    text.iter().all(|b| is_visible(*b))
+}
+
+pub(crate) fn all_go_on_name(text: &[u8]) -> bool
+    ensures { result ≡ list_all goes_on_name text.now }
+{
+    text.iter().all(|b| goes_on_name(*b))
+}
+
+/// Where the blanks at a place end.
+pub(crate) fn past_blanks(text: &[u8], from: usize) -> usize
+    requires { from ≤ length text.now }
+    ensures value { result ≡ past_blanks from text.now }
+    ensures least { from ≤ result }
+    ensures bound { result ≤ length text.now }
+{
+    from + blank_run(&text[from..])
+}
+
+/// Where the field at a place ends.
+pub(crate) fn past_field(text: &[u8], from: usize) -> usize
+    requires { from ≤ length text.now }
+    ensures value { result ≡ past_field from text.now }
+    ensures least { from ≤ result }
+    ensures bound { result ≤ length text.now }
+{
+    from + field_run(&text[from..])
+}

@@ -1,0 +1,59 @@
+//! Lines, from outside.
+
+use super::*;
+use c25_meaning::line::{LineFault, Sign, TokenKind};
+use line::{first_word, split_line};
+use std::process::Abort;
+use std::test::Fail;
+
+/// Whether a line is refused for this fault.
+fn is_refused(rt: &impl Abort, text: &str, fault: LineFault) {
+    assert_eq!(rt; split_line(text).map(|_| ()), Err(fault), "{text}");
+}
+
+#[test]
+fn lines_are_refused(rt: HostRuntime) {
+    is_refused(&rt, "9X NOP", LineFault::BadLabel);
+    is_refused(&rt, "X:NOP", LineFault::BadLabel);
+    is_refused(&rt, " .word 12G", LineFault::BadConstant);
+    is_refused(&rt, " .word 'A", LineFault::OpenQuote);
+    is_refused(&rt, " .word @", LineFault::StrayText);
+    is_refused(&rt, " .word \"é\"", LineFault::StrayText);
+}
+
+#[test]
+fn a_line_has_its_parts(rt: HostRuntime) -> Result<(), Fail> {
+    let line = split_line("GO:\tOUT 60h,'é' ; é");
+    assert!(rt; line.is_err());
+    let line = split_line("GO:\tOUT 60h,.x ; é")?;
+    assert_eq!(rt; line.label, Some("GO"));
+    let word = line.word.ok_or("no first word")?;
+    assert_eq!(rt; (word.start, word.text), (4, "OUT"));
+    let comment = line.comment.ok_or("no comment")?;
+    assert_eq!(rt; (comment.start, comment.text), (15, "; é"));
+    let mut tokens = line.tokens();
+    let first = tokens.next().ok_or("no token")?;
+    assert_eq!(rt;
+        (first.kind, first.start, first.text),
+        (TokenKind::Constant, 8, "60h")
+    );
+    assert_eq!(rt; constant_value(first.text.as_bytes()), 96);
+    assert_eq!(rt;
+        tokens.next().map(|token| token.kind),
+        Some(TokenKind::Sign(Sign::Comma))
+    );
+    assert_eq!(rt;
+        tokens.next().map(|token| token.kind),
+        Some(TokenKind::DottedName)
+    );
+    assert!(rt; tokens.next().is_none());
+    Ok(())
+}
+
+#[test]
+fn the_first_word_is_found_on_any_text(rt: HostRuntime) {
+    assert_eq!(rt; first_word("X: NOP ; é"), Some("NOP"));
+    assert_eq!(rt; first_word("é\t.endm;"), Some(".endm"));
+    assert_eq!(rt; first_word("* NOP"), None);
+    assert_eq!(rt; first_word("X ;NOP"), None);
+}
