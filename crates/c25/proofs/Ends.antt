@@ -1,12 +1,11 @@
 -- A run of a board that holds instructions ends as the run of their statements.
-use Rattle.std.proofs.Common.{◌≡◌, ℕ, ◌+◌, ◌≤◌, List, [], ◌∷◌, ◌++◌, length, refl, sym, ap, ◌∙◌, subst, arith, add_assoc, length-append}
-use Rattle.std.specs.List.{sum_by}
+use Rattle.std.proofs.Common.{◌≡◌, ℕ, ◌+◌, ◌≤◌, List, [], ◌∷◌, length, refl, ap, ◌∙◌, subst, arith, length-append}
 use Rattle.c25_meaning.specs.declared.insn.Insn.{Insn}
 use Rattle.c25_meaning.specs.State.{State}
 use Rattle.c25_meaning.specs.Table.{size_of, words}
 use Rattle.c25_meaning.specs.Fits.{FitsMemory}
 use Rattle.c25_meaning.specs.Placing.{placed, all_words, first_state, run_of_insns}
-use Rattle.c25_meaning.specs.Run.{Ending, Ran, Left, Runs, Reaches, Leaves, quiet}
+use Rattle.c25_meaning.specs.Run.{Ending, Ran, Left, Runs, quiet}
 use Rattle.c25_meaning.specs.WordStep.{WordStep}
 use Rattle.c25_meaning.proofs.Placing.{total_size, total_of_sum, length_words, loaded_is_image}
 use Rattle.c25_meaning.proofs.Image.{runs_alike}

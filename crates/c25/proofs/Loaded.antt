@@ -1,14 +1,13 @@
 -- A board with the words and places of instructions is the world that holds them.
-use Rattle.std.proofs.Common.{◌≡◌, ℕ, ◌+◌, ◌<◌, ◌≤◌, Bool, true, false, if◌then◌else◌, ◌&&◌, ◌||◌, List, [], ◌∷◌, ◌++◌, length, drop, get_or, refl, sym, ap, ◌∙◌, arith, append_assoc, append-nil, length-append, Option, Some, None}
+use Rattle.std.proofs.Common.{◌≡◌, ℕ, ◌+◌, ◌<◌, ◌≤◌, Bool, true, false, if◌then◌else◌, ◌&&◌, ◌||◌, List, [], ◌∷◌, ◌++◌, length, drop, get_or, refl, sym, ap, ◌∙◌, arith, append_assoc, append-nil, length-append, Some}
 use Rattle.std.specs.Prelude.{find, nat_le, nat_lt, ◌==◌}
 use Rattle.std.specs.Option.{option_map}
-use Rattle.std.specs.List.{list_any}
 use Rattle.std.proofs.lemmas.List.{at_drop_more, at_drop_all}
 use mathlib.Core.Path.{fun_ext}
 use Rattle.c25_meaning.specs.declared.mnemonic.Mnemonic.{Mnemonic}
 use Rattle.c25_meaning.specs.declared.insn.Insn.{Insn}
 use Rattle.c25_meaning.specs.declared.mark.Mark.{Mark}
-use Rattle.c25_meaning.specs.State.{World, size_at, is_code}
+use Rattle.c25_meaning.specs.State.{size_at, is_code}
 use Rattle.c25_meaning.specs.Table.{size, size_of, mnemonic_of, words}
 use Rattle.c25_meaning.specs.Statements.{statement_at, is_of_statement}
 use Rattle.c25_meaning.specs.Placing.{placed, all_words, loaded_world, first_state}

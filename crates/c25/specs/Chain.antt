@@ -38,11 +38,12 @@ Answers (Ok insns) n (Ok chain) = EndsAs n (run_of_insns insns n) chain
 Answers (Err refusal) n (Ok chain) = ⊥
 Answers told n (Err fault) = Refuses told (refusal_of fault)
 
--- the same of a source and of its instructions alone
+-- the same of a source
 abbrev pub AnswersSource : Result SourceMeaning Refusal → Result Source Fault → Type 0
 AnswersSource told (Ok source) = told ≡ Ok (meaning_of source)
 AnswersSource told (Err fault) = Refuses told (refusal_of fault)
 
+-- and of its instructions alone
 abbrev pub AnswersInsns : Result (List Insn) Refusal → Result (Vec Insn Global) Fault → Type 0
 AnswersInsns told (Ok insns) = told ≡ Ok insns.items
 AnswersInsns told (Err fault) = Refuses told (refusal_of fault)

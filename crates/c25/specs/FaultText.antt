@@ -6,6 +6,7 @@ use Rattle.c25_meaning.specs.Faults.{fault_number, fault_name}
 use Rattle.c25.specs.declared.fault.Fault.{Fault}
 use Rattle.c25.specs.declared.fault.Fault.TheVariants as fault
 
+-- where, a colon, the number and the name
 abbrev pub fault_text : Fault → List ℕ
 fault_text fault.NoMemory = codes "memory: 9 NoMemory"
 fault_text (fault.Source file line kind) =

@@ -1,5 +1,5 @@
 -- Why the chain refuses, memory aside, and which refusal a source meets first.
-use Rattle.std.specs.Prelude.{◌≡◌, ℕ, ◌==◌, Bool, true, false, ◌||◌, List, [], ◌∷◌, codes, Option, Some, None, Result, Ok, Err, String, if◌then◌else◌}
+use Rattle.std.specs.Prelude.{ℕ, ◌==◌, Bool, ◌||◌, List, [], ◌∷◌, codes, Option, Some, None, Result, Ok, Err, String, if◌then◌else◌}
 use Rattle.std.specs.List.{list_all}
 use Rattle.std.specs.Option.{ok_or}
 use Rattle.std.specs.declared.alloc.Global.{Global}
@@ -43,10 +43,11 @@ abbrev pub in_file : List ℕ → Result SourceMeaning SourceFault → Result So
 in_file name (Ok source) = Ok source
 in_file name (Err f) = Err (Source name f.line f.kind)
 
--- a text of blanks and ends of lines alone
+-- a blank or a character of a line's end
 abbrev pub is_space : ℕ → Bool
 is_space byte = byte == 32 || byte == 9 || byte == 10 || byte == 13
 
+-- a text of these alone
 abbrev pub is_blank : List ℕ → Bool
 is_blank text = list_all is_space text
 

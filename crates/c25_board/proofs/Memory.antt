@@ -27,7 +27,8 @@ filled_up start middle end words n none more len made fits =
     let all : take 65536 words ≡ words = take_all 65536 words fits in
     made ∙ ap (λ m. take 65536 m ++ replicate (65536 - n) 0) same ∙ ap (λ t. t ++ replicate (65536 - n) 0) all ∙ ap (λ k. words ++ replicate (65536 - k) 0) count
 
-zeros_at : (n k : ℕ) → slice_index (replicate {A = ℕ} n 0) k ≡ 0
+-- a list of zeros has none but zeros
+pub zeros_at : (n k : ℕ) → slice_index (replicate {A = ℕ} n 0) k ≡ 0
 zeros_at n k = ⊎_elim (λ below. get_or-replicate {A = ℕ} n k 0 0 below) (λ past. get_or_past (replicate {A = ℕ} n 0) k 0 (rw length-replicate past)) (cases_lt k n)
 
 padded_at : (words : List ℕ) (n k : ℕ) → slice_index (words ++ replicate {A = ℕ} n 0) k ≡ slice_index words k

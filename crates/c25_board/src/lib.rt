@@ -4,5 +4,7 @@
 pub mod board;
 mod devices;
 pub mod ports;
+pub mod samples;
+pub mod schedule;
 #[cfg(test)]
 mod tests;

@@ -1,5 +1,7 @@
 //! A board with a program of four instructions.
 
+mod inputs;
+
 use crate::board::{Board, Outcome};
 use crate::ports::{Feed, ListSink, NoSamples, Sink};
 use c25_meaning::mark::Mark;

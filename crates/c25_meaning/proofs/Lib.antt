@@ -12,3 +12,4 @@ pub mod RowNames
 pub mod Spelled
 pub mod Spellings
 pub mod WordMaps
+pub mod ItemsHold

@@ -3,6 +3,7 @@ use Rattle.std.specs.Prelude.{ℕ, List, codes}
 use Rattle.c25_meaning.specs.declared.statement.FaultKind.{FaultKind}
 use Rattle.c25_meaning.specs.declared.statement.FaultKind.TheVariants as fault
 
+-- the number of a fault
 abbrev pub fault_number : FaultKind → ℕ
 fault_number fault.BadLabel = 10
 fault_number fault.BadConstant = 11
@@ -23,6 +24,7 @@ fault_number fault.FieldRange = 53
 fault_number fault.TooLarge = 54
 fault_number fault.NotRelocatable = 55
 
+-- its name
 abbrev pub fault_name : FaultKind → List ℕ
 fault_name fault.BadLabel = codes "BadLabel"
 fault_name fault.BadConstant = codes "BadConstant"

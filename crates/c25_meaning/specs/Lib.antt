@@ -1,6 +1,13 @@
 pub mod Arithmetic
 pub mod Bytes
+pub mod Command
+pub mod CommandGrammar
+pub mod CommandMemory
+pub mod CommandSections
+pub mod CommandText
+pub mod CommandTokens
 pub mod Constant
+pub mod Digits
 pub mod Effect
 pub mod Faults
 pub mod Files
@@ -8,6 +15,7 @@ pub mod Fits
 pub mod Forms
 pub mod Hex
 pub mod HexText
+pub mod Items
 pub mod Lexeme
 pub mod Line
 pub mod Marks
@@ -21,6 +29,9 @@ pub mod Records
 pub mod Reset
 pub mod Run
 pub mod RunText
+pub mod Samples
+pub mod Schedule
+pub mod Script
 pub mod Show
 pub mod Source
 pub mod Spellings

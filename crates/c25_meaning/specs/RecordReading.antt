@@ -35,12 +35,14 @@ words_in (high ∷ low ∷ rest) = option_map (λ words. from_be_bytes w16 (high
 
 -- ---- payloads
 
+-- section, offset, size
 unfoldable pub mark_of : List ℕ → Option ModuleMark
 mark_of bytes =
     if length bytes == 5
     then Some (record { section = short_at bytes 0; offset = short_at bytes 2; size = slice_index bytes 4 })
     else None
 
+-- the kind of a code; a section stands only with the kind that is in one
 abbrev pub kind_of : ℕ → ℕ → Option SymbolKind
 kind_of code section =
     if code == 1 then Some (InSection section)
@@ -48,9 +50,11 @@ kind_of code section =
     else (if code == 0 then Some Absolute
     else (if code == 2 then Some External else None)))
 
+-- the scope of a code
 abbrev pub scope_of : ℕ → Option Scope
 scope_of code = if code == 0 then Some Local else (if code == 1 then Some Global else None)
 
+-- a symbol of this kind and scope with the value and the name that the payload holds
 abbrev pub symbol_with : List ℕ → SymbolKind → Scope → SymbolData
 symbol_with bytes kind scope = record { kind = kind; scope = scope; value = cast_signed w32 (long_at bytes 4); name = drop 9 bytes }
 
@@ -62,15 +66,19 @@ symbol_of bytes =
     else option_and_then (λ kind. option_map (λ scope. symbol_with bytes kind scope) (scope_of (slice_index bytes 1)))
     (kind_of (slice_index bytes 0) (short_at bytes 2)))
 
+-- the field of a code
 abbrev pub field_of : ℕ → Option FieldKind
 field_of code = if code == 1 then Some Word16 else (if code == 2 then Some Low7 else (if code == 3 then Some Page9 else None))
 
+-- the base of a code, with its number
 abbrev pub base_of : ℕ → ℕ → Option RelocationBase
 base_of code index = if code == 0 then Some (base.Section index) else (if code == 1 then Some (base.External index) else None)
 
+-- a relocation of this field and base with the place and the addend that the payload holds
 abbrev pub relocation_with : List ℕ → FieldKind → RelocationBase → Relocation
 relocation_with bytes kind base = record { section = short_at bytes 0; offset = short_at bytes 2; kind = kind; base = base; addend = cast_signed w32 (long_at bytes 8) }
 
+-- section, offset, field, base, number, addend: twelve bytes
 unfoldable pub relocation_of : List ℕ → Option Relocation
 relocation_of bytes =
     if length bytes == 12
@@ -86,6 +94,7 @@ body_of flag bytes =
     else (if flag == 1 then option_and_then (λ words. if length words == long_at bytes 0 then Some (Initialised words) else None) (words_in (drop 4 bytes))
     else None))
 
+-- flag, counted name, and the body behind it
 unfoldable pub section_of : List ℕ → Option SectionData
 section_of bytes =
     if nat_lt (length bytes) 2 then None
@@ -121,26 +130,31 @@ latest c =
 abbrev pub is_in_order : Contents → ℕ → Bool
 is_in_order c tag = nat_le (latest c) tag && (nat_le tag 4 || tag == 255)
 
+-- the next section
 unfoldable pub with_section : Contents → List ℕ → Result Contents ObjectFault
 with_section c payload = do
   s ← checked (section_fits c.sections) (section_of payload)
   Ok (record c { sections = c.sections ++ s ∷ [] })
 
+-- the next mark
 unfoldable pub with_mark : Contents → List ℕ → Result Contents ObjectFault
 with_mark c payload = do
   m ← checked (mark_fits c.sections c.marks) (mark_of payload)
   Ok (record c { marks = c.marks ++ m ∷ [] })
 
+-- the next symbol
 unfoldable pub with_symbol : Contents → List ℕ → Result Contents ObjectFault
 with_symbol c payload = do
   y ← checked (symbol_fits c.sections c.symbols) (symbol_of payload)
   Ok (record c { symbols = c.symbols ++ y ∷ [] })
 
+-- the next relocation
 unfoldable pub with_relocation : Contents → List ℕ → Result Contents ObjectFault
 with_relocation c payload = do
   r ← checked (relocation_fits c.sections c.symbols c.relocations) (relocation_of payload)
   Ok (record c { relocations = c.relocations ++ r ∷ [] })
 
+-- the record of a tag; the sections come first and begin with `.text`
 unfoldable pub with_record : Contents → ℕ → List ℕ → Result Contents ObjectFault
 with_record c tag payload =
     if tag == 1 then with_section c payload
@@ -177,6 +191,7 @@ read_from (suc n) c bytes = do
       else (if found.0.tag == 255 then ended c found.0.payload found.1
       else (with_record c found.0.tag found.0.payload >>= λ d. read_from n d found.1))
 
+-- before the first record
 abbrev pub nothing_read : Contents
 nothing_read = record { sections = []; marks = []; symbols = []; relocations = [] }
 
@@ -184,6 +199,7 @@ nothing_read = record { sections = []; marks = []; symbols = []; relocations = [
 abbrev pub read_all : List ℕ → Result Contents ObjectFault
 read_all bytes = read_from (length bytes) nothing_read bytes
 
+-- `C25O` in front
 abbrev pub has_magic : List ℕ → Bool
 has_magic bytes =
     nat_le 4 (length bytes) && slice_index bytes 0 == 67 && slice_index bytes 1 == 50 && slice_index bytes 2 == 53 && slice_index bytes 3 == 79

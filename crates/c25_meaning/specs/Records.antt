@@ -85,16 +85,19 @@ relocation_payload r =
 abbrev pub entry : ℕ → List ℕ → List ℕ
 entry tag payload = tag ∷ (to_be_bytes w32 (length payload) ++ payload)
 
--- the records of the four lists
+-- the record of a section
 abbrev pub section_entry : SectionData → List ℕ
 section_entry s = entry 1 (section_payload s)
 
+-- that of a mark
 abbrev pub mark_entry : ModuleMark → List ℕ
 mark_entry m = entry 2 (mark_payload m)
 
+-- that of a symbol
 abbrev pub symbol_entry : SymbolData → List ℕ
 symbol_entry y = entry 3 (symbol_payload y)
 
+-- that of a relocation
 abbrev pub relocation_entry : Relocation → List ℕ
 relocation_entry r = entry 4 (relocation_payload r)
 

@@ -14,6 +14,7 @@ abbrev pub outputs_text : List (ℕ × ℕ) → List ℕ
 outputs_text [] = []
 outputs_text (output ∷ outputs) = output_line output ++ outputs_text outputs
 
+-- the name of a stop
 abbrev pub stop_name : Stop → List ℕ
 stop_name stop.OutOfCode = codes "OutOfCode"
 stop_name stop.CodeWrite = codes "CodeWrite"

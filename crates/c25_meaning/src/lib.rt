@@ -1,6 +1,8 @@
 //! The definitions that the other crates' contracts cite, and the plain types that they share.
 #![tactic(auto)]
 
+pub mod command_fault;
+pub mod command_token;
 pub mod expression;
 pub mod hex_fault;
 pub mod insn;
@@ -13,6 +15,9 @@ pub mod mnemonic;
 pub mod no_memory;
 pub mod object;
 pub mod registers;
+pub mod sample;
+pub mod schedule;
+pub mod script;
 pub mod statement;
 pub mod stop;
 pub mod value;

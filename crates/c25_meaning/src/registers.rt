@@ -44,7 +44,7 @@ impl ArNumber {
 /// A data page of 128 words, 0 to 511.
 #[derive(Clone, Copy)]
 pub struct DataPage {
-    number: u16,
+    page_number: u16,
 }
 
 impl Model for DataPage {
@@ -52,11 +52,11 @@ impl Model for DataPage {
 
     ghost Value = { ℕ };
 
-    ghost view = { λ page. page.number };
+    ghost view = { λ page. page.page_number };
 
-    ghost invariant = { λ page. page.number < 512 };
+    ghost invariant = { λ page. page.page_number < 512 };
 
-    ghost inverse = { λ n. record { number = n } };
+    ghost inverse = { λ n. record { page_number = n } };
 }
 
 impl DataPage {
@@ -65,7 +65,9 @@ impl DataPage {
         requires { number < 512 }
         ensures { result ≡ number }
     {
-        DataPage { number }
+        DataPage {
+            page_number: number,
+        }
     }
 
     /// Its number.
@@ -73,7 +75,7 @@ impl DataPage {
         ensures value { result ≡ self }
         ensures small { result < 512 }
     {
-        self.number
+        self.page_number
     }
 }
 

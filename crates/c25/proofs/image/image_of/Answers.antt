@@ -1,9 +1,8 @@
-use Rattle.std.proofs.Common.{arith, sym, ap, subst, ◌∙◌, List, ℕ}
-use Rattle.c25.proofs.Loaded.{SoFar, so_far_none, so_far_all, so_far_below, next_of, none_next, one_more}
+use Rattle.std.proofs.Common.{arith}
+use Rattle.c25.proofs.Loaded.{so_far_none, so_far_below, next_of, one_more}
 use Rattle.c25_meaning.specs.declared.insn.Insn.TheVariants as insn
 use Rattle.c25_meaning.specs.declared.insn.Addr.TheVariants as addr
 use Rattle.c25_meaning.specs.declared.mnemonic.MemName.TheVariants as mem
-use Rattle.c25_meaning.specs.declared.mark.Mark.{Mark}
 use Rattle.c25.proofs.image.image_of.Goals as goal
 
 pub loop-insn-init : goal.loop-insn-init

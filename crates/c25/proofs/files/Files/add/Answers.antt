@@ -1,5 +1,4 @@
-use Rattle.std.proofs.Common.{is_some, sym, ap, ◌∙◌}
-use Rattle.std.specs.Option.{option_map}
+use Rattle.std.proofs.Common.{sym}
 use Rattle.c25.proofs.Entries.{file_last, is_some_mapped}
 use Rattle.c25.proofs.files.Files.add.Goals as goal
 

@@ -1,0 +1,137 @@
+//! Texts of samples: a port and a word a line.
+
+ghost use Rattle.std.specs.Prelude.{◌≡◌, ◌+◌, ◌<◌, [], ◌∷◌, length, drop, IfSome, IfNone};
+ghost use Rattle.c25_meaning.specs.Samples.{samples_at, samples_of};
+ghost use Rattle.c25_board.specs.Reads.{ReadsSamples};
+
+use crate::ports::Feed;
+use c25_items::{ItemsError, LineFormat, decimal_of, hexadecimal_of, read_items};
+use c25_meaning::no_memory::NoMemory;
+use c25_meaning::sample::Sample;
+use std::alloc::Global;
+use std::marker::Model;
+use thiserror::Error;
+
+/// Why a text of samples is refused.
+#[derive(Clone, Copy, Debug, PartialEq, Eq, Error)]
+pub enum SamplesError {
+    /// A growth was refused.
+    #[error("{}", NoMemory)]
+    NoMemory,
+    /// The first line, counted from 1, whose words are no sample (91).
+    #[error("line {line}: BadSamples")]
+    BadSamples { line: usize },
+}
+
+impl From<ItemsError> for SamplesError {
+    ghost use Rattle.std.specs.Prelude.{◌≡◌};
+    ghost use Rattle.c25_board.specs.Reads.{samples_error};
+
+    ghost from_gives = { λ fault e. e ≡ samples_error fault };
+
+    fn from(error: ItemsError) -> SamplesError {
+        match error {
+            ItemsError::NoMemory => SamplesError::NoMemory,
+            ItemsError::Faulty { line } => SamplesError::BadSamples { line },
+        }
+    }
+}
+
+/// How many input ports there are.
+const PORTS: usize = 16;
+
+/// Samples, which each port takes in order. Contracts see them as the list of those that are left.
+#[derive(Drop, Debug)]
+pub struct Samples {
+    samples: Vec<Sample>,
+    /// The place behind the last sample that each port took.
+    next: [usize; PORTS],
+}
+
+impl Model for Samples {
+    ghost use Rattle.std.specs.Prelude.{List};
+    ghost use Rattle.c25_meaning.specs.declared.sample.Sample.{Sample};
+    ghost use Rattle.c25_board.specs.SamplesLeft.{left_from, HavePorts};
+
+    ghost Value = { List Sample };
+
+    ghost view = { λ s. left_from s.next 0 s.samples.items };
+
+    ghost invariant = { λ s. HavePorts s.samples.items };
+}
+
+impl Samples {
+    ghost use Rattle.std.specs.Prelude.{◌≡◌};
+    ghost use Rattle.c25_board.specs.SamplesLeft.{HavePorts};
+
+    /// All of these samples.
+    fn new(samples: Vec<Sample>) -> Samples
+        requires { HavePorts samples.items }
+        ensures { result ≡ samples.items }
+    {
+        let next = [0; PORTS];
+        Samples { samples, next }
+    }
+}
+
+/// The place of a port's first sample at a place or behind it, with its word.
+fn find(samples: &[Sample], from: usize, port: u16) -> Option<(usize, u16)>
+    ensures place { IfSome result (λ found. found.0 < length samples.now) }
+    ensures found { IfSome result (λ found. samples_at (drop from samples.now) port ≡ found.1 ∷ samples_at (drop (found.0 + 1) samples.now) port) }
+    ensures none { IfNone result (samples_at (drop from samples.now) port ≡ []) }
+{
+    for place in from..samples.len() {
+        let sample = samples[place];
+        if sample.port == port {
+            return Some((place, sample.word));
+        }
+    }
+    None
+}
+
+impl Feed for Samples {
+    ghost use Rattle.c25_meaning.specs.Samples.{samples_at};
+
+    ghost left = { samples_at };
+
+    fn take(&mut self, port: u16) -> Option<u16> {
+        let samples = self.samples.as_slice();
+        let index = usize::from(port);
+        if index >= self.next.len() {
+            return None;
+        }
+        let (place, word) = find(samples, self.next[index], port)?;
+        self.next[index] = place + 1;
+        Some(word)
+    }
+}
+
+/// One sample a line.
+struct SampleLines;
+
+impl LineFormat for SampleLines {
+    ghost use Rattle.c25_meaning.specs.Samples.{sample_of};
+
+    type Item = Sample;
+
+    ghost item_of = { sample_of };
+
+    fn item(_before: &[Sample], words: &[&[u8]]) -> Option<Sample> {
+        match words {
+            [port, word] => {
+                let port = decimal_of(15, port)? as u16;
+                let word = hexadecimal_of(4, word)?;
+                Some(Sample { port, word })
+            }
+            _ => None,
+        }
+    }
+}
+
+/// The samples of a text, or the first line that is neither blank nor a sample.
+pub fn read_samples(alloc: Global, text: &str) -> Result<Samples, SamplesError>
+    ensures { ReadsSamples result (samples_of text.now) }
+{
+    let samples = read_items::<SampleLines>(alloc, text)?;
+    Ok(Samples::new(samples))
+}

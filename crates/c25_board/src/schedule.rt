@@ -1,0 +1,132 @@
+//! Schedules: a step and an event a line.
+
+ghost use Rattle.std.specs.Prelude.{◌≡◌};
+ghost use Rattle.c25_meaning.specs.Schedule.{event_of, last_step, timed, schedule_of};
+ghost use Rattle.c25_board.specs.Reads.{ReadsSchedule};
+
+use c25_items::{ItemsError, LineFormat, decimal_of, is_word, read_items};
+use c25_meaning::lines::Lines;
+use c25_meaning::no_memory::NoMemory;
+use c25_meaning::schedule::{Entry, Event};
+use std::alloc::Global;
+use std::marker::Model;
+use thiserror::Error;
+
+/// Why a schedule is refused.
+#[derive(Clone, Copy, Debug, PartialEq, Eq, Error)]
+pub enum ScheduleError {
+    /// A growth was refused.
+    #[error("{}", NoMemory)]
+    NoMemory,
+    /// The first line, counted from 1, whose words are no entry, or whose step is less than the
+    /// one before (90).
+    #[error("line {line}: BadSchedule")]
+    BadSchedule { line: usize },
+}
+
+impl From<ItemsError> for ScheduleError {
+    ghost use Rattle.std.specs.Prelude.{◌≡◌};
+    ghost use Rattle.c25_board.specs.Reads.{schedule_error};
+
+    ghost from_gives = { λ fault e. e ≡ schedule_error fault };
+
+    fn from(error: ItemsError) -> ScheduleError {
+        match error {
+            ItemsError::NoMemory => ScheduleError::NoMemory,
+            ItemsError::Faulty { line } => ScheduleError::BadSchedule { line },
+        }
+    }
+}
+
+/// Events by steps that do not fall. Contracts see it as the list of its entries.
+#[derive(Drop, Debug)]
+pub struct Schedule {
+    entries: Vec<Entry>,
+}
+
+impl Model for Schedule {
+    ghost use Rattle.std.specs.Prelude.{List};
+    ghost use Rattle.c25_meaning.specs.declared.schedule.Entry.{Entry};
+    ghost use Rattle.c25_board.specs.ScheduleRises.{RisesFrom};
+
+    ghost Value = { List Entry };
+
+    ghost view = { λ s. s.entries.items };
+
+    ghost invariant = { λ s. RisesFrom 0 s.entries.items };
+}
+
+impl Schedule {
+    ghost use Rattle.std.specs.Prelude.{◌≡◌};
+    ghost use Rattle.c25_board.specs.ScheduleRises.{RisesFrom};
+
+    /// The entries, the first one first.
+    pub fn as_slice(&self) -> &[Entry]
+        ensures entries { result.now ≡ self.now }
+        ensures rises { RisesFrom 0 result.now }
+    {
+        self.entries.as_slice()
+    }
+}
+
+/// The event that a word names.
+#[tactic(auto, unfolding(c25_meaning::specs::Schedule::event_of))]
+fn event_of(word: &[u8]) -> Option<Event>
+    ensures { result ≡ event_of word.now }
+{
+    if is_word(word, "int0") {
+        Some(Event::Latch(Lines::INT0))
+    } else if is_word(word, "int1") {
+        Some(Event::Latch(Lines::INT1))
+    } else if is_word(word, "int2") {
+        Some(Event::Latch(Lines::INT2))
+    } else if is_word(word, "bio0") {
+        Some(Event::Bio(false))
+    } else if is_word(word, "bio1") {
+        Some(Event::Bio(true))
+    } else {
+        None
+    }
+}
+
+/// The step of the last entry, 0 before the first.
+fn last_step(before: &[Entry]) -> u32
+    ensures { result ≡ last_step before.now }
+{
+    before.last().map_or(0, |entry| entry.step)
+}
+
+/// One entry a line.
+struct EntryLines;
+
+impl LineFormat for EntryLines {
+    ghost use Rattle.c25_meaning.specs.Schedule.{entry_of};
+
+    type Item = Entry;
+
+    ghost item_of = { entry_of };
+
+    fn item(before: &[Entry], words: &[&[u8]]) -> Option<Entry> {
+        match words {
+            [step, event] => {
+                let step = decimal_of(u32::MAX, step)?;
+                let event = event_of(event)?;
+                if step < last_step(before) {
+                    None
+                } else {
+                    Some(Entry { step, event })
+                }
+            }
+            _ => None,
+        }
+    }
+}
+
+/// The schedule of a text, or the first line that is neither blank nor an entry at a step that may
+/// follow the one before.
+pub fn read_schedule(alloc: Global, text: &str) -> Result<Schedule, ScheduleError>
+    ensures { ReadsSchedule result (schedule_of text.now) }
+{
+    let entries = read_items::<EntryLines>(alloc, text)?;
+    Ok(Schedule { entries })
+}

@@ -1,0 +1,136 @@
+//! The kinds of byte, and what stands at the front of a text.
+
+ghost use Rattle.std.specs.Prelude.{◌≡◌, ◌≤◌, ◌<◌, ◌≢◌, ◌-◌, ◌^◌, length, slice_index, IfSome, drop, take};
+ghost use Rattle.std.specs.List.{prefix_len};
+ghost use Rattle.c25_meaning.specs.CommandTokens.{is_space, sign_of, is_word, comment_len, digit, lexeme, comment_of, signed, covered};
+
+use c25_meaning::command_token::{Lexeme, Sign};
+
+fn is_space(byte: u8) -> bool
+    ensures { result ≡ is_space byte }
+{
+    byte == b' ' || byte == b'\t' || byte == b'\n' || byte == b'\r'
+}
+
+fn sign_of(byte: u8) -> Option<Sign>
+    ensures { result ≡ sign_of byte }
+{
+    match byte {
+        b'{' => Some(Sign::OpenBrace),
+        b'}' => Some(Sign::CloseBrace),
+        b'(' => Some(Sign::OpenParenthesis),
+        b')' => Some(Sign::CloseParenthesis),
+        b':' => Some(Sign::Colon),
+        b',' => Some(Sign::Comma),
+        b'=' => Some(Sign::Equals),
+        b'>' => Some(Sign::Greater),
+        b'*' => Some(Sign::Star),
+        _ => None,
+    }
+}
+
+fn is_word(byte: u8) -> bool
+    ensures { result ≡ is_word byte }
+{
+    byte >= 0x21 && byte <= 0x7e && !sign_of(byte).is_some() && !(byte == b'/' || byte == b'"')
+}
+
+/// The byte at an index, 0 past the end.
+pub(crate) fn byte_at(text: &[u8], index: usize) -> u8
+    ensures value { result ≡ slice_index text.now index }
+    ensures within { result ≢ 0 → index < length text.now }
+{
+    if index < text.len() { text[index] } else { 0 }
+}
+
+/// What stands behind the first bytes.
+pub(crate) fn behind(text: &[u8], count: usize) -> &[u8]
+    ensures { result.now ≡ drop count text.now }
+{
+    if count <= text.len() {
+        &text[count..]
+    } else {
+        &text[text.len()..]
+    }
+}
+
+/// The first bytes.
+pub(crate) fn front(text: &[u8], count: usize) -> &[u8]
+    ensures { result.now ≡ take count text.now }
+{
+    if count <= text.len() {
+        &text[..count]
+    } else {
+        text
+    }
+}
+
+/// The value of a digit in any base up to 36, else 36.
+pub(crate) fn digit(byte: u8) -> u8
+    ensures { result ≡ digit byte }
+{
+    match byte {
+        b'0'..=b'9' => byte - b'0',
+        b'A'..=b'Z' => byte - b'A' + 10,
+        b'a'..=b'z' => byte - b'a' + 10,
+        _ => 36,
+    }
+}
+
+fn word_len(text: &[u8]) -> usize
+    ensures value { result ≡ prefix_len is_word text.now }
+    ensures bound { result ≤ length text.now }
+{
+    text.iter().take_while(|byte| is_word(**byte)).count()
+}
+
+/// How far a comment goes on behind its `/*`, if it is closed.
+fn comment_len(text: &[u8]) -> Option<usize>
+    ensures value { result ≡ comment_len text.now }
+    ensures bound { IfSome result (λ n. n ≤ length text.now) }
+{
+    for (i, byte) in text.iter().enumerate() {
+        if *byte == b'*' && byte_at(text, i + 1) == b'/' {
+            return Some(i + 2);
+        }
+    }
+    None
+}
+
+fn comment_of(length: Option<usize>) -> Lexeme
+    requires { IfSome length (λ n. n ≤ 2 ^ 63) }
+    ensures { result ≡ comment_of length }
+{
+    match length {
+        None => Lexeme::OpenComment,
+        Some(length) => Lexeme::Comment(length + 2),
+    }
+}
+
+fn signed(sign: Option<Sign>) -> Lexeme
+    ensures { result ≡ signed sign }
+{
+    match sign {
+        None => Lexeme::Stray,
+        Some(sign) => Lexeme::Sign(sign),
+    }
+}
+
+/// What stands at the front of a text that is not empty.
+#[tactic(auto, unfolding(c25_meaning::specs::CommandTokens::lexeme))]
+pub(crate) fn lexeme(text: &[u8]) -> Lexeme
+    requires { 0 < length text.now }
+    ensures value { result ≡ lexeme text.now }
+    ensures bound { covered result (drop 1 text.now) ≤ length text.now - 1 }
+{
+    let first = byte_at(text, 0);
+    if is_space(first) {
+        Lexeme::Blank
+    } else if is_word(first) {
+        Lexeme::Word(word_len(text))
+    } else if first == b'/' && byte_at(text, 1) == b'*' {
+        comment_of(comment_len(behind(text, 2)))
+    } else {
+        signed(sign_of(first))
+    }
+}

@@ -1,0 +1,121 @@
+//! Single tokens.
+
+ghost use Rattle.std.specs.Prelude.{◌≡◌, ◌≤◌, IfOk};
+ghost use Rattle.c25_meaning.specs.CommandGrammar.{passes, begins, wanted, without, number_at, page_number_at, setting_at, unless, number_in};
+ghost use Rattle.c25_cmd.specs.View.{Gives, IsTold, token_of, tokens_of};
+
+use crate::error::ReadError;
+use crate::token::Token;
+use c25_meaning::command_fault::{CommandFault, PlacedFault};
+use c25_meaning::command_token::{Keyword, Kind, Sign, Want};
+
+fn passes(want: Want, kind: Kind) -> bool
+    ensures { result ≡ passes want kind }
+{
+    match (want, kind) {
+        (Want::Sign(wanted), Kind::Sign(sign)) => wanted == sign,
+        (Want::Keyword(wanted), Kind::Keyword(keyword)) => wanted == keyword,
+        (Want::Name, Kind::Name) => true,
+        (Want::AnyWord, Kind::Name | Kind::Malformed | Kind::Number(_) | Kind::Keyword(_)) => true,
+        (Want::LoadSign, Kind::Sign(Sign::Equals | Sign::Greater)) => true,
+        (Want::End, Kind::End) => true,
+        _ => false,
+    }
+}
+
+/// A fault at the first token.
+pub(crate) fn told(fault: CommandFault, tokens: &[Token]) -> ReadError
+    ensures { IsTold fault (tokens_of tokens.now) result }
+{
+    let place = match tokens {
+        [] => 0,
+        [token, ..] => token.place,
+    };
+    ReadError::Fault(PlacedFault { fault, place })
+}
+
+/// Whether the first token is this.
+pub(crate) fn begins(want: Want, tokens: &[Token]) -> bool
+    ensures { result ≡ begins want (tokens_of tokens.now) }
+{
+    match tokens {
+        [] => false,
+        [token, ..] => passes(want, token.kind),
+    }
+}
+
+/// A token that must stand here, and those behind it.
+#[tactic(auto, unfolding(c25_meaning::specs::CommandGrammar::wanted))]
+pub(crate) fn wanted(want: Want, tokens: &[Token]) -> Result<(&Token, &[Token]), ReadError>
+    ensures { Gives (λ x. (token_of x.0.now, tokens_of x.1.now)) result (wanted want (tokens_of tokens.now)) }
+{
+    match tokens {
+        [token, rest @ ..] if passes(want, token.kind) => Ok((token, rest)),
+        _ => Err(told(CommandFault::Syntax, tokens)),
+    }
+}
+
+/// The tokens behind one that may be left out.
+pub(crate) fn without(want: Want, tokens: &[Token]) -> &[Token]
+    ensures { tokens_of result.now ≡ without want (tokens_of tokens.now) }
+{
+    match tokens {
+        [token, rest @ ..] if passes(want, token.kind) => rest,
+        _ => tokens,
+    }
+}
+
+fn number_in(kind: Kind) -> Option<u32>
+    ensures { result ≡ number_in kind }
+{
+    match kind {
+        Kind::Number(number) => Some(number),
+        _ => None,
+    }
+}
+
+/// A number that must stand here, and the tokens behind it.
+#[tactic(auto, unfolding(c25_meaning::specs::CommandGrammar::number_at))]
+pub(crate) fn number_at(tokens: &[Token]) -> Result<(u32, &[Token]), ReadError>
+    ensures { Gives (λ x. (x.0, tokens_of x.1.now)) result (number_at (tokens_of tokens.now)) }
+{
+    match tokens {
+        [] => Err(told(CommandFault::Syntax, tokens)),
+        [token, rest @ ..] => match number_in(token.kind) {
+            None => Err(told(CommandFault::Syntax, tokens)),
+            Some(number) => Ok((number, rest)),
+        },
+    }
+}
+
+/// Refuses where the test holds.
+pub(crate) fn unless(test: bool, fault: CommandFault, tokens: &[Token]) -> Result<(), ReadError>
+    ensures { Gives (λ x. x) result (unless test fault (tokens_of tokens.now)) }
+{
+    if test {
+        Err(told(fault, tokens))
+    } else {
+        Ok(())
+    }
+}
+
+/// The number of a page: 0 or 1.
+#[tactic(auto, unfolding(c25_meaning::specs::CommandGrammar::page_number_at))]
+pub(crate) fn page_number_at(tokens: &[Token]) -> Result<(u8, &[Token]), ReadError>
+    ensures given { Gives (λ x. (x.0, tokens_of x.1.now)) result (page_number_at (tokens_of tokens.now)) }
+    ensures low { IfOk result (λ x. x.0 ≤ 1) }
+{
+    let (number, rest) = number_at(tokens)?;
+    unless(number > 1, CommandFault::Syntax, tokens)?;
+    Ok((number as u8, rest))
+}
+
+/// `keyword =`: the tokens behind it.
+#[tactic(auto, unfolding(c25_meaning::specs::CommandGrammar::setting_at))]
+pub(crate) fn setting_at(keyword: Keyword, tokens: &[Token]) -> Result<&[Token], ReadError>
+    ensures { Gives (λ x. tokens_of x.now) result (setting_at keyword (tokens_of tokens.now)) }
+{
+    let (_, tokens) = wanted(Want::Keyword(keyword), tokens)?;
+    let (_, tokens) = wanted(Want::Sign(Sign::Equals), tokens)?;
+    Ok(tokens)
+}

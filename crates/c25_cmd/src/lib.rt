@@ -1,0 +1,27 @@
+//! Command files of the linker, read.
+//!
+//! A command file may name the entry (`-e name`), give the ranges of both pages (`MEMORY`) and say
+//! where sections are to stand (`SECTIONS`), each once and in any order.
+#![tactic(auto)]
+
+mod bytes;
+mod command;
+mod error;
+mod grammar;
+mod lexer;
+mod memory;
+mod parts;
+mod ranges;
+mod reading;
+mod sections;
+mod token;
+mod words;
+
+pub use command::{Command, MemoryRange, Placing, Target};
+pub use error::CommandError;
+pub use reading::read_command;
+
+#[cfg(test)]
+mod cases;
+#[cfg(test)]
+mod tests;

@@ -1,0 +1,172 @@
+//! `MEMORY`: the ranges of the pages.
+
+ghost use Rattle.std.specs.Prelude.{◌≡◌, ◌≤◌, ◌<◌, ◌+◌, length, [], ◌∷◌, ◌++◌, All, IfOk, OnOk};
+ghost use Rattle.c25_meaning.specs.Command.{IsRange};
+ghost use Rattle.c25_meaning.specs.CommandGrammar.{repeated};
+ghost use Rattle.c25_meaning.specs.CommandMemory.{page_at, attributes_at, extent_at, range_at, more_ranges, memory_at};
+ghost use Rattle.c25_meaning.specs.declared.command_token.Want.TheVariants as want;
+ghost use Rattle.c25_meaning.specs.declared.command_token.Sign.TheVariants as sign;
+ghost use Rattle.c25_cmd.specs.Known.{HasRangeNames, KnowsWords};
+ghost use Rattle.c25_cmd.specs.View.{Gives, tokens_of, range_of, ranges_of};
+
+use crate::command::MemoryRange;
+use crate::error::ReadError;
+use crate::grammar::{begins, number_at, page_number_at, setting_at, unless, wanted, without};
+use crate::ranges::{PAGE_WORDS, Ranges, no_ranges, shares_word, take_name, take_range};
+use crate::token::Token;
+use c25_meaning::command_fault::CommandFault;
+use c25_meaning::command_token::{Keyword, Sign, Want};
+use std::alloc::Global;
+
+/// The page of the ranges from here on.
+#[tactic(auto, unfolding(c25_meaning::specs::CommandMemory::page_at))]
+fn page_at(page: u8, tokens: &[Token]) -> Result<(u8, &[Token]), ReadError>
+    requires { page ≤ 1 }
+    ensures given { Gives (λ x. (x.0, tokens_of x.1.now)) result (page_at page (tokens_of tokens.now)) }
+    ensures low { IfOk result (λ x. x.0 ≤ 1) }
+{
+    if !begins(Want::Keyword(Keyword::Page), tokens) {
+        return Ok((page, tokens));
+    }
+    let (number, tokens) = page_number_at(without(Want::Keyword(Keyword::Page), tokens))?;
+    let (_, tokens) = wanted(Want::Sign(Sign::Colon), tokens)?;
+    Ok((number, tokens))
+}
+
+/// One word in parentheses, if they are there, which counts for nothing.
+#[tactic(auto, unfolding(c25_meaning::specs::CommandMemory::attributes_at))]
+fn attributes_at(tokens: &[Token]) -> Result<&[Token], ReadError>
+    ensures { Gives (λ x. tokens_of x.now) result (attributes_at (tokens_of tokens.now)) }
+{
+    if !begins(Want::Sign(Sign::OpenParenthesis), tokens) {
+        return Ok(tokens);
+    }
+    let tokens = without(Want::Sign(Sign::OpenParenthesis), tokens);
+    let (_, tokens) = wanted(Want::AnyWord, tokens)?;
+    let (_, tokens) = wanted(Want::Sign(Sign::CloseParenthesis), tokens)?;
+    Ok(tokens)
+}
+
+/// The origin and the length of a range of that page.
+#[tactic(auto, unfolding(c25_meaning::specs::CommandMemory::extent_at))]
+fn extent_at<'t>(
+    page: u8,
+    ranges: &Ranges<'_>,
+    tokens: &'t [Token],
+) -> Result<((u32, u32), &'t [Token]), ReadError>
+    requires page { page ≤ 1 }
+    requires known { KnowsWords ranges.now.taken.items (ranges_of ranges.now.list.items) }
+    ensures given { Gives (λ x. (x.0, tokens_of x.1.now)) result (extent_at page (ranges_of ranges.now.list.items) (tokens_of tokens.now)) }
+    ensures words { IfOk result (λ x. 0 < x.0.1) }
+    ensures within { IfOk result (λ x. x.0.0 + x.0.1 ≤ 65536) }
+{
+    let tokens = setting_at(Keyword::Origin, tokens)?;
+    let (origin, tokens) = number_at(tokens)?;
+    let tokens = setting_at(Keyword::Length, without(Want::Sign(Sign::Comma), tokens))?;
+    let (length, rest) = number_at(tokens)?;
+    let is_bad = length == 0 || u64::from(origin) + u64::from(length) > u64::from(PAGE_WORDS);
+    unless(is_bad, CommandFault::RangeSize, tokens)?;
+    unless(
+        shares_word(ranges, page, origin, length),
+        CommandFault::RangeOverlap,
+        tokens,
+    )?;
+    Ok(((origin, length), rest))
+}
+
+/// A range of that page, behind those that were read; its name joins theirs.
+#[tactic(auto, unfolding(c25_meaning::specs::CommandMemory::range_at))]
+fn range_at<'a>(
+    alloc: Global,
+    page: u8,
+    ranges: &mut Ranges<'a>,
+    tokens: &'a [Token],
+) -> Result<(MemoryRange, &'a [Token]), ReadError>
+    requires page { page ≤ 1 }
+    requires named { HasRangeNames (λ k. k.0) (λ k. k.1.now) ranges.old.names (ranges_of ranges.old.list.items) }
+    requires known { KnowsWords ranges.old.taken.items (ranges_of ranges.old.list.items) }
+    ensures given { Gives (λ x. (range_of x.0, tokens_of x.1.now)) result (range_at page (ranges_of ranges.old.list.items) (tokens_of tokens.now)) }
+    ensures named { IfOk result (λ x. HasRangeNames (λ k. k.0) (λ k. k.1.now) ranges.new.names (ranges_of ranges.old.list.items ++ range_of x.0 ∷ [])) }
+    ensures list { ranges.new.list ≡ ranges.old.list }
+    ensures taken { ranges.new.taken ≡ ranges.old.taken }
+    ensures page { IfOk result (λ x. x.0.page ≡ page) }
+    ensures words { IfOk result (λ x. 0 < x.0.length) }
+    ensures within { IfOk result (λ x. x.0.origin + x.0.length ≤ 65536) }
+{
+    let (name, rest) = wanted(Want::Name, tokens)?;
+    let is_fresh = take_name(ranges, page, name.text.as_str())?;
+    unless(!is_fresh, CommandFault::Twice, tokens)?;
+    let rest = attributes_at(rest)?;
+    let (_, rest) = wanted(Want::Sign(Sign::Colon), rest)?;
+    let ((origin, length), rest) = extent_at(page, ranges, rest)?;
+    let name = String::from_str(alloc, name.text.as_str())?;
+    let range = MemoryRange {
+        page,
+        name,
+        origin,
+        length,
+    };
+    Ok((range, rest))
+}
+
+/// Reads a range more, and answers its page.
+#[tactic(auto, unfolding(c25_meaning::specs::CommandMemory::more_ranges))]
+fn add_range<'a>(
+    alloc: Global,
+    page: u8,
+    ranges: &mut Ranges<'a>,
+    tokens: &'a [Token],
+) -> Result<(u8, &'a [Token]), ReadError>
+    requires page { page ≤ 1 }
+    requires named { HasRangeNames (λ k. k.0) (λ k. k.1.now) ranges.old.names (ranges_of ranges.old.list.items) }
+    requires known { KnowsWords ranges.old.taken.items (ranges_of ranges.old.list.items) }
+    ensures given { Gives (λ x. ((x.0, ranges_of ranges.new.list.items), tokens_of x.1.now)) result
+        (more_ranges (page, ranges_of ranges.old.list.items) (tokens_of tokens.now)) }
+    ensures page { IfOk result (λ x. x.0 ≤ 1) }
+    ensures named { OnOk result (HasRangeNames (λ k. k.0) (λ k. k.1.now) ranges.new.names (ranges_of ranges.new.list.items)) }
+    ensures known { OnOk result (KnowsWords ranges.new.taken.items (ranges_of ranges.new.list.items)) }
+{
+    let (page, rest) = page_at(page, tokens)?;
+    let (range, rest) = range_at(alloc, page, ranges, rest)?;
+    take_range(ranges, page, range.origin, range.length);
+    ranges.list.push(range)?;
+    Ok((page, rest))
+}
+
+/// The ranges up to the brace that closes them.
+fn ranges_at(
+    alloc: Global,
+    tokens: &[Token],
+) -> Result<((u8, Vec<MemoryRange>), &[Token]), ReadError>
+    ensures given { Gives (λ x. ((x.0.0, ranges_of x.0.1.items), tokens_of x.1.now)) result
+        (repeated (want.Sign sign.CloseBrace) more_ranges (length tokens.now) (0, []) (tokens_of tokens.now)) }
+    ensures each { IfOk result (λ x. All IsRange (ranges_of x.0.1.items)) }
+{
+    let mut ranges = no_ranges(alloc)?;
+    let mut page = 0;
+    let mut rest = tokens;
+    for _ in 0..tokens.len() {
+        if begins(Want::Sign(Sign::CloseBrace), rest) {
+            return Ok(((page, ranges.list), rest));
+        }
+        let (next, after) = add_range(alloc, page, &mut ranges, rest)?;
+        page = next;
+        rest = after;
+    }
+    Ok(((page, ranges.list), rest))
+}
+
+/// What stands behind the word `MEMORY`.
+#[tactic(auto, unfolding(c25_meaning::specs::CommandMemory::memory_at))]
+pub(crate) fn memory_at(
+    alloc: Global,
+    tokens: &[Token],
+) -> Result<(Vec<MemoryRange>, &[Token]), ReadError>
+    ensures given { Gives (λ x. (ranges_of x.0.items, tokens_of x.1.now)) result (memory_at (tokens_of tokens.now)) }
+    ensures each { IfOk result (λ x. All IsRange (ranges_of x.0.items)) }
+{
+    let (_, tokens) = wanted(Want::Sign(Sign::OpenBrace), tokens)?;
+    let ((_, ranges), tokens) = ranges_at(alloc, tokens)?;
+    let (_, tokens) = wanted(Want::Sign(Sign::CloseBrace), tokens)?;
+    Ok((ranges, tokens))
+}

@@ -1,0 +1,124 @@
+//! The ranges so far, and what finds a name or a word that comes twice in time that does not grow
+//! with their number: a set of the names, and for each word of both pages whether it is in a range.
+
+ghost use Rattle.std.specs.Prelude.{◌≡◌, ◌+◌, ◌*◌, ◌<◌, ◌≤◌, ◌&&◌, ◌||◌, ℕ, List, [], ◌∷◌, ◌++◌, true, false, not, nat_lt, nat_le, length, slice_index_or, IfOk, replicate};
+ghost use Rattle.std.specs.List.{list_any};
+ghost use Rattle.c25_meaning.specs.Command.{RangeData};
+ghost use Rattle.c25_meaning.specs.CommandMemory.{is_range, overlaps};
+ghost use Rattle.c25_cmd.specs.Known.{HasRangeNames, KnowsWords};
+ghost use Rattle.c25_cmd.specs.View.{ranges_of};
+
+use crate::command::MemoryRange;
+use std::alloc::{AllocError, Global};
+use std::collections::BTreeSet;
+
+/// How many words a page has.
+pub(crate) const PAGE_WORDS: u32 = 65_536;
+
+/// The ranges that have been read.
+#[derive(Drop)]
+pub(crate) struct Ranges<'a> {
+    pub list: Vec<MemoryRange>,
+    /// The page and the name of each.
+    pub names: BTreeSet<(u8, &'a str)>,
+    /// For each word of page 0, and behind them of page 1, whether a range has it.
+    pub taken: Vec<bool>,
+}
+
+/// So many words that no range has.
+fn free_words(alloc: Global, count: usize) -> Result<Vec<bool>, AllocError>
+    ensures { IfOk result (λ v. v.items ≡ replicate count false) }
+{
+    vec![in alloc; false; count]
+}
+
+/// No ranges.
+pub(crate) fn no_ranges<'a>(alloc: Global) -> Result<Ranges<'a>, AllocError>
+    ensures named { IfOk result (λ r. HasRangeNames (λ k. k.0) (λ k. k.1.now) r.names []) }
+    ensures words { IfOk result (λ r. KnowsWords r.taken.items []) }
+    ensures empty { IfOk result (λ r. r.list.items ≡ []) }
+{
+    Ok(Ranges {
+        list: Vec::new(alloc),
+        names: BTreeSet::new(alloc),
+        taken: free_words(alloc, 131_072)?,
+    })
+}
+
+/// Whether no range of the page has the name, which joins the names then.
+pub(crate) fn take_name<'a>(
+    ranges: &mut Ranges<'a>,
+    page: u8,
+    name: &'a str,
+) -> Result<bool, AllocError>
+    requires { HasRangeNames (λ k. k.0) (λ k. k.1.now) ranges.old.names (ranges_of ranges.old.list.items) }
+    ensures fresh { IfOk result (λ fresh. fresh ≡ not (list_any (is_range page name.now) (ranges_of ranges.old.list.items))) }
+    ensures named { IfOk result (λ fresh. fresh ≡ true → (r : RangeData) → r.page ≡ page → r.name ≡ name.now
+        → HasRangeNames (λ k. k.0) (λ k. k.1.now) ranges.new.names (ranges_of ranges.old.list.items ++ r ∷ [])) }
+    ensures list { ranges.new.list ≡ ranges.old.list }
+    ensures taken { ranges.new.taken ≡ ranges.old.taken }
+{
+    Ok(ranges.names.insert((page, name))?)
+}
+
+/// Whether one of the words from `start` up to `end` is taken.
+fn any_taken(taken: &[bool], start: usize, end: usize) -> bool
+    requires { end ≤ length taken.now }
+    ensures found { result ≡ true → (k : ℕ) × (start ≤ k) × (k < end) × (slice_index_or taken.now k false ≡ true) }
+    ensures none { result ≡ false → (k : ℕ) → start ≤ k → k < end → slice_index_or taken.now k false ≡ false }
+{
+    for k in start..end {
+        if taken[k] {
+            return true;
+        }
+    }
+    false
+}
+
+/// Takes the words from `start` up to `end`.
+fn take(taken: &mut [bool], start: usize, end: usize)
+    requires ordered { start ≤ end }
+    requires within { end ≤ length taken.old }
+    ensures sized { length taken.new ≡ length taken.old }
+    ensures taken { (k : ℕ) → slice_index_or taken.new k false ≡ (slice_index_or taken.old k false || (nat_le start k && nat_lt k end)) }
+{
+    for k in start..end {
+        taken[k] = true;
+    }
+}
+
+/// The number of a word among those of both pages.
+fn word_number(page: u8, address: u32) -> usize
+    requires page { page ≤ 1 }
+    requires address { address ≤ 65536 }
+    ensures { result ≡ page * 65536 + address }
+{
+    (u32::from(page) * PAGE_WORDS + address) as usize
+}
+
+/// Whether a range of the page has one of the words.
+pub(crate) fn shares_word(ranges: &Ranges<'_>, page: u8, origin: u32, length: u32) -> bool
+    requires page { page ≤ 1 }
+    requires words { 0 < length }
+    requires within { origin + length ≤ 65536 }
+    requires known { KnowsWords ranges.now.taken.items (ranges_of ranges.now.list.items) }
+    ensures { result ≡ list_any (overlaps page origin length) (ranges_of ranges.now.list.items) }
+{
+    let start = word_number(page, origin);
+    any_taken(&ranges.taken, start, start + length as usize)
+}
+
+/// Takes the words of a range.
+pub(crate) fn take_range(ranges: &mut Ranges<'_>, page: u8, origin: u32, length: u32)
+    requires page { page ≤ 1 }
+    requires within { origin + length ≤ 65536 }
+    requires words { 0 < length }
+    requires known { KnowsWords ranges.old.taken.items (ranges_of ranges.old.list.items) }
+    ensures names { ranges.new.names ≡ ranges.old.names }
+    ensures list { ranges.new.list ≡ ranges.old.list }
+    ensures known { (r : RangeData) → r.page ≡ page → r.origin ≡ origin → r.size ≡ length
+        → KnowsWords ranges.new.taken.items (ranges_of ranges.old.list.items ++ r ∷ []) }
+{
+    let start = word_number(page, origin);
+    take(&mut ranges.taken, start, start + length as usize);
+}

@@ -1,0 +1,185 @@
+//! `SECTIONS`: where sections are to stand.
+
+ghost use Rattle.std.specs.Prelude.{◌≡◌, length, [], ◌∷◌, ◌++◌, true, not, IfOk, OnOk, string_bytes};
+ghost use Rattle.std.specs.List.{list_any};
+ghost use Rattle.c25_meaning.specs.Command.{PlacingData};
+ghost use Rattle.c25_meaning.specs.CommandGrammar.{repeated};
+ghost use Rattle.c25_meaning.specs.CommandSections.{input_at, contents_at, place_at, target_at, section_page_at, is_placing, placing_at, more_placings, sections_at};
+ghost use Rattle.c25_meaning.specs.declared.command_token.Want.TheVariants as want;
+ghost use Rattle.c25_meaning.specs.declared.command_token.Sign.TheVariants as sign;
+ghost use Rattle.c25_cmd.specs.Known.{HasNames};
+ghost use Rattle.c25_cmd.specs.View.{Gives, tokens_of, target_of, placing_of, placings_of};
+
+use crate::command::{Placing, Target};
+use crate::error::ReadError;
+use crate::grammar::{begins, number_at, page_number_at, unless, wanted, without};
+use crate::token::Token;
+use c25_meaning::command_fault::CommandFault;
+use c25_meaning::command_token::{Keyword, Sign, Want};
+use std::alloc::{AllocError, Global};
+use std::collections::BTreeSet;
+
+/// `*(name)` or nothing.
+#[tactic(auto, unfolding(c25_meaning::specs::CommandSections::input_at))]
+fn input_at<'a>(name: &str, tokens: &'a [Token]) -> Result<&'a [Token], ReadError>
+    ensures { Gives (λ x. tokens_of x.now) result (input_at name.now (tokens_of tokens.now)) }
+{
+    if !begins(Want::Sign(Sign::Star), tokens) {
+        return Ok(tokens);
+    }
+    let tokens = without(Want::Sign(Sign::Star), tokens);
+    let (_, tokens) = wanted(Want::Sign(Sign::OpenParenthesis), tokens)?;
+    let (word, rest) = wanted(Want::Name, tokens)?;
+    unless(word.text.as_str() != name, CommandFault::Syntax, tokens)?;
+    let (_, rest) = wanted(Want::Sign(Sign::CloseParenthesis), rest)?;
+    Ok(rest)
+}
+
+/// The braces and what stands in them, if they are there.
+#[tactic(auto, unfolding(c25_meaning::specs::CommandSections::contents_at))]
+fn contents_at<'a>(name: &str, tokens: &'a [Token]) -> Result<&'a [Token], ReadError>
+    ensures { Gives (λ x. tokens_of x.now) result (contents_at name.now (tokens_of tokens.now)) }
+{
+    if !begins(Want::Sign(Sign::OpenBrace), tokens) {
+        return Ok(tokens);
+    }
+    let tokens = input_at(name, without(Want::Sign(Sign::OpenBrace), tokens))?;
+    let (_, tokens) = wanted(Want::Sign(Sign::CloseBrace), tokens)?;
+    Ok(tokens)
+}
+
+/// A range's name or an address.
+#[tactic(auto, unfolding(c25_meaning::specs::CommandSections::place_at))]
+fn place_at(alloc: Global, tokens: &[Token]) -> Result<(Target, &[Token]), ReadError>
+    ensures { Gives (λ x. (target_of x.0, tokens_of x.1.now)) result (place_at (tokens_of tokens.now)) }
+{
+    if begins(Want::Name, tokens) {
+        let (name, rest) = wanted(Want::Name, tokens)?;
+        return Ok((
+            Target::InRange(String::from_str(alloc, name.text.as_str())?),
+            rest,
+        ));
+    }
+    let (number, rest) = number_at(tokens)?;
+    Ok((Target::At(number), rest))
+}
+
+/// `> T`, `load = T`, `load > T` or nothing.
+#[tactic(auto, unfolding(c25_meaning::specs::CommandSections::target_at))]
+fn target_at(alloc: Global, tokens: &[Token]) -> Result<(Target, &[Token]), ReadError>
+    ensures { Gives (λ x. (target_of x.0, tokens_of x.1.now)) result (target_at (tokens_of tokens.now)) }
+{
+    if begins(Want::Sign(Sign::Greater), tokens) {
+        return place_at(alloc, without(Want::Sign(Sign::Greater), tokens));
+    }
+    if begins(Want::Keyword(Keyword::Load), tokens) {
+        let tokens = without(Want::Keyword(Keyword::Load), tokens);
+        let (_, tokens) = wanted(Want::LoadSign, tokens)?;
+        return place_at(alloc, tokens);
+    }
+    Ok((Target::Anywhere, tokens))
+}
+
+/// `PAGE n` or nothing.
+#[tactic(auto, unfolding(c25_meaning::specs::CommandSections::section_page_at))]
+fn page_at(tokens: &[Token]) -> Result<(Option<u8>, &[Token]), ReadError>
+    ensures { Gives (λ x. (x.0, tokens_of x.1.now)) result (section_page_at (tokens_of tokens.now)) }
+{
+    if !begins(Want::Keyword(Keyword::Page), tokens) {
+        return Ok((None, tokens));
+    }
+    let (number, tokens) = page_number_at(without(Want::Keyword(Keyword::Page), tokens))?;
+    Ok((Some(number), tokens))
+}
+
+/// What stands behind the colon of a section.
+#[tactic(auto, unfolding(c25_meaning::specs::CommandSections::placing_at))]
+fn placing_at<'a>(
+    alloc: Global,
+    name: &str,
+    tokens: &'a [Token],
+) -> Result<(Placing, &'a [Token]), ReadError>
+    ensures given { Gives (λ x. (placing_of x.0, tokens_of x.1.now)) result (placing_at name.now (tokens_of tokens.now)) }
+    ensures name { IfOk result (λ x. string_bytes x.0.name ≡ name.now) }
+{
+    let tokens = contents_at(name, tokens)?;
+    let (target, tokens) = target_at(alloc, tokens)?;
+    let (page, tokens) = page_at(tokens)?;
+    let name = String::from_str(alloc, name)?;
+    let placing = Placing { name, target, page };
+    Ok((placing, without(Want::Sign(Sign::Comma), tokens)))
+}
+
+/// The sections that have been read, and their names, which find one that comes twice in time that
+/// does not grow with their number.
+#[derive(Drop)]
+struct Sections<'a> {
+    list: Vec<Placing>,
+    names: BTreeSet<&'a str>,
+}
+
+/// Whether no section has the name, which joins the names then.
+fn take_name<'a>(sections: &mut Sections<'a>, name: &'a str) -> Result<bool, AllocError>
+    requires { HasNames (λ k. k.now) sections.old.names (placings_of sections.old.list.items) }
+    ensures fresh { IfOk result (λ fresh. fresh ≡ not (list_any (is_placing name.now) (placings_of sections.old.list.items))) }
+    ensures named { IfOk result (λ fresh. fresh ≡ true → (p : PlacingData) → p.name ≡ name.now
+        → HasNames (λ k. k.now) sections.new.names (placings_of sections.old.list.items ++ p ∷ [])) }
+    ensures list { sections.new.list ≡ sections.old.list }
+{
+    Ok(sections.names.insert(name)?)
+}
+
+/// Reads a section more.
+#[tactic(auto, unfolding(c25_meaning::specs::CommandSections::more_placings, c25_meaning::specs::CommandSections::placing_at))]
+fn add_placing<'a>(
+    alloc: Global,
+    sections: &mut Sections<'a>,
+    tokens: &'a [Token],
+) -> Result<&'a [Token], ReadError>
+    requires { HasNames (λ k. k.now) sections.old.names (placings_of sections.old.list.items) }
+    ensures given { Gives (λ x. (placings_of sections.new.list.items, tokens_of x.now)) result
+        (more_placings (placings_of sections.old.list.items) (tokens_of tokens.now)) }
+    ensures named { OnOk result (HasNames (λ k. k.now) sections.new.names (placings_of sections.new.list.items)) }
+{
+    let (name, rest) = wanted(Want::Name, tokens)?;
+    let is_fresh = take_name(sections, name.text.as_str())?;
+    unless(!is_fresh, CommandFault::Twice, tokens)?;
+    let (_, rest) = wanted(Want::Sign(Sign::Colon), rest)?;
+    let (placing, rest) = placing_at(alloc, name.text.as_str(), rest)?;
+    sections.list.push(placing)?;
+    Ok(rest)
+}
+
+/// The sections up to the brace that closes them.
+fn placings_at(alloc: Global, tokens: &[Token]) -> Result<(Vec<Placing>, &[Token]), ReadError>
+    ensures { Gives (λ x. (placings_of x.0.items, tokens_of x.1.now)) result
+        (repeated (want.Sign sign.CloseBrace) more_placings (length tokens.now) [] (tokens_of tokens.now)) }
+{
+    let mut sections = Sections {
+        list: Vec::new(alloc),
+        names: BTreeSet::new(alloc),
+    };
+    let mut rest = tokens;
+    for _ in 0..tokens.len() {
+        if begins(Want::Sign(Sign::CloseBrace), rest) {
+            return Ok((sections.list, rest));
+        }
+        let after = add_placing(alloc, &mut sections, rest)?;
+        rest = after;
+    }
+    Ok((sections.list, rest))
+}
+
+/// What stands behind the word `SECTIONS`.
+#[tactic(auto, unfolding(c25_meaning::specs::CommandSections::sections_at))]
+pub(crate) fn sections_at(
+    alloc: Global,
+    tokens: &[Token],
+) -> Result<(Vec<Placing>, &[Token]), ReadError>
+    ensures { Gives (λ x. (placings_of x.0.items, tokens_of x.1.now)) result (sections_at (tokens_of tokens.now)) }
+{
+    let (_, tokens) = wanted(Want::Sign(Sign::OpenBrace), tokens)?;
+    let (placings, tokens) = placings_at(alloc, tokens)?;
+    let (_, tokens) = wanted(Want::Sign(Sign::CloseBrace), tokens)?;
+    Ok((placings, tokens))
+}

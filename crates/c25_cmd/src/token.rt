@@ -1,0 +1,13 @@
+//! Tokens.
+
+use c25_meaning::command_token::Kind;
+
+/// A token of a text.
+#[derive(Debug, Drop)]
+pub(crate) struct Token {
+    pub kind: Kind,
+    /// Where it begins, in bytes from 0.
+    pub place: usize,
+    /// What is written, where it is a word.
+    pub text: String,
+}

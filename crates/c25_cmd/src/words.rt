@@ -1,0 +1,131 @@
+//! What words are: reserved words, numbers or names.
+
+ghost use Rattle.std.specs.Prelude.{◌≡◌, ◌<◌, ◌≤◌, ◌^◌, ◌-◌, length, min, IfOk, fold, nat_lt, ◌*◌, ◌+◌};
+ghost use Rattle.std.specs.List.{list_all};
+ghost use Rattle.c25_meaning.specs.CommandTokens.{digit, numeral, is_numeral, value_of, keyword_of, numbered, named, word_kind};
+ghost use Rattle.c25_cmd.specs.View.{numeral_of};
+
+use crate::bytes::{behind, byte_at, digit, front};
+use c25_meaning::command_token::{Keyword, Kind};
+use std::alloc::{AllocError, Global};
+
+/// The base and the digits of a number.
+#[derive(Clone, Copy, Debug)]
+pub(crate) struct Numeral<'a> {
+    pub base: u8,
+    pub digits: &'a [u8],
+}
+
+fn numeral_in(text: &[u8]) -> Numeral<'_>
+    ensures value { numeral_of result ≡ numeral text.now }
+    ensures base { 0 < result.base }
+{
+    let second = byte_at(text, 1);
+    let front_len = text.len().saturating_sub(1);
+    let last = byte_at(text, front_len);
+    if byte_at(text, 0) == b'0' && (second == b'x' || second == b'X') {
+        Numeral {
+            base: 16,
+            digits: behind(text, 2),
+        }
+    } else if last == b'h' || last == b'H' {
+        Numeral {
+            base: 16,
+            digits: front(text, front_len),
+        }
+    } else {
+        Numeral {
+            base: 10,
+            digits: text,
+        }
+    }
+}
+
+fn all_digits(base: u8, digits: &[u8]) -> bool
+    ensures { result ≡ list_all (λ b. nat_lt (digit b) base) digits.now }
+{
+    digits.iter().all(|b| digit(*b) < base)
+}
+
+fn is_numeral(number: Numeral<'_>) -> bool
+    ensures { result ≡ is_numeral (numeral_of number.entry) }
+{
+    let digits = number.digits;
+    let count = digits.len();
+    1 <= count
+        && count < 20
+        && all_digits(number.base, digits)
+        && !(number.base == 10 && byte_at(digits, 0) == b'0' && 1 < count)
+}
+
+/// The value, or 4,294,967,295 where it is larger.
+fn value_in(base: u8, digits: &[u8]) -> u32
+    requires { 0 < base }
+    ensures { result ≡ min (fold (λ v b. v * base + digit b) 0 digits.now) (2 ^ 32 - 1) }
+{
+    let mut value: u64 = 0;
+    for b in digits {
+        value = (value * u64::from(base) + u64::from(digit(*b))).min(4294967295);
+    }
+    value as u32
+}
+
+fn numbered(number: Numeral<'_>) -> Kind
+    requires { 0 < number.base }
+    ensures { result ≡ numbered (numeral_of number.entry) }
+{
+    if is_numeral(number) {
+        Kind::Number(value_in(number.base, number.digits))
+    } else {
+        Kind::Malformed
+    }
+}
+
+fn keyword_of(lower: &[u8]) -> Option<Keyword>
+    ensures { result ≡ keyword_of lower.now }
+{
+    if lower == b"memory".as_slice() {
+        Some(Keyword::Memory)
+    } else if lower == b"sections".as_slice() {
+        Some(Keyword::Sections)
+    } else if lower == b"page".as_slice() {
+        Some(Keyword::Page)
+    } else if lower == b"origin".as_slice()
+        || lower == b"org".as_slice()
+        || lower == b"o".as_slice()
+    {
+        Some(Keyword::Origin)
+    } else if lower == b"length".as_slice()
+        || lower == b"len".as_slice()
+        || lower == b"l".as_slice()
+    {
+        Some(Keyword::Length)
+    } else if lower == b"load".as_slice() {
+        Some(Keyword::Load)
+    } else if lower == b"run".as_slice() {
+        Some(Keyword::Run)
+    } else {
+        None
+    }
+}
+
+fn named(keyword: Option<Keyword>) -> Kind
+    ensures { result ≡ named keyword }
+{
+    match keyword {
+        None => Kind::Name,
+        Some(keyword) => Kind::Keyword(keyword),
+    }
+}
+
+/// What a word is.
+#[tactic(auto, unfolding(c25_meaning::specs::CommandTokens::word_kind))]
+pub(crate) fn word_kind(alloc: Global, text: &[u8]) -> Result<Kind, AllocError>
+    ensures { IfOk result (λ kind. kind ≡ word_kind text.now) }
+{
+    if digit(byte_at(text, 0)) < 10 {
+        return Ok(numbered(numeral_in(text)));
+    }
+    let lower = text.to_ascii_lowercase(alloc)?;
+    Ok(named(keyword_of(lower.as_slice())))
+}

@@ -1,0 +1,6 @@
+//! The debugger: its scripts.
+#![tactic(auto)]
+
+pub mod script;
+#[cfg(test)]
+mod tests;

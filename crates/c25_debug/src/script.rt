@@ -1,0 +1,157 @@
+//! Scripts: commands of the debugger, one a line.
+
+ghost use Rattle.std.specs.Prelude.{◌≡◌};
+ghost use Rattle.c25_meaning.specs.Script.{range_of, plain_command, command_with_one, command_with_two, script_of};
+ghost use Rattle.c25_debug.specs.Reads.{ReadsScript};
+
+use c25_items::{ItemsError, LineFormat, decimal_of, hexadecimal_of, is_word, read_items};
+use c25_meaning::no_memory::NoMemory;
+use c25_meaning::script::Cmd;
+use std::alloc::Global;
+use std::marker::Model;
+use thiserror::Error;
+
+/// Why a script is refused.
+#[derive(Clone, Copy, Debug, PartialEq, Eq, Error)]
+pub enum ScriptError {
+    /// A growth was refused.
+    #[error("{}", NoMemory)]
+    NoMemory,
+    /// The first line, counted from 1, whose words are no command (95).
+    #[error("line {line}: BadCommand")]
+    BadCommand { line: usize },
+}
+
+impl From<ItemsError> for ScriptError {
+    ghost use Rattle.std.specs.Prelude.{◌≡◌};
+    ghost use Rattle.c25_debug.specs.Reads.{script_error};
+
+    ghost from_gives = { λ fault e. e ≡ script_error fault };
+
+    fn from(error: ItemsError) -> ScriptError {
+        match error {
+            ItemsError::NoMemory => ScriptError::NoMemory,
+            ItemsError::Faulty { line } => ScriptError::BadCommand { line },
+        }
+    }
+}
+
+/// The commands of a script, in order. Contracts see it as their list.
+#[derive(Drop, Debug)]
+pub struct Script {
+    commands: Vec<Cmd>,
+}
+
+impl Model for Script {
+    ghost use Rattle.std.specs.Prelude.{List};
+    ghost use Rattle.c25_meaning.specs.declared.script.Cmd.{Cmd};
+
+    ghost Value = { List Cmd };
+
+    ghost view = { λ s. s.commands.items };
+}
+
+impl Script {
+    /// The commands, the first one first.
+    pub fn as_slice(&self) -> &[Cmd]
+        ensures { result.now ≡ self.now }
+    {
+        self.commands.as_slice()
+    }
+}
+
+/// The command that is one word.
+#[tactic(auto, unfolding(c25_meaning::specs::Script::plain_command))]
+fn plain_command(word: &[u8]) -> Option<Cmd>
+    ensures { result ≡ plain_command word.now }
+{
+    if is_word(word, "regs") {
+        Some(Cmd::Regs)
+    } else if is_word(word, "stack") {
+        Some(Cmd::Stack)
+    } else if is_word(word, "where") {
+        Some(Cmd::Where)
+    } else if is_word(word, "symbols") {
+        Some(Cmd::Symbols)
+    } else {
+        None
+    }
+}
+
+/// The command that is a word and a count or an address.
+#[tactic(auto, unfolding(c25_meaning::specs::Script::command_with_one))]
+fn command_with_one(word: &[u8], number: &[u8]) -> Option<Cmd>
+    ensures { result ≡ command_with_one word.now number.now }
+{
+    if is_word(word, "step") {
+        Some(Cmd::Step(decimal_of(u32::MAX, number)?))
+    } else if is_word(word, "run") {
+        Some(Cmd::Run(decimal_of(u32::MAX, number)?))
+    } else if is_word(word, "list") {
+        Some(Cmd::List(decimal_of(u32::MAX, number)?))
+    } else if is_word(word, "break") {
+        Some(Cmd::Break(hexadecimal_of(1, number)?))
+    } else if is_word(word, "clear") {
+        Some(Cmd::Clear(hexadecimal_of(1, number)?))
+    } else {
+        None
+    }
+}
+
+/// An address and a count of words from there on, which all lie in the memory.
+#[tactic(auto, unfolding(c25_meaning::specs::Script::range_of))]
+fn range_of(address: &[u8], count: &[u8]) -> Option<(u16, u32)>
+    ensures { result ≡ range_of address.now count.now }
+{
+    let address = hexadecimal_of(1, address)?;
+    let count = decimal_of(u32::MAX, count)?;
+    if u64::from(address) + u64::from(count) <= 65536 {
+        Some((address, count))
+    } else {
+        None
+    }
+}
+
+/// The command that is a word, an address and a count.
+#[tactic(auto, unfolding(c25_meaning::specs::Script::command_with_two))]
+fn command_with_two(word: &[u8], address: &[u8], count: &[u8]) -> Option<Cmd>
+    ensures { result ≡ command_with_two word.now address.now count.now }
+{
+    if is_word(word, "data") {
+        let (address, count) = range_of(address, count)?;
+        Some(Cmd::Data { address, count })
+    } else if is_word(word, "prog") {
+        let (address, count) = range_of(address, count)?;
+        Some(Cmd::Prog { address, count })
+    } else {
+        None
+    }
+}
+
+/// One command a line.
+struct CommandLines;
+
+impl LineFormat for CommandLines {
+    ghost use Rattle.c25_meaning.specs.Script.{command_of};
+
+    type Item = Cmd;
+
+    ghost item_of = { command_of };
+
+    fn item(_before: &[Cmd], words: &[&[u8]]) -> Option<Cmd> {
+        match words {
+            [word] => plain_command(word),
+            [word, number] => command_with_one(word, number),
+            [word, address, count] => command_with_two(word, address, count),
+            _ => None,
+        }
+    }
+}
+
+/// The script of a text, or the first line that is neither blank nor a command.
+pub fn read_script(alloc: Global, text: &str) -> Result<Script, ScriptError>
+    ensures { ReadsScript result (script_of text.now) }
+{
+    let commands = read_items::<CommandLines>(alloc, text)?;
+    Ok(Script { commands })
+}

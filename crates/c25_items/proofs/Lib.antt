@@ -1,0 +1,2 @@
+pub mod FourDigits
+pub mod Lists

@@ -1,0 +1,38 @@
+//! The lines of a text and the words of a line.
+
+ghost use Rattle.std.specs.Prelude.{◌≡◌, IfOk, map};
+ghost use Rattle.std.specs.Str.{str_eq_ignore_ascii_case};
+ghost use Rattle.std.specs.Str.Lines.{lines};
+ghost use Rattle.c25_meaning.specs.Bytes.{is_blank};
+ghost use Rattle.c25_meaning.specs.Items.{words_of};
+
+use std::alloc::{AllocError, Global};
+
+/// The lines of a text, without the CR LF or LF that ends them.
+pub(crate) fn lines_of(alloc: Global, text: &str) -> Result<Vec<&str>, AllocError>
+    ensures { IfOk result (λ v. map (λ l. l.now) v.items ≡ lines text.now) }
+{
+    text.lines().collect(alloc)
+}
+
+fn is_blank(b: u8) -> bool
+    ensures { result ≡ is_blank b }
+{
+    b == b' ' || b == b'\t'
+}
+
+/// The words of a line.
+pub(crate) fn words_of(alloc: Global, line: &[u8]) -> Result<Vec<&[u8]>, AllocError>
+    ensures { IfOk result (λ v. map (λ w. w.now) v.items ≡ words_of line.now) }
+{
+    line.split(|b| is_blank(*b))
+        .filter(|word| word.len() != 0)
+        .collect(alloc)
+}
+
+/// Whether a word of a line is this one, in either case.
+pub fn is_word(word: &[u8], name: &str) -> bool
+    ensures { result ≡ str_eq_ignore_ascii_case word.now name.now }
+{
+    word.eq_ignore_ascii_case(name.as_bytes())
+}

@@ -1,0 +1,20 @@
+-- Words that are numbers in decimal or hexadecimal digits, of either case (own).
+use Rattle.std.specs.Prelude.{ℕ, ◌+◌, ◌*◌, ◌&&◌, Bool, List, length, fold, Option, Some, None, nat_lt, nat_le, if◌then◌else◌}
+use Rattle.std.specs.List.{list_all}
+use Rattle.c25_meaning.specs.Constant.{digit}
+
+-- whether a word is one digit of a base or more, and nothing else
+abbrev pub are_digits : ℕ → List ℕ → Bool
+are_digits base word = nat_lt 0 (length word) && list_all (λ b. nat_lt (digit b) base) word
+
+-- the value of digits
+abbrev pub value_in : ℕ → List ℕ → ℕ
+value_in base word = fold (λ v b. v * base + digit b) 0 word
+
+-- a decimal number up to a limit; it may have any number of leading zeros
+unfoldable pub decimal_of : ℕ → List ℕ → Option ℕ
+decimal_of most word = if are_digits 10 word && nat_le (value_in 10 word) most then Some (value_in 10 word) else None
+
+-- a hexadecimal number with at least so many digits and at most four
+unfoldable pub hexadecimal_of : ℕ → List ℕ → Option ℕ
+hexadecimal_of least word = if are_digits 16 word && nat_le least (length word) && nat_le (length word) 4 then Some (value_in 16 word) else None

@@ -1,0 +1,39 @@
+//! What is wrong with a command file of the linker.
+
+use std::error::Error;
+use std::fmt;
+
+/// Why a command file is refused. The numbers are those of the fault lines.
+#[derive(Clone, Copy, PartialEq, Eq, Debug)]
+pub enum CommandFault {
+    /// A word or sign that cannot stand where it is, or a text that ends too soon (60).
+    Syntax,
+    /// A range that shares a word with an earlier one of its page (61).
+    RangeOverlap,
+    /// A range without words, or one that goes on past the 65,536 words of its page (62).
+    RangeSize,
+    /// A second `MEMORY`, `SECTIONS` or `-e`, a second range of one name on one page, or a second
+    /// section of one name (63).
+    Twice,
+}
+
+impl fmt::Display for CommandFault {
+    fn fmt<W: fmt::Write>(&self, f: &mut fmt::Formatter<W>) -> fmt::Result {
+        let name = match self {
+            CommandFault::Syntax => "Syntax",
+            CommandFault::RangeOverlap => "RangeOverlap",
+            CommandFault::RangeSize => "RangeSize",
+            CommandFault::Twice => "Twice",
+        };
+        write!(f, "{name}")
+    }
+}
+
+impl Error for CommandFault {}
+
+/// A fault, and where in the text the token begins that it is told at, counted in bytes from 0.
+#[derive(Clone, Copy, PartialEq, Eq, Debug)]
+pub struct PlacedFault {
+    pub fault: CommandFault,
+    pub place: usize,
+}
