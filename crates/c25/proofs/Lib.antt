@@ -1,4 +1,3 @@
 pub mod Ends
-pub mod Entries
 pub mod Loaded
 pub mod OutputLines

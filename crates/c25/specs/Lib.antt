@@ -1,4 +1,3 @@
-pub mod Entries
 pub mod FaultText
 pub mod Image
 pub mod Refusal

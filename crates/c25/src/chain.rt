@@ -8,9 +8,9 @@ ghost use Rattle.c25.specs.Refusal as refusal;
 ghost use Rattle.c25.specs.Chain.{Answers, AnswersInsns, AnswersSource};
 
 use crate::fault::Fault;
-use crate::files::Files;
 use crate::run::{Chain, run_insns};
 use c25_asm::source::{Source, SourceError, read_source};
+use c25_macro::files::Files;
 use c25_meaning::insn::Insn;
 use c25_meaning::no_memory::NoMemory;
 use c25_meaning::statement::FaultKind;

@@ -3,7 +3,6 @@
 
 pub mod chain;
 pub mod fault;
-pub mod files;
 mod image;
 mod input;
 pub mod output;
@@ -13,11 +12,11 @@ mod tests;
 
 use crate::chain::run_chain;
 use crate::fault::{Fault, write_fault};
-use crate::files::{AddError, Files};
 use crate::input::{ReadError, read_text};
 use crate::output::write_run;
 use crate::run::Chain;
 use c25_board::board::Outcome;
+use c25_macro::files::{AddError, Files};
 use c25_meaning::no_memory::NoMemory;
 use std::alloc::Global;
 use std::env;

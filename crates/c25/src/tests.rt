@@ -2,10 +2,10 @@
 
 use crate::chain::run_chain;
 use crate::fault::{Fault, write_fault};
-use crate::files::{AddError, Files};
 use crate::output::write_run;
 use crate::run::Chain;
 use c25_board::board::Outcome;
+use c25_macro::files::Files;
 use c25_meaning::stop::Stop;
 use std::alloc::Global;
 use std::process::Abort;
@@ -188,18 +188,6 @@ fn a_missing_file_is_told_at_line_0(rt: HostRuntime) -> Result<(), Fail> {
             Ok(())
         }
     }
-}
-
-#[test]
-fn files_keep_the_first_text_of_a_name(rt: HostRuntime) -> Result<(), Fail> {
-    let mut files = Files::new(rt.alloc());
-    files.add("a", "1")?;
-    files.add("b", "2")?;
-    assert_eq!(rt; files.add("a", "3"), Err(AddError::FileTwice));
-    assert_eq!(rt; files.text("a"), Some("1"));
-    assert_eq!(rt; files.text("b"), Some("2"));
-    assert_eq!(rt; files.text("A"), None);
-    Ok(())
 }
 
 #[test]

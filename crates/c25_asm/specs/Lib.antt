@@ -1,4 +1,3 @@
 pub mod Told
 pub mod View
-pub mod Trees
 pub mod Sizes

@@ -1,19 +1,12 @@
 -- What an answer says of a definition's result.
 use Rattle.std.specs.Prelude.{◌≡◌, ℕ, Result, Ok, Err}
 use Rattle.c25_meaning.specs.Source.{SourceFault}
-use Rattle.c25_meaning.specs.declared.statement.FaultKind.{FaultKind}
 use Rattle.c25_asm.specs.declared.failure.SourceError.{SourceError}
 use Rattle.c25_asm.specs.declared.failure.SourceError.TheVariants as source
-use Rattle.c25_asm.specs.declared.failure.Failure.{Failure}
-use Rattle.c25_asm.specs.declared.failure.Failure.TheVariants.{NoMemory, Faulty}
+use Rattle.c25_expr.specs.declared.failure.Failure.{Failure}
+use Rattle.c25_expr.specs.declared.failure.Failure.TheVariants.{NoMemory, Faulty}
 
 -- What is answered is the definition's result, unless memory ran out; `given` is what the answer stands for.
-abbrev pub Tells : {A T : Type 0} → Result A FaultKind → Result T Failure → (T → A) → Type 0
-Tells r (Ok x) given = r ≡ Ok (given x)
-Tells r (Err NoMemory) given = Unit {0}
-Tells r (Err (Faulty kind)) given = r ≡ Err kind
-
--- the same of a source, whose faults have a line
 abbrev pub TellsAt : {A T : Type 0} → Result A SourceFault → Result T SourceError → (T → A) → Type 0
 TellsAt r (Ok x) given = r ≡ Ok (given x)
 TellsAt r (Err source.NoMemory) given = Unit {0}

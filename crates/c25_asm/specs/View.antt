@@ -3,11 +3,8 @@ use Rattle.std.specs.Prelude.{ℕ, List, map}
 use Rattle.std.specs.Option.{option_map}
 use denote.Ref.{Bor}
 use Rattle.c25_meaning.specs.Tree.{Tree}
-use Rattle.c25_meaning.specs.Line.{Piece}
 use Rattle.c25_meaning.specs.StatementLine as line
 use Rattle.c25_meaning.specs.Source as source
-use Rattle.c25_text.specs.View.{piece_of}
-use Rattle.c25_text.specs.declared.tokens.Token.{Token}
 use Rattle.c25_expr.specs.View.{tree_of}
 use Rattle.c25_expr.specs.declared.tree.Expr.{Expr}
 use Rattle.c25_asm.specs.declared.statement.Operation.{Operation}
@@ -20,14 +17,6 @@ use Rattle.c25_asm.specs.declared.trees.Trees.{Trees}
 -- texts
 abbrev pub texts_of : List (Bor (List ℕ)) → List (List ℕ)
 texts_of ts = map (λ t. t.now) ts
-
--- tokens
-abbrev pub pieces_of : List Token → List Piece
-pieces_of ts = map piece_of ts
-
--- operands
-abbrev pub operands_view : List (Bor (List Token)) → List (List Piece)
-operands_view os = map (λ o. pieces_of o.now) os
 
 -- expressions
 abbrev pub trees_of : List Expr → List Tree

@@ -48,6 +48,6 @@ pub(crate) fn emit(
             source.in_range = source.in_range && sheet.in_range;
             Ok(())
         }
-        Err(failure) => Err(failure.at_line(item.line)),
+        Err(failure) => Err(SourceError::at_line(item.line, failure)),
     }
 }

@@ -46,6 +46,13 @@ fn number_beside(addr: AddrForm, numbers: &[u16]) -> u16
     }
 }
 
+/// An address and the number beside it.
+fn beside(addr: AddrForm, numbers: &[u16]) -> (Addr, u16)
+    ensures { result ≡ (addr_beside addr numbers.now, number_beside addr numbers.now) }
+{
+    (addr_beside(addr, numbers), number_beside(addr, numbers))
+}
+
 fn short_of(name: ShortName, numbers: &[u16]) -> Insn
     ensures { result ≡ short_of name numbers.now }
 {
@@ -89,32 +96,20 @@ pub(crate) fn insn_of(form: Form, numbers: &[u16]) -> Insn
     match form {
         Form::Mem(name, addr) => Insn::Mem(name, addr_of(addr, given_at(numbers, 0))),
         Form::Shifted(name, addr) => {
-            Insn::Shifted(
-                name,
-                addr_beside(addr, numbers),
-                number_beside(addr, numbers),
-            )
+            let (address, number) = beside(addr, numbers);
+            Insn::Shifted(name, address, number)
         }
         Form::ArMem(name, addr) => {
-            Insn::ArMem(
-                name,
-                number_at(numbers, 0),
-                addr_of(addr, given_at(numbers, 1)),
-            )
+            let address = addr_of(addr, given_at(numbers, 1));
+            Insn::ArMem(name, number_at(numbers, 0), address)
         }
         Form::Port(name, addr) => {
-            Insn::Port(
-                name,
-                addr_beside(addr, numbers),
-                number_beside(addr, numbers),
-            )
+            let (address, number) = beside(addr, numbers);
+            Insn::Port(name, address, number)
         }
         Form::Bit(name, addr) => {
-            Insn::Bit(
-                name,
-                addr_beside(addr, numbers),
-                number_beside(addr, numbers),
-            )
+            let (address, number) = beside(addr, numbers);
+            Insn::Bit(name, address, number)
         }
         Form::Short(name) => short_of(name, numbers),
         Form::Long(name) => long_of(name, numbers),

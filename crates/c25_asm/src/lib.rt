@@ -5,7 +5,6 @@ mod emission;
 mod failure;
 mod fields;
 mod forms;
-mod operands;
 mod phases;
 mod progress;
 mod reading;

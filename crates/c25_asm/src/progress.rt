@@ -5,10 +5,11 @@ ghost use Rattle.std.specs.List.{sum_by};
 ghost use Rattle.c25_meaning.specs.Source.{place};
 ghost use Rattle.c25_asm.specs.Sizes.{item_size};
 
-use crate::failure::{Failure, SourceError};
+use crate::failure::SourceError;
 use crate::forms::form_row;
 use crate::reading::read_line;
 use crate::statement::{Item, LineStatement, Operation};
+use c25_expr::failure::Failure;
 use c25_expr::symbols::{DefineError, Symbols};
 use c25_isa::size_of;
 use c25_meaning::statement::FaultKind;
@@ -52,7 +53,8 @@ impl Progress {
     ghost use Rattle.c25_meaning.specs.Table.{size};
     ghost use Rattle.c25_meaning.specs.Statement.{form_row};
     ghost use Rattle.c25_meaning.specs.Source as meaning;
-    ghost use Rattle.c25_asm.specs.Told.{Tells, TellsAt};
+    ghost use Rattle.c25_expr.specs.Told.{Tells};
+    ghost use Rattle.c25_asm.specs.Told.{TellsAt};
     ghost use Rattle.c25_asm.specs.View.{progress_of, operation_of, statement_of};
 
     /// Nothing yet.
@@ -146,7 +148,7 @@ impl Progress {
     {
         match self.pass_line(alloc, line, text) {
             Ok(()) => Ok(()),
-            Err(failure) => Err(failure.at_line(line)),
+            Err(failure) => Err(SourceError::at_line(line, failure)),
         }
     }
 }

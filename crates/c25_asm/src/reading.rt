@@ -2,35 +2,25 @@
 
 ghost use Rattle.std.specs.Prelude.{◌≡◌, IfOk, map};
 ghost use Rattle.std.specs.Option.{option_map};
-ghost use Rattle.c25_meaning.specs.StatementLine.{line_fault, spelled, operation_of, operation_in, read_line, written_of};
+ghost use Rattle.c25_meaning.specs.StatementLine.{spelled, operation_of, operation_in, read_line};
+ghost use Rattle.c25_meaning.specs.Operands.{written_of};
 ghost use Rattle.c25_text.specs.View.{parts_of};
-ghost use Rattle.c25_asm.specs.Told.{Tells};
+ghost use Rattle.c25_expr.specs.Pieces.{operands_view};
+ghost use Rattle.c25_expr.specs.Told.{Tells};
 ghost use Rattle.c25_asm.specs.View as view;
-ghost use Rattle.c25_asm.specs.View.{pieces_of, operands_view, statement_of};
+ghost use Rattle.c25_asm.specs.View.{statement_of};
 
-use crate::failure::Failure;
-use crate::operands;
 use crate::shapes::form_of;
 use crate::statement::{LineStatement, Operation};
 use crate::trees::exprs_of;
+use c25_expr::failure::{Failure, line_fault};
+use c25_expr::operands::{operands_of, tokens_of, written_of};
 use c25_isa::mnemonic;
-use c25_meaning::line::LineFault;
 use c25_meaning::mnemonic::Spelling;
 use c25_meaning::statement::{FaultKind, Written};
 use c25_text::line::{Line, split_line};
 use c25_text::tokens::Token;
 use std::alloc::{AllocError, Global};
-
-fn line_fault(fault: LineFault) -> FaultKind
-    ensures { result ≡ line_fault fault }
-{
-    match fault {
-        LineFault::BadLabel => FaultKind::BadLabel,
-        LineFault::BadConstant => FaultKind::BadConstant,
-        LineFault::OpenQuote => FaultKind::OpenQuote,
-        LineFault::StrayText => FaultKind::StrayText,
-    }
-}
 
 fn spelled(word: &str) -> Result<Spelling, FaultKind>
     ensures { result ≡ spelled word.now }
@@ -38,18 +28,12 @@ fn spelled(word: &str) -> Result<Spelling, FaultKind>
     mnemonic(word).ok_or(FaultKind::UnknownMnemonic)
 }
 
-fn tokens_of<'a>(alloc: Global, line: &Line<'a>) -> Result<Vec<Token<'a>>, AllocError>
-    ensures { IfOk result (λ v. pieces_of v.items ≡ (parts_of line.now).pieces) }
-{
-    line.tokens().collect(alloc)
-}
-
 fn kinds_of(alloc: Global, operands: &[&[Token<'_>]]) -> Result<Vec<Written>, AllocError>
     ensures { IfOk result (λ v. v.items ≡ map written_of (operands_view operands.now)) }
 {
     let mut kinds = Vec::new(alloc);
     for operand in operands {
-        kinds.push(operands::written_of(operand))?;
+        kinds.push(written_of(operand))?;
     }
     Ok(kinds)
 }
@@ -84,7 +68,7 @@ fn operation_in(alloc: Global, line: &Line<'_>) -> Result<Option<Operation>, Fai
     match spelled(word.text) {
         Ok(spelling) => {
             let tokens = tokens_of(alloc, line)?;
-            let operands = operands::operands_of(alloc, tokens.as_slice())?;
+            let operands = operands_of(alloc, tokens.as_slice())?;
             let operation = operation_of(alloc, spelling, operands.as_slice())?;
             Ok(Some(operation))
         }

@@ -2,19 +2,19 @@
 
 ghost use Rattle.std.specs.Prelude.{◌≡◌, OnOk, IfOk};
 ghost use Rattle.c25_meaning.specs.Table.{InRange, size, size_of};
-ghost use Rattle.c25_meaning.specs.Statement.{value_fault, valued, taken, sheet_of, blank_sheet, with_entry, insn_of, form_row};
+ghost use Rattle.c25_meaning.specs.Statement.{valued, taken, sheet_of, blank_sheet, with_entry, insn_of, form_row};
 ghost use Rattle.c25_meaning.specs.Fits.{Fits};
 ghost use Rattle.c25_expr.specs.View.{tree_of};
-ghost use Rattle.c25_asm.specs.Told.{Tells};
+ghost use Rattle.c25_expr.specs.Told.{Tells};
 ghost use Rattle.c25_asm.specs.View.{trees_of};
 
-use crate::failure::Failure;
 use crate::fields::{Entry, entry_of, form_field};
+use c25_expr::failure::{Failure, value_fault};
 use c25_expr::symbols::Symbols;
 use c25_expr::tree::Expr;
 use c25_expr::value::value;
 use c25_meaning::statement::{FaultKind, Form};
-use c25_meaning::value::{Value, ValueFault};
+use c25_meaning::value::Value;
 use std::alloc::{AllocError, Global};
 use std::marker::Model;
 
@@ -31,17 +31,6 @@ impl Model for Sheet {
     ghost Value = { Sheet };
 
     ghost view = { λ s. record { numbers = s.numbers.items; in_range = s.in_range } };
-}
-
-fn value_fault(fault: ValueFault) -> FaultKind
-    ensures { result ≡ value_fault fault }
-{
-    match fault {
-        ValueFault::Undefined => FaultKind::Undefined,
-        ValueFault::NotAbsolute => FaultKind::NotAbsolute,
-        ValueFault::DivideByZero => FaultKind::DivideByZero,
-        ValueFault::ValueRange => FaultKind::ValueRange,
-    }
 }
 
 /// The value of an expression.

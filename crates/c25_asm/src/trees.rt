@@ -2,24 +2,17 @@
 
 ghost use Rattle.std.specs.Prelude.{◌≡◌};
 ghost use Rattle.c25_meaning.specs.StatementLine.{no_trees, with_operand, all_trees, trees_in};
-ghost use Rattle.c25_asm.specs.Told.{Tells};
-ghost use Rattle.c25_asm.specs.Trees.{ReadsTree};
-ghost use Rattle.c25_asm.specs.View.{pieces_of, operands_view, trees_of, so_far};
+ghost use Rattle.c25_expr.specs.Pieces.{pieces_of, operands_view};
+ghost use Rattle.c25_expr.specs.Told.{Tells};
+ghost use Rattle.c25_asm.specs.View.{trees_of, so_far};
 
-use crate::failure::Failure;
-use crate::operands::written_of;
+use c25_expr::failure::Failure;
+use c25_expr::operands::written_of;
 use c25_expr::reading::{ExprError, read_expr};
 use c25_expr::tree::Expr;
 use c25_meaning::statement::{FaultKind, Written};
 use c25_text::tokens::Token;
 use std::alloc::Global;
-
-/// The expression of an operand.
-fn tree_in(alloc: Global, tokens: &[Token<'_>]) -> Result<Expr, ExprError>
-    ensures { ReadsTree (pieces_of tokens.now) result }
-{
-    read_expr(alloc, tokens)
-}
 
 /// The expressions of the operands so far, and whether one of those was too deep.
 #[derive(Drop)]
@@ -46,7 +39,7 @@ impl Trees {
         if written_of(tokens) != Written::Expression {
             return Ok(());
         }
-        match tree_in(alloc, tokens) {
+        match read_expr(alloc, tokens) {
             Ok(expr) => self.exprs.push(expr)?,
             Err(ExprError::TooDeep) => self.deep = true,
             Err(ExprError::BadExpression) => {

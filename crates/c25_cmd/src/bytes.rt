@@ -2,7 +2,7 @@
 
 ghost use Rattle.std.specs.Prelude.{◌≡◌, ◌≤◌, ◌<◌, ◌≢◌, ◌-◌, ◌^◌, length, slice_index, IfSome, drop, take};
 ghost use Rattle.std.specs.List.{prefix_len};
-ghost use Rattle.c25_meaning.specs.CommandTokens.{is_space, sign_of, is_word, comment_len, digit, lexeme, comment_of, signed, covered};
+ghost use Rattle.c25_meaning.specs.CommandTokens.{is_space, sign_of, is_word, comment_len, lexeme, comment_of, signed, covered};
 
 use c25_meaning::command_token::{Lexeme, Sign};
 
@@ -62,18 +62,6 @@ pub(crate) fn front(text: &[u8], count: usize) -> &[u8]
         &text[..count]
     } else {
         text
-    }
-}
-
-/// The value of a digit in any base up to 36, else 36.
-pub(crate) fn digit(byte: u8) -> u8
-    ensures { result ≡ digit byte }
-{
-    match byte {
-        b'0'..=b'9' => byte - b'0',
-        b'A'..=b'Z' => byte - b'A' + 10,
-        b'a'..=b'z' => byte - b'a' + 10,
-        _ => 36,
     }
 }
 

@@ -1,12 +1,12 @@
 //! What words are: reserved words, numbers or names.
 
-ghost use Rattle.std.specs.Prelude.{◌≡◌, ◌<◌, ◌≤◌, ◌^◌, ◌-◌, length, min, IfOk, fold, nat_lt, ◌*◌, ◌+◌};
-ghost use Rattle.std.specs.List.{list_all};
-ghost use Rattle.c25_meaning.specs.CommandTokens.{digit, numeral, is_numeral, value_of, keyword_of, numbered, named, word_kind};
+ghost use Rattle.std.specs.Prelude.{◌≡◌, IfOk};
+ghost use Rattle.c25_meaning.specs.CommandTokens.{numeral, is_numeral, keyword_of, numbered, named, word_kind};
 ghost use Rattle.c25_cmd.specs.View.{numeral_of};
 
-use crate::bytes::{behind, byte_at, digit, front};
+use crate::bytes::{behind, byte_at, front};
 use c25_meaning::command_token::{Keyword, Kind};
+use c25_text::{are_digits, digit, value_in};
 use std::alloc::{AllocError, Global};
 
 /// The base and the digits of a number.
@@ -17,8 +17,7 @@ pub(crate) struct Numeral<'a> {
 }
 
 fn numeral_in(text: &[u8]) -> Numeral<'_>
-    ensures value { numeral_of result ≡ numeral text.now }
-    ensures base { 0 < result.base }
+    ensures { numeral_of result ≡ numeral text.now }
 {
     let second = byte_at(text, 1);
     let front_len = text.len().saturating_sub(1);
@@ -41,41 +40,23 @@ fn numeral_in(text: &[u8]) -> Numeral<'_>
     }
 }
 
-fn all_digits(base: u8, digits: &[u8]) -> bool
-    ensures { result ≡ list_all (λ b. nat_lt (digit b) base) digits.now }
-{
-    digits.iter().all(|b| digit(*b) < base)
-}
-
 fn is_numeral(number: Numeral<'_>) -> bool
     ensures { result ≡ is_numeral (numeral_of number.entry) }
 {
     let digits = number.digits;
     let count = digits.len();
-    1 <= count
+    are_digits(number.base, digits)
         && count < 20
-        && all_digits(number.base, digits)
         && !(number.base == 10 && byte_at(digits, 0) == b'0' && 1 < count)
 }
 
-/// The value, or 4,294,967,295 where it is larger.
-fn value_in(base: u8, digits: &[u8]) -> u32
-    requires { 0 < base }
-    ensures { result ≡ min (fold (λ v b. v * base + digit b) 0 digits.now) (2 ^ 32 - 1) }
-{
-    let mut value: u64 = 0;
-    for b in digits {
-        value = (value * u64::from(base) + u64::from(digit(*b))).min(4294967295);
-    }
-    value as u32
-}
-
+/// What a word is that begins with a digit. A number above 4,294,967,295 stands as that.
 fn numbered(number: Numeral<'_>) -> Kind
-    requires { 0 < number.base }
     ensures { result ≡ numbered (numeral_of number.entry) }
 {
     if is_numeral(number) {
-        Kind::Number(value_in(number.base, number.digits))
+        let value = value_in(number.base, number.digits);
+        Kind::Number(value.min(u64::from(u32::MAX)) as u32)
     } else {
         Kind::Malformed
     }

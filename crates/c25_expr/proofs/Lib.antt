@@ -1,4 +1,5 @@
 pub mod Accepts
+pub mod Commas
 pub mod Complete
 pub mod Finishes
 pub mod Found
@@ -8,5 +9,6 @@ pub mod Names
 pub mod Reach
 pub mod Rooms
 pub mod Sound
+pub mod TreeLaws
 pub mod Trees
 pub mod Valued

@@ -1,5 +1,7 @@
 pub mod Completes
+pub mod Pieces
 pub mod Postfix
 pub mod Stack
 pub mod Symbols
+pub mod Told
 pub mod View

@@ -5,7 +5,9 @@ mod builder;
 #[cfg(test)]
 mod cases;
 mod completes;
+pub mod failure;
 pub mod laws;
+pub mod operands;
 mod operators;
 pub mod reading;
 mod signs;

@@ -2,6 +2,8 @@
 
 ghost use Rattle.std.specs.Prelude.{◌≢◌, ◌<◌, ◌≤◌, IfOk, IsErrOf};
 ghost use Rattle.c25_meaning.specs.Tree.{Tree, IsTreeOf, depth};
+ghost use Rattle.c25_expr.specs.Pieces.{pieces_of};
+ghost use Rattle.c25_expr.specs.Told.{ReadsTree};
 ghost use Rattle.c25_expr.specs.View.{tree_of, marks_of};
 
 use crate::builder::Builder;
@@ -70,6 +72,8 @@ pub fn read_expr(alloc: Global, tokens: &[Token<'_>]) -> Result<Expr, ExprError>
     // Their tree is too deep.
     ensures deep { IsErrOf result ExprError.TooDeep → (e : Tree)
         × IsTreeOf (marks_of tokens.now) e × (64 < depth e) }
+    // The same as the result of a function of the tokens.
+    ensures told { ReadsTree (pieces_of tokens.now) result }
 {
     let mut builder = Builder::new(alloc);
     for (i, token) in tokens.iter().enumerate() {

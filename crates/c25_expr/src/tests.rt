@@ -1,13 +1,17 @@
 //! Values, refusals and definitions, from outside.
 
 use crate::cases::CASES;
+use crate::failure::{line_fault, value_fault};
+use crate::operands::{operands_of, tokens_of, written_of};
 use crate::reading::{ExprError, read_expr};
 use crate::symbols::{DefineError, Symbols};
 use crate::tree::Expr;
 use crate::value::value;
+use c25_meaning::insn::Change;
+use c25_meaning::line::LineFault;
+use c25_meaning::statement::{FaultKind, Written};
 use c25_meaning::value::{Base, Value, ValueFault};
 use c25_text::line::{Line, split_line};
-use c25_text::tokens::Token;
 use std::alloc::Global;
 use std::process::Abort;
 use std::test::Fail;
@@ -19,10 +23,7 @@ fn place(base: Base, offset: i32) -> Value {
 
 /// The expression that all operands of a line are.
 fn expression_of(alloc: Global, line: &Line<'_>) -> Result<Result<Expr, ExprError>, Fail> {
-    let mut tokens: Vec<Token<'_>> = Vec::new(alloc);
-    for token in line.tokens() {
-        tokens.push(token)?;
-    }
+    let tokens = tokens_of(alloc, line)?;
     Ok(read_expr(alloc, tokens.as_slice()))
 }
 
@@ -171,4 +172,37 @@ fn lines_are_answered_as_by_the_model(rt: HostRuntime) -> Result<(), Fail> {
         assert_eq!(rt; found.as_str(), wanted, "{text}");
     }
     Ok(())
+}
+
+#[test]
+fn operands_stand_between_commas(rt: HostRuntime) -> Result<(), Fail> {
+    let alloc = rt.alloc();
+    let line = split_line(" X *br0+,,\"A,;B\",*0,(* ;,")?;
+    let tokens = tokens_of(alloc, &line)?;
+    let mut found: Vec<Written> = Vec::new(alloc);
+    for operand in operands_of(alloc, tokens.as_slice())? {
+        found.push(written_of(operand))?;
+    }
+    assert_eq!(rt;
+        found.as_slice(),
+        [
+            Written::Indirect(Change::ReverseAdd),
+            Written::Expression,
+            Written::Quoted,
+            Written::Expression,
+            Written::Expression
+        ]
+        .as_slice()
+    );
+    assert!(rt; operands_of(alloc, &[])?.is_empty());
+    Ok(())
+}
+
+#[test]
+fn faults_keep_their_kinds(rt: HostRuntime) {
+    assert_eq!(rt; line_fault(LineFault::OpenQuote), FaultKind::OpenQuote);
+    assert_eq!(rt;
+        value_fault(ValueFault::DivideByZero),
+        FaultKind::DivideByZero
+    );
 }

@@ -3,9 +3,9 @@
 ghost use Rattle.std.specs.Prelude.{◌≡◌, IfOk, map};
 ghost use Rattle.std.specs.Str.{str_eq_ignore_ascii_case};
 ghost use Rattle.std.specs.Str.Lines.{lines};
-ghost use Rattle.c25_meaning.specs.Bytes.{is_blank};
 ghost use Rattle.c25_meaning.specs.Items.{words_of};
 
+use c25_text::is_blank;
 use std::alloc::{AllocError, Global};
 
 /// The lines of a text, without the CR LF or LF that ends them.
@@ -13,12 +13,6 @@ pub(crate) fn lines_of(alloc: Global, text: &str) -> Result<Vec<&str>, AllocErro
     ensures { IfOk result (λ v. map (λ l. l.now) v.items ≡ lines text.now) }
 {
     text.lines().collect(alloc)
-}
-
-fn is_blank(b: u8) -> bool
-    ensures { result ≡ is_blank b }
-{
-    b == b' ' || b == b'\t'
 }
 
 /// The words of a line.

@@ -1,5 +1,11 @@
+pub mod ExpansionActs
+pub mod ExpansionBounded
+pub mod ExpansionFalls
+pub mod ExpansionFirst
+pub mod ExpansionLines
 pub mod FirstWords
 pub mod Image
+pub mod ItemsHold
 pub mod Keeps
 pub mod Keys
 pub mod Numbers
@@ -12,4 +18,3 @@ pub mod RowNames
 pub mod Spelled
 pub mod Spellings
 pub mod WordMaps
-pub mod ItemsHold

@@ -1,11 +1,12 @@
 -- The tokens of a command file: words and signs, parted by blanks and comments (SPRU018, linker description, linker
 -- command files; which characters a word has, how far a number may go and that reserved words are read in either
 -- case are this project's own).
-use Rattle.std.specs.Prelude.{ℕ, zero, suc, ◌+◌, ◌-◌, ◌*◌, ◌^◌, ◌==◌, ◌||◌, ◌&&◌, not, min, Bool, List, [], ◌∷◌, length, take, drop, slice_index, map, fold, codes, count_by, Option, Some, None, is_some, option_map, nat_lt, nat_le, if◌then◌else◌}
-use Rattle.std.specs.List.{list_all, prefix_len}
+use Rattle.std.specs.Prelude.{ℕ, zero, suc, ◌+◌, ◌-◌, ◌^◌, ◌==◌, ◌||◌, ◌&&◌, not, min, Bool, List, [], ◌∷◌, length, take, drop, slice_index, map, codes, count_by, Option, Some, None, is_some, option_map, nat_lt, nat_le, if◌then◌else◌}
+use Rattle.std.specs.List.{prefix_len}
 use Rattle.std.specs.Str.{bytes_eq}
 use Rattle.std.specs.Str.Lines.{lines}
 use Rattle.std.specs.Char.{to_ascii_lowercase}
+use Rattle.c25_meaning.specs.Digits.{Numeral, digit, are_digits, value_in}
 use Rattle.c25_meaning.specs.declared.command_token.Sign.{Sign}
 use Rattle.c25_meaning.specs.declared.command_token.Sign.TheVariants as sign
 use Rattle.c25_meaning.specs.declared.command_token.Keyword.{Keyword}
@@ -66,19 +67,6 @@ lexeme text =
 
 -- ---- words
 
--- the value of a digit in any base up to 36, else 36
-abbrev pub digit : ℕ → ℕ
-digit b =
-    if nat_le 48 b && nat_le b 57 then b - 48
-    else (if nat_le 65 b && nat_le b 90 then b - 55
-    else (if nat_le 97 b && nat_le b 122 then b - 87
-    else 36))
-
--- what a number's word says of it
-pub record Numeral : Type 0 where
-  pub base : ℕ
-  pub digits : List ℕ
-
 -- `0x` before hexadecimal digits, `h` behind them, or decimal digits
 abbrev pub numeral : List ℕ → Numeral
 numeral text =
@@ -89,12 +77,12 @@ numeral text =
 
 -- 1 to 19 digits, and no 0 before decimal ones
 abbrev pub is_numeral : Numeral → Bool
-is_numeral n = nat_le 1 (length n.digits) && nat_lt (length n.digits) 20 && list_all (λ b. nat_lt (digit b) n.base) n.digits
+is_numeral n = are_digits n.base n.digits && nat_lt (length n.digits) 20
     && not (n.base == 10 && slice_index n.digits 0 == 48 && nat_lt 1 (length n.digits))
 
 -- the value, or 4,294,967,295 where it is larger
 abbrev pub value_of : Numeral → ℕ
-value_of n = min (fold (λ v b. v * n.base + digit b) 0 n.digits) (2 ^ 32 - 1)
+value_of n = min (value_in n.base n.digits) (2 ^ 32 - 1)
 
 -- a number, or a word that only begins as one
 abbrev pub numbered : Numeral → Kind

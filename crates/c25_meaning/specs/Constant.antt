@@ -1,15 +1,7 @@
 -- Constants (SPRU018, assembler description, constants; that the last character alone decides the base is this
 -- project's own).
-use Rattle.std.specs.Prelude.{ℕ, ◌+◌, ◌-◌, ◌*◌, Bool, ◌||◌, ◌&&◌, ◌==◌, nat_lt, nat_le, slice_index, if◌then◌else◌, List, length, take, fold, Option, Some, None}
-use Rattle.std.specs.List.{list_all}
-
--- the value of a digit, 36 for what is none
-abbrev pub digit : ℕ → ℕ
-digit b =
-    if nat_le 48 b && nat_le b 57 then b - 48
-    else (if nat_le 65 b && nat_le b 90 then b - 55
-    else (if nat_le 97 b && nat_le b 122 then b - 87
-    else 36))
+use Rattle.std.specs.Prelude.{ℕ, ◌-◌, Bool, ◌||◌, ◌==◌, slice_index, if◌then◌else◌, List, length, take, Option, Some, None}
+use Rattle.c25_meaning.specs.Digits.{Numeral, all_digits, value_in}
 
 -- the base that a last character asks for, if it is a suffix
 abbrev pub suffix_base : ℕ → Option ℕ
@@ -18,11 +10,6 @@ suffix_base b =
     else (if b == 81 || b == 113 then Some 8
     else (if b == 66 || b == 98 then Some 2
     else None))
-
--- a number in a base, with its digits
-pub record Numeral : Type 0 where
-  pub base : ℕ
-  pub digits : List ℕ
 
 -- the digits of a text in a base that its last character asks for; else all of it in decimal
 abbrev pub numeral_by : Option ℕ → List ℕ → Numeral
@@ -35,8 +22,8 @@ numeral text = numeral_by (suffix_base (slice_index text (length text - 1))) tex
 
 -- whether each digit is one of its base
 abbrev pub is_constant : List ℕ → Bool
-is_constant text = list_all (λ b. nat_lt (digit b) (numeral text).base) (numeral text).digits
+is_constant text = all_digits (numeral text).base (numeral text).digits
 
 -- the whole number that a constant stands for
 abbrev pub constant_value : List ℕ → ℕ
-constant_value text = fold (λ v b. v * (numeral text).base + digit b) 0 (numeral text).digits
+constant_value text = value_in (numeral text).base (numeral text).digits

@@ -1,11 +1,28 @@
--- Words that are numbers in decimal or hexadecimal digits, of either case (own).
-use Rattle.std.specs.Prelude.{ℕ, ◌+◌, ◌*◌, ◌&&◌, Bool, List, length, fold, Option, Some, None, nat_lt, nat_le, if◌then◌else◌}
+-- Digits, and the numbers that they make (SPRU018, constants: letters of either case are digits from 10 on; the limits
+-- of decimals and hexadecimals are this project's own).
+use Rattle.std.specs.Prelude.{ℕ, ◌+◌, ◌-◌, ◌*◌, ◌&&◌, Bool, List, length, fold, Option, Some, None, nat_lt, nat_le, if◌then◌else◌}
 use Rattle.std.specs.List.{list_all}
-use Rattle.c25_meaning.specs.Constant.{digit}
+
+-- the value of a digit, 36 for what is none
+abbrev pub digit : ℕ → ℕ
+digit b =
+    if nat_le 48 b && nat_le b 57 then b - 48
+    else (if nat_le 65 b && nat_le b 90 then b - 55
+    else (if nat_le 97 b && nat_le b 122 then b - 87
+    else 36))
+
+-- a number in a base, with its digits
+pub record Numeral : Type 0 where
+  pub base : ℕ
+  pub digits : List ℕ
+
+-- whether each byte is a digit of a base
+abbrev pub all_digits : ℕ → List ℕ → Bool
+all_digits base text = list_all (λ b. nat_lt (digit b) base) text
 
 -- whether a word is one digit of a base or more, and nothing else
 abbrev pub are_digits : ℕ → List ℕ → Bool
-are_digits base word = nat_lt 0 (length word) && list_all (λ b. nat_lt (digit b) base) word
+are_digits base word = nat_lt 0 (length word) && all_digits base word
 
 -- the value of digits
 abbrev pub value_in : ℕ → List ℕ → ℕ

@@ -1,3 +1,5 @@
+pub mod Acts
+pub mod Arguments
 pub mod Arithmetic
 pub mod Bytes
 pub mod Command
@@ -9,6 +11,10 @@ pub mod CommandTokens
 pub mod Constant
 pub mod Digits
 pub mod Effect
+pub mod Expansion
+pub mod ExpansionBounds
+pub mod ExpansionRules
+pub mod ExpansionRuns
 pub mod Faults
 pub mod Files
 pub mod Fits
@@ -22,11 +28,15 @@ pub mod Marks
 pub mod Memory
 pub mod Module
 pub mod Operand
+pub mod Operands
+pub mod Pieces
 pub mod Placing
+pub mod Quoting
 pub mod Reading
 pub mod RecordReading
 pub mod Records
 pub mod Reset
+pub mod Rows
 pub mod Run
 pub mod RunText
 pub mod Samples
@@ -41,7 +51,9 @@ pub mod StatementLine
 pub mod Statements
 pub mod Status
 pub mod Step
+pub mod Substitution
 pub mod Table
+pub mod Texts
 pub mod Tree
 pub mod Value
 pub mod WordMap

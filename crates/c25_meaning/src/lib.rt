@@ -3,6 +3,7 @@
 
 pub mod command_fault;
 pub mod command_token;
+pub mod expansion;
 pub mod expression;
 pub mod hex_fault;
 pub mod insn;
@@ -14,6 +15,7 @@ pub mod marks;
 pub mod mnemonic;
 pub mod no_memory;
 pub mod object;
+pub mod quoting;
 pub mod registers;
 pub mod sample;
 pub mod schedule;

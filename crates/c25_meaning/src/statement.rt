@@ -86,6 +86,20 @@ pub enum FaultKind {
     Defined,
     /// A file that is not there (30).
     NoFile,
+    /// A block that is not closed in the file or body where it began (31).
+    OpenBlock,
+    /// The end or a part of a block that is not open (32).
+    StrayEnd,
+    /// A 33rd open expansion, copied file, loop or `.if` (33).
+    Depth,
+    /// A 200,001st line (34).
+    Lines,
+    /// A macro of more than 32 parameters (35).
+    TooManyParameters,
+    /// A macro with the name of a macro or a mnemonic (36).
+    Redefined,
+    /// A line of more than 1,024 bytes or replacements (38).
+    LongLine,
     /// A first word that is no mnemonic (50).
     UnknownMnemonic,
     /// Too few operands, or too many (51).

@@ -4,13 +4,15 @@ ghost use Rattle.std.specs.Prelude.{◌≡◌};
 ghost use Rattle.c25_meaning.specs.Bytes.{is_blank, is_digit, is_letter, is_letter_or_digit, begins_name, goes_on_name, is_plain, is_field};
 ghost use Rattle.c25_meaning.specs.Bytes.{is_visible};
 
-pub(crate) fn is_blank(b: u8) -> bool
+/// Whether a byte is a blank or a tab.
+pub fn is_blank(b: u8) -> bool
     ensures { result ≡ is_blank b }
 {
     b == b' ' || b == b'\t'
 }
 
-pub(crate) fn is_digit(b: u8) -> bool
+/// Whether a byte is one of `0` to `9`.
+pub fn is_digit(b: u8) -> bool
     ensures { result ≡ is_digit b }
 {
     b >= b'0' && b <= b'9'
@@ -28,13 +30,15 @@ pub(crate) fn is_letter_or_digit(b: u8) -> bool
     is_letter(b) || is_digit(b)
 }
 
-pub(crate) fn begins_name(b: u8) -> bool
+/// Whether a byte begins a name: a letter or `_`.
+pub fn begins_name(b: u8) -> bool
     ensures { result ≡ begins_name b }
 {
     is_letter(b) || b == b'_'
 }
 
-pub(crate) fn goes_on_name(b: u8) -> bool
+/// Whether a byte goes on with a name: a letter, a digit, `_` or `$`.
+pub fn goes_on_name(b: u8) -> bool
     ensures { result ≡ goes_on_name b }
 {
     is_letter_or_digit(b) || b == b'_' || b == b'$'

@@ -1,28 +1,16 @@
 //! What stands at the front of a text.
 
 ghost use Rattle.std.specs.Prelude.{◌≡◌, ◌<◌, ◌≤◌, length, true, slice_index, IfSome, min, ◌^◌};
-ghost use Rattle.c25_meaning.specs.Constant.{digit, suffix_base, numeral, is_constant, constant_value};
+ghost use Rattle.c25_meaning.specs.Constant.{suffix_base, numeral, is_constant, constant_value};
 ghost use Rattle.c25_meaning.specs.Lexeme.{name_of, constant_of, character_of, quoted_len, quoted_by, dotted_of, double_sign, single_sign, sign_by, lexeme};
 
 use crate::bytes::{begins_name, is_blank, is_digit, is_plain};
+use crate::digits::{all_digits, value_in};
 use crate::runs::{all_plain, constant_run, name_run};
 use c25_meaning::line::{Lexeme, LineFault, Sign, TokenKind};
 
-/// The value of a digit, 36 for what is none.
-fn digit(b: u8) -> u8
-    ensures { result ≡ digit b }
-{
-    match b {
-        b'0'..=b'9' => b - b'0',
-        b'A'..=b'Z' => b - b'A' + 10,
-        b'a'..=b'z' => b - b'a' + 10,
-        _ => 36,
-    }
-}
-
 fn suffix_base(b: u8) -> Option<u8>
-    ensures value { result ≡ suffix_base b }
-    ensures some { IfSome result (λ base. 0 < base) }
+    ensures { result ≡ suffix_base b }
 {
     match b {
         b'H' | b'h' => Some(16),
@@ -36,7 +24,6 @@ fn suffix_base(b: u8) -> Option<u8>
 fn numeral(text: &[u8]) -> (u8, &[u8])
     ensures base { result.0 ≡ (numeral text.now).base }
     ensures digits { result.1.now ≡ (numeral text.now).digits }
-    ensures some { 0 < result.0 }
 {
     let Some((last, front)) = text.split_last() else {
         return (10, text);
@@ -51,7 +38,7 @@ fn is_constant(text: &[u8]) -> bool
     ensures { result ≡ is_constant text.now }
 {
     let (base, digits) = numeral(text);
-    digits.iter().all(|b| digit(*b) < base)
+    all_digits(base, digits)
 }
 
 /// The number that the text of a constant token stands for; 2,147,483,648, which is no value, where it
@@ -60,11 +47,7 @@ pub fn constant_value(text: &[u8]) -> u32
     ensures { result ≡ min (constant_value text.now) (2 ^ 31) }
 {
     let (base, digits) = numeral(text);
-    let mut value: u64 = 0;
-    for b in digits {
-        value = (value * u64::from(base) + u64::from(digit(*b))).min(1 << 31);
-    }
-    value as u32
+    value_in(base, digits).min(1 << 31) as u32
 }
 
 fn constant_of(run: &[u8]) -> Lexeme
@@ -88,7 +71,7 @@ fn name_of(length: usize) -> Lexeme
 }
 
 /// The byte at a place, 0 past the end.
-pub(crate) fn byte_at(text: &[u8], place: usize) -> u8
+pub fn byte_at(text: &[u8], place: usize) -> u8
     ensures { result ≡ slice_index text.now place }
 {
     text.get(place).copied().unwrap_or(0)
@@ -108,7 +91,7 @@ fn character_of(c: u8, d: u8, e: u8) -> Lexeme
 }
 
 /// How many bytes a string goes on behind its first quote.
-fn quoted_len(rest: &[u8]) -> Option<usize>
+pub fn quoted_len(rest: &[u8]) -> Option<usize>
     ensures value { result ≡ quoted_len true rest.now }
     ensures bound { IfSome result (λ n. n ≤ length rest.now) }
 {

@@ -8,14 +8,16 @@ ghost use Rattle.c25_meaning.specs.Line.{past_blanks, past_field};
 
 use crate::bytes::{goes_on_name, is_blank, is_field, is_letter_or_digit, is_plain, is_visible};
 
-pub(crate) fn name_run(text: &[u8]) -> usize
+/// How many bytes at the front of a text go on with a name.
+pub fn name_run(text: &[u8]) -> usize
     ensures value { result ≡ prefix_len goes_on_name text.now }
     ensures bound { result ≤ length text.now }
 {
     text.iter().take_while(|b| goes_on_name(**b)).count()
 }
 
-pub(crate) fn constant_run(text: &[u8]) -> usize
+/// How many letters and digits stand at the front of a text.
+pub fn constant_run(text: &[u8]) -> usize
     ensures value { result ≡ prefix_len is_letter_or_digit text.now }
     ensures bound { result ≤ length text.now }
 {
@@ -55,7 +57,7 @@ pub(crate) fn all_go_on_name(text: &[u8]) -> bool
 }
 
 /// Where the blanks at a place end.
-pub(crate) fn past_blanks(text: &[u8], from: usize) -> usize
+pub fn past_blanks(text: &[u8], from: usize) -> usize
     requires { from ≤ length text.now }
     ensures value { result ≡ past_blanks from text.now }
     ensures least { from ≤ result }
@@ -65,7 +67,7 @@ pub(crate) fn past_blanks(text: &[u8], from: usize) -> usize
 }
 
 /// Where the field at a place ends.
-pub(crate) fn past_field(text: &[u8], from: usize) -> usize
+pub fn past_field(text: &[u8], from: usize) -> usize
     requires { from ≤ length text.now }
     ensures value { result ≡ past_field from text.now }
     ensures least { from ≤ result }

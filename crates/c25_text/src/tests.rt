@@ -57,3 +57,32 @@ fn the_first_word_is_found_on_any_text(rt: HostRuntime) {
     assert_eq!(rt; first_word("* NOP"), None);
     assert_eq!(rt; first_word("X ;NOP"), None);
 }
+
+#[test]
+fn bytes_are_of_their_kinds(rt: HostRuntime) {
+    assert_eq!(rt; (is_blank(b'\t'), is_blank(b';')), (true, false));
+    assert_eq!(rt; (is_digit(b'9'), is_digit(b'A')), (true, false));
+    assert_eq!(rt; (begins_name(b'_'), begins_name(b'$')), (true, false));
+    assert_eq!(rt; (goes_on_name(b'$'), goes_on_name(b'.')), (true, false));
+    let text = "ab".as_bytes();
+    assert_eq!(rt; (byte_at(text, 1), byte_at(text, 2)), (b'b', 0));
+}
+
+#[test]
+fn runs_end_before_another_byte(rt: HostRuntime) {
+    assert_eq!(rt; name_run("a$1+b".as_bytes()), 3);
+    assert_eq!(rt; constant_run("12h_".as_bytes()), 3);
+    assert_eq!(rt; past_blanks(" \tb".as_bytes(), 0), 2);
+    assert_eq!(rt; past_field("a;b".as_bytes(), 0), 1);
+    assert_eq!(rt; quoted_len("a\"\"b\"c".as_bytes()), Some(5));
+}
+
+#[test]
+fn digits_make_numbers(rt: HostRuntime) {
+    assert_eq!(rt; (digit(b'9'), digit(b'f'), digit(b'_')), (9, 15, 36));
+    assert!(rt; are_digits(16, "1aF".as_bytes()));
+    assert!(rt; !are_digits(8, "18".as_bytes()));
+    assert!(rt; !are_digits(10, "".as_bytes()));
+    assert_eq!(rt; value_in(16, "1aF".as_bytes()), 431);
+    assert_eq!(rt; value_in(10, "4294967297".as_bytes()), 4_294_967_296);
+}

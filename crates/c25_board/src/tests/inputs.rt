@@ -27,16 +27,22 @@ fn spelled(alloc: Global, written: &str) -> Result<String, Fail> {
     Ok(text)
 }
 
-/// The samples of each port, as the port and the word.
+/// Writes the samples of a port, each as the port and the word.
+fn show_port(out: &mut String, samples: &mut Samples, port: u16) -> Result<(), AllocError> {
+    for _taken in 0..100 {
+        match samples.take(port) {
+            Some(word) => write!(out, " {port}:{word}")?,
+            None => break,
+        }
+    }
+    Ok(())
+}
+
+/// The samples of each port in turn.
 fn show_samples(alloc: Global, samples: &mut Samples) -> Result<String, AllocError> {
     let mut out = String::from_str(alloc, "ok")?;
     for port in 0..16u16 {
-        for _taken in 0..100 {
-            match samples.take(port) {
-                Some(word) => write!(out, " {port}:{word}")?,
-                None => break,
-            }
-        }
+        show_port(&mut out, samples, port)?;
     }
     Ok(out)
 }

@@ -1,6 +1,6 @@
 use Rattle.std.proofs.Common.{◌≡◌, ◌++◌, drop, map}
-use Rattle.c25_meaning.specs.StatementLine.{written_of}
-use Rattle.c25_asm.specs.View.{operands_view}
+use Rattle.c25_meaning.specs.Operands.{written_of}
+use Rattle.c25_expr.specs.Pieces.{operands_view}
 use Rattle.c25_asm.proofs.reading.kinds_of.Given as goal
 
 abbrev pub invariant-loop-operand : goal.invariant-loop-operand

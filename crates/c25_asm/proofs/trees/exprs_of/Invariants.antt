@@ -1,7 +1,8 @@
 use Rattle.std.proofs.Common.{◌≡◌, drop}
 use Rattle.c25_meaning.specs.Statement.{fold_ok}
 use Rattle.c25_meaning.specs.StatementLine.{with_operand, no_trees}
-use Rattle.c25_asm.specs.View.{so_far, operands_view}
+use Rattle.c25_expr.specs.Pieces.{operands_view}
+use Rattle.c25_asm.specs.View.{so_far}
 use Rattle.c25_asm.proofs.trees.exprs_of.Given as goal
 
 abbrev pub invariant-loop-operand : goal.invariant-loop-operand

@@ -1,12 +1,13 @@
 use Rattle.std.proofs.Common.{◌<◌, ◌≤◌, ◌∙◌, ap, sym, subst, ℕ}
-use Rattle.c25_meaning.specs.CommandTokens.{digit, numbered, named, keyword_of}
+use Rattle.c25_meaning.specs.CommandTokens.{numbered, named, keyword_of}
+use Rattle.c25_meaning.specs.Digits.{digit}
 use Rattle.c25_cmd.proofs.WordKinds.{number_word, other_word}
 use Rattle.c25_cmd.proofs.words.word_kind.Goals as goal
 
 pub returns-then-digit-lt10 : goal.returns-then-digit-lt10
 returns-then-digit-lt10 c =
     let first = c.digit.ensures ∙ ap digit c.byte_at.ensures.value in
-    c.numbered.ensures ∙ ap numbered c.numeral_in.ensures.value ∙ sym (number_word c.args.text.now (subst (λ (n : ℕ). n < 10) first c.if-digit-lt10.true))
+    c.numbered.ensures ∙ ap numbered c.numeral_in.ensures ∙ sym (number_word c.args.text.now (subst (λ (n : ℕ). n < 10) first c.if-digit-lt10.true))
 
 pub returns : goal.returns
 returns c =

@@ -1,0 +1,14 @@
+-- What tokens and operands stand for.
+use Rattle.std.specs.Prelude.{List, map}
+use denote.Ref.{Bor}
+use Rattle.c25_meaning.specs.Line.{Piece}
+use Rattle.c25_text.specs.View.{piece_of}
+use Rattle.c25_text.specs.declared.tokens.Token.{Token}
+
+-- tokens
+abbrev pub pieces_of : List Token → List Piece
+pieces_of ts = map piece_of ts
+
+-- operands
+abbrev pub operands_view : List (Bor (List Token)) → List (List Piece)
+operands_view os = map (λ o. pieces_of o.now) os

@@ -1,0 +1,11 @@
+use Rattle.std.proofs.Common.{◌≡◌, false, rules}
+use Rattle.c25_meaning.specs.ExpansionRuns.{is_closed}
+use Rattle.c25_macro.specs.Config.{config}
+use Rattle.c25_macro.proofs.Nexts.{ends_open}
+use Rattle.c25_macro.proofs.state.State.end_source.Goals as goal
+
+pub returns-then-not-is_closed : goal.returns-then-not-is_closed
+returns-then-not-is_closed c = λ files s.
+    let opened : is_closed (config c.args.self.now) ≡ false = search rules in
+    let told = ends_open files s c.args.self.now.below (config c.args.self.now) opened in
+    rw c.fault.ensures (rw c.requires (rw c.requires at told))

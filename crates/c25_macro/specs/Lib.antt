@@ -1,0 +1,11 @@
+pub mod Acts
+pub mod Config
+pub mod Dictionary
+pub mod Entries
+pub mod Expander
+pub mod Expanders
+pub mod Frames
+pub mod Macros
+pub mod Refusals
+pub mod Stages
+pub mod Views

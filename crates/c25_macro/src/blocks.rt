@@ -1,0 +1,243 @@
+//! Macros, loops and copied files.
+
+ghost use Rattle.std.specs.Prelude.{◌≡◌, ◌<◌, ◌^◌, ◌||◌, is_some, OnOk, IfErr};
+ghost use Rattle.std.specs.Option.{option_map};
+ghost use Rattle.std.specs.String.{string_bytes};
+ghost use Rattle.c25_meaning.specs.Expansion as exp;
+ghost use Rattle.c25_meaning.specs.ExpansionRules as rule;
+ghost use Rattle.c25_meaning.specs.Spellings.{spelling_of};
+ghost use Rattle.c25_expr.specs.View.{tree_of};
+ghost use Rattle.c25_macro.specs.Acts.{bytes_of_names};
+ghost use Rattle.c25_macro.specs.Config.{config, GoesOn};
+ghost use Rattle.c25_macro.specs.Frames.{test_of};
+
+use crate::files::Files;
+use crate::frame::{Block, Branches, Frame, Kind, Source, Stack};
+use crate::refusal::{Refusal, fault};
+use crate::rows::{Rows, rows_of};
+use crate::state::{Mode, State};
+use crate::values::{is_zero, number};
+use c25_expr::symbols::Symbols;
+use c25_expr::tree::Expr;
+use c25_isa::mnemonic;
+use c25_meaning::expansion::Place;
+use c25_meaning::statement::FaultKind;
+use c25_substitution::parameters::Arguments;
+
+/// How many turns a loop without a count has.
+const TURNS: usize = 1024;
+
+/// How many turns a count asks for.
+fn turns_of(count: i32) -> usize
+    ensures { result ≡ rule.turns_of count }
+{
+    if count < 0 { 0 } else { count as usize }
+}
+
+/// Whether a mnemonic has this name, in either case.
+fn is_mnemonic(name: &str) -> bool
+    ensures { result ≡ is_some (spelling_of name.now) }
+{
+    mnemonic(name).is_some()
+}
+
+impl State {
+    /// Whether a macro or a mnemonic has this name.
+    fn is_taken(&self, name: &str) -> bool
+        ensures { result ≡ (is_some (exp.macro_named (config self.now).names name.now) || is_some (spelling_of name.now)) }
+    {
+        self.names.has_macro(name) || is_mnemonic(name)
+    }
+
+    /// `.macro`
+    #[tactic(auto, unfolding(c25_meaning::specs::ExpansionRules::begins_macro))]
+    pub(crate) fn begin_macro(
+        &mut self,
+        place: Place,
+        name: String,
+        parameters: Vec<String>,
+    ) -> Result<(), Refusal>
+        ensures { GoesOn (rule.begins_macro place (string_bytes name) (bytes_of_names parameters.items) (config self.old)) result (config self.new) }
+    {
+        if self.is_taken(name.as_str()) {
+            return Err(fault(FaultKind::Redefined, place));
+        }
+        self.mode = Mode::InMacro {
+            name,
+            parameters,
+            body: Rows::new(self.alloc),
+            nested: 0,
+        };
+        Ok(())
+    }
+
+    /// A call of a macro.
+    #[tactic(auto, unfolding(c25_meaning::specs::ExpansionRules::begins_expansion))]
+    pub(crate) fn begin_expansion(
+        &mut self,
+        place: Place,
+        body: Rows,
+        arguments: Arguments,
+    ) -> Result<(), Refusal>
+        requires { (config self.old).names.count < 2 ^ 31 }
+        ensures { GoesOn (rule.begins_expansion place body arguments (config self.old)) result (config self.new) }
+    {
+        if self.is_full() {
+            return Err(fault(FaultKind::Depth, place));
+        }
+        let last = body.last_place(place);
+        self.names.begin(arguments)?;
+        self.open(Kind::Expanded, last, body)?;
+        Ok(())
+    }
+
+    /// The lines through the end of the innermost such block are dropped.
+    pub(crate) fn leave_block(&mut self, block: Block, place: Place) -> Result<(), Refusal>
+        ensures { GoesOn (rule.leaves (test_of block) place (config self.old)) result (config self.new) }
+    {
+        if self.leave(block) {
+            Ok(())
+        } else {
+            Err(fault(FaultKind::StrayEnd, place))
+        }
+    }
+
+    /// The lines of a loop of so many turns follow.
+    fn collect(&mut self, place: Place, turns: usize) -> Result<(), Refusal>
+        ensures { GoesOn (rule.collects place turns (config self.old)) result (config self.new) }
+    {
+        if self.is_full() {
+            return Err(fault(FaultKind::Depth, place));
+        }
+        self.mode = Mode::InLoop {
+            turns,
+            body: Rows::new(self.alloc),
+            nested: 0,
+        };
+        Ok(())
+    }
+
+    /// `.loop`
+    #[tactic(auto, unfolding(c25_meaning::specs::ExpansionRules::begins_loop))]
+    pub(crate) fn begin_loop(
+        &mut self,
+        symbols: &Symbols,
+        place: Place,
+        count: Option<Expr>,
+    ) -> Result<(), Refusal>
+        ensures { GoesOn (rule.begins_loop symbols.now place (option_map tree_of count) (config self.old)) result (config self.new) }
+    {
+        match count {
+            Some(count) => {
+                let number = match number(symbols, &count) {
+                    Ok(number) => number,
+                    Err(kind) => return Err(fault(kind, place)),
+                };
+                self.collect(place, turns_of(number))
+            }
+            None => self.collect(place, TURNS),
+        }
+    }
+
+    /// `.break` whose condition holds or not.
+    fn break_if(&mut self, holds: bool, place: Place) -> Result<(), Refusal>
+        ensures { GoesOn (rule.breaks_if holds place (config self.old)) result (config self.new) }
+    {
+        if !self.stands_in(Block::Turn) {
+            return Err(fault(FaultKind::StrayEnd, place));
+        }
+        if holds {
+            self.leave_block(Block::Turn, place)
+        } else {
+            Ok(())
+        }
+    }
+
+    /// `.break`
+    #[tactic(auto, unfolding(c25_meaning::specs::ExpansionRules::breaks))]
+    pub(crate) fn break_loop(
+        &mut self,
+        symbols: &Symbols,
+        place: Place,
+        condition: Option<Expr>,
+    ) -> Result<(), Refusal>
+        ensures { GoesOn (rule.breaks symbols.now place (option_map tree_of condition) (config self.old)) result (config self.new) }
+    {
+        match condition {
+            Some(condition) => {
+                let number = match number(symbols, &condition) {
+                    Ok(number) => number,
+                    Err(kind) => return Err(fault(kind, place)),
+                };
+                self.break_if(!is_zero(number), place)
+            }
+            None => self.break_if(true, place),
+        }
+    }
+
+    /// `.asg`
+    pub(crate) fn assign(&mut self, name: &str, text: String) -> Result<(), Refusal>
+        ensures ok { OnOk result (config self.new ≡ record (config self.old) { names = exp.assigned name.now (string_bytes text) (config self.old).names }) }
+        ensures err { IfErr result (λ refusal. refusal ≡ Refusal.NoMemory) }
+    {
+        self.names.assign(name, text)?;
+        Ok(())
+    }
+
+    /// `.eval`
+    #[tactic(auto, unfolding(c25_meaning::specs::ExpansionRules::evaluates))]
+    pub(crate) fn evaluate(
+        &mut self,
+        symbols: &Symbols,
+        place: Place,
+        expression: &Expr,
+        name: &str,
+    ) -> Result<(), Refusal>
+        ensures { GoesOn (rule.evaluates symbols.now place (tree_of expression.now) name.now (config self.old)) result (config self.new) }
+    {
+        let number = match number(symbols, expression) {
+            Ok(number) => number,
+            Err(kind) => return Err(fault(kind, place)),
+        };
+        let text = format!(in self.alloc; "{number}")?;
+        self.names.assign(name, text)?;
+        Ok(())
+    }
+
+    /// `.copy`
+    #[tactic(auto, unfolding(c25_meaning::specs::ExpansionRules::copies))]
+    pub(crate) fn copy(&mut self, files: &Files, place: Place, name: String) -> Result<(), Refusal>
+        ensures { GoesOn (rule.copies files.now place (string_bytes name) (config self.old)) result (config self.new) }
+    {
+        match files.find(name.as_str()) {
+            Some((file, text)) => {
+                if self.is_full() {
+                    return Err(fault(FaultKind::Depth, place));
+                }
+                let rows = rows_of(self.alloc, file, text)?;
+                let last = rows.last_place(place);
+                self.open(Kind::Copied, last, rows)?;
+                Ok(())
+            }
+            None => Err(Refusal::Missing { place, name }),
+        }
+    }
+
+    /// `.end`
+    #[tactic(auto, unfolding(c25_meaning::specs::ExpansionRules::ends_all))]
+    pub(crate) fn end_all(&mut self, place: Place) -> Result<(), Refusal>
+        ensures { GoesOn (rule.ends_all place (config self.old)) result (config self.new) }
+    {
+        self.top = Source {
+            rows: Rows::new(self.alloc),
+            frame: Frame {
+                kind: Kind::Copied,
+                last: place,
+                branches: Branches::new(self.alloc),
+            },
+        };
+        self.below = Stack::new(self.alloc);
+        self.names.end_all();
+        Ok(())
+    }
+}

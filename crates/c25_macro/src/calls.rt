@@ -1,0 +1,63 @@
+//! What callers ask of an expander.
+
+ghost use Rattle.std.specs.Prelude.{◌≡◌, ◌<◌, IfOk, IfSome};
+ghost use Rattle.std.specs.Option.{option_map};
+ghost use Rattle.c25_macro.specs.Expander.{begun, IsNext, IsKept, missing_of, left_of};
+ghost use Rattle.c25_macro.specs.Expanders.{expansion_of};
+
+use crate::answer::{ExpLine, ExpandError};
+use crate::expander::Expander;
+use crate::files::Files;
+use crate::stage::{Stage, advance};
+use c25_expr::symbols::Symbols;
+use std::alloc::Global;
+use std::mem;
+
+impl<'a> Expander<'a> {
+    /// The expansion of the module of a name among these files. It takes no memory; a module that is
+    /// not there is told by the first call of `next_line`.
+    pub fn new(alloc: Global, files: &'a Files, name: &'a str) -> Expander<'a>
+        ensures { expansion_of result ≡ begun files.now name.now }
+    {
+        Expander {
+            alloc,
+            files,
+            name,
+            stage: Stage::Before,
+        }
+    }
+
+    /// The next line under the symbols that the lines before it have defined, or None where none comes
+    /// any more. The first error ends the expansion: every further call answers the same, and takes no
+    /// memory.
+    ///
+    /// In one line the first of these is told: 34 (it is the 200,001st that is read), 38 (it is longer
+    /// than 1,024 bytes, or takes more than 1,024 replacements), and where expansion consumes it 10 to
+    /// 13, 51, 52, 20, 21, then 22 to 25, then 30 to 36. The label of a consumed line is given as a line
+    /// of its own behind 21, so that the caller can define it first.
+    pub fn next_line(&mut self, symbols: &Symbols) -> Result<Option<ExpLine<'a>>, ExpandError<'a>>
+        ensures next { IsNext (expansion_of self.old) symbols.now result (expansion_of self.new).stage }
+        // At most 200,000 lines are given: each is one less that may be read.
+        ensures fewer { IfOk result (λ o. IfSome o (λ _. left_of (expansion_of self.new).stage < left_of (expansion_of self.old).stage)) }
+        // At most 32 blocks are open.
+        ensures kept { IsKept (expansion_of self.new).stage }
+        ensures files { (expansion_of self.new).files ≡ (expansion_of self.old).files }
+        ensures name { (expansion_of self.new).name ≡ (expansion_of self.old).name }
+    {
+        let stage = mem::replace(&mut self.stage, Stage::NoModule);
+        let (stage, answer) = advance(self.alloc, self.files, self.name, stage, symbols);
+        self.stage = stage;
+        answer
+    }
+
+    /// The name of the file that is missing, after a 30.
+    pub fn missing(&self) -> Option<&str>
+        ensures { option_map (λ name. name.now) result ≡ missing_of (expansion_of self.now).stage }
+    {
+        match &self.stage {
+            Stage::NoModule => Some(self.name),
+            Stage::Missing { name, .. } => Some(name.as_str()),
+            _ => None,
+        }
+    }
+}

@@ -1,0 +1,15 @@
+//! The expander.
+
+use crate::files::Files;
+use crate::stage::Stage;
+use std::alloc::Global;
+
+/// The lines of a module, with its macros, loops, conditions, substitution symbols and copied files
+/// expanded (SPRU018, macro language and assembler directives).
+#[derive(Drop)]
+pub struct Expander<'a> {
+    pub(crate) alloc: Global,
+    pub(crate) files: &'a Files,
+    pub(crate) name: &'a str,
+    pub(crate) stage: Stage<'a>,
+}

@@ -1,0 +1,315 @@
+//! Lines as they are read: skipped, taken, substituted, and given or consumed.
+
+ghost use Rattle.std.specs.Prelude.{◌≡◌, ◌<◌, ◌^◌, Result};
+ghost use Rattle.c25_meaning.specs.Line.{first_word};
+ghost use Rattle.c25_meaning.specs.Acts as acts;
+ghost use Rattle.c25_meaning.specs.ExpansionBounds.{nesting};
+ghost use Rattle.c25_meaning.specs.ExpansionRules as rule;
+ghost use Rattle.c25_meaning.specs.declared.statement.FaultKind.{FaultKind};
+ghost use Rattle.c25_expr.specs.Told.{Tells};
+ghost use Rattle.c25_macro.specs.Acts.{act_of, order_of};
+ghost use Rattle.c25_macro.specs.Config.{config, Follows, GoesOn};
+ghost use Rattle.c25_macro.specs.Dictionary.{dictionary_of};
+ghost use Rattle.c25_macro.specs.Frames.{other_branches};
+ghost use Rattle.c25_substitution.specs.View.{IsLine};
+
+use crate::act::{Act, Order};
+use crate::directive::directive_in;
+use crate::files::Files;
+use crate::frame::Block;
+use crate::orders::{read_call, read_order};
+use crate::refusal::{Refusal, at_place, fault};
+use crate::rows::Row;
+use crate::state::{Mode, Progress, State};
+use c25_expr::failure::Failure;
+use c25_expr::symbols::Symbols;
+use c25_meaning::expansion::{Branch, Directive, Place};
+use c25_meaning::statement::FaultKind;
+use c25_substitution::output::WriteError;
+use c25_substitution::substitution::{substitute, substitute_before_comma, unsubstituted};
+use c25_text::line::first_word;
+
+impl State {
+    /// What a line asks for is done.
+    #[tactic(auto, unfolding(c25_meaning::specs::ExpansionRules::acts))]
+    pub(crate) fn act(
+        &mut self,
+        files: &Files,
+        symbols: &Symbols,
+        place: Place,
+        act: Act,
+    ) -> Result<(), Refusal>
+        requires { (config self.old).names.count < 2 ^ 31 }
+        ensures { GoesOn (rule.acts files.now symbols.now place (act_of act) (config self.old)) result (config self.new) }
+    {
+        match act {
+            Act::If(condition) => self.begin_if(symbols, place, &condition),
+            Act::ElseIf(condition) => self.elseif(symbols, place, &condition),
+            Act::Else => self.pass_else(place),
+            Act::EndIf => self.end_if(place),
+            Act::Define { name, parameters } => self.begin_macro(place, name, parameters),
+            Act::Stray => Err(fault(FaultKind::StrayEnd, place)),
+            Act::Exit => self.leave_block(Block::Expansion, place),
+            Act::Loop(count) => self.begin_loop(symbols, place, count),
+            Act::Break(condition) => self.break_loop(symbols, place, condition),
+            Act::Assign { text, name } => self.assign(name.as_str(), text),
+            Act::Evaluate { expression, name } => {
+                self.evaluate(symbols, place, &expression, name.as_str())
+            }
+            Act::Copy(name) => self.copy(files, place, name),
+            Act::End => self.end_all(place),
+            Act::Call { body, arguments } => self.begin_expansion(place, body, arguments),
+        }
+    }
+
+    /// The label of a consumed line is given, or else what the line asks for is done.
+    fn label(
+        &mut self,
+        files: &Files,
+        symbols: &Symbols,
+        place: Place,
+        order: Order,
+    ) -> Result<Progress, Refusal>
+        requires { (config self.old).names.count < 2 ^ 31 }
+        ensures { Follows (rule.labelled files.now symbols.now place (order_of order).label (order_of order).act (config self.old)) result (config self.new) }
+    {
+        let Order { label, act } = order;
+        match label {
+            Some(name) => {
+                self.mode = Mode::Acting { place, act };
+                Ok(Progress::Given(Row::new(place, name)))
+            }
+            None => {
+                self.act(files, symbols, place, act)?;
+                Ok(Progress::Went)
+            }
+        }
+    }
+
+    /// A line that is consumed, or its fault.
+    fn consume(
+        &mut self,
+        files: &Files,
+        symbols: &Symbols,
+        place: Place,
+        order: Result<Order, Failure>,
+    ) -> Result<Progress, Refusal>
+        requires { (config self.old).names.count < 2 ^ 31 }
+        ensures { (told : Result acts.Order FaultKind) → Tells told order order_of
+            → Follows (rule.consumed files.now symbols.now place told (config self.old)) result (config self.new) }
+    {
+        match order {
+            Ok(order) => self.label(files, symbols, place, order),
+            Err(failure) => Err(at_place(failure, place)),
+        }
+    }
+
+    /// A line whose first word is no directive of expansion: a macro is called, or else the line is
+    /// given.
+    fn call(&mut self, files: &Files, symbols: &Symbols, row: Row) -> Result<Progress, Refusal>
+        requires { (config self.old).names.count < 2 ^ 31 }
+        ensures { Follows (rule.calls files.now symbols.now row (rule.macro_of (first_word row.text) (config self.old)) (config self.old)) result (config self.new) }
+    {
+        let Some(word) = first_word(row.text()) else {
+            return Ok(Progress::Given(row));
+        };
+        match self.names.macro_named(word) {
+            Some(called) => {
+                let order = read_call(self.alloc, called, row.text());
+                self.consume(files, symbols, row.place(), order)
+            }
+            None => Ok(Progress::Given(row)),
+        }
+    }
+
+    /// A line that was substituted.
+    fn use_substituted(
+        &mut self,
+        files: &Files,
+        symbols: &Symbols,
+        row: Row,
+    ) -> Result<Progress, Refusal>
+        requires { (config self.old).names.count < 2 ^ 31 }
+        ensures { Follows (rule.uses files.now symbols.now row (rule.directive_in (first_word row.text)) (config self.old)) result (config self.new) }
+    {
+        match directive_in(row.text()) {
+            Some(directive) => {
+                let order = read_order(self.alloc, directive, row.text());
+                self.consume(files, symbols, row.place(), order)
+            }
+            None => self.call(files, symbols, row),
+        }
+    }
+
+    /// A line substituted, as its first word asks for.
+    fn substituted(&self, directive: Option<Directive>, text: &str) -> Result<String, WriteError>
+        ensures { IsLine (rule.substituted_as directive (dictionary_of self.now.names) text.now) result }
+    {
+        let names = self.names.visible();
+        let number = self.names.number();
+        match directive {
+            Some(Directive::Macro) => unsubstituted(self.alloc, text),
+            Some(Directive::Assign) => substitute_before_comma(self.alloc, &names, number, text),
+            Some(Directive::Evaluate) => substitute_before_comma(self.alloc, &names, number, text),
+            _ => substitute(self.alloc, &names, number, text),
+        }
+    }
+
+    /// A line that is used, with this first word: neither skipped nor collected.
+    #[tactic(auto, unfolding(c25_meaning::specs::ExpansionRules::used))]
+    fn use_line(
+        &mut self,
+        files: &Files,
+        symbols: &Symbols,
+        row: Row,
+        directive: Option<Directive>,
+    ) -> Result<Progress, Refusal>
+        requires { (config self.old).names.count < 2 ^ 31 }
+        ensures { Follows (rule.used files.now symbols.now row directive (config self.old)) result (config self.new) }
+    {
+        match self.substituted(directive, row.text()) {
+            Ok(text) => self.use_substituted(files, symbols, Row::new(row.place(), text)),
+            Err(WriteError::LongLine) => Err(fault(FaultKind::LongLine, row.place())),
+            Err(WriteError::NoMemory(_)) => Err(Refusal::NoMemory),
+        }
+    }
+
+    /// A line that ends or goes on with an `.if` whose lines are skipped.
+    #[tactic(auto, unfolding(c25_meaning::specs::ExpansionRules::resumes))]
+    fn resume(
+        &mut self,
+        files: &Files,
+        symbols: &Symbols,
+        row: Row,
+        directive: Directive,
+    ) -> Result<Progress, Refusal>
+        requires { (config self.old).names.count < 2 ^ 31 }
+        ensures { Follows (rule.resumes files.now symbols.now row directive (config self.old)) result (config self.new) }
+    {
+        match self.substituted(Some(directive), row.text()) {
+            Ok(text) => {
+                let order = read_order(self.alloc, directive, text.as_str());
+                self.consume(files, symbols, row.place(), order)
+            }
+            Err(WriteError::LongLine) => Err(fault(FaultKind::LongLine, row.place())),
+            Err(WriteError::NoMemory(_)) => Err(Refusal::NoMemory),
+        }
+    }
+
+    /// The innermost `.if` has so many more nested in its skipped lines.
+    fn nest(&mut self, branch: Branch, nested: usize) -> Result<Progress, Refusal>
+        ensures { Follows (rule.nests nested branch (other_branches (config self.old).frame.branches) (config self.old)) result (config self.new) }
+    {
+        self.top
+            .frame
+            .branches
+            .replace(Branch { nested, ..branch })?;
+        Ok(Progress::Went)
+    }
+
+    /// A line that is skipped, in no nested `.if`.
+    fn skip_outer(
+        &mut self,
+        files: &Files,
+        symbols: &Symbols,
+        row: Row,
+        directive: Option<Directive>,
+        branch: Branch,
+    ) -> Result<Progress, Refusal>
+        requires { (config self.old).names.count < 2 ^ 31 }
+        ensures { Follows (rule.skips_outer files.now symbols.now row directive branch (other_branches (config self.old).frame.branches) (config self.old)) result (config self.new) }
+    {
+        match directive {
+            Some(Directive::If) => self.nest(branch, 1),
+            Some(Directive::ElseIf) if branch.has_else => {
+                Err(fault(FaultKind::StrayEnd, row.place()))
+            }
+            Some(Directive::ElseIf) if branch.taken => Ok(Progress::Went),
+            Some(Directive::ElseIf) => self.resume(files, symbols, row, Directive::ElseIf),
+            Some(Directive::Else) if branch.has_else => {
+                Err(fault(FaultKind::StrayEnd, row.place()))
+            }
+            Some(Directive::Else) => self.resume(files, symbols, row, Directive::Else),
+            Some(Directive::EndIf) => self.resume(files, symbols, row, Directive::EndIf),
+            _ => Ok(Progress::Went),
+        }
+    }
+
+    /// A line that is skipped, in a nested `.if`.
+    fn skip_nested(
+        &mut self,
+        directive: Option<Directive>,
+        branch: Branch,
+    ) -> Result<Progress, Refusal>
+        requires some { 0 < branch.nested }
+        requires few { branch.nested < 2 ^ 31 }
+        ensures { Follows (rule.skips_nested directive branch (other_branches (config self.old).frame.branches) (config self.old)) result (config self.new) }
+    {
+        match directive {
+            Some(Directive::If) => self.nest(branch, branch.nested + 1),
+            Some(Directive::EndIf) => self.nest(branch, branch.nested - 1),
+            _ => Ok(Progress::Went),
+        }
+    }
+
+    /// A line that is skipped.
+    #[tactic(auto, unfolding(c25_meaning::specs::ExpansionRules::skips))]
+    fn skip(
+        &mut self,
+        files: &Files,
+        symbols: &Symbols,
+        row: Row,
+        directive: Option<Directive>,
+        branch: Branch,
+    ) -> Result<Progress, Refusal>
+        requires expansions { (config self.old).names.count < 2 ^ 31 }
+        requires few { branch.nested < 2 ^ 31 }
+        ensures { Follows (rule.skips files.now symbols.now row directive branch (other_branches (config self.old).frame.branches) (config self.old)) result (config self.new) }
+    {
+        if branch.nested == 0 {
+            self.skip_outer(files, symbols, row, directive, branch)
+        } else {
+            self.skip_nested(directive, branch)
+        }
+    }
+
+    /// A line in lines that are taken by an `.if`.
+    fn take(
+        &mut self,
+        files: &Files,
+        symbols: &Symbols,
+        row: Row,
+        directive: Option<Directive>,
+        branch: Branch,
+    ) -> Result<Progress, Refusal>
+        requires expansions { (config self.old).names.count < 2 ^ 31 }
+        ensures { Follows (rule.takes files.now symbols.now row directive branch (other_branches (config self.old).frame.branches) (config self.old)) result (config self.new) }
+    {
+        match directive {
+            Some(Directive::ElseIf) => {
+                self.pass_innermost(row.place(), branch)?;
+                Ok(Progress::Went)
+            }
+            _ => self.use_line(files, symbols, row, directive),
+        }
+    }
+
+    /// A line that is neither part of a macro's body nor of a loop's.
+    pub(crate) fn read_line(
+        &mut self,
+        files: &Files,
+        symbols: &Symbols,
+        row: Row,
+    ) -> Result<Progress, Refusal>
+        requires expansions { (config self.old).names.count < 2 ^ 31 }
+        requires nested { nesting (config self.old).frame.branches < 2 ^ 31 }
+        ensures { Follows (rule.reads_by files.now symbols.now row (rule.directive_in (first_word row.text)) (config self.old).frame.branches (config self.old)) result (config self.new) }
+    {
+        let directive = directive_in(row.text());
+        match self.top.frame.branches.innermost() {
+            None => self.use_line(files, symbols, row, directive),
+            Some(branch) if branch.active => self.take(files, symbols, row, directive, branch),
+            Some(branch) => self.skip(files, symbols, row, directive, branch),
+        }
+    }
+}

@@ -1,0 +1,60 @@
+//! Macros.
+
+ghost use Rattle.std.specs.Prelude.{◌≡◌, [], OnOk};
+ghost use Rattle.std.specs.Map.{lookup};
+ghost use Rattle.std.specs.Option.{option_map};
+ghost use Rattle.std.specs.Str.{bytes_eq};
+ghost use Rattle.std.specs.String.{string_bytes};
+ghost use Rattle.c25_meaning.specs.Texts.{with_name};
+ghost use Rattle.c25_macro.specs.Acts.{macro_of};
+
+use crate::rows::Rows;
+use indexmap::IndexMap;
+use std::alloc::{AllocError, Global};
+use std::marker::Model;
+
+/// A macro: the names of its parameters, at most 32, and its lines as they were written.
+#[derive(Drop)]
+pub(crate) struct Macro {
+    pub(crate) parameters: Vec<String>,
+    pub(crate) body: Rows,
+}
+
+/// The macros of a module, in order of definition.
+#[derive(Drop)]
+pub(crate) struct Macros {
+    entries: IndexMap<String, Macro>,
+}
+
+impl Model for Macros {
+    ghost use Rattle.c25_meaning.specs.Acts as acts;
+    ghost use Rattle.c25_meaning.specs.Texts.{Named};
+    ghost use Rattle.c25_macro.specs.Macros.{named_macros};
+
+    ghost Value = { Named acts.Macro };
+
+    ghost view = { λ macros. named_macros macros.entries.entries };
+}
+
+impl Macros {
+    pub(crate) fn new(alloc: Global) -> Macros
+        ensures { result ≡ [] }
+    {
+        Macros {
+            entries: IndexMap::new(alloc),
+        }
+    }
+
+    pub(crate) fn get(&self, name: &str) -> Option<&Macro>
+        ensures { option_map (λ m. macro_of m.now) result ≡ lookup (bytes_eq name.now) self.now }
+    {
+        self.entries.get(name)
+    }
+
+    pub(crate) fn put(&mut self, name: String, definition: Macro) -> Result<(), AllocError>
+        ensures { OnOk result (self.new ≡ with_name self.old (string_bytes name) (macro_of definition)) }
+    {
+        self.entries.insert(name, definition)?;
+        Ok(())
+    }
+}

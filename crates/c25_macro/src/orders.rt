@@ -1,0 +1,216 @@
+//! What lines ask of expansion.
+
+ghost use Rattle.std.specs.Prelude.{◌≡◌, [], ◌∷◌, IfOk, slice_index};
+ghost use Rattle.std.specs.Option.{option_map};
+ghost use Rattle.std.specs.String.{string_bytes};
+ghost use Rattle.c25_meaning.specs.Bytes.{is_blank};
+ghost use Rattle.c25_meaning.specs.Acts as acts;
+ghost use Rattle.c25_text.specs.View.{parts_of};
+ghost use Rattle.c25_expr.specs.Pieces.{pieces_of, operands_view};
+ghost use Rattle.c25_expr.specs.Told.{Tells};
+ghost use Rattle.c25_macro.specs.Acts as view;
+
+use crate::act::{Act, Order};
+use crate::macros::Macro;
+use crate::operands::{condition_in, expression_in, name_in, names_in, option_in, string_in};
+use c25_expr::failure::{Failure, line_fault};
+use c25_expr::operands::{operands_of, tokens_of, written_of};
+use c25_meaning::expansion::Directive;
+use c25_meaning::statement::{FaultKind, Written};
+use c25_substitution::arguments::{arguments, assigned_text};
+use c25_text::line::{Line, split_line};
+use c25_text::tokens::Token;
+use std::alloc::{AllocError, Global};
+
+/// How many parameters a macro can have.
+const MOST_PARAMETERS: usize = 32;
+
+/// A directive that takes no operand.
+fn without(act: Act, operands: &[&[Token<'_>]]) -> Result<Act, Failure>
+    ensures { Tells (acts.without (view.act_of act) (operands_view operands.now)) result view.act_of }
+{
+    match operands {
+        [] => Ok(act),
+        _ => Err(Failure::Faulty(FaultKind::OperandCount)),
+    }
+}
+
+/// `.macro`
+fn definition_in(alloc: Global, line: &Line<'_>, operands: &[&[Token<'_>]]) -> Result<Act, Failure>
+    ensures { Tells (acts.definition_in (parts_of line.now) (operands_view operands.now)) result view.act_of }
+{
+    let parameters = names_in(alloc, operands)?;
+    if parameters.len() > MOST_PARAMETERS {
+        return Err(Failure::Faulty(FaultKind::TooManyParameters));
+    }
+    let name = String::from_str(alloc, line.label.unwrap_or(""))?;
+    Ok(Act::Define { name, parameters })
+}
+
+/// The last of some operands, if there are two or more.
+fn last_of_two<'a, 'b>(operands: &'b [&'b [Token<'a>]]) -> Option<&'b [Token<'a>]>
+    ensures { option_map (λ o. pieces_of o.now) result ≡ acts.last_of_two (operands_view operands.now) }
+{
+    match operands {
+        [_, .., last] => Some(last),
+        _ => None,
+    }
+}
+
+/// `.asg`
+fn assignment_in(alloc: Global, text: &str, operands: &[&[Token<'_>]]) -> Result<Act, Failure>
+    ensures { Tells (acts.assignment_in text.now (operands_view operands.now)) result view.act_of }
+{
+    match last_of_two(operands) {
+        Some(last) => {
+            let name = name_in(alloc, last)?;
+            let text = assigned_text(alloc, text)?;
+            Ok(Act::Assign { text, name })
+        }
+        None => Err(Failure::Faulty(FaultKind::OperandCount)),
+    }
+}
+
+/// The operands of `.eval` in their order, the first being one that is read as an expression.
+fn evaluation_of(alloc: Global, first: &[Token<'_>], second: &[Token<'_>]) -> Result<Act, Failure>
+    ensures { Tells (acts.evaluation_in (pieces_of first.now ∷ pieces_of second.now ∷ [])) result view.act_of }
+{
+    match written_of(first) {
+        Written::Expression => {
+            let name = name_in(alloc, second)?;
+            let expression = expression_in(alloc, first)?;
+            Ok(Act::Evaluate { expression, name })
+        }
+        _ => Err(Failure::Faulty(FaultKind::OperandForm)),
+    }
+}
+
+/// `.eval`
+fn evaluation_in(alloc: Global, operands: &[&[Token<'_>]]) -> Result<Act, Failure>
+    ensures { Tells (acts.evaluation_in (operands_view operands.now)) result view.act_of }
+{
+    match operands {
+        [first, second] => evaluation_of(alloc, first, second),
+        _ => Err(Failure::Faulty(FaultKind::OperandCount)),
+    }
+}
+
+/// `.copy`
+fn copy_in(alloc: Global, operands: &[&[Token<'_>]]) -> Result<Act, Failure>
+    ensures { Tells (acts.copy_in (operands_view operands.now)) result view.act_of }
+{
+    match operands {
+        [operand] => Ok(Act::Copy(string_in(alloc, operand)?)),
+        _ => Err(Failure::Faulty(FaultKind::OperandCount)),
+    }
+}
+
+/// What a directive with these operands asks for.
+#[tactic(auto, unfolding(c25_meaning::specs::Acts::act_of))]
+fn act_of(
+    alloc: Global,
+    directive: Directive,
+    text: &str,
+    line: &Line<'_>,
+    operands: &[&[Token<'_>]],
+) -> Result<Act, Failure>
+    ensures { Tells (acts.act_of directive text.now (parts_of line.now) (operands_view operands.now)) result view.act_of }
+{
+    match directive {
+        Directive::If => Ok(Act::If(condition_in(alloc, operands)?)),
+        Directive::ElseIf => Ok(Act::ElseIf(condition_in(alloc, operands)?)),
+        Directive::Else => without(Act::Else, operands),
+        Directive::EndIf => without(Act::EndIf, operands),
+        Directive::Macro => definition_in(alloc, line, operands),
+        Directive::EndMacro | Directive::EndLoop => without(Act::Stray, operands),
+        Directive::ExitMacro => without(Act::Exit, operands),
+        Directive::Loop => Ok(Act::Loop(option_in(alloc, operands)?)),
+        Directive::Break => Ok(Act::Break(option_in(alloc, operands)?)),
+        Directive::Assign => assignment_in(alloc, text, operands),
+        Directive::Evaluate => evaluation_in(alloc, operands),
+        Directive::Copy => copy_in(alloc, operands),
+        Directive::End => without(Act::End, operands),
+    }
+}
+
+/// The parts of a line.
+fn parts_in(text: &str) -> Result<Line<'_>, Failure>
+    ensures { Tells (acts.parts_in text.now) result parts_of }
+{
+    match split_line(text) {
+        Ok(line) => Ok(line),
+        Err(fault) => Err(Failure::Faulty(line_fault(fault))),
+    }
+}
+
+/// Whether a blank or a tab stands in column 1.
+fn begins_blank(text: &str) -> bool
+    ensures { result ≡ is_blank (slice_index text.now 0) }
+{
+    match text.as_bytes() {
+        [first, ..] => *first == b' ' || *first == b'\t',
+        [] => false,
+    }
+}
+
+/// The parts of a line with a directive: `.macro` needs a label.
+fn parts_for(directive: Directive, text: &str) -> Result<Line<'_>, Failure>
+    ensures { Tells (acts.parts_for directive text.now) result parts_of }
+{
+    match directive {
+        Directive::Macro if begins_blank(text) => Err(Failure::Faulty(FaultKind::BadLabel)),
+        _ => parts_in(text),
+    }
+}
+
+/// A copy of a label.
+fn text_of(alloc: Global, label: Option<&str>) -> Result<Option<String>, AllocError>
+    ensures { IfOk result (λ o. option_map string_bytes o ≡ option_map (λ s. s.now) label.entry) }
+{
+    match label {
+        Some(name) => Ok(Some(String::from_str(alloc, name)?)),
+        None => Ok(None),
+    }
+}
+
+/// The label that becomes a line.
+fn label_for(
+    alloc: Global,
+    directive: Directive,
+    label: Option<&str>,
+) -> Result<Option<String>, AllocError>
+    ensures { IfOk result (λ o. option_map string_bytes o ≡ acts.label_for directive (option_map (λ s. s.now) label.entry)) }
+{
+    match directive {
+        Directive::Macro => Ok(None),
+        _ => text_of(alloc, label),
+    }
+}
+
+/// What a line with a directive asks for.
+#[tactic(auto, unfolding(c25_meaning::specs::Acts::order_of))]
+pub(crate) fn read_order(alloc: Global, directive: Directive, text: &str) -> Result<Order, Failure>
+    ensures { Tells (acts.order_of directive text.now) result view.order_of }
+{
+    let line = parts_for(directive, text)?;
+    let tokens = tokens_of(alloc, &line)?;
+    let operands = operands_of(alloc, tokens.as_slice())?;
+    let act = act_of(alloc, directive, text, &line, operands.as_slice())?;
+    let label = label_for(alloc, directive, line.label)?;
+    Ok(Order { label, act })
+}
+
+/// What a line that calls a macro asks for.
+#[tactic(auto, unfolding(c25_meaning::specs::Acts::call_of))]
+pub(crate) fn read_call(alloc: Global, called: &Macro, text: &str) -> Result<Order, Failure>
+    ensures { Tells (acts.call_of (view.macro_of called.now) text.now) result view.order_of }
+{
+    let line = parts_in(text)?;
+    let label = text_of(alloc, line.label)?;
+    let body = called.body.copy(alloc)?;
+    let arguments = arguments(alloc, called.parameters.as_slice(), text)?;
+    Ok(Order {
+        label,
+        act: Act::Call { body, arguments },
+    })
+}

@@ -1,0 +1,163 @@
+//! Where an expansion stands, and its next line.
+
+ghost use Rattle.std.specs.Prelude.{◌≡◌};
+ghost use Rattle.c25_meaning.specs.ExpansionBounds.{IsBounded};
+ghost use Rattle.c25_meaning.specs.ExpansionRuns.{first, start_of};
+ghost use Rattle.c25_macro.specs.Config.{config};
+ghost use Rattle.c25_macro.specs.Expander.{line_of, shown, begun_at, Comes, IsNextAt, IsKept, Missing, Tells};
+ghost use Rattle.c25_macro.specs.Stages.{stage_of, IsRefused};
+
+use crate::answer::{ExpLine, ExpandError};
+use crate::files::Files;
+use crate::refusal::Refusal;
+use crate::rows::Row;
+use crate::standing::Standing;
+use crate::state::State;
+use c25_expr::symbols::Symbols;
+use c25_meaning::expansion::Place;
+use c25_meaning::statement::FaultKind;
+use std::alloc::Global;
+
+/// Where an expansion stands.
+#[derive(Drop)]
+pub(crate) enum Stage<'a> {
+    /// Before the first line.
+    Before,
+    /// Behind a line.
+    Standing(Standing),
+    /// The module is not there.
+    NoModule,
+    /// A growth was refused.
+    NoMemory,
+    /// A line is wrong.
+    Faulty {
+        file: &'a str,
+        line: usize,
+        kind: FaultKind,
+    },
+    /// The file of this name, that a line asks for, is not there.
+    Missing {
+        file: &'a str,
+        line: usize,
+        name: String,
+    },
+}
+
+/// The answer at a stage.
+type Answer<'a> = Result<Option<ExpLine<'a>>, ExpandError<'a>>;
+
+/// A line with the name of its file.
+fn show<'a>(files: &'a Files, row: Row) -> ExpLine<'a>
+    ensures { shown result ≡ line_of files.now row }
+{
+    let Place { file, line } = row.place();
+    ExpLine {
+        file: files.name(file),
+        line,
+        text: row.into_text(),
+    }
+}
+
+/// A file that the line of this number in this file asks for is not there.
+fn no_file(file: &str, line: usize) -> ExpandError<'_>
+    ensures { result ≡ ExpandError.Line file.entry line FaultKind.NoFile }
+{
+    ExpandError::Line {
+        file,
+        line,
+        kind: FaultKind::NoFile,
+    }
+}
+
+/// The stage behind a refusal, and what is told of it.
+fn refuse<'a>(files: &'a Files, name: &'a str, refusal: Refusal) -> (Stage<'a>, Answer<'a>)
+    ensures { IsRefused files.now name.now refusal result.0 result.1 }
+{
+    match refusal {
+        Refusal::NoMemory => (Stage::NoMemory, Err(ExpandError::NoMemory)),
+        Refusal::Faulty { place, kind } => {
+            let file = files.name(place.file);
+            let line = place.line;
+            let error = ExpandError::Line { file, line, kind };
+            (Stage::Faulty { file, line, kind }, Err(error))
+        }
+        Refusal::Missing { place, name } => {
+            let file = files.name(place.file);
+            let line = place.line;
+            (
+                Stage::Missing { file, line, name },
+                Err(no_file(file, line)),
+            )
+        }
+    }
+}
+
+/// The next line behind a line, and the stage behind that.
+fn go_on<'a>(
+    files: &'a Files,
+    name: &'a str,
+    state: State,
+    symbols: &Symbols,
+) -> (Stage<'a>, Answer<'a>)
+    requires { IsBounded (config state) }
+    ensures next { Comes files.now (first files.now symbols.now (config state)) result.1 (stage_of files.now name.now result.0) }
+    ensures kept { IsKept (stage_of files.now name.now result.0) }
+{
+    let mut state = state;
+    match state.next(files, symbols) {
+        Ok(Some(row)) => {
+            let line = show(files, row);
+            (Stage::Standing(Standing { state }), Ok(Some(line)))
+        }
+        Ok(None) => (Stage::Standing(Standing { state }), Ok(None)),
+        Err(refusal) => refuse(files, name, refusal),
+    }
+}
+
+/// The first line of the module of a name, and the stage behind it.
+fn begin<'a>(
+    alloc: Global,
+    files: &'a Files,
+    name: &'a str,
+    symbols: &Symbols,
+) -> (Stage<'a>, Answer<'a>)
+    ensures next { IsNextAt files.now name.now (begun_at (start_of files.now name.now)) symbols.now result.1 (stage_of files.now name.now result.0) }
+    ensures kept { IsKept (stage_of files.now name.now result.0) }
+{
+    match files.find(name) {
+        Some((file, text)) => match State::new(alloc, file, text) {
+            Ok(state) => go_on(files, name, state, symbols),
+            Err(_) => (Stage::NoMemory, Err(ExpandError::NoMemory)),
+        },
+        None => (Stage::NoModule, Err(no_file(name, 0))),
+    }
+}
+
+/// The next line of the module of a name, and the stage behind it.
+pub(crate) fn advance<'a>(
+    alloc: Global,
+    files: &'a Files,
+    name: &'a str,
+    stage: Stage<'a>,
+    symbols: &Symbols,
+) -> (Stage<'a>, Answer<'a>)
+    ensures next { IsNextAt files.now name.now (stage_of files.now name.now stage.entry) symbols.now result.1 (stage_of files.now name.now result.0) }
+    ensures kept { IsKept (stage_of files.now name.now result.0) }
+{
+    match stage {
+        Stage::Before => begin(alloc, files, name, symbols),
+        Stage::Standing(Standing { state }) => go_on(files, name, state, symbols),
+        Stage::NoModule => (Stage::NoModule, Err(no_file(name, 0))),
+        Stage::NoMemory => (Stage::NoMemory, Err(ExpandError::NoMemory)),
+        Stage::Faulty { file, line, kind } => {
+            let error = ExpandError::Line { file, line, kind };
+            (Stage::Faulty { file, line, kind }, Err(error))
+        }
+        Stage::Missing { file, line, name } => {
+            (
+                Stage::Missing { file, line, name },
+                Err(no_file(file, line)),
+            )
+        }
+    }
+}

@@ -1,0 +1,13 @@
+//! A state within its bounds.
+
+ghost use Rattle.c25_meaning.specs.ExpansionBounds.{IsBounded};
+ghost use Rattle.c25_macro.specs.Config.{config};
+
+use crate::state::State;
+
+/// A state in which no more blocks are open, and no more lines and expansions counted, than may be.
+#[derive(Drop)]
+pub(crate) struct Standing {
+    pub(crate) state: State,
+    ghost bounded: { IsBounded (config state) },
+}

@@ -1,0 +1,144 @@
+//! What an expander works on: the sources that are open, and how the next line is looked at.
+
+ghost use Rattle.std.specs.Prelude.{◌≡◌, ◌<◌, ◌^◌, ◌++◌, Some, None, OnOk, IfOk, MatchBool};
+ghost use Rattle.c25_meaning.specs.Expansion as exp;
+ghost use Rattle.c25_meaning.specs.ExpansionRuns.{start};
+ghost use Rattle.c25_macro.specs.Config.{config, mode_of};
+ghost use Rattle.c25_macro.specs.Frames.{kind_of, test_of};
+
+use crate::act::Act;
+use crate::dictionary::Dictionary;
+use crate::frame::{Block, Branches, Frame, Kind, Source, Stack};
+use crate::rows::{Row, Rows, rows_of};
+use c25_meaning::expansion::Place;
+use std::alloc::{AllocError, Global};
+use std::mem;
+
+/// How the next line is looked at.
+#[derive(Drop)]
+pub(crate) enum Mode {
+    /// It is read.
+    Reading,
+    /// The label of the line that stands there was given, and what the line asks for is still to be done.
+    Acting {
+        place: Place,
+        act: Act,
+    },
+    /// It goes into the body of a macro, in which so many macros are nested.
+    InMacro {
+        name: String,
+        parameters: Vec<String>,
+        body: Rows,
+        nested: usize,
+    },
+    /// It goes into the body of a loop of so many turns, in which so many loops are nested.
+    InLoop {
+        turns: usize,
+        body: Rows,
+        nested: usize,
+    },
+}
+
+/// What one line comes to.
+#[derive(Drop)]
+pub(crate) enum Progress {
+    /// A line is given.
+    Given(Row),
+    /// The line did its work.
+    Went,
+    /// No line comes any more.
+    Finished,
+}
+
+/// All that stands at a line.
+#[derive(Drop)]
+pub(crate) struct State {
+    pub(crate) alloc: Global,
+    /// The innermost file, expansion or turn.
+    pub(crate) top: Source,
+    /// Those in which it stands.
+    pub(crate) below: Stack,
+    pub(crate) mode: Mode,
+    pub(crate) names: Dictionary,
+    /// How many lines may still be read.
+    pub(crate) left: usize,
+}
+
+/// How many lines may be read.
+const MOST_LINES: usize = 200_000;
+
+/// How many blocks may be open.
+pub(crate) const MOST_OPEN: usize = 32;
+
+impl State {
+    /// Before the first line of a file with this text.
+    pub(crate) fn new(alloc: Global, file: usize, text: &str) -> Result<State, AllocError>
+        ensures { IfOk result (λ s. config s ≡ start file text.now) }
+    {
+        let rows = rows_of(alloc, file, text)?;
+        let last = rows.last_place(Place { file, line: 0 });
+        Ok(State {
+            alloc,
+            top: Source {
+                rows,
+                frame: Frame {
+                    kind: Kind::Copied,
+                    last,
+                    branches: Branches::new(alloc),
+                },
+            },
+            below: Stack::new(alloc),
+            mode: Mode::Reading,
+            names: Dictionary::new(alloc),
+            left: MOST_LINES,
+        })
+    }
+
+    /// Opens a file, an expansion or a turn.
+    pub(crate) fn open(&mut self, kind: Kind, last: Place, rows: Rows) -> Result<(), AllocError>
+        ensures { OnOk result (config self.new ≡ exp.opened (kind_of kind) last rows (config self.old)) }
+    {
+        let source = Source {
+            rows,
+            frame: Frame {
+                kind,
+                last,
+                branches: Branches::new(self.alloc),
+            },
+        };
+        let outer = mem::replace(&mut self.top, source);
+        self.below.push(outer)
+    }
+
+    /// Whether no block may be opened any more.
+    pub(crate) fn is_full(&self) -> bool
+        ensures { result ≡ exp.is_full (config self.now) }
+    {
+        self.top.frame.branches.len().min(MOST_OPEN) + self.below.count() >= MOST_OPEN
+    }
+
+    /// Whether such a block is open.
+    pub(crate) fn stands_in(&self, block: Block) -> bool
+        ensures { result ≡ exp.stands_in (test_of block) (config self.now) }
+    {
+        self.top.frame.kind.is(block) || self.below.has(block)
+    }
+
+    /// The source in which the innermost such block stands is the current one again; all that it
+    /// opened is closed.
+    #[tactic(auto, using(crate::proofs::Lists::after_closes))]
+    pub(crate) fn leave(&mut self, block: Block) -> bool
+        ensures { MatchBool result
+            (exp.left_through (test_of block) (config self.old).lines (config self.old).frame (config self.old).outer (config self.old).names (config self.old) ≡ Some (config self.new))
+            (exp.left_through (test_of block) (config self.old).lines (config self.old).frame (config self.old).outer (config self.old).names (config self.old) ≡ None) }
+    {
+        while let Some(source) = self.below.pop() {
+            let ended = mem::replace(&mut self.top, source);
+            self.names.end(&ended.frame.kind);
+            if ended.frame.kind.is(block) {
+                return true;
+            }
+        }
+        false
+    }
+}

@@ -1,0 +1,145 @@
+//! Rewriting the lines still to come until one is given.
+
+ghost use Rattle.std.specs.Prelude.{◌≡◌, ◌<◌, ◌^◌, [], OnOk};
+ghost use Rattle.c25_meaning.specs.Expansion as exp;
+ghost use Rattle.c25_meaning.specs.ExpansionBounds.{IsBounded, nested_of, nesting};
+ghost use Rattle.c25_meaning.specs.ExpansionRuns as runs;
+ghost use Rattle.c25_meaning.specs.Files as meaning;
+ghost use Rattle.c25_meaning.specs.Value.{Table};
+ghost use Rattle.c25_macro.specs.Config.{config, mode_of, Follows, Answers};
+
+use crate::files::Files;
+use crate::frame::Kind;
+use crate::refusal::{Refusal, fault};
+use crate::rows::Row;
+use crate::state::{Mode, Progress, State};
+use c25_expr::symbols::Symbols;
+use c25_meaning::statement::FaultKind;
+use std::mem;
+
+impl State {
+    /// No block is open that began in the innermost file, expansion or turn.
+    fn is_closed(&self) -> bool
+        ensures { result ≡ runs.is_closed (config self.now) }
+    {
+        match &self.mode {
+            Mode::Reading => self.top.frame.branches.is_empty(),
+            Mode::Acting { .. } => self.top.frame.branches.is_empty(),
+            Mode::InMacro { .. } => false,
+            Mode::InLoop { .. } => false,
+        }
+    }
+
+    /// The next turn of a loop, or what stood behind the file, expansion or turn that ends here.
+    fn end_source(&mut self) -> Result<Progress, Refusal>
+        requires { self.old.top.rows ≡ [] }
+        ensures { (files : meaning.Files) (s : Table) → Follows (runs.front files s (config self.old).lines (config self.old)) result (config self.new) }
+    {
+        if !self.is_closed() {
+            return Err(fault(FaultKind::OpenBlock, self.top.frame.last));
+        }
+        if self.below.is_empty() {
+            return Ok(Progress::Finished);
+        }
+        if let Kind::Turn { body, more } = &mut self.top.frame.kind
+            && *more > 0
+            && !body.is_empty()
+        {
+            self.top.rows = body.copy(self.alloc)?;
+            *more -= 1;
+            return Ok(Progress::Went);
+        }
+        match self.below.pop() {
+            Some(source) => {
+                let ended = mem::replace(&mut self.top, source);
+                self.names.end(&ended.frame.kind);
+                Ok(Progress::Went)
+            }
+            None => Ok(Progress::Finished),
+        }
+    }
+
+    /// A line that was read: it goes into the body that is collected, or does what it asks for.
+    fn take_row(
+        &mut self,
+        files: &Files,
+        symbols: &Symbols,
+        row: Row,
+        mode: Mode,
+    ) -> Result<Progress, Refusal>
+        requires expansions { (config self.old).names.count < 2 ^ 31 }
+        requires skipped { nesting (config self.old).frame.branches < 2 ^ 31 }
+        requires collected { nested_of (mode_of mode) < 2 ^ 31 }
+        ensures { Follows (runs.read_by files.now symbols.now row (mode_of mode) (config self.old)) result (config self.new) }
+    {
+        match mode {
+            Mode::InMacro {
+                name,
+                parameters,
+                body,
+                nested,
+            } => {
+                self.collect_macro(row, name, parameters, body, nested)?;
+                Ok(Progress::Went)
+            }
+            Mode::InLoop {
+                turns,
+                body,
+                nested,
+            } => {
+                self.collect_loop(row, turns, body, nested)?;
+                Ok(Progress::Went)
+            }
+            Mode::Reading => self.read_line(files, symbols, row),
+            Mode::Acting { .. } => self.read_line(files, symbols, row),
+        }
+    }
+
+    /// The next line is read, or else the innermost file, expansion or turn ends.
+    fn read(&mut self, files: &Files, symbols: &Symbols, mode: Mode) -> Result<Progress, Refusal>
+        requires bounded { IsBounded (record (config self.old) { mode = mode_of mode }) }
+        requires reading { (config self.old).mode ≡ exp.Reading }
+        ensures { Follows (runs.front files.now symbols.now (config self.old).lines (record (config self.old) { mode = mode_of mode })) result (config self.new) }
+    {
+        let Some(row) = self.top.rows.next() else {
+            self.mode = mode;
+            return self.end_source();
+        };
+        if self.left == 0 {
+            return Err(fault(FaultKind::Lines, row.place()));
+        }
+        self.left -= 1;
+        self.take_row(files, symbols, row, mode)
+    }
+
+    /// One rewriting.
+    #[tactic(auto, unfolding(c25_meaning::specs::ExpansionRuns::rewrite))]
+    fn step(&mut self, files: &Files, symbols: &Symbols) -> Result<Progress, Refusal>
+        requires { IsBounded (config self.old) }
+        ensures { Follows (runs.rewrite files.now symbols.now (config self.old)) result (config self.new) }
+    {
+        match mem::replace(&mut self.mode, Mode::Reading) {
+            Mode::Acting { place, act } => {
+                self.act(files, symbols, place, act)?;
+                Ok(Progress::Went)
+            }
+            mode => self.read(files, symbols, mode),
+        }
+    }
+
+    /// The next line, or None where none comes any more.
+    pub(crate) fn next(&mut self, files: &Files, symbols: &Symbols) -> Result<Option<Row>, Refusal>
+        requires { IsBounded (config self.old) }
+        ensures answer { Answers (runs.first files.now symbols.now (config self.old)) result (config self.new) }
+        ensures bounded { OnOk result (IsBounded (config self.new)) }
+    {
+        loop {
+            match self.step(files, symbols) {
+                Ok(Progress::Given(row)) => return Ok(Some(row)),
+                Ok(Progress::Finished) => return Ok(None),
+                Ok(Progress::Went) => {}
+                Err(refusal) => return Err(refusal),
+            }
+        }
+    }
+}

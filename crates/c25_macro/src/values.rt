@@ -1,0 +1,40 @@
+//! Values that are needed now.
+
+ghost use Rattle.std.specs.Prelude.{◌≡◌};
+ghost use Rattle.c25_meaning.specs.Statement.{valued};
+ghost use Rattle.c25_meaning.specs.ExpansionRules.{absolute, number_by};
+ghost use Rattle.c25_meaning.specs.Value.{is_zero};
+ghost use Rattle.c25_expr.specs.View.{tree_of};
+
+use c25_expr::failure::value_fault;
+use c25_expr::symbols::Symbols;
+use c25_expr::tree::Expr;
+use c25_expr::value::value;
+use c25_meaning::statement::FaultKind;
+use c25_meaning::value::{Base, Value};
+
+/// The number of a value that counts from nothing.
+fn absolute(value: Value) -> Result<i32, FaultKind>
+    ensures { result ≡ number_by value.base value.offset }
+{
+    match value.base {
+        Base::Absolute => Ok(value.offset),
+        _ => Err(FaultKind::NotAbsolute),
+    }
+}
+
+/// The number that an expression stands for under the symbols so far.
+pub(crate) fn number(symbols: &Symbols, expr: &Expr) -> Result<i32, FaultKind>
+    ensures { result ≡ absolute (valued symbols.now (tree_of expr.now)) }
+{
+    match value(expr, symbols) {
+        Ok(value) => absolute(value),
+        Err(kind) => Err(value_fault(kind)),
+    }
+}
+
+pub(crate) fn is_zero(number: i32) -> bool
+    ensures { result ≡ is_zero number }
+{
+    number == 0
+}

@@ -1,0 +1,211 @@
+-- What a line asks of expansion by its directive and operands, or its first fault of 10 to 13, 51, 52, 20, 21 (SPRU018,
+-- assembler directives and macro language).
+use Rattle.std.specs.Prelude.{ℕ, Bool, true, false, List, [], ◌∷◌, ◌++◌, map, length, nat_lt, slice_index, if◌then◌else◌, codes, Option, Some, None, Result, Ok, Err}
+use Rattle.std.specs.Option.{option_map, ok_or}
+use Rattle.std.specs.Str.{str_eq_ignore_ascii_case}
+use Rattle.c25_meaning.specs.Bytes.{is_blank}
+use Rattle.c25_meaning.specs.Line.{Piece, Parts, line_of}
+use Rattle.c25_meaning.specs.Operands.{operands_of, written_of, is_quoted, line_fault}
+use Rattle.c25_meaning.specs.Tree.{Tree, mark_of}
+use Rattle.c25_meaning.specs.Reading.{tree_in}
+use Rattle.c25_meaning.specs.Statement.{◌>>=◌, told}
+use Rattle.c25_meaning.specs.Forms.{is_expression}
+use Rattle.c25_meaning.specs.Texts.{Texts}
+use Rattle.c25_meaning.specs.Arguments.{arguments, assigned_text, string_text}
+use Rattle.c25_meaning.specs.Rows.{Row}
+use Rattle.c25_meaning.specs.declared.line.TokenKind.{TokenKind}
+use Rattle.c25_meaning.specs.declared.line.TokenKind.TheVariants as kind
+use Rattle.c25_meaning.specs.declared.expression.ExpressionFault.{ExpressionFault}
+use Rattle.c25_meaning.specs.declared.expression.ExpressionFault.TheVariants as expression
+use Rattle.c25_meaning.specs.declared.expansion.Directive.{Directive}
+use Rattle.c25_meaning.specs.declared.expansion.Directive.TheVariants as directive
+use Rattle.c25_meaning.specs.declared.statement.Written.{Written}
+use Rattle.c25_meaning.specs.declared.statement.Written.TheVariants as written
+use Rattle.c25_meaning.specs.declared.statement.FaultKind.{FaultKind}
+use Rattle.c25_meaning.specs.declared.statement.FaultKind.TheVariants as fault
+
+-- a macro: the names of its parameters, and its lines
+pub record Macro : Type 0 where
+  pub parameters : List (List ℕ)
+  pub body : List Row
+
+-- what a line asks for
+pub data Act : Type 0 where
+  If : (condition : Tree) → Act
+  ElseIf : (condition : Tree) → Act
+  Else : Act
+  EndIf : Act
+  -- the lines of a macro of this name and these parameters follow
+  Define : (name : List ℕ) (parameters : List (List ℕ)) → Act
+  -- the end of a macro or of a loop, where none is collected
+  Stray : Act
+  -- the innermost expansion is left
+  Exit : Act
+  Loop : (count : Option Tree) → Act
+  Break : (condition : Option Tree) → Act
+  Assign : (text name : List ℕ) → Act
+  Evaluate : (expression : Tree) (name : List ℕ) → Act
+  Copy : (name : List ℕ) → Act
+  End : Act
+  Call : (body : List Row) (arguments : Texts) → Act
+
+-- what a line asks for, and the label that becomes a line of its own before that
+pub record Order : Type 0 where
+  pub label : Option (List ℕ)
+  pub act : Act
+
+-- ---- directives by their names
+
+-- the directives that expansion takes
+abbrev pub directives : List (List ℕ × Directive)
+directives =
+    (codes ".if", directive.If) ∷ (codes ".elseif", directive.ElseIf) ∷ (codes ".else", directive.Else)
+    ∷ (codes ".endif", directive.EndIf) ∷ (codes ".macro", directive.Macro) ∷ (codes ".endm", directive.EndMacro)
+    ∷ (codes ".mexit", directive.ExitMacro) ∷ (codes ".loop", directive.Loop) ∷ (codes ".break", directive.Break)
+    ∷ (codes ".endloop", directive.EndLoop) ∷ (codes ".asg", directive.Assign) ∷ (codes ".eval", directive.Evaluate)
+    ∷ (codes ".copy", directive.Copy) ∷ (codes ".include", directive.Copy) ∷ (codes ".end", directive.End) ∷ []
+
+-- the first of these of a name, in either case
+abbrev pub directive_among : List ℕ → List (List ℕ × Directive) → Option Directive
+directive_among word [] = None
+directive_among word (d ∷ ds) = if str_eq_ignore_ascii_case word d.0 then Some d.1 else directive_among word ds
+
+-- the directive that a word is, if it is one that expansion takes
+unfoldable pub directive_of : List ℕ → Option Directive
+directive_of word = directive_among word directives
+
+-- ---- operands
+
+-- a tree, or its fault as a line's
+abbrev pub tree_told : Result Tree ExpressionFault → Result Tree FaultKind
+tree_told (Ok e) = Ok e
+tree_told (Err expression.BadExpression) = Err fault.BadExpression
+tree_told (Err expression.TooDeep) = Err fault.TooDeep
+
+-- the operand's tree, where it is written as an expression
+abbrev pub tree_by : Written → List Piece → Result Tree FaultKind
+tree_by written.Expression operand = tree_told (tree_in (map mark_of operand))
+tree_by _ operand = Err fault.OperandForm
+
+-- an operand that is an expression
+abbrev pub expression_in : List Piece → Result Tree FaultKind
+expression_in operand = tree_by (written_of operand) operand
+
+-- whether a token is a name
+abbrev pub is_name : TokenKind → Bool
+is_name kind.Name = true
+is_name _ = false
+
+-- an operand that is one name
+abbrev pub name_in : List Piece → Result (List ℕ) FaultKind
+name_in (p ∷ []) = if is_name p.kind then Ok p.text else Err fault.OperandForm
+name_in _ = Err fault.OperandForm
+
+-- an operand that is one string: its text
+abbrev pub string_in : List Piece → Result (List ℕ) FaultKind
+string_in (p ∷ []) = if is_quoted p.kind then Ok (string_text p.text) else Err fault.OperandForm
+string_in _ = Err fault.OperandForm
+
+-- operands that are names
+abbrev pub names_in : List (List Piece) → Result (List (List ℕ)) FaultKind
+names_in [] = Ok []
+names_in (o ∷ os) = name_in o >>= λ name. names_in os >>= λ names. Ok (name ∷ names)
+
+-- no operand
+abbrev pub without : Act → List (List Piece) → Result Act FaultKind
+without act [] = Ok act
+without act (o ∷ os) = Err fault.OperandCount
+
+-- one operand, an expression
+abbrev pub with_condition : (Tree → Act) → List (List Piece) → Result Act FaultKind
+with_condition act (o ∷ []) = expression_in o >>= λ e. Ok (act e)
+with_condition act _ = Err fault.OperandCount
+
+-- none, or one that is an expression
+abbrev pub with_option : (Option Tree → Act) → List (List Piece) → Result Act FaultKind
+with_option act [] = Ok (act None)
+with_option act (o ∷ []) = expression_in o >>= λ e. Ok (act (Some e))
+with_option act _ = Err fault.OperandCount
+
+-- ---- the directives with other operands
+
+-- the text of a label
+abbrev pub label_text : Option (List ℕ) → List ℕ
+label_text None = []
+label_text (Some name) = name
+
+-- `.macro`: parameters, at most 32
+abbrev pub definition_in : Parts → List (List Piece) → Result Act FaultKind
+definition_in parts operands =
+    names_in operands >>= λ names.
+    if nat_lt 32 (length names) then Err fault.TooManyParameters else Ok (Define (label_text parts.label) names)
+
+-- the last of some operands, if there are two or more
+abbrev pub last_of_two : List (List Piece) → Option (List Piece)
+last_of_two [] = None
+last_of_two (o ∷ []) = None
+last_of_two (o ∷ p ∷ []) = Some p
+last_of_two (o ∷ p ∷ q ∷ os) = last_of_two (p ∷ q ∷ os)
+
+-- `.asg`: a text of any operands, and a name
+abbrev pub assignment_in : List ℕ → List (List Piece) → Result Act FaultKind
+assignment_in text operands =
+    ok_or (last_of_two operands) fault.OperandCount >>= λ last.
+    name_in last >>= λ name. Ok (Assign (assigned_text text) name)
+
+-- `.eval`: an expression and a name; what is of another form than asked for comes before what is no expression
+abbrev pub evaluation_in : List (List Piece) → Result Act FaultKind
+evaluation_in (o ∷ p ∷ []) =
+    if is_expression (written_of o)
+    then (name_in p >>= λ name. expression_in o >>= λ e. Ok (Evaluate e name))
+    else Err fault.OperandForm
+evaluation_in _ = Err fault.OperandCount
+
+-- `.copy`: a string
+abbrev pub copy_in : List (List Piece) → Result Act FaultKind
+copy_in (o ∷ []) = string_in o >>= λ name. Ok (Copy name)
+copy_in _ = Err fault.OperandCount
+
+-- what a directive with these operands asks for
+unfoldable pub act_of : Directive → List ℕ → Parts → List (List Piece) → Result Act FaultKind
+act_of directive.If text parts operands = with_condition If operands
+act_of directive.ElseIf text parts operands = with_condition ElseIf operands
+act_of directive.Else text parts operands = without Else operands
+act_of directive.EndIf text parts operands = without EndIf operands
+act_of directive.Macro text parts operands = definition_in parts operands
+act_of directive.EndMacro text parts operands = without Stray operands
+act_of directive.ExitMacro text parts operands = without Exit operands
+act_of directive.Loop text parts operands = with_option Loop operands
+act_of directive.Break text parts operands = with_option Break operands
+act_of directive.EndLoop text parts operands = without Stray operands
+act_of directive.Assign text parts operands = assignment_in text operands
+act_of directive.Evaluate text parts operands = evaluation_in operands
+act_of directive.Copy text parts operands = copy_in operands
+act_of directive.End text parts operands = without End operands
+
+-- ---- whole lines
+
+-- the parts of a line, or its fault of 10 to 13
+abbrev pub parts_in : List ℕ → Result Parts FaultKind
+parts_in text = told line_fault (line_of text)
+
+-- `.macro` needs a label, and a missing one is missing in column 1, before every other fault
+abbrev pub parts_for : Directive → List ℕ → Result Parts FaultKind
+parts_for directive.Macro text = if is_blank (slice_index text 0) then Err fault.BadLabel else parts_in text
+parts_for _ text = parts_in text
+
+-- the label of `.macro` is the macro's name; any other becomes a line
+abbrev pub label_for : Directive → Option (List ℕ) → Option (List ℕ)
+label_for directive.Macro label = None
+label_for _ label = label
+
+-- what a line with a directive asks for
+unfoldable pub order_of : Directive → List ℕ → Result Order FaultKind
+order_of d text =
+    parts_for d text >>= λ parts.
+    act_of d text parts (operands_of parts.pieces) >>= λ act.
+    Ok (record { label = label_for d parts.label; act = act })
+
+-- what a line that calls a macro asks for
+unfoldable pub call_of : Macro → List ℕ → Result Order FaultKind
+call_of m text = parts_in text >>= λ parts. Ok (record { label = parts.label; act = Call m.body (arguments m.parameters text) })

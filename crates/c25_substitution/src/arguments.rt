@@ -1,0 +1,66 @@
+//! The arguments of a macro call, and the text of `.asg`.
+
+ghost use Rattle.std.specs.Prelude.{◌≡◌, ◌+◌, map, take, drop, IfOk};
+ghost use Rattle.std.specs.String.{string_bytes};
+ghost use Rattle.c25_meaning.specs.Arguments.{argument_len, arguments, assigned_text, operand_text};
+
+use crate::parameters::Arguments;
+use crate::quoting::{last_comma_len, outer_len};
+use crate::strings::unquoted;
+use c25_text::{past_blanks, past_field};
+use std::alloc::{AllocError, Global};
+
+/// The operands of a line: what stands behind its first word, up to the comment.
+fn operand_text(line: &str) -> &str
+    ensures { result.now ≡ operand_text line.now }
+{
+    let bytes = line.as_bytes();
+    let label_end = past_field(bytes, 0);
+    let word_start = past_blanks(bytes, label_end);
+    let word_end = past_field(bytes, word_start);
+    let behind = &line[word_end..];
+    let end = outer_len(b';', behind.as_bytes());
+    &behind[..end]
+}
+
+/// The next argument as it is written, and what stands behind its comma.
+fn split_argument(text: &str, is_last: bool) -> (&str, &str)
+    ensures argument { result.0.now ≡ take (argument_len is_last text.now) text.now }
+    ensures rest { result.1.now ≡ drop (argument_len is_last text.now + 1) text.now }
+{
+    if is_last {
+        return (text, "");
+    }
+    let end = outer_len(b',', text.as_bytes());
+    if end < text.len() {
+        (&text[..end], &text[end + 1..])
+    } else {
+        (text, "")
+    }
+}
+
+/// The arguments of the line that calls a macro of these parameters, with its names replaced.
+pub fn arguments(alloc: Global, parameters: &[String], line: &str) -> Result<Arguments, AllocError>
+    ensures { IfOk result (λ found. found ≡ arguments (map (λ p. string_bytes p) parameters.now) line.now) }
+{
+    let mut found = Arguments::new(alloc);
+    let mut rest = operand_text(line);
+    let mut left = parameters;
+    while let Some((parameter, others)) = left.split_first() {
+        let (argument, behind) = split_argument(rest, others.is_empty());
+        let name = String::from_str(alloc, parameter.as_str())?;
+        found.push(name, unquoted(alloc, argument)?)?;
+        rest = behind;
+        left = others;
+    }
+    Ok(found)
+}
+
+/// The text of a line `.asg text,name`.
+pub fn assigned_text(alloc: Global, line: &str) -> Result<String, AllocError>
+    ensures { IfOk result (λ out. string_bytes out ≡ assigned_text line.now) }
+{
+    let operands = operand_text(line);
+    let end = last_comma_len(operands.as_bytes());
+    unquoted(alloc, &operands[..end])
+}

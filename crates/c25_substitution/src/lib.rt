@@ -1,0 +1,15 @@
+//! Substitution: names of a line replaced by the texts that they stand for, and the texts that macro
+//! calls and `.asg` give them.
+#![tactic(auto)]
+
+pub mod arguments;
+pub mod output;
+pub mod parameters;
+mod pieces;
+mod quoting;
+pub mod strings;
+pub mod substitution;
+#[cfg(test)]
+mod tests;
+pub mod texts;
+pub mod visible;

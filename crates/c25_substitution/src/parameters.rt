@@ -1,0 +1,96 @@
+//! The arguments of an expansion.
+
+ghost use Rattle.std.specs.Prelude.{◌≡◌, ◌∷◌, ◌++◌, [], IfErr, IsSome, None, OnOk, OnErr};
+ghost use Rattle.std.specs.Map.{lookup};
+ghost use Rattle.std.specs.Option.{option_map};
+ghost use Rattle.std.specs.Str.{bytes_eq};
+ghost use Rattle.std.specs.String.{string_bytes};
+ghost use Rattle.c25_meaning.specs.Texts.{with_name};
+ghost use Rattle.c25_substitution.specs.Pairs.{IsPlaceOf, pairs};
+
+use std::alloc::{AllocError, Global};
+use std::marker::Model;
+
+/// The parameters of a macro with the texts that they stand for in an expansion, in the order of the
+/// `.macro` line. Of two parameters of one name the first is seen.
+#[derive(Drop)]
+pub struct Arguments {
+    entries: Vec<(String, String)>,
+}
+
+impl Model for Arguments {
+    ghost use Rattle.std.specs.Prelude.{List, ℕ};
+    ghost use Rattle.c25_substitution.specs.Pairs.{pairs};
+
+    ghost Value = { List (List ℕ × List ℕ) };
+
+    ghost view = { λ a. pairs a.entries.items };
+}
+
+impl Arguments {
+    /// No parameters.
+    pub fn new(alloc: Global) -> Self
+        ensures { result ≡ [] }
+    {
+        Arguments {
+            entries: Vec::new(alloc),
+        }
+    }
+
+    /// One parameter more.
+    pub(crate) fn push(&mut self, name: String, text: String) -> Result<(), AllocError>
+        ensures ok { OnOk result (self.new ≡ self.old ++ (string_bytes name, string_bytes text) ∷ []) }
+        ensures err { OnErr result (self.new ≡ self.old) }
+    {
+        self.entries.push((name, text))?;
+        Ok(())
+    }
+
+    /// What a name stands for.
+    pub fn get(&self, name: &str) -> Option<&str>
+        ensures { option_map (λ s. s.now) result ≡ lookup (bytes_eq name.now) self.now }
+    {
+        find(self.entries.as_slice(), name)
+    }
+
+    /// A parameter stands for this text from now on. The text comes back where none has this name.
+    pub fn set(&mut self, name: &str, text: String) -> Result<(), String>
+        ensures ok { OnOk result (self.new ≡ with_name self.old name.now (string_bytes text)) }
+        ensures known { OnOk result (IsSome (lookup (bytes_eq name.now) self.old)) }
+        ensures back { IfErr result (λ t. t ≡ text) }
+        ensures unknown { OnErr result (lookup (bytes_eq name.now) self.old ≡ None) }
+        ensures err { OnErr result (self.new ≡ self.old) }
+    {
+        match position(self.entries.as_slice(), name) {
+            Some(place) => {
+                self.entries[place].1 = text;
+                Ok(())
+            }
+            None => Err(text),
+        }
+    }
+}
+
+/// The place of the first of this name.
+fn position(entries: &[(String, String)], name: &str) -> Option<usize>
+    ensures { IsPlaceOf name.now entries.now result }
+{
+    for (i, entry) in entries.iter().enumerate() {
+        if name == entry.0.as_str() {
+            return Some(i);
+        }
+    }
+    None
+}
+
+/// The text of the first of this name.
+fn find<'a>(entries: &'a [(String, String)], name: &str) -> Option<&'a str>
+    ensures { option_map (λ s. s.now) result ≡ lookup (bytes_eq name.now) (pairs entries.now) }
+{
+    for (parameter, text) in entries {
+        if name == parameter.as_str() {
+            return Some(text.as_str());
+        }
+    }
+    None
+}

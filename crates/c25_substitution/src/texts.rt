@@ -1,0 +1,60 @@
+//! The names of `.asg` and `.eval`.
+
+ghost use Rattle.std.specs.Prelude.{◌≡◌, [], OnOk, OnErr};
+ghost use Rattle.std.specs.Map.{lookup};
+ghost use Rattle.std.specs.Option.{option_map};
+ghost use Rattle.std.specs.Str.{bytes_eq};
+ghost use Rattle.std.specs.String.{string_bytes};
+ghost use Rattle.c25_meaning.specs.Texts.{with_name};
+
+use indexmap::IndexMap;
+use std::alloc::{AllocError, Global};
+use std::marker::Model;
+
+/// Names and the texts that they stand for, in order of first sight.
+#[derive(Drop)]
+pub struct Texts {
+    alloc: Global,
+    entries: IndexMap<String, String>,
+}
+
+impl Model for Texts {
+    ghost use Rattle.std.specs.Prelude.{List, ℕ};
+    ghost use Rattle.c25_substitution.specs.Pairs.{pairs};
+
+    ghost Value = { List (List ℕ × List ℕ) };
+
+    ghost view = { λ t. pairs t.entries.entries };
+}
+
+impl Texts {
+    /// No names.
+    pub fn new(alloc: Global) -> Self
+        ensures { result ≡ [] }
+    {
+        Texts {
+            alloc,
+            entries: IndexMap::new(alloc),
+        }
+    }
+
+    /// What a name stands for.
+    pub fn get(&self, name: &str) -> Option<&str>
+        ensures { option_map (λ s. s.now) result ≡ lookup (bytes_eq name.now) self.now }
+    {
+        match self.entries.get(name) {
+            Some(text) => Some(text.as_str()),
+            None => None,
+        }
+    }
+
+    /// From now on a name stands for this text. A new name comes last.
+    pub fn put(&mut self, name: &str, text: String) -> Result<(), AllocError>
+        ensures ok { OnOk result (self.new ≡ with_name self.old name.now (string_bytes text)) }
+        ensures err { OnErr result (self.new ≡ self.old) }
+    {
+        let name = String::from_str(self.alloc, name)?;
+        self.entries.insert(name, text)?;
+        Ok(())
+    }
+}

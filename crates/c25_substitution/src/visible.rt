@@ -1,0 +1,30 @@
+//! What names stand for at a line.
+
+ghost use Rattle.std.specs.Prelude.{◌≡◌};
+ghost use Rattle.std.specs.Option.{option_map};
+ghost use Rattle.c25_substitution.specs.View.{names_of};
+
+use crate::parameters::Arguments;
+use crate::texts::Texts;
+
+/// What names stand for at a line: the arguments of the innermost expansion are seen first, if there
+/// is one, then the names of `.asg` and `.eval`.
+#[derive(Clone, Copy)]
+pub struct Visible<'a> {
+    pub arguments: Option<&'a Arguments>,
+    pub texts: &'a Texts,
+}
+
+impl<'a> Visible<'a> {
+    /// What a name stands for.
+    pub(crate) fn get(&self, name: &str) -> Option<&'a str>
+        ensures { option_map (λ s. s.now) result ≡ names_of self.now name.now }
+    {
+        if let Some(arguments) = self.arguments {
+            if let Some(text) = arguments.get(name) {
+                return Some(text);
+            }
+        }
+        self.texts.get(name)
+    }
+}
