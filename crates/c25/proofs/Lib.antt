@@ -1,3 +1,5 @@
 pub mod Ends
 pub mod Loaded
 pub mod OutputLines
+pub mod RanInput
+pub mod BlankLines

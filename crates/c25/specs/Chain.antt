@@ -1,19 +1,16 @@
 -- What the chain's answer says of a source and its run.
-use Rattle.std.specs.Prelude.{◌≡◌, ℕ, ◌<◌, List, length, slice_index, Option, Some, None, Result, Ok, Err}
-use Rattle.std.specs.Prelude.{Vec}
-use Rattle.std.specs.declared.alloc.Global.{Global}
+use Rattle.std.specs.Prelude.{◌≡◌, ℕ, ◌<◌, List, [], length, slice_index, Result, Ok, Err}
+use Rattle.std.specs.String.{string_bytes}
 use Rattle.c25_meaning.specs.declared.insn.Insn.{Insn}
+use Rattle.c25_meaning.specs.Results.{FailsBy}
 use Rattle.c25_meaning.specs.State.{State}
 use Rattle.c25_meaning.specs.Status.{regs_of}
 use Rattle.c25_meaning.specs.Run.{Ending, Ran, Left}
 use Rattle.c25_meaning.specs.Placing.{run_of_insns}
 use Rattle.c25_board.specs.declared.board.Outcome.TheVariants as outcome
-use Rattle.c25_meaning.specs.Source.{SourceMeaning}
-use Rattle.c25_asm.specs.declared.source.Source.{Source}
-use Rattle.c25_asm.specs.View.{meaning_of}
 use Rattle.c25.specs.declared.run.Chain.{Chain}
-use Rattle.c25.specs.declared.fault.Fault.{Fault}
-use Rattle.c25.specs.Refusal.{Refusal, refusal_of}
+use Rattle.c25.specs.declared.fault.Refusal.{Refusal}
+use Rattle.c25.specs.Refusal.{Fault, refusal_of}
 
 -- the outputs, the registers and all of data memory are those of a state
 pub record Shows (t : State) (chain : Chain) : Type 0 where
@@ -27,23 +24,15 @@ abbrev pub EndsAs : ℕ → Ending → Chain → Type 0
 EndsAs n (Ran t) chain = (chain.outcome ≡ outcome.Ran) × (chain.steps ≡ n) × Shows t chain
 EndsAs n (Left j stop t) chain = (chain.outcome ≡ outcome.Left j stop) × (chain.steps ≡ j) × Shows t chain
 
--- a refusal is the one that is told, unless it is want of memory
-abbrev pub Refuses : {A : Type 0} → Result A Refusal → Option Refusal → Type 0
-Refuses told None = Unit {0}
-Refuses told (Some refusal) = told ≡ Err refusal
-
--- the answer to a run of n steps of the instructions that are told, or to their refusal
-abbrev pub Answers : Result (List Insn) Refusal → ℕ → Result Chain Fault → Type 0
+-- the answer to a run of n steps of the instructions that are meant, or to their refusal
+abbrev pub Answers : Result (List Insn) (Refusal (List ℕ)) → ℕ → Result Chain Fault → Type 0
 Answers (Ok insns) n (Ok chain) = EndsAs n (run_of_insns insns n) chain
 Answers (Err refusal) n (Ok chain) = ⊥
-Answers told n (Err fault) = Refuses told (refusal_of fault)
+Answers meant n (Err fault) = FailsBy refusal_of meant fault
 
--- the same of a source
-abbrev pub AnswersSource : Result SourceMeaning Refusal → Result Source Fault → Type 0
-AnswersSource told (Ok source) = told ≡ Ok (meaning_of source)
-AnswersSource told (Err fault) = Refuses told (refusal_of fault)
-
--- and of its instructions alone
-abbrev pub AnswersInsns : Result (List Insn) Refusal → Result (Vec Insn Global) Fault → Type 0
-AnswersInsns told (Ok insns) = told ≡ Ok insns.items
-AnswersInsns told (Err fault) = Refuses told (refusal_of fault)
+-- the texts that are not made yet are empty, and there are no listings
+pub record HasNoTexts (chain : Chain) : Type 0 where
+  pub page0 : string_bytes chain.page0 ≡ []
+  pub page1 : string_bytes chain.page1 ≡ []
+  pub map : string_bytes chain.map ≡ []
+  pub listings : chain.listings.items ≡ []

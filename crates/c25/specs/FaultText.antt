@@ -1,18 +1,30 @@
 -- The line that tells a fault: where it is, its number and its name.
 use Rattle.std.specs.Prelude.{ℕ, List, ◌++◌, codes}
 use Rattle.std.specs.Fmt.{decimal}
-use Rattle.std.specs.String.{string_bytes}
-use Rattle.c25_meaning.specs.Faults.{fault_number, fault_name}
-use Rattle.c25.specs.declared.fault.Fault.{Fault}
-use Rattle.c25.specs.declared.fault.Fault.TheVariants as fault
+use Rattle.c25_meaning.specs.Faults.{numbered_name}
+use Rattle.c25_meaning.specs.declared.failure.Failure.TheVariants as failure
+use Rattle.c25.specs.declared.fault.Refusal.{Refusal}
+use Rattle.c25.specs.declared.fault.Refusal.TheVariants.{Source, Command, Link, Samples, Schedule, CannotRead}
+use Rattle.c25.specs.Refusal.{Fault, refusal_of}
 
--- where, a colon, the number and the name
+-- what is wrong with a file
+abbrev pub at_file : List ℕ → List ℕ → List ℕ
+at_file name fault = name ++ codes ": " ++ fault
+
+-- what is wrong with a line of a text
+abbrev pub at_line : List ℕ → ℕ → List ℕ → List ℕ
+at_line name line fault = name ++ codes ":" ++ decimal line ++ codes ": " ++ fault
+
+-- the line of a refusal
+abbrev pub refusal_text : Refusal (List ℕ) → List ℕ
+refusal_text (Source file line kind) = at_line file line (numbered_name kind)
+refusal_text (Command line) = at_line (codes "command") line (codes "60 Syntax")
+refusal_text (Link section) = codes "link:" ++ section ++ codes ": 75 RelocRange"
+refusal_text (Samples line) = at_line (codes "samples") line (codes "91 BadSamples")
+refusal_text (Schedule line) = at_line (codes "schedule") line (codes "90 BadSchedule")
+refusal_text (CannotRead file) = at_file file (codes "8 CannotRead")
+
+-- the line of a fault
 abbrev pub fault_text : Fault → List ℕ
-fault_text fault.NoMemory = codes "memory: 9 NoMemory"
-fault_text (fault.Source file line kind) =
-    string_bytes file ++ codes ":" ++ decimal line ++ codes ": " ++ decimal (fault_number kind) ++ codes " " ++ fault_name kind
-fault_text (fault.Command line) = codes "command:" ++ decimal line ++ codes ": 60 Syntax"
-fault_text (fault.Link section) = codes "link:" ++ string_bytes section ++ codes ": 75 RelocRange"
-fault_text (fault.Samples line) = codes "samples:" ++ decimal line ++ codes ": 91 BadSamples"
-fault_text (fault.Schedule line) = codes "schedule:" ++ decimal line ++ codes ": 90 BadSchedule"
-fault_text (fault.CannotRead file) = string_bytes file ++ codes ": 8 CannotRead"
+fault_text (failure.NoMemory n) = codes "memory: 9 NoMemory"
+fault_text (failure.Fault refusal) = refusal_text (refusal_of refusal)

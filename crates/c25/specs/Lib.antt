@@ -1,5 +1,5 @@
 pub mod FaultText
-pub mod Image
 pub mod Refusal
 pub mod Chain
 pub mod OutcomeText
+pub mod Program

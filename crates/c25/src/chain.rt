@@ -1,55 +1,81 @@
 //! The whole chain: from the text of a source to what its run put out.
 
-ghost use Rattle.std.specs.Prelude.{◌≡◌, IfOk, Some, length};
+ghost use Rattle.std.specs.Prelude.{◌≡◌, IfOk, length, map};
 ghost use Rattle.std.specs.List.{list_all};
+ghost use Rattle.std.specs.Str.Lines.{lines};
+ghost use Rattle.c25_meaning.specs.Bytes.{is_blank};
 ghost use Rattle.c25_meaning.specs.Fits.{FitsMemory};
-ghost use Rattle.c25.specs.Refusal.{refusal_of, source_in, chain_insns, first_name, is_blank, is_space};
-ghost use Rattle.c25.specs.Refusal as refusal;
-ghost use Rattle.c25.specs.Chain.{Answers, AnswersInsns, AnswersSource};
+ghost use Rattle.c25_meaning.specs.Results.{MeetsBy};
+ghost use Rattle.c25_asm.specs.View.{meaning_of};
+ghost use Rattle.c25.specs.declared.fault.Refusal.TheVariants as refusal;
+ghost use Rattle.c25.specs.Refusal.{refusal_of, source_in, chain_insns, first_name, has_blank_lines};
+ghost use Rattle.c25.specs.Chain.{Answers, HasNoTexts};
 
-use crate::fault::Fault;
+use crate::fault::{Fault, Refusal};
 use crate::run::{Chain, run_insns};
-use c25_asm::source::{Source, SourceError, read_source};
+use c25_asm::source::{Source, read_source};
 use c25_macro::files::Files;
+use c25_meaning::failure::Failure;
 use c25_meaning::insn::Insn;
 use c25_meaning::no_memory::NoMemory;
+use c25_meaning::source::SourceFault;
 use c25_meaning::statement::FaultKind;
+use c25_text::{all_blank, all_space};
 use std::alloc::Global;
 
-fn is_space(byte: u8) -> bool
-    ensures { result ≡ is_space byte }
+/// The lines of a text.
+fn lines_of(alloc: Global, text: &str) -> Result<Vec<&str>, NoMemory>
+    ensures { IfOk result (λ v. map (λ line. line.now) v.items ≡ lines text.now) }
 {
-    byte == b' ' || byte == b'\t' || byte == b'\n' || byte == b'\r'
+    Ok(text.lines().collect(alloc)?)
 }
 
-/// Whether a text has nothing but blanks and ends of lines.
-fn is_blank(text: &str) -> bool
-    ensures { result ≡ is_blank text.now }
+/// Whether each of some lines has nothing but blanks and tabs.
+fn are_blank(lines: &[&str]) -> bool
+    ensures { result ≡ list_all (λ line. list_all is_blank line.now) lines.now }
 {
-    text.as_bytes().iter().all(|byte| is_space(*byte))
+    lines.iter().all(|line| all_blank(line.as_bytes()))
 }
 
-/// A fault of a source's line.
-fn source_fault(alloc: Global, name: &str, line: usize, kind: FaultKind) -> Result<Fault, NoMemory>
-    ensures { IfOk result (λ fault. refusal_of fault ≡ Some (refusal.Source name.now line kind)) }
+/// Whether each line of a text has nothing but blanks and tabs.
+#[tactic(auto, using(crate::proofs::BlankLines::blank_lines))]
+fn has_blank_lines(alloc: Global, text: &str) -> Result<bool, NoMemory>
+    ensures { IfOk result (λ blank. blank ≡ has_blank_lines text.now) }
+{
+    let lines = lines_of(alloc, text)?;
+    Ok(are_blank(lines.as_slice()))
+}
+
+/// A refusal of a source's line.
+fn source_refusal(
+    alloc: Global,
+    name: &str,
+    line: usize,
+    kind: FaultKind,
+) -> Result<Refusal<String>, NoMemory>
+    ensures { IfOk result (λ told. refusal_of told ≡ refusal.Source name.now line kind) }
 {
     let file = String::from_str(alloc, name)?;
-    Ok(Fault::Source { file, line, kind })
+    Ok(Refusal::Source { file, line, kind })
 }
 
 /// A source of these files.
 #[tactic(auto, unfolding(crate::specs::Refusal::source_in))]
 fn source_in(alloc: Global, files: &Files, name: &str) -> Result<Source, Fault>
-    ensures told { AnswersSource (source_in files.now name.now) result }
+    ensures told { MeetsBy refusal_of meaning_of (source_in files.now name.now) result }
     ensures fits { IfOk result (λ source. FitsMemory source.insns.items) }
 {
     let Some(text) = files.text(name) else {
-        return Err(source_fault(alloc, name, 0, FaultKind::NoFile)?);
+        let refusal = source_refusal(alloc, name, 0, FaultKind::NoFile)?;
+        return Err(Failure::Fault(refusal));
     };
     match read_source(alloc, text) {
         Ok(source) => Ok(source),
-        Err(SourceError::NoMemory) => Err(Fault::NoMemory),
-        Err(SourceError::Line { line, kind }) => Err(source_fault(alloc, name, line, kind)?),
+        Err(Failure::NoMemory(error)) => Err(error.into()),
+        Err(Failure::Fault(SourceFault { line, kind })) => {
+            let refusal = source_refusal(alloc, name, line, kind)?;
+            Err(Failure::Fault(refusal))
+        }
     }
 }
 
@@ -64,22 +90,22 @@ fn instructions(
     samples: &str,
     schedule: &str,
 ) -> Result<Vec<Insn>, Fault>
-    ensures told { AnswersInsns (chain_insns files.now name.now command.now samples.now schedule.now) result }
+    ensures told { MeetsBy refusal_of (λ insns. insns.items) (chain_insns files.now name.now command.now samples.now schedule.now) result }
     ensures fits { IfOk result (λ insns. FitsMemory insns.items) }
 {
     let Source { insns, in_range } = source_in(alloc, files, name)?;
-    if !is_blank(command) {
-        return Err(Fault::Command { line: 1 });
+    if !all_space(command.as_bytes()) {
+        return Err(Failure::Fault(Refusal::Command { line: 1 }));
     }
     if !in_range {
         let section = String::from_str(alloc, ".text")?;
-        return Err(Fault::Link { section });
+        return Err(Failure::Fault(Refusal::Link { section }));
     }
-    if !is_blank(samples) {
-        return Err(Fault::Samples { line: 1 });
+    if !has_blank_lines(alloc, samples)? {
+        return Err(Failure::Fault(Refusal::Samples { line: 1 }));
     }
-    if !is_blank(schedule) {
-        return Err(Fault::Schedule { line: 1 });
+    if !has_blank_lines(alloc, schedule)? {
+        return Err(Failure::Fault(Refusal::Schedule { line: 1 }));
     }
     Ok(insns)
 }
@@ -102,9 +128,10 @@ pub fn run_chain(
     n: u32,
 ) -> Result<Chain, Fault>
     requires { length sources.now ≡ 1 }
-    ensures { Answers (chain_insns files.now (first_name sources.now) command.now samples.now schedule.now) n result }
+    ensures run { Answers (chain_insns files.now (first_name sources.now) command.now samples.now schedule.now) n result }
+    ensures texts { IfOk result HasNoTexts }
 {
     let name = sources[0].as_str();
     let insns = instructions(alloc, files, name, command, samples, schedule)?;
-    run_insns(alloc, &insns, n)
+    Ok(run_insns(alloc, &insns, n)?)
 }

@@ -1,21 +1,22 @@
 //! Why the chain refuses, and the line that says so.
 
-ghost use Rattle.std.specs.Prelude.{◌≡◌, ◌<◌, ◌^◌, ◌++◌, OnOk, IfOk, string_bytes};
-ghost use Rattle.c25_meaning.specs.Faults.{fault_number, fault_name};
-ghost use Rattle.c25.specs.FaultText.{fault_text};
+ghost use Rattle.std.specs.Prelude.{◌≡◌, ◌++◌, IfOk, string_bytes};
+ghost use Rattle.c25_meaning.specs.Faults.{numbered_name};
+ghost use Rattle.c25.specs.FaultText.{at_file, at_line, fault_text, refusal_text};
+ghost use Rattle.c25.specs.Refusal.{refusal_of};
 
+use c25_meaning::failure::Failure;
 use c25_meaning::no_memory::NoMemory;
 use c25_meaning::statement::FaultKind;
-use std::alloc::{AllocError, AllocFailed, Global};
+use std::alloc::Global;
 
-/// Why the chain refuses.
+/// Why the chain refuses, memory aside. The code has names as texts, the definitions as lists of
+/// bytes.
 #[derive(Debug, Drop)]
-pub enum Fault {
-    /// A growth was refused (9).
-    NoMemory,
+pub enum Refusal<Name> {
     /// A line of a source, or line 0 where the source itself is missing (30).
     Source {
-        file: String,
+        file: Name,
         line: usize,
         kind: FaultKind,
     },
@@ -25,7 +26,7 @@ pub enum Fault {
     },
     /// A relocated field in this section that does not take its address (75).
     Link {
-        section: String,
+        section: Name,
     },
     /// A line of the samples that cannot be read (91).
     Samples {
@@ -37,103 +38,73 @@ pub enum Fault {
     },
     /// A file that cannot be read, is above 16,777,216 bytes or is not UTF-8 (8).
     CannotRead {
-        file: String,
+        file: Name,
     },
 }
 
-impl From<AllocError> for Fault {
-    ghost use Rattle.c25.specs.declared.fault.Fault.TheVariants as fault;
+/// Why the chain does not answer.
+pub type Fault = Failure<Refusal<String>>;
 
-    ghost from_gives = { λ _ e. e ≡ fault.NoMemory };
-
-    fn from(_error: AllocError) -> Fault {
-        Fault::NoMemory
-    }
-}
-
-impl<T: Drop> From<AllocFailed<T>> for Fault {
-    ghost use Rattle.c25.specs.declared.fault.Fault.TheVariants as fault;
-
-    ghost from_gives = { λ _ e. e ≡ fault.NoMemory };
-
-    fn from(_error: AllocFailed<T>) -> Fault {
-        Fault::NoMemory
-    }
-}
-
-impl From<NoMemory> for Fault {
-    ghost use Rattle.c25.specs.declared.fault.Fault.TheVariants as fault;
-
-    ghost from_gives = { λ _ e. e ≡ fault.NoMemory };
-
-    fn from(_error: NoMemory) -> Fault {
-        Fault::NoMemory
-    }
-}
-
-/// The number of a fault of a source.
-fn number_of(kind: FaultKind) -> u32
-    ensures { result ≡ fault_number kind }
+/// The number and the name of a fault of a source.
+fn numbered_name(kind: FaultKind) -> &'static str
+    ensures { result.now ≡ numbered_name kind }
 {
     match kind {
-        FaultKind::BadLabel => 10,
-        FaultKind::BadConstant => 11,
-        FaultKind::OpenQuote => 12,
-        FaultKind::StrayText => 13,
-        FaultKind::BadExpression => 20,
-        FaultKind::TooDeep => 21,
-        FaultKind::Undefined => 22,
-        FaultKind::NotAbsolute => 23,
-        FaultKind::DivideByZero => 24,
-        FaultKind::ValueRange => 25,
-        FaultKind::Defined => 26,
-        FaultKind::NoFile => 30,
-        FaultKind::OpenBlock => 31,
-        FaultKind::StrayEnd => 32,
-        FaultKind::Depth => 33,
-        FaultKind::Lines => 34,
-        FaultKind::TooManyParameters => 35,
-        FaultKind::Redefined => 36,
-        FaultKind::LongLine => 38,
-        FaultKind::UnknownMnemonic => 50,
-        FaultKind::OperandCount => 51,
-        FaultKind::OperandForm => 52,
-        FaultKind::FieldRange => 53,
-        FaultKind::TooLarge => 54,
-        FaultKind::NotRelocatable => 55,
+        FaultKind::BadLabel => "10 BadLabel",
+        FaultKind::BadConstant => "11 BadConstant",
+        FaultKind::OpenQuote => "12 OpenQuote",
+        FaultKind::StrayText => "13 StrayText",
+        FaultKind::BadExpression => "20 BadExpression",
+        FaultKind::TooDeep => "21 TooDeep",
+        FaultKind::Undefined => "22 Undefined",
+        FaultKind::NotAbsolute => "23 NotAbsolute",
+        FaultKind::DivideByZero => "24 DivideByZero",
+        FaultKind::ValueRange => "25 ValueRange",
+        FaultKind::Defined => "26 Defined",
+        FaultKind::NoFile => "30 NoFile",
+        FaultKind::OpenBlock => "31 OpenBlock",
+        FaultKind::StrayEnd => "32 StrayEnd",
+        FaultKind::Depth => "33 Depth",
+        FaultKind::Lines => "34 Lines",
+        FaultKind::TooManyParameters => "35 TooManyParameters",
+        FaultKind::Redefined => "36 Redefined",
+        FaultKind::LongLine => "38 LongLine",
+        FaultKind::UnknownMnemonic => "50 UnknownMnemonic",
+        FaultKind::OperandCount => "51 OperandCount",
+        FaultKind::OperandForm => "52 OperandForm",
+        FaultKind::FieldRange => "53 FieldRange",
+        FaultKind::TooLarge => "54 TooLarge",
+        FaultKind::NotRelocatable => "55 NotRelocatable",
     }
 }
 
-/// The name of a fault of a source.
-fn name_of(kind: FaultKind) -> &'static str
-    ensures { result.now ≡ fault_name kind }
+/// What is wrong with a line of a text.
+fn at_line(alloc: Global, name: &str, line: usize, fault: &str) -> Result<String, NoMemory>
+    ensures { IfOk result (λ text. string_bytes text ≡ at_line name.now line fault.now) }
 {
-    match kind {
-        FaultKind::BadLabel => "BadLabel",
-        FaultKind::BadConstant => "BadConstant",
-        FaultKind::OpenQuote => "OpenQuote",
-        FaultKind::StrayText => "StrayText",
-        FaultKind::BadExpression => "BadExpression",
-        FaultKind::TooDeep => "TooDeep",
-        FaultKind::Undefined => "Undefined",
-        FaultKind::NotAbsolute => "NotAbsolute",
-        FaultKind::DivideByZero => "DivideByZero",
-        FaultKind::ValueRange => "ValueRange",
-        FaultKind::Defined => "Defined",
-        FaultKind::NoFile => "NoFile",
-        FaultKind::OpenBlock => "OpenBlock",
-        FaultKind::StrayEnd => "StrayEnd",
-        FaultKind::Depth => "Depth",
-        FaultKind::Lines => "Lines",
-        FaultKind::TooManyParameters => "TooManyParameters",
-        FaultKind::Redefined => "Redefined",
-        FaultKind::LongLine => "LongLine",
-        FaultKind::UnknownMnemonic => "UnknownMnemonic",
-        FaultKind::OperandCount => "OperandCount",
-        FaultKind::OperandForm => "OperandForm",
-        FaultKind::FieldRange => "FieldRange",
-        FaultKind::TooLarge => "TooLarge",
-        FaultKind::NotRelocatable => "NotRelocatable",
+    Ok(format!(in alloc; "{name}:{line}: {fault}")?)
+}
+
+/// What is wrong with a file.
+fn at_file(alloc: Global, name: &str, fault: &str) -> Result<String, NoMemory>
+    ensures { IfOk result (λ text. string_bytes text ≡ at_file name.now fault.now) }
+{
+    Ok(format!(in alloc; "{name}: {fault}")?)
+}
+
+/// A refusal's line.
+fn write_refusal(alloc: Global, refusal: &Refusal<String>) -> Result<String, NoMemory>
+    ensures { IfOk result (λ text. string_bytes text ≡ refusal_text (refusal_of refusal.now)) }
+{
+    match refusal {
+        Refusal::Source { file, line, kind } => {
+            at_line(alloc, file.as_str(), *line, numbered_name(*kind))
+        }
+        Refusal::Command { line } => at_line(alloc, "command", *line, "60 Syntax"),
+        Refusal::Link { section } => Ok(format!(in alloc; "link:{section}: 75 RelocRange")?),
+        Refusal::Samples { line } => at_line(alloc, "samples", *line, "91 BadSamples"),
+        Refusal::Schedule { line } => at_line(alloc, "schedule", *line, "90 BadSchedule"),
+        Refusal::CannotRead { file } => at_file(alloc, file.as_str(), "8 CannotRead"),
     }
 }
 
@@ -143,16 +114,7 @@ pub fn write_fault(alloc: Global, fault: &Fault) -> Result<String, NoMemory>
     ensures { IfOk result (λ text. string_bytes text ≡ fault_text fault.now) }
 {
     match fault {
-        Fault::NoMemory => Ok(String::from_str(alloc, "memory: 9 NoMemory")?),
-        Fault::Source { file, line, kind } => {
-            let number = number_of(*kind);
-            let name = name_of(*kind);
-            Ok(format!(in alloc; "{file}:{line}: {number} {name}")?)
-        }
-        Fault::Command { line } => Ok(format!(in alloc; "command:{line}: 60 Syntax")?),
-        Fault::Link { section } => Ok(format!(in alloc; "link:{section}: 75 RelocRange")?),
-        Fault::Samples { line } => Ok(format!(in alloc; "samples:{line}: 91 BadSamples")?),
-        Fault::Schedule { line } => Ok(format!(in alloc; "schedule:{line}: 90 BadSchedule")?),
-        Fault::CannotRead { file } => Ok(format!(in alloc; "{file}: 8 CannotRead")?),
+        Failure::NoMemory(_) => Ok(String::from_str(alloc, "memory: 9 NoMemory")?),
+        Failure::Fault(refusal) => write_refusal(alloc, refusal),
     }
 }

@@ -2,8 +2,8 @@
 
 ghost use Rattle.std.specs.Prelude.{◌≡◌, IfOk};
 ghost use Rattle.c25_meaning.specs.Fits.{FitsMemory};
-ghost use Rattle.c25_meaning.specs.Placing.{all_words};
-ghost use Rattle.c25.specs.Image.{marks_of};
+ghost use Rattle.c25_meaning.specs.Placing.{all_words, laid_out};
+ghost use Rattle.c25_meaning.specs.Statements.{marks_of};
 
 use c25_isa::{encode, size_of};
 use c25_meaning::insn::Insn;
@@ -22,7 +22,7 @@ pub(crate) struct Image {
 pub(crate) fn image_of(alloc: Global, insns: &[Insn]) -> Result<Image, NoMemory>
     requires { FitsMemory insns.now }
     ensures words { IfOk result (λ image. image.words.items ≡ all_words insns.now) }
-    ensures marks { IfOk result (λ image. image.marks.items ≡ marks_of 0 insns.now) }
+    ensures marks { IfOk result (λ image. image.marks.items ≡ marks_of (laid_out 0 insns.now)) }
 {
     let mut words = Vec::new(alloc);
     let mut marks = Vec::new(alloc);

@@ -1,15 +1,15 @@
 //! A run of instructions on a board.
 
-ghost use Rattle.std.specs.Prelude.{◌≡◌, ◌<◌, ◌^◌, IfOk, IsOkUnless};
+ghost use Rattle.std.specs.Prelude.{◌≡◌, ◌<◌, ◌^◌, IfOk};
 ghost use Rattle.c25_meaning.specs.Fits.{FitsMemory};
 ghost use Rattle.c25_meaning.specs.Placing.{run_of_insns};
-ghost use Rattle.c25.specs.Chain.{EndsAs};
+ghost use Rattle.c25.specs.Chain.{EndsAs, HasNoTexts};
 
-use crate::fault::Fault;
 use crate::image::{Image, image_of};
 use c25_board::board::{Board, Outcome};
 use c25_board::ports::{ListSink, NoSamples};
 use c25_meaning::insn::Insn;
+use c25_meaning::no_memory::NoMemory;
 use c25_meaning::registers::Regs;
 use std::alloc::Global;
 
@@ -38,17 +38,17 @@ pub struct Chain {
 }
 
 /// Runs n steps of instructions that stand one behind another from program address 0.
-pub(crate) fn run_insns(alloc: Global, insns: &[Insn], n: u32) -> Result<Chain, Fault>
+pub(crate) fn run_insns(alloc: Global, insns: &[Insn], n: u32) -> Result<Chain, NoMemory>
     requires { FitsMemory insns.now }
     ensures ends { IfOk result (EndsAs n (run_of_insns insns.now n)) }
-    ensures refused { IsOkUnless result Fault.NoMemory }
+    ensures texts { IfOk result HasNoTexts }
 {
     let Image { words, marks } = image_of(alloc, insns)?;
     let sink = ListSink::new(alloc);
     let mut board = Board::new(alloc, &words, marks, NoSamples, sink)?;
     let outcome = board.run(n);
-    if let Outcome::SinkFault(_) = outcome {
-        return Err(Fault::NoMemory);
+    if let Some(refused) = board.sink().refused() {
+        return Err(refused);
     }
     Ok(Chain {
         page0: String::new(alloc),

@@ -176,6 +176,22 @@ fn other_inputs_are_refused_in_their_order(rt: HostRuntime) -> Result<(), Fail> 
 }
 
 #[test]
+fn a_return_alone_is_no_blank_line(rt: HostRuntime) -> Result<(), Fail> {
+    let samples = Inputs {
+        command: "\r",
+        samples: "\r",
+        schedule: "",
+    };
+    is_refused(&rt, WRITES_41H, samples, "samples:1: 91 BadSamples")?;
+    let schedule = Inputs {
+        command: "\r",
+        samples: " \t\r\n\n ",
+        schedule: "\r",
+    };
+    is_refused(&rt, WRITES_41H, schedule, "schedule:1: 90 BadSchedule")
+}
+
+#[test]
 fn a_missing_file_is_told_at_line_0(rt: HostRuntime) -> Result<(), Fail> {
     let files = Files::new(rt.alloc());
     let mut sources = Vec::new(rt.alloc());

@@ -1,18 +1,11 @@
--- What an answer says of a definition's result.
-use Rattle.std.specs.Prelude.{◌≡◌, ℕ, Result, Ok, Err}
-use Rattle.c25_meaning.specs.Source.{SourceFault}
-use Rattle.c25_asm.specs.declared.failure.SourceError.{SourceError}
-use Rattle.c25_asm.specs.declared.failure.SourceError.TheVariants as source
-use Rattle.c25_expr.specs.declared.failure.Failure.{Failure}
-use Rattle.c25_expr.specs.declared.failure.Failure.TheVariants.{NoMemory, Faulty}
+-- Where a source is refused.
+use Rattle.std.specs.Prelude.{ℕ}
+use Rattle.c25_meaning.specs.declared.failure.Failure.{Failure}
+use Rattle.c25_meaning.specs.declared.failure.Failure.TheVariants.{NoMemory, Fault}
+use Rattle.c25_meaning.specs.declared.source.SourceFault.{SourceFault}
+use Rattle.c25_meaning.specs.declared.statement.FaultKind.{FaultKind}
 
--- What is answered is the definition's result, unless memory ran out; `given` is what the answer stands for.
-abbrev pub TellsAt : {A T : Type 0} → Result A SourceFault → Result T SourceError → (T → A) → Type 0
-TellsAt r (Ok x) given = r ≡ Ok (given x)
-TellsAt r (Err source.NoMemory) given = Unit {0}
-TellsAt r (Err (source.Line line kind)) given = r ≡ Err (record { line = line; kind = kind })
-
--- why a source is refused at a line
-abbrev pub at_line : ℕ → Failure → SourceError
-at_line line NoMemory = source.NoMemory
-at_line line (Faulty kind) = source.Line line kind
+-- why a line is refused, as why the source is
+abbrev pub at_line : ℕ → Failure FaultKind → Failure SourceFault
+at_line line (NoMemory n) = NoMemory n
+at_line line (Fault kind) = Fault (record { line = line; kind = kind })

@@ -5,16 +5,18 @@ ghost use Rattle.std.specs.List.{All, sum_by};
 ghost use Rattle.c25_meaning.specs.Table.{InRange, size_of};
 ghost use Rattle.c25_meaning.specs.Source.{emitted, nothing};
 ghost use Rattle.c25_asm.specs.Sizes.{item_size};
-ghost use Rattle.c25_asm.specs.Told.{TellsAt};
+ghost use Rattle.c25_meaning.specs.Results.{Meets};
 ghost use Rattle.c25_asm.specs.View.{item_of, meaning_of};
 
-use crate::failure::SourceError;
+use crate::failure::at_line;
 use crate::forms::insn_of;
 use crate::progress::place;
 use crate::sheet::sheet_of;
 use crate::source::Source;
 use crate::statement::Item;
 use c25_expr::symbols::Symbols;
+use c25_meaning::failure::Failure;
+use c25_meaning::source::SourceFault;
 use std::alloc::Global;
 
 /// No instructions.
@@ -34,8 +36,8 @@ pub(crate) fn emit(
     symbols: &mut Symbols,
     item: &Item,
     source: &mut Source,
-) -> Result<(), SourceError>
-    ensures told { TellsAt (emitted symbols.old.entries (meaning_of source.old) (item_of item.now)) result (λ _. meaning_of source.new) }
+) -> Result<(), Failure<SourceFault>>
+    ensures told { Meets (λ _. meaning_of source.new) (emitted symbols.old.entries (meaning_of source.old) (item_of item.now)) result }
     ensures names { symbols.new.entries ≡ symbols.old.entries }
     ensures in_range { All InRange source.old.insns.items → OnOk result (All InRange source.new.insns.items) }
     ensures size { OnOk result (sum_by size_of source.new.insns.items ≡ sum_by size_of source.old.insns.items + item_size item.now) }
@@ -48,6 +50,6 @@ pub(crate) fn emit(
             source.in_range = source.in_range && sheet.in_range;
             Ok(())
         }
-        Err(failure) => Err(SourceError::at_line(item.line, failure)),
+        Err(failure) => Err(at_line(item.line, failure)),
     }
 }

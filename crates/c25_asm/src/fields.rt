@@ -6,7 +6,8 @@ ghost use Rattle.c25_meaning.specs.Table.{shift_limit};
 ghost use Rattle.c25_meaning.specs.Statement.{form_field, with_number, field_of_short, short_field, field_of_long, plain_field, addr_field, number_in, within, below, relocation_of, address_number, is_within, address_fits, address_entry, number_entry, entry_by, entry_of};
 
 use c25_meaning::mnemonic::{LongName, PlainName, ShiftedName, ShortName};
-use c25_meaning::statement::{AddrForm, FaultKind, Field, Form, RelocationKind};
+use c25_meaning::relocation::RelocationKind;
+use c25_meaning::statement::{AddrForm, FaultKind, Field, Form};
 use c25_meaning::value::{Base, Value};
 use std::marker::Model;
 

@@ -12,6 +12,4 @@ mod shapes;
 mod sheet;
 pub mod source;
 mod statement;
-#[cfg(test)]
-mod tests;
 mod trees;

@@ -5,13 +5,14 @@ ghost use Rattle.std.specs.List.{sum_by};
 ghost use Rattle.c25_meaning.specs.Source.{place};
 ghost use Rattle.c25_asm.specs.Sizes.{item_size};
 
-use crate::failure::SourceError;
+use crate::failure::at_line;
 use crate::forms::form_row;
 use crate::reading::read_line;
 use crate::statement::{Item, LineStatement, Operation};
-use c25_expr::failure::Failure;
-use c25_expr::symbols::{DefineError, Symbols};
+use c25_expr::symbols::{Defined, Symbols};
 use c25_isa::size_of;
+use c25_meaning::failure::Failure;
+use c25_meaning::source::SourceFault;
 use c25_meaning::statement::FaultKind;
 use c25_meaning::value::{Base, Value};
 use std::alloc::Global;
@@ -53,8 +54,7 @@ impl Progress {
     ghost use Rattle.c25_meaning.specs.Table.{size};
     ghost use Rattle.c25_meaning.specs.Statement.{form_row};
     ghost use Rattle.c25_meaning.specs.Source as meaning;
-    ghost use Rattle.c25_expr.specs.Told.{Tells};
-    ghost use Rattle.c25_asm.specs.Told.{TellsAt};
+    ghost use Rattle.c25_meaning.specs.Results.{Meets};
     ghost use Rattle.c25_asm.specs.View.{progress_of, operation_of, statement_of};
 
     /// Nothing yet.
@@ -71,26 +71,27 @@ impl Progress {
 
     /// A name that stands for nothing yet stands for the next place from now on.
     #[tactic(auto, unfolding(c25_meaning::specs::Source::define))]
-    fn define(&mut self, name: &str) -> Result<(), Failure>
-        ensures { Tells (meaning.define name.now (progress_of self.old)) result (λ _. progress_of self.new) }
+    fn define(&mut self, name: &str) -> Result<(), Failure<FaultKind>>
+        ensures { Meets (λ _. progress_of self.new) (meaning.define name.now (progress_of self.old)) result }
     {
         if self.symbols.get(name).is_some() {
-            return Err(Failure::Faulty(FaultKind::Defined));
+            return Err(Failure::Fault(FaultKind::Defined));
         }
         if self.names >= MOST_NAMES {
-            return Err(Failure::Faulty(FaultKind::TooLarge));
+            return Err(Failure::Fault(FaultKind::TooLarge));
         }
         match self.symbols.define(name, place(self.size)) {
             Ok(()) => {
                 self.names += 1;
                 Ok(())
             }
-            Err(_) => Err(Failure::NoMemory),
+            Err(Failure::NoMemory(error)) => Err(error.into()),
+            Err(Failure::Fault(Defined)) => Err(Failure::Fault(FaultKind::Defined)),
         }
     }
 
-    fn label(&mut self, label: Option<&str>) -> Result<(), Failure>
-        ensures { Tells (meaning.label (option_map (λ t. t.now) label.entry) (progress_of self.old)) result (λ _. progress_of self.new) }
+    fn label(&mut self, label: Option<&str>) -> Result<(), Failure<FaultKind>>
+        ensures { Meets (λ _. progress_of self.new) (meaning.label (option_map (λ t. t.now) label.entry) (progress_of self.old)) result }
     {
         match label {
             Some(name) => self.define(name),
@@ -100,12 +101,12 @@ impl Progress {
 
     /// An instruction of so many words at the next place.
     #[tactic(auto, unfolding(c25_meaning::specs::Source::put))]
-    fn put(&mut self, line: usize, operation: Operation) -> Result<(), Failure>
-        ensures { Tells (meaning.put line (operation_of operation) (size (form_row operation.form)) (progress_of self.old)) result (λ _. progress_of self.new) }
+    fn put(&mut self, line: usize, operation: Operation) -> Result<(), Failure<FaultKind>>
+        ensures { Meets (λ _. progress_of self.new) (meaning.put line (operation_of operation) (size (form_row operation.form)) (progress_of self.old)) result }
     {
         let words = u32::from(size_of(form_row(operation.form)));
         if self.size + words > MOST_WORDS {
-            return Err(Failure::Faulty(FaultKind::TooLarge));
+            return Err(Failure::Fault(FaultKind::TooLarge));
         }
         self.items.push(Item {
             line,
@@ -118,8 +119,8 @@ impl Progress {
 
     /// One line more.
     #[tactic(auto, unfolding(c25_meaning::specs::Source::pass))]
-    fn pass(&mut self, line: usize, statement: LineStatement<'_>) -> Result<(), Failure>
-        ensures { Tells (meaning.pass line (statement_of statement.entry) (progress_of self.old)) result (λ _. progress_of self.new) }
+    fn pass(&mut self, line: usize, statement: LineStatement<'_>) -> Result<(), Failure<FaultKind>>
+        ensures { Meets (λ _. progress_of self.new) (meaning.pass line (statement_of statement.entry) (progress_of self.old)) result }
     {
         let LineStatement { label, operation } = statement;
         self.label(label)?;
@@ -129,8 +130,13 @@ impl Progress {
         }
     }
 
-    fn pass_line(&mut self, alloc: Global, line: usize, text: &str) -> Result<(), Failure>
-        ensures { Tells (meaning.read_and_pass line text.now (progress_of self.old)) result (λ _. progress_of self.new) }
+    fn pass_line(
+        &mut self,
+        alloc: Global,
+        line: usize,
+        text: &str,
+    ) -> Result<(), Failure<FaultKind>>
+        ensures { Meets (λ _. progress_of self.new) (meaning.read_and_pass line text.now (progress_of self.old)) result }
     {
         let statement = read_line(alloc, text)?;
         self.pass(line, statement)
@@ -143,12 +149,12 @@ impl Progress {
         alloc: Global,
         line: usize,
         text: &str,
-    ) -> Result<(), SourceError>
-        ensures { TellsAt (meaning.pass_text line text.now (progress_of self.old)) result (λ _. progress_of self.new) }
+    ) -> Result<(), Failure<SourceFault>>
+        ensures { Meets (λ _. progress_of self.new) (meaning.pass_text line text.now (progress_of self.old)) result }
     {
         match self.pass_line(alloc, line, text) {
             Ok(()) => Ok(()),
-            Err(failure) => Err(SourceError::at_line(line, failure)),
+            Err(failure) => Err(at_line(line, failure)),
         }
     }
 }

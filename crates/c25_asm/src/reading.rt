@@ -6,21 +6,23 @@ ghost use Rattle.c25_meaning.specs.StatementLine.{spelled, operation_of, operati
 ghost use Rattle.c25_meaning.specs.Operands.{written_of};
 ghost use Rattle.c25_text.specs.View.{parts_of};
 ghost use Rattle.c25_expr.specs.Pieces.{operands_view};
-ghost use Rattle.c25_expr.specs.Told.{Tells};
+ghost use Rattle.c25_meaning.specs.Results.{Meets};
 ghost use Rattle.c25_asm.specs.View as view;
 ghost use Rattle.c25_asm.specs.View.{statement_of};
 
 use crate::shapes::form_of;
 use crate::statement::{LineStatement, Operation};
 use crate::trees::exprs_of;
-use c25_expr::failure::{Failure, line_fault};
+use c25_expr::failure::line_fault;
 use c25_expr::operands::{operands_of, tokens_of, written_of};
 use c25_isa::mnemonic;
+use c25_meaning::failure::Failure;
 use c25_meaning::mnemonic::Spelling;
+use c25_meaning::no_memory::NoMemory;
 use c25_meaning::statement::{FaultKind, Written};
 use c25_text::line::{Line, split_line};
 use c25_text::tokens::Token;
-use std::alloc::{AllocError, Global};
+use std::alloc::Global;
 
 fn spelled(word: &str) -> Result<Spelling, FaultKind>
     ensures { result ≡ spelled word.now }
@@ -28,7 +30,7 @@ fn spelled(word: &str) -> Result<Spelling, FaultKind>
     mnemonic(word).ok_or(FaultKind::UnknownMnemonic)
 }
 
-fn kinds_of(alloc: Global, operands: &[&[Token<'_>]]) -> Result<Vec<Written>, AllocError>
+fn kinds_of(alloc: Global, operands: &[&[Token<'_>]]) -> Result<Vec<Written>, NoMemory>
     ensures { IfOk result (λ v. v.items ≡ map written_of (operands_view operands.now)) }
 {
     let mut kinds = Vec::new(alloc);
@@ -44,8 +46,8 @@ fn operation_of(
     alloc: Global,
     spelling: Spelling,
     operands: &[&[Token<'_>]],
-) -> Result<Operation, Failure>
-    ensures { Tells (operation_of spelling (operands_view operands.now)) result view.operation_of }
+) -> Result<Operation, Failure<FaultKind>>
+    ensures { Meets view.operation_of (operation_of spelling (operands_view operands.now)) result }
 {
     let kinds = kinds_of(alloc, operands)?;
     match form_of(spelling, kinds.as_slice()) {
@@ -53,14 +55,14 @@ fn operation_of(
             let trees = exprs_of(alloc, operands)?;
             Ok(Operation { form, trees })
         }
-        Err(fault) => Err(Failure::Faulty(fault)),
+        Err(fault) => Err(Failure::Fault(fault)),
     }
 }
 
 /// The instruction of a line, if it has one.
 #[tactic(auto, unfolding(c25_meaning::specs::StatementLine::operation_in))]
-fn operation_in(alloc: Global, line: &Line<'_>) -> Result<Option<Operation>, Failure>
-    ensures { Tells (operation_in (parts_of line.now).word (parts_of line.now).pieces) result (λ o. option_map view.operation_of o) }
+fn operation_in(alloc: Global, line: &Line<'_>) -> Result<Option<Operation>, Failure<FaultKind>>
+    ensures { Meets (λ o. option_map view.operation_of o) (operation_in (parts_of line.now).word (parts_of line.now).pieces) result }
 {
     let Some(word) = line.word else {
         return Ok(None);
@@ -72,14 +74,14 @@ fn operation_in(alloc: Global, line: &Line<'_>) -> Result<Option<Operation>, Fai
             let operation = operation_of(alloc, spelling, operands.as_slice())?;
             Ok(Some(operation))
         }
-        Err(fault) => Err(Failure::Faulty(fault)),
+        Err(fault) => Err(Failure::Fault(fault)),
     }
 }
 
 /// What a line says.
 #[tactic(auto, unfolding(c25_meaning::specs::StatementLine::read_line))]
-pub(crate) fn read_line(alloc: Global, text: &str) -> Result<LineStatement<'_>, Failure>
-    ensures { Tells (read_line text.now) result statement_of }
+pub(crate) fn read_line(alloc: Global, text: &str) -> Result<LineStatement<'_>, Failure<FaultKind>>
+    ensures { Meets statement_of (read_line text.now) result }
 {
     match split_line(text) {
         Ok(line) => {
@@ -89,6 +91,6 @@ pub(crate) fn read_line(alloc: Global, text: &str) -> Result<LineStatement<'_>, 
                 operation,
             })
         }
-        Err(fault) => Err(Failure::Faulty(line_fault(fault))),
+        Err(fault) => Err(Failure::Fault(line_fault(fault))),
     }
 }

@@ -2,20 +2,22 @@
 
 ghost use Rattle.std.specs.Prelude.{◌≡◌, OnOk, IfOk};
 ghost use Rattle.c25_meaning.specs.Table.{InRange, size, size_of};
-ghost use Rattle.c25_meaning.specs.Statement.{valued, taken, sheet_of, blank_sheet, with_entry, insn_of, form_row};
+ghost use Rattle.c25_meaning.specs.Statement.{valued, entered, sheet_of, blank_sheet, with_entry, insn_of, form_row};
 ghost use Rattle.c25_meaning.specs.Fits.{Fits};
 ghost use Rattle.c25_expr.specs.View.{tree_of};
-ghost use Rattle.c25_expr.specs.Told.{Tells};
+ghost use Rattle.c25_meaning.specs.Results.{Meets};
 ghost use Rattle.c25_asm.specs.View.{trees_of};
 
 use crate::fields::{Entry, entry_of, form_field};
-use c25_expr::failure::{Failure, value_fault};
+use c25_expr::failure::value_fault;
 use c25_expr::symbols::Symbols;
 use c25_expr::tree::Expr;
 use c25_expr::value::value;
+use c25_meaning::failure::Failure;
+use c25_meaning::no_memory::NoMemory;
 use c25_meaning::statement::{FaultKind, Form};
 use c25_meaning::value::Value;
-use std::alloc::{AllocError, Global};
+use std::alloc::Global;
 use std::marker::Model;
 
 /// The numbers of the operands so far, and whether all addresses among them are in range.
@@ -53,7 +55,7 @@ impl Sheet {
         }
     }
 
-    fn put(&mut self, entry: Entry) -> Result<(), AllocError>
+    fn put(&mut self, entry: Entry) -> Result<(), NoMemory>
         ensures { OnOk result (self.new ≡ with_entry self.old entry) }
     {
         self.numbers.push(entry.number)?;
@@ -62,9 +64,9 @@ impl Sheet {
     }
 
     /// One operand more.
-    #[tactic(auto, unfolding(c25_meaning::specs::Statement::taken))]
-    fn take(&mut self, form: Form, symbols: &Symbols, expr: &Expr) -> Result<(), Failure>
-        ensures { Tells (taken form symbols.now self.old (tree_of expr.now)) result (λ _. self.new) }
+    #[tactic(auto, unfolding(c25_meaning::specs::Statement::entered))]
+    fn take(&mut self, form: Form, symbols: &Symbols, expr: &Expr) -> Result<(), Failure<FaultKind>>
+        ensures { Meets (λ _. self.new) (entered form symbols.now self.old (tree_of expr.now)) result }
     {
         let index = self.numbers.len();
         match valued(symbols, expr) {
@@ -73,9 +75,9 @@ impl Sheet {
                     self.put(entry)?;
                     Ok(())
                 }
-                Err(fault) => Err(Failure::Faulty(fault)),
+                Err(fault) => Err(Failure::Fault(fault)),
             },
-            Err(fault) => Err(Failure::Faulty(fault)),
+            Err(fault) => Err(Failure::Fault(fault)),
         }
     }
 }
@@ -87,8 +89,8 @@ pub(crate) fn sheet_of(
     form: Form,
     symbols: &Symbols,
     exprs: &[Expr],
-) -> Result<Sheet, Failure>
-    ensures sheet { Tells (sheet_of form symbols.now (trees_of exprs.now)) result (λ s. s) }
+) -> Result<Sheet, Failure<FaultKind>>
+    ensures sheet { Meets (λ s. s) (sheet_of form symbols.now (trees_of exprs.now)) result }
     ensures fits { IfOk result (λ s. Fits form s.numbers) }
 {
     let mut sheet = Sheet::new(alloc);

@@ -3,12 +3,13 @@
 ghost use Rattle.std.specs.Prelude.{IfOk};
 ghost use Rattle.c25_meaning.specs.Source.{source_of};
 ghost use Rattle.c25_meaning.specs.Fits.{FitsMemory};
-ghost use Rattle.c25_asm.specs.Told.{TellsAt};
+ghost use Rattle.c25_meaning.specs.Results.{Meets};
 ghost use Rattle.c25_asm.specs.View.{meaning_of};
 
-pub use crate::failure::SourceError;
 use crate::phases::{finish, lines_of, pass_all};
+use c25_meaning::failure::Failure;
 use c25_meaning::insn::Insn;
+use c25_meaning::source::SourceFault;
 use std::alloc::Global;
 
 /// The instructions of a source.
@@ -30,8 +31,8 @@ pub struct Source {
 /// first operand without a value under all labels (22 to 25), with an address where none may stand (55),
 /// or out of the range of its field (53). `NoMemory` comes only where a growth was refused.
 #[tactic(auto, unfolding(c25_meaning::specs::Source::source_of))]
-pub fn read_source(alloc: Global, text: &str) -> Result<Source, SourceError>
-    ensures told { TellsAt (source_of text.now) result meaning_of }
+pub fn read_source(alloc: Global, text: &str) -> Result<Source, Failure<SourceFault>>
+    ensures told { Meets meaning_of (source_of text.now) result }
     ensures fits { IfOk result (λ s. FitsMemory s.insns.items) }
 {
     let lines = lines_of(alloc, text)?;

@@ -3,13 +3,14 @@
 ghost use Rattle.std.specs.Prelude.{◌≡◌};
 ghost use Rattle.c25_meaning.specs.StatementLine.{no_trees, with_operand, all_trees, trees_in};
 ghost use Rattle.c25_expr.specs.Pieces.{pieces_of, operands_view};
-ghost use Rattle.c25_expr.specs.Told.{Tells};
+ghost use Rattle.c25_meaning.specs.Results.{Meets};
 ghost use Rattle.c25_asm.specs.View.{trees_of, so_far};
 
-use c25_expr::failure::Failure;
 use c25_expr::operands::written_of;
-use c25_expr::reading::{ExprError, read_expr};
+use c25_expr::reading::read_expr;
 use c25_expr::tree::Expr;
+use c25_meaning::expression::ExpressionFault;
+use c25_meaning::failure::Failure;
 use c25_meaning::statement::{FaultKind, Written};
 use c25_text::tokens::Token;
 use std::alloc::Global;
@@ -33,29 +34,29 @@ impl Trees {
 
     /// One operand more.
     #[tactic(auto, unfolding(c25_meaning::specs::StatementLine::with_operand))]
-    fn add(&mut self, alloc: Global, tokens: &[Token<'_>]) -> Result<(), Failure>
-        ensures { Tells (with_operand (so_far self.old) (pieces_of tokens.now)) result (λ _. so_far self.new) }
+    fn add(&mut self, alloc: Global, tokens: &[Token<'_>]) -> Result<(), Failure<FaultKind>>
+        ensures { Meets (λ _. so_far self.new) (with_operand (so_far self.old) (pieces_of tokens.now)) result }
     {
         if written_of(tokens) != Written::Expression {
             return Ok(());
         }
         match read_expr(alloc, tokens) {
             Ok(expr) => self.exprs.push(expr)?,
-            Err(ExprError::TooDeep) => self.deep = true,
-            Err(ExprError::BadExpression) => {
-                return Err(Failure::Faulty(FaultKind::BadExpression));
+            Err(Failure::Fault(ExpressionFault::TooDeep)) => self.deep = true,
+            Err(Failure::Fault(ExpressionFault::BadExpression)) => {
+                return Err(Failure::Fault(FaultKind::BadExpression));
             }
-            Err(ExprError::NoMemory(_)) => return Err(Failure::NoMemory),
+            Err(Failure::NoMemory(error)) => return Err(error.into()),
         }
         Ok(())
     }
 
-    fn finish(self) -> Result<Vec<Expr>, Failure>
-        ensures { Tells (all_trees (so_far self)) result (λ v. trees_of v.items) }
+    fn finish(self) -> Result<Vec<Expr>, Failure<FaultKind>>
+        ensures { Meets (λ v. trees_of v.items) (all_trees (so_far self)) result }
     {
         let Trees { exprs, deep } = self;
         if deep {
-            Err(Failure::Faulty(FaultKind::TooDeep))
+            Err(Failure::Fault(FaultKind::TooDeep))
         } else {
             Ok(exprs)
         }
@@ -63,8 +64,11 @@ impl Trees {
 }
 
 /// The expressions of the operands that are such.
-pub(crate) fn exprs_of(alloc: Global, operands: &[&[Token<'_>]]) -> Result<Vec<Expr>, Failure>
-    ensures { Tells (trees_in (operands_view operands.now)) result (λ v. trees_of v.items) }
+pub(crate) fn exprs_of(
+    alloc: Global,
+    operands: &[&[Token<'_>]],
+) -> Result<Vec<Expr>, Failure<FaultKind>>
+    ensures { Meets (λ v. trees_of v.items) (trees_in (operands_view operands.now)) result }
 {
     let mut trees = Trees::new(alloc);
     for operand in operands {

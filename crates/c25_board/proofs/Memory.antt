@@ -1,23 +1,15 @@
--- Writes to a list, and lists filled up with zeros, seen as memories.
-use Rattle.std.proofs.Common.{◌≡◌, ℕ, ◌-◌, ◌<◌, ◌≤◌, List, [], ◌++◌, length, take, ap, arith, refl, get_or-set_same, get_or-set_other, ◌∙◌, sym, ⊎_elim}
-use Rattle.std.specs.Prelude.{slice_set, slice_index, replicate}
-use Rattle.std.proofs.lemmas.Bool.Decides.{nat_tests}
+-- Lists filled up with zeros, seen as memories.
+use Rattle.std.proofs.Common.{◌≡◌, ℕ, ◌-◌, ◌≤◌, List, [], ◌++◌, length, take, ap, refl, ◌∙◌, sym, ⊎_elim}
+use Rattle.std.specs.Prelude.{slice_index, replicate}
 use Rattle.std.proofs.lemmas.List.{get_or_past, take_all, length-replicate, get_or-append_right, get_or_append_left, get_or-replicate}
 use Rattle.std.proofs.lemmas.Bool.{cases_lt}
 use mathlib.Core.Path.{fun_ext}
 use Rattle.c25_meaning.specs.Reset.{reset}
 use Rattle.c25_meaning.specs.declared.mark.Mark.{Mark}
 use Rattle.c25_meaning.specs.declared.registers.Registers.{Registers}
-use Rattle.c25_board.specs.Board.{state_of}
-use Rattle.c25_meaning.specs.Memory.{Memory, put}
-use Rattle.c25_board.specs.Memories.{memory_of, world_of, initial_world}
-
-word_after_set : (words : List ℕ) (address word k : ℕ) → address < length words → slice_index (slice_set words address word) k ≡ put (memory_of words) address word k
-unfolding put
-word_after_set words address word k h = grind (arith, nat_tests, get_or-set_same, get_or-set_other)
-
-pub memory_of_set : (words : List ℕ) (address word : ℕ) → address < length words → memory_of (slice_set words address word) ≡ put (memory_of words) address word
-memory_of_set words address word h = fun_ext (λ k. word_after_set words address word k h)
+use Rattle.c25_meaning.specs.Memory.{Memory, memory_of}
+use Rattle.c25_meaning.specs.Placing.{loaded}
+use Rattle.c25_meaning.specs.State.{World, state_of}
 
 -- a list that is filled up
 pub filled_up : (start middle end words : List ℕ) (n : ℕ) → start ≡ [] → middle ≡ start ++ words → n ≡ length middle → end ≡ take 65536 middle ++ replicate (65536 - n) 0 → length words ≤ 65536 → end ≡ words ++ replicate (65536 - length words) 0
@@ -46,8 +38,14 @@ empty_memory : memory_of (replicate {A = ℕ} 65536 0) ≡ (let none : Memory = 
 empty_memory = fun_ext (λ k. zeros_at 65536 k)
 
 -- the state before a run
-pub begins : (core : Registers) (words memory program : List ℕ) (n : ℕ) (marks : List Mark) (samples : ℕ → List ℕ) (outputs : List (ℕ × ℕ)) → core ≡ reset → words ≡ replicate {A = ℕ} 65536 0 → memory ≡ program ++ replicate {A = ℕ} n 0 → state_of core (world_of words memory marks samples outputs) ≡ state_of reset (initial_world program marks samples outputs)
-begins core words memory program n marks samples outputs fresh empty filled =
-    ap (λ r. state_of r (world_of words memory marks samples outputs)) fresh
-    ∙ ap (λ m. state_of reset (record (world_of words memory marks samples outputs) { words = m })) (ap memory_of empty ∙ empty_memory)
-    ∙ ap (λ m. state_of reset (record (initial_world program marks samples outputs) { program = m })) (ap memory_of filled ∙ padded_memory program n)
+module _ (marks : List Mark) (samples : ℕ → List ℕ) (outputs : List (ℕ × ℕ)) where
+  -- before the first step, with these memories
+  abbrev before : Memory → Memory → World
+  before program words = record (loaded marks program words samples) { outputs = outputs }
+
+  pub begins : (core : Registers) (words memory program : List ℕ) (n : ℕ) → core ≡ reset → words ≡ replicate {A = ℕ} 65536 0 → memory ≡ program ++ replicate {A = ℕ} n 0
+      → state_of core (before (memory_of memory) (memory_of words)) ≡ state_of reset (before (memory_of program) (λ _. 0))
+  begins core words memory program n fresh empty filled =
+      ap (λ r. state_of r (before (memory_of memory) (memory_of words))) fresh
+      ∙ ap (λ m. state_of reset (before (memory_of memory) m)) (ap memory_of empty ∙ empty_memory)
+      ∙ ap (λ m. state_of reset (before m (λ _. 0))) (ap memory_of filled ∙ padded_memory program n)

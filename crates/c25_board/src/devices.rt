@@ -1,11 +1,11 @@
 //! The memories and ports of a board.
 
 ghost use Rattle.std.specs.Prelude.{◌≡◌, ◌++◌, ◌-◌, ◌≤◌, vec_len, length, replicate, IfOk};
-ghost use Rattle.c25_meaning.specs.State.{size_at, is_code};
 
 use crate::ports::{Feed, Sink};
 use c25_core::{Bus, SinkFailed};
 use c25_meaning::mark::Mark;
+use c25_meaning::marks::{is_code, size_at};
 use c25_meaning::no_memory::NoMemory;
 use std::alloc::Global;
 
@@ -34,32 +34,10 @@ pub(crate) fn filled(alloc: Global, words: &[u16]) -> Result<Vec<u16>, NoMemory>
     Ok(memory)
 }
 
-/// The size of the instruction that begins at an address.
-#[tactic(auto, unfolding(c25_meaning::specs::State::size_at))]
-fn size_at(marks: &[Mark], address: u16) -> Option<u16>
-    ensures { result ≡ size_at marks.now address }
-{
-    marks
-        .iter()
-        .find(|mark| mark.address == address)
-        .map(|mark| mark.size)
-}
-
-/// Whether a program word belongs to an instruction.
-#[tactic(auto, unfolding(c25_meaning::specs::State::is_code))]
-fn is_code(marks: &[Mark], address: u16) -> bool
-    ensures { result ≡ is_code marks.now address }
-{
-    marks.iter().any(|mark| {
-        mark.address <= address
-            && u32::from(address) < u32::from(mark.address) + u32::from(mark.size)
-    })
-}
-
 impl<F: Feed + Drop, S: Sink + Drop> Bus for Devices<F, S> {
-    ghost use Rattle.c25_board.specs.Memories.{world_of};
+    ghost use Rattle.c25_board.specs.Board.{world};
 
-    ghost world = { λ d. world_of d.words.items d.program.items d.marks.items (F.left d.feed) (S.written d.sink) };
+    ghost world = { λ d. world d };
 
     ghost failures = { λ d. S.failures d.sink };
 
@@ -67,7 +45,7 @@ impl<F: Feed + Drop, S: Sink + Drop> Bus for Devices<F, S> {
         self.words[usize::from(address)]
     }
 
-    #[tactic(auto, using(crate::proofs::Memory::memory_of_set))]
+    #[tactic(auto, using(c25_meaning::proofs::Memories::memory_of_set))]
     fn set_data(&mut self, address: u16, word: u16) {
         self.words[usize::from(address)] = word;
     }
@@ -76,7 +54,7 @@ impl<F: Feed + Drop, S: Sink + Drop> Bus for Devices<F, S> {
         self.program[usize::from(address)]
     }
 
-    #[tactic(auto, using(crate::proofs::Memory::memory_of_set))]
+    #[tactic(auto, using(c25_meaning::proofs::Memories::memory_of_set))]
     fn set_program(&mut self, address: u16, word: u16) {
         self.program[usize::from(address)] = word;
     }

@@ -1,10 +1,12 @@
 //! What gives samples and takes outputs.
 
 ghost use Rattle.std.specs.Prelude.{◌≡◌, ℕ, ◌∷◌, [], ◌++◌, List, OnSome, IfNone, OnOk, OnErr, slice_get};
+ghost use Rattle.std.specs.Option.{ForNone};
 ghost use Rattle.c25_meaning.specs.State.{taken};
 ghost use Rattle.c25_core.specs.Sink.{HasFailed};
 
 use c25_core::SinkFailed;
+use c25_meaning::no_memory::NoMemory;
 use std::alloc::Global;
 
 /// Samples for each input port.
@@ -48,11 +50,14 @@ impl Feed for NoSamples {
     }
 }
 
-/// A list that grows with each output. It refuses one where memory is refused.
+/// A list that grows with each output. It refuses one where memory is refused, and keeps that
+/// refusal.
 #[derive(Drop)]
 pub struct ListSink {
     words: Vec<(u16, u16)>,
     failures: u64,
+    refused: Option<NoMemory>,
+    ghost kept: { ForNone refused (failures ≡ 0) },
 }
 
 impl ListSink {
@@ -60,11 +65,13 @@ impl ListSink {
 
     /// An empty list, which takes no memory yet.
     pub fn new(alloc: Global) -> ListSink
-        ensures { outputs_of result ≡ [] }
+        ensures words { outputs_of result ≡ [] }
+        ensures failures { result.failures ≡ 0 }
     {
         ListSink {
             words: Vec::new(alloc),
             failures: 0,
+            refused: None,
         }
     }
 
@@ -73,6 +80,13 @@ impl ListSink {
         ensures { result.now ≡ outputs_of self.now }
     {
         self.words.as_slice()
+    }
+
+    /// The refused growth for which the last output was refused, if one was.
+    pub fn refused(&self) -> Option<NoMemory>
+        ensures { IfNone result (self.now.failures ≡ 0) }
+    {
+        self.refused
     }
 }
 
@@ -84,8 +98,9 @@ impl Sink for ListSink {
     fn put(&mut self, port: u16, word: u16) -> Result<(), SinkFailed> {
         match self.words.push((port, word)) {
             Ok(()) => Ok(()),
-            Err(_) => {
+            Err(error) => {
                 self.failures = self.failures.saturating_add(1);
+                self.refused = Some(NoMemory::from(error));
                 Err(SinkFailed)
             }
         }

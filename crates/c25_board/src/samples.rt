@@ -2,39 +2,21 @@
 
 ghost use Rattle.std.specs.Prelude.{◌≡◌, ◌+◌, ◌<◌, [], ◌∷◌, length, drop, IfSome, IfNone};
 ghost use Rattle.c25_meaning.specs.Samples.{samples_at, samples_of};
-ghost use Rattle.c25_board.specs.Reads.{ReadsSamples};
+ghost use Rattle.c25_meaning.specs.Results.{MeetsBy};
 
 use crate::ports::Feed;
-use c25_items::{ItemsError, LineFormat, decimal_of, hexadecimal_of, read_items};
-use c25_meaning::no_memory::NoMemory;
+use c25_items::{LineFormat, decimal_of, hexadecimal_of, read_items};
+use c25_meaning::failure::Failure;
 use c25_meaning::sample::Sample;
 use std::alloc::Global;
 use std::marker::Model;
 use thiserror::Error;
 
-/// Why a text of samples is refused.
+/// The first line of a text, counted from 1, whose words are no sample (91).
 #[derive(Clone, Copy, Debug, PartialEq, Eq, Error)]
-pub enum SamplesError {
-    /// A growth was refused.
-    #[error("{}", NoMemory)]
-    NoMemory,
-    /// The first line, counted from 1, whose words are no sample (91).
-    #[error("line {line}: BadSamples")]
-    BadSamples { line: usize },
-}
-
-impl From<ItemsError> for SamplesError {
-    ghost use Rattle.std.specs.Prelude.{◌≡◌};
-    ghost use Rattle.c25_board.specs.Reads.{samples_error};
-
-    ghost from_gives = { λ fault e. e ≡ samples_error fault };
-
-    fn from(error: ItemsError) -> SamplesError {
-        match error {
-            ItemsError::NoMemory => SamplesError::NoMemory,
-            ItemsError::Faulty { line } => SamplesError::BadSamples { line },
-        }
-    }
+#[error("line {line}: BadSamples")]
+pub struct BadSamples {
+    pub line: usize,
 }
 
 /// How many input ports there are.
@@ -114,7 +96,11 @@ impl LineFormat for SampleLines {
 
     type Item = Sample;
 
+    type Fault = BadSamples;
+
     ghost item_of = { sample_of };
+
+    ghost line_of = { λ f. f.line };
 
     fn item(_before: &[Sample], words: &[&[u8]]) -> Option<Sample> {
         match words {
@@ -126,11 +112,15 @@ impl LineFormat for SampleLines {
             _ => None,
         }
     }
+
+    fn fault(line: usize) -> BadSamples {
+        BadSamples { line }
+    }
 }
 
 /// The samples of a text, or the first line that is neither blank nor a sample.
-pub fn read_samples(alloc: Global, text: &str) -> Result<Samples, SamplesError>
-    ensures { ReadsSamples result (samples_of text.now) }
+pub fn read_samples(alloc: Global, text: &str) -> Result<Samples, Failure<BadSamples>>
+    ensures { MeetsBy (λ f. f.line) (λ x. x) (samples_of text.now) result }
 {
     let samples = read_items::<SampleLines>(alloc, text)?;
     Ok(Samples::new(samples))

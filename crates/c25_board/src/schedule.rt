@@ -2,40 +2,22 @@
 
 ghost use Rattle.std.specs.Prelude.{◌≡◌};
 ghost use Rattle.c25_meaning.specs.Schedule.{event_of, last_step, timed, schedule_of};
-ghost use Rattle.c25_board.specs.Reads.{ReadsSchedule};
+ghost use Rattle.c25_meaning.specs.Results.{MeetsBy};
 
-use c25_items::{ItemsError, LineFormat, decimal_of, is_word, read_items};
+use c25_items::{LineFormat, decimal_of, is_word, read_items};
+use c25_meaning::failure::Failure;
 use c25_meaning::lines::Lines;
-use c25_meaning::no_memory::NoMemory;
 use c25_meaning::schedule::{Entry, Event};
 use std::alloc::Global;
 use std::marker::Model;
 use thiserror::Error;
 
-/// Why a schedule is refused.
+/// The first line of a text, counted from 1, whose words are no entry, or whose step is less than the
+/// one before (90).
 #[derive(Clone, Copy, Debug, PartialEq, Eq, Error)]
-pub enum ScheduleError {
-    /// A growth was refused.
-    #[error("{}", NoMemory)]
-    NoMemory,
-    /// The first line, counted from 1, whose words are no entry, or whose step is less than the
-    /// one before (90).
-    #[error("line {line}: BadSchedule")]
-    BadSchedule { line: usize },
-}
-
-impl From<ItemsError> for ScheduleError {
-    ghost use Rattle.std.specs.Prelude.{◌≡◌};
-    ghost use Rattle.c25_board.specs.Reads.{schedule_error};
-
-    ghost from_gives = { λ fault e. e ≡ schedule_error fault };
-
-    fn from(error: ItemsError) -> ScheduleError {
-        match error {
-            ItemsError::NoMemory => ScheduleError::NoMemory,
-            ItemsError::Faulty { line } => ScheduleError::BadSchedule { line },
-        }
-    }
+#[error("line {line}: BadSchedule")]
+pub struct BadSchedule {
+    pub line: usize,
 }
 
 /// Events by steps that do not fall. Contracts see it as the list of its entries.
@@ -104,7 +86,11 @@ impl LineFormat for EntryLines {
 
     type Item = Entry;
 
+    type Fault = BadSchedule;
+
     ghost item_of = { entry_of };
+
+    ghost line_of = { λ f. f.line };
 
     fn item(before: &[Entry], words: &[&[u8]]) -> Option<Entry> {
         match words {
@@ -120,12 +106,16 @@ impl LineFormat for EntryLines {
             _ => None,
         }
     }
+
+    fn fault(line: usize) -> BadSchedule {
+        BadSchedule { line }
+    }
 }
 
 /// The schedule of a text, or the first line that is neither blank nor an entry at a step that may
 /// follow the one before.
-pub fn read_schedule(alloc: Global, text: &str) -> Result<Schedule, ScheduleError>
-    ensures { ReadsSchedule result (schedule_of text.now) }
+pub fn read_schedule(alloc: Global, text: &str) -> Result<Schedule, Failure<BadSchedule>>
+    ensures { MeetsBy (λ f. f.line) (λ x. x) (schedule_of text.now) result }
 {
     let entries = read_items::<EntryLines>(alloc, text)?;
     Ok(Schedule { entries })

@@ -1,19 +1,23 @@
 //! A board with a program of four instructions.
 
+ghost use Rattle.std.specs.Prelude.{[]};
+
 mod inputs;
 
 use crate::board::{Board, Outcome};
 use crate::ports::{Feed, ListSink, NoSamples, Sink};
+use c25_core::SinkFailed;
 use c25_meaning::mark::Mark;
 use c25_meaning::stop::Stop;
+use std::alloc::{AllocError, Global};
 use std::test::Fail;
 
 /// `LACK 65`, `SACL 60h`, `OUT 60h,PA1` and a branch to itself (SPRU014, the instructions' pages).
 const PROGRAM: [u16; 5] = [0xca41, 0x6060, 0xe160, 0xff80, 0x0003];
 
-#[test]
-fn runs_are_one_run(rt: HostRuntime) -> Result<(), Fail> {
-    let mut marks = Vec::new(rt.alloc());
+/// The places of its instructions.
+fn marks(alloc: Global) -> Result<Vec<Mark>, AllocError> {
+    let mut marks = Vec::new(alloc);
     for address in 0..3 {
         marks.push(Mark { address, size: 1 })?;
     }
@@ -21,8 +25,30 @@ fn runs_are_one_run(rt: HostRuntime) -> Result<(), Fail> {
         address: 3,
         size: 2,
     })?;
+    Ok(marks)
+}
+
+/// A sink that takes no word.
+#[derive(Drop)]
+struct Closed {
+    failures: u64,
+}
+
+impl Sink for Closed {
+    ghost written = { λ _. [] };
+
+    ghost failures = { λ sink. sink.failures };
+
+    fn put(&mut self, _port: u16, _word: u16) -> Result<(), SinkFailed> {
+        self.failures = self.failures.saturating_add(1);
+        Err(SinkFailed)
+    }
+}
+
+#[test]
+fn runs_are_one_run(rt: HostRuntime) -> Result<(), Fail> {
     let sink = ListSink::new(rt.alloc());
-    let mut board = Board::new(rt.alloc(), &PROGRAM, marks, NoSamples, sink)?;
+    let mut board = Board::new(rt.alloc(), &PROGRAM, marks(rt.alloc())?, NoSamples, sink)?;
     assert_eq!(rt; board.run(2), Outcome::Ran);
     assert_eq!(rt; board.sink().words().len(), 0);
     assert_eq!(rt; board.run(7), Outcome::Ran);
@@ -31,6 +57,18 @@ fn runs_are_one_run(rt: HostRuntime) -> Result<(), Fail> {
     assert_eq!(rt; board.regs().pc, 3);
     assert_eq!(rt; board.regs().acc, 0x41);
     assert_eq!(rt; board.data().get(0x60).copied(), Some(0x41));
+    Ok(())
+}
+
+#[test]
+fn refused_outputs_are_tried_again(rt: HostRuntime) -> Result<(), Fail> {
+    let sink = Closed { failures: 0 };
+    let mut board = Board::new(rt.alloc(), &PROGRAM, marks(rt.alloc())?, NoSamples, sink)?;
+    assert_eq!(rt; board.run(9), Outcome::SinkFault(2));
+    assert_eq!(rt; board.run(9), Outcome::SinkFault(2));
+    assert_eq!(rt; board.steps(), 2);
+    assert_eq!(rt; board.regs().pc, 2);
+    assert_eq!(rt; board.sink().failures, 2);
     Ok(())
 }
 
@@ -50,5 +88,6 @@ fn ports_without_samples_are_dry(rt: HostRuntime) -> Result<(), Fail> {
     let mut sink = ListSink::new(rt.alloc());
     assert!(rt; sink.put(15, 0xffff).is_ok());
     assert_eq!(rt; sink.words(), [(15, 0xffff)].as_slice());
+    assert_eq!(rt; sink.refused(), None);
     Ok(())
 }

@@ -1,7 +1,10 @@
+pub mod Counts
+pub mod FaultIf
+pub mod Kept
 pub mod Loops
 pub mod Names
 pub mod Scans
+pub mod Steps
 pub mod Taken
 pub mod Texts
-pub mod Unless
 pub mod WordKinds

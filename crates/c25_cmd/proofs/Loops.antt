@@ -3,9 +3,10 @@ use Rattle.std.proofs.Common.{◌≡◌, ℕ, zero, suc, ◌-◌, ◌+◌, ◌�
 use Rattle.c25_meaning.specs.declared.command_token.Want.{Want}
 use Rattle.c25_meaning.specs.CommandTokens.{Token}
 use Rattle.c25_meaning.specs.CommandGrammar.{Reading, repeated, begins}
-use Rattle.c25_cmd.specs.declared.error.ReadError.{ReadError}
-use Rattle.c25_cmd.specs.declared.error.ReadError.TheVariants as errors
-use Rattle.c25_cmd.specs.View.{Fails}
+use Rattle.c25_meaning.specs.Results.{Fails}
+use Rattle.c25_meaning.specs.declared.command_fault.PlacedFault.{PlacedFault}
+use Rattle.c25_meaning.specs.declared.failure.Failure.{Failure}
+use Rattle.c25_meaning.specs.declared.failure.Failure.TheVariants.{NoMemory, Fault}
 
 module _ {S : Type 0} (last : Want) (one : S → List Token → Reading S) where
   ended : (n : ℕ) (s : S) (ts : List Token) → begins last ts ≡ true → repeated last one n s ts ≡ Ok (s, ts)
@@ -33,11 +34,11 @@ module _ {S : Type 0} (last : Want) (one : S → List Token → Reading S) where
       let one_step : repeated last one (count - i) s ts ≡ repeated last one (count - (i + 1)) s' ts' = rw (k, h, step) refl in
       sym one_step ∙ so_far
 
-  pub fails : (e : ReadError) (count i : ℕ) (s : S) (ts : List Token) (total : Reading S) → i < count → begins last ts ≡ false
-      → Fails e (one s ts) → repeated last one (count - i) s ts ≡ total → Fails e total
+  pub fails : (e : Failure PlacedFault) (count i : ℕ) (s : S) (ts : List Token) (total : Reading S) → i < count → begins last ts ≡ false
+      → Fails (one s ts) e → repeated last one (count - i) s ts ≡ total → Fails total e
   unfolding repeated
-  fails errors.NoMemory count i s ts total lt h step so_far = tt
-  fails (errors.Fault f) count i s ts total lt h step so_far =
+  fails (NoMemory n) count i s ts total lt h step so_far = tt
+  fails (Fault f) count i s ts total lt h step so_far =
       let k : count - i ≡ suc (count - (i + 1)) = omega arith in
       let one_step : repeated last one (count - i) s ts ≡ Err f = rw (k, h, step) refl in
       sym so_far ∙ one_step

@@ -1,16 +1,11 @@
 //! The kinds of byte, and what stands at the front of a text.
 
-ghost use Rattle.std.specs.Prelude.{◌≡◌, ◌≤◌, ◌<◌, ◌≢◌, ◌-◌, ◌^◌, length, slice_index, IfSome, drop, take};
+ghost use Rattle.std.specs.Prelude.{◌≡◌, ◌≤◌, ◌<◌, ◌-◌, ◌^◌, length, IfSome, drop, take};
 ghost use Rattle.std.specs.List.{prefix_len};
-ghost use Rattle.c25_meaning.specs.CommandTokens.{is_space, sign_of, is_word, comment_len, lexeme, comment_of, signed, covered};
+ghost use Rattle.c25_meaning.specs.CommandTokens.{sign_of, is_word, comment_len, lexeme, comment_piece, sign_piece, covered};
 
 use c25_meaning::command_token::{Lexeme, Sign};
-
-fn is_space(byte: u8) -> bool
-    ensures { result ≡ is_space byte }
-{
-    byte == b' ' || byte == b'\t' || byte == b'\n' || byte == b'\r'
-}
+use c25_text::{byte_at, is_space};
 
 fn sign_of(byte: u8) -> Option<Sign>
     ensures { result ≡ sign_of byte }
@@ -33,14 +28,6 @@ fn is_word(byte: u8) -> bool
     ensures { result ≡ is_word byte }
 {
     byte >= 0x21 && byte <= 0x7e && !sign_of(byte).is_some() && !(byte == b'/' || byte == b'"')
-}
-
-/// The byte at an index, 0 past the end.
-pub(crate) fn byte_at(text: &[u8], index: usize) -> u8
-    ensures value { result ≡ slice_index text.now index }
-    ensures within { result ≢ 0 → index < length text.now }
-{
-    if index < text.len() { text[index] } else { 0 }
 }
 
 /// What stands behind the first bytes.
@@ -85,9 +72,9 @@ fn comment_len(text: &[u8]) -> Option<usize>
     None
 }
 
-fn comment_of(length: Option<usize>) -> Lexeme
+fn comment_piece(length: Option<usize>) -> Lexeme
     requires { IfSome length (λ n. n ≤ 2 ^ 63) }
-    ensures { result ≡ comment_of length }
+    ensures { result ≡ comment_piece length }
 {
     match length {
         None => Lexeme::OpenComment,
@@ -95,8 +82,8 @@ fn comment_of(length: Option<usize>) -> Lexeme
     }
 }
 
-fn signed(sign: Option<Sign>) -> Lexeme
-    ensures { result ≡ signed sign }
+fn sign_piece(sign: Option<Sign>) -> Lexeme
+    ensures { result ≡ sign_piece sign }
 {
     match sign {
         None => Lexeme::Stray,
@@ -117,8 +104,8 @@ pub(crate) fn lexeme(text: &[u8]) -> Lexeme
     } else if is_word(first) {
         Lexeme::Word(word_len(text))
     } else if first == b'/' && byte_at(text, 1) == b'*' {
-        comment_of(comment_len(behind(text, 2)))
+        comment_piece(comment_len(behind(text, 2)))
     } else {
-        signed(sign_of(first))
+        sign_piece(sign_of(first))
     }
 }

@@ -1,13 +1,14 @@
 //! Single tokens.
 
 ghost use Rattle.std.specs.Prelude.{◌≡◌, ◌≤◌, IfOk};
-ghost use Rattle.c25_meaning.specs.CommandGrammar.{passes, begins, wanted, without, number_at, page_number_at, setting_at, unless, number_in};
-ghost use Rattle.c25_cmd.specs.View.{Gives, IsTold, token_of, tokens_of};
+ghost use Rattle.c25_meaning.specs.CommandGrammar.{passes, begins, wanted, past, fault_at, fault_if, number_at, number_of_kind, page_number_at, setting_at};
+ghost use Rattle.c25_meaning.specs.Results.{Meets};
+ghost use Rattle.c25_cmd.specs.View.{token_of, tokens_of};
 
-use crate::error::ReadError;
 use crate::token::Token;
 use c25_meaning::command_fault::{CommandFault, PlacedFault};
 use c25_meaning::command_token::{Keyword, Kind, Sign, Want};
+use c25_meaning::failure::Failure;
 
 fn passes(want: Want, kind: Kind) -> bool
     ensures { result ≡ passes want kind }
@@ -24,14 +25,14 @@ fn passes(want: Want, kind: Kind) -> bool
 }
 
 /// A fault at the first token.
-pub(crate) fn told(fault: CommandFault, tokens: &[Token]) -> ReadError
-    ensures { IsTold fault (tokens_of tokens.now) result }
+fn fault_at(fault: CommandFault, tokens: &[Token]) -> PlacedFault
+    ensures { result ≡ fault_at fault (tokens_of tokens.now) }
 {
     let place = match tokens {
         [] => 0,
         [token, ..] => token.place,
     };
-    ReadError::Fault(PlacedFault { fault, place })
+    PlacedFault { fault, place }
 }
 
 /// Whether the first token is this.
@@ -46,18 +47,21 @@ pub(crate) fn begins(want: Want, tokens: &[Token]) -> bool
 
 /// A token that must stand here, and those behind it.
 #[tactic(auto, unfolding(c25_meaning::specs::CommandGrammar::wanted))]
-pub(crate) fn wanted(want: Want, tokens: &[Token]) -> Result<(&Token, &[Token]), ReadError>
-    ensures { Gives (λ x. (token_of x.0.now, tokens_of x.1.now)) result (wanted want (tokens_of tokens.now)) }
+pub(crate) fn wanted(
+    want: Want,
+    tokens: &[Token],
+) -> Result<(&Token, &[Token]), Failure<PlacedFault>>
+    ensures { Meets (λ x. (token_of x.0.now, tokens_of x.1.now)) (wanted want (tokens_of tokens.now)) result }
 {
     match tokens {
         [token, rest @ ..] if passes(want, token.kind) => Ok((token, rest)),
-        _ => Err(told(CommandFault::Syntax, tokens)),
+        _ => Err(Failure::Fault(fault_at(CommandFault::Syntax, tokens))),
     }
 }
 
 /// The tokens behind one that may be left out.
-pub(crate) fn without(want: Want, tokens: &[Token]) -> &[Token]
-    ensures { tokens_of result.now ≡ without want (tokens_of tokens.now) }
+pub(crate) fn past(want: Want, tokens: &[Token]) -> &[Token]
+    ensures { tokens_of result.now ≡ past want (tokens_of tokens.now) }
 {
     match tokens {
         [token, rest @ ..] if passes(want, token.kind) => rest,
@@ -65,8 +69,8 @@ pub(crate) fn without(want: Want, tokens: &[Token]) -> &[Token]
     }
 }
 
-fn number_in(kind: Kind) -> Option<u32>
-    ensures { result ≡ number_in kind }
+fn number_of_kind(kind: Kind) -> Option<u32>
+    ensures { result ≡ number_of_kind kind }
 {
     match kind {
         Kind::Number(number) => Some(number),
@@ -76,24 +80,28 @@ fn number_in(kind: Kind) -> Option<u32>
 
 /// A number that must stand here, and the tokens behind it.
 #[tactic(auto, unfolding(c25_meaning::specs::CommandGrammar::number_at))]
-pub(crate) fn number_at(tokens: &[Token]) -> Result<(u32, &[Token]), ReadError>
-    ensures { Gives (λ x. (x.0, tokens_of x.1.now)) result (number_at (tokens_of tokens.now)) }
+pub(crate) fn number_at(tokens: &[Token]) -> Result<(u32, &[Token]), Failure<PlacedFault>>
+    ensures { Meets (λ x. (x.0, tokens_of x.1.now)) (number_at (tokens_of tokens.now)) result }
 {
     match tokens {
-        [] => Err(told(CommandFault::Syntax, tokens)),
-        [token, rest @ ..] => match number_in(token.kind) {
-            None => Err(told(CommandFault::Syntax, tokens)),
+        [] => Err(Failure::Fault(fault_at(CommandFault::Syntax, tokens))),
+        [token, rest @ ..] => match number_of_kind(token.kind) {
+            None => Err(Failure::Fault(fault_at(CommandFault::Syntax, tokens))),
             Some(number) => Ok((number, rest)),
         },
     }
 }
 
 /// Refuses where the test holds.
-pub(crate) fn unless(test: bool, fault: CommandFault, tokens: &[Token]) -> Result<(), ReadError>
-    ensures { Gives (λ x. x) result (unless test fault (tokens_of tokens.now)) }
+pub(crate) fn fault_if(
+    test: bool,
+    fault: CommandFault,
+    tokens: &[Token],
+) -> Result<(), Failure<PlacedFault>>
+    ensures { Meets (λ x. x) (fault_if test fault (tokens_of tokens.now)) result }
 {
     if test {
-        Err(told(fault, tokens))
+        Err(Failure::Fault(fault_at(fault, tokens)))
     } else {
         Ok(())
     }
@@ -101,19 +109,22 @@ pub(crate) fn unless(test: bool, fault: CommandFault, tokens: &[Token]) -> Resul
 
 /// The number of a page: 0 or 1.
 #[tactic(auto, unfolding(c25_meaning::specs::CommandGrammar::page_number_at))]
-pub(crate) fn page_number_at(tokens: &[Token]) -> Result<(u8, &[Token]), ReadError>
-    ensures given { Gives (λ x. (x.0, tokens_of x.1.now)) result (page_number_at (tokens_of tokens.now)) }
+pub(crate) fn page_number_at(tokens: &[Token]) -> Result<(u8, &[Token]), Failure<PlacedFault>>
+    ensures given { Meets (λ x. (x.0, tokens_of x.1.now)) (page_number_at (tokens_of tokens.now)) result }
     ensures low { IfOk result (λ x. x.0 ≤ 1) }
 {
     let (number, rest) = number_at(tokens)?;
-    unless(number > 1, CommandFault::Syntax, tokens)?;
+    fault_if(number > 1, CommandFault::Syntax, tokens)?;
     Ok((number as u8, rest))
 }
 
 /// `keyword =`: the tokens behind it.
 #[tactic(auto, unfolding(c25_meaning::specs::CommandGrammar::setting_at))]
-pub(crate) fn setting_at(keyword: Keyword, tokens: &[Token]) -> Result<&[Token], ReadError>
-    ensures { Gives (λ x. tokens_of x.now) result (setting_at keyword (tokens_of tokens.now)) }
+pub(crate) fn setting_at(
+    keyword: Keyword,
+    tokens: &[Token],
+) -> Result<&[Token], Failure<PlacedFault>>
+    ensures { Meets (λ x. tokens_of x.now) (setting_at keyword (tokens_of tokens.now)) result }
 {
     let (_, tokens) = wanted(Want::Keyword(keyword), tokens)?;
     let (_, tokens) = wanted(Want::Sign(Sign::Equals), tokens)?;

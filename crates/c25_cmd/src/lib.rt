@@ -6,8 +6,8 @@
 
 mod bytes;
 mod command;
-mod error;
 mod grammar;
+pub mod laws;
 mod lexer;
 mod memory;
 mod parts;
@@ -18,10 +18,4 @@ mod token;
 mod words;
 
 pub use command::{Command, MemoryRange, Placing, Target};
-pub use error::CommandError;
 pub use reading::read_command;
-
-#[cfg(test)]
-mod cases;
-#[cfg(test)]
-mod tests;

@@ -1,47 +1,47 @@
 //! `MEMORY`: the ranges of the pages.
 
-ghost use Rattle.std.specs.Prelude.{◌≡◌, ◌≤◌, ◌<◌, ◌+◌, length, [], ◌∷◌, ◌++◌, All, IfOk, OnOk};
-ghost use Rattle.c25_meaning.specs.Command.{IsRange};
+ghost use Rattle.std.specs.Prelude.{◌≡◌, ◌≤◌, ◌<◌, ◌+◌, length, [], ◌∷◌, ◌++◌, IfOk, OnOk};
 ghost use Rattle.c25_meaning.specs.CommandGrammar.{repeated};
 ghost use Rattle.c25_meaning.specs.CommandMemory.{page_at, attributes_at, extent_at, range_at, more_ranges, memory_at};
 ghost use Rattle.c25_meaning.specs.declared.command_token.Want.TheVariants as want;
 ghost use Rattle.c25_meaning.specs.declared.command_token.Sign.TheVariants as sign;
 ghost use Rattle.c25_cmd.specs.Known.{HasRangeNames, KnowsWords};
-ghost use Rattle.c25_cmd.specs.View.{Gives, tokens_of, range_of, ranges_of};
+ghost use Rattle.c25_meaning.specs.Results.{Meets};
+ghost use Rattle.c25_cmd.specs.View.{tokens_of, range_of, ranges_of};
 
 use crate::command::MemoryRange;
-use crate::error::ReadError;
-use crate::grammar::{begins, number_at, page_number_at, setting_at, unless, wanted, without};
+use crate::grammar::{begins, fault_if, number_at, page_number_at, past, setting_at, wanted};
 use crate::ranges::{PAGE_WORDS, Ranges, no_ranges, shares_word, take_name, take_range};
 use crate::token::Token;
-use c25_meaning::command_fault::CommandFault;
+use c25_meaning::command_fault::{CommandFault, PlacedFault};
 use c25_meaning::command_token::{Keyword, Sign, Want};
+use c25_meaning::failure::Failure;
 use std::alloc::Global;
 
 /// The page of the ranges from here on.
 #[tactic(auto, unfolding(c25_meaning::specs::CommandMemory::page_at))]
-fn page_at(page: u8, tokens: &[Token]) -> Result<(u8, &[Token]), ReadError>
+fn page_at(page: u8, tokens: &[Token]) -> Result<(u8, &[Token]), Failure<PlacedFault>>
     requires { page ≤ 1 }
-    ensures given { Gives (λ x. (x.0, tokens_of x.1.now)) result (page_at page (tokens_of tokens.now)) }
+    ensures given { Meets (λ x. (x.0, tokens_of x.1.now)) (page_at page (tokens_of tokens.now)) result }
     ensures low { IfOk result (λ x. x.0 ≤ 1) }
 {
     if !begins(Want::Keyword(Keyword::Page), tokens) {
         return Ok((page, tokens));
     }
-    let (number, tokens) = page_number_at(without(Want::Keyword(Keyword::Page), tokens))?;
+    let (number, tokens) = page_number_at(past(Want::Keyword(Keyword::Page), tokens))?;
     let (_, tokens) = wanted(Want::Sign(Sign::Colon), tokens)?;
     Ok((number, tokens))
 }
 
 /// One word in parentheses, if they are there, which counts for nothing.
 #[tactic(auto, unfolding(c25_meaning::specs::CommandMemory::attributes_at))]
-fn attributes_at(tokens: &[Token]) -> Result<&[Token], ReadError>
-    ensures { Gives (λ x. tokens_of x.now) result (attributes_at (tokens_of tokens.now)) }
+fn attributes_at(tokens: &[Token]) -> Result<&[Token], Failure<PlacedFault>>
+    ensures { Meets (λ x. tokens_of x.now) (attributes_at (tokens_of tokens.now)) result }
 {
     if !begins(Want::Sign(Sign::OpenParenthesis), tokens) {
         return Ok(tokens);
     }
-    let tokens = without(Want::Sign(Sign::OpenParenthesis), tokens);
+    let tokens = past(Want::Sign(Sign::OpenParenthesis), tokens);
     let (_, tokens) = wanted(Want::AnyWord, tokens)?;
     let (_, tokens) = wanted(Want::Sign(Sign::CloseParenthesis), tokens)?;
     Ok(tokens)
@@ -53,20 +53,20 @@ fn extent_at<'t>(
     page: u8,
     ranges: &Ranges<'_>,
     tokens: &'t [Token],
-) -> Result<((u32, u32), &'t [Token]), ReadError>
+) -> Result<((u32, u32), &'t [Token]), Failure<PlacedFault>>
     requires page { page ≤ 1 }
     requires known { KnowsWords ranges.now.taken.items (ranges_of ranges.now.list.items) }
-    ensures given { Gives (λ x. (x.0, tokens_of x.1.now)) result (extent_at page (ranges_of ranges.now.list.items) (tokens_of tokens.now)) }
+    ensures given { Meets (λ x. (x.0, tokens_of x.1.now)) (extent_at page (ranges_of ranges.now.list.items) (tokens_of tokens.now)) result }
     ensures words { IfOk result (λ x. 0 < x.0.1) }
     ensures within { IfOk result (λ x. x.0.0 + x.0.1 ≤ 65536) }
 {
     let tokens = setting_at(Keyword::Origin, tokens)?;
     let (origin, tokens) = number_at(tokens)?;
-    let tokens = setting_at(Keyword::Length, without(Want::Sign(Sign::Comma), tokens))?;
+    let tokens = setting_at(Keyword::Length, past(Want::Sign(Sign::Comma), tokens))?;
     let (length, rest) = number_at(tokens)?;
     let is_bad = length == 0 || u64::from(origin) + u64::from(length) > u64::from(PAGE_WORDS);
-    unless(is_bad, CommandFault::RangeSize, tokens)?;
-    unless(
+    fault_if(is_bad, CommandFault::RangeSize, tokens)?;
+    fault_if(
         shares_word(ranges, page, origin, length),
         CommandFault::RangeOverlap,
         tokens,
@@ -81,11 +81,11 @@ fn range_at<'a>(
     page: u8,
     ranges: &mut Ranges<'a>,
     tokens: &'a [Token],
-) -> Result<(MemoryRange, &'a [Token]), ReadError>
+) -> Result<(MemoryRange, &'a [Token]), Failure<PlacedFault>>
     requires page { page ≤ 1 }
     requires named { HasRangeNames (λ k. k.0) (λ k. k.1.now) ranges.old.names (ranges_of ranges.old.list.items) }
     requires known { KnowsWords ranges.old.taken.items (ranges_of ranges.old.list.items) }
-    ensures given { Gives (λ x. (range_of x.0, tokens_of x.1.now)) result (range_at page (ranges_of ranges.old.list.items) (tokens_of tokens.now)) }
+    ensures given { Meets (λ x. (range_of x.0, tokens_of x.1.now)) (range_at page (ranges_of ranges.old.list.items) (tokens_of tokens.now)) result }
     ensures named { IfOk result (λ x. HasRangeNames (λ k. k.0) (λ k. k.1.now) ranges.new.names (ranges_of ranges.old.list.items ++ range_of x.0 ∷ [])) }
     ensures list { ranges.new.list ≡ ranges.old.list }
     ensures taken { ranges.new.taken ≡ ranges.old.taken }
@@ -95,7 +95,7 @@ fn range_at<'a>(
 {
     let (name, rest) = wanted(Want::Name, tokens)?;
     let is_fresh = take_name(ranges, page, name.text.as_str())?;
-    unless(!is_fresh, CommandFault::Twice, tokens)?;
+    fault_if(!is_fresh, CommandFault::Twice, tokens)?;
     let rest = attributes_at(rest)?;
     let (_, rest) = wanted(Want::Sign(Sign::Colon), rest)?;
     let ((origin, length), rest) = extent_at(page, ranges, rest)?;
@@ -116,12 +116,12 @@ fn add_range<'a>(
     page: u8,
     ranges: &mut Ranges<'a>,
     tokens: &'a [Token],
-) -> Result<(u8, &'a [Token]), ReadError>
+) -> Result<(u8, &'a [Token]), Failure<PlacedFault>>
     requires page { page ≤ 1 }
     requires named { HasRangeNames (λ k. k.0) (λ k. k.1.now) ranges.old.names (ranges_of ranges.old.list.items) }
     requires known { KnowsWords ranges.old.taken.items (ranges_of ranges.old.list.items) }
-    ensures given { Gives (λ x. ((x.0, ranges_of ranges.new.list.items), tokens_of x.1.now)) result
-        (more_ranges (page, ranges_of ranges.old.list.items) (tokens_of tokens.now)) }
+    ensures given { Meets (λ x. ((x.0, ranges_of ranges.new.list.items), tokens_of x.1.now))
+        (more_ranges (page, ranges_of ranges.old.list.items) (tokens_of tokens.now)) result }
     ensures page { IfOk result (λ x. x.0 ≤ 1) }
     ensures named { OnOk result (HasRangeNames (λ k. k.0) (λ k. k.1.now) ranges.new.names (ranges_of ranges.new.list.items)) }
     ensures known { OnOk result (KnowsWords ranges.new.taken.items (ranges_of ranges.new.list.items)) }
@@ -137,10 +137,9 @@ fn add_range<'a>(
 fn ranges_at(
     alloc: Global,
     tokens: &[Token],
-) -> Result<((u8, Vec<MemoryRange>), &[Token]), ReadError>
-    ensures given { Gives (λ x. ((x.0.0, ranges_of x.0.1.items), tokens_of x.1.now)) result
-        (repeated (want.Sign sign.CloseBrace) more_ranges (length tokens.now) (0, []) (tokens_of tokens.now)) }
-    ensures each { IfOk result (λ x. All IsRange (ranges_of x.0.1.items)) }
+) -> Result<((u8, Vec<MemoryRange>), &[Token]), Failure<PlacedFault>>
+    ensures { Meets (λ x. ((x.0.0, ranges_of x.0.1.items), tokens_of x.1.now))
+        (repeated (want.Sign sign.CloseBrace) more_ranges (length tokens.now) (0, []) (tokens_of tokens.now)) result }
 {
     let mut ranges = no_ranges(alloc)?;
     let mut page = 0;
@@ -161,9 +160,8 @@ fn ranges_at(
 pub(crate) fn memory_at(
     alloc: Global,
     tokens: &[Token],
-) -> Result<(Vec<MemoryRange>, &[Token]), ReadError>
-    ensures given { Gives (λ x. (ranges_of x.0.items, tokens_of x.1.now)) result (memory_at (tokens_of tokens.now)) }
-    ensures each { IfOk result (λ x. All IsRange (ranges_of x.0.items)) }
+) -> Result<(Vec<MemoryRange>, &[Token]), Failure<PlacedFault>>
+    ensures { Meets (λ x. (ranges_of x.0.items, tokens_of x.1.now)) (memory_at (tokens_of tokens.now)) result }
 {
     let (_, tokens) = wanted(Want::Sign(Sign::OpenBrace), tokens)?;
     let ((_, ranges), tokens) = ranges_at(alloc, tokens)?;

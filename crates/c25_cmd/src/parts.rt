@@ -1,21 +1,22 @@
 //! The parts of a command file.
 
-ghost use Rattle.std.specs.Prelude.{◌≡◌, length, true, IfOk, OnOk};
+ghost use Rattle.std.specs.Prelude.{◌≡◌, length, true};
 ghost use Rattle.c25_meaning.specs.Command.{nothing};
 ghost use Rattle.c25_meaning.specs.CommandGrammar.{begins, repeated};
 ghost use Rattle.c25_meaning.specs.CommandText.{entry_in, memory_in, sections_in, part_in, command_at};
 ghost use Rattle.c25_meaning.specs.declared.command_token.Want.TheVariants as want;
 ghost use Rattle.c25_meaning.specs.declared.command_token.Keyword.TheVariants as keyword;
-ghost use Rattle.c25_cmd.specs.View.{Gives, HasRanges, tokens_of, command_of};
+ghost use Rattle.c25_meaning.specs.Results.{Meets};
+ghost use Rattle.c25_cmd.specs.View.{tokens_of, command_data};
 
 use crate::command::Command;
-use crate::error::ReadError;
-use crate::grammar::{begins, unless, wanted, without};
+use crate::grammar::{begins, fault_if, past, wanted};
 use crate::memory::memory_at;
 use crate::sections::sections_at;
 use crate::token::Token;
-use c25_meaning::command_fault::CommandFault;
+use c25_meaning::command_fault::{CommandFault, PlacedFault};
 use c25_meaning::command_token::{Keyword, Want};
+use c25_meaning::failure::Failure;
 use std::alloc::Global;
 
 /// `-e name`.
@@ -24,14 +25,12 @@ fn entry_in<'a>(
     alloc: Global,
     command: &mut Command,
     tokens: &'a [Token],
-) -> Result<&'a [Token], ReadError>
-    requires ranges { HasRanges command.old }
-    ensures given { Gives (λ x. (command_of command.new, tokens_of x.now)) result (entry_in (command_of command.old) (tokens_of tokens.now)) }
-    ensures ranges { OnOk result (HasRanges command.new) }
+) -> Result<&'a [Token], Failure<PlacedFault>>
+    ensures { Meets (λ x. (command_data command.new, tokens_of x.now)) (entry_in (command_data command.old) (tokens_of tokens.now)) result }
 {
     let (word, rest) = wanted(Want::Name, tokens)?;
-    unless(word.text.as_str() != "-e", CommandFault::Syntax, tokens)?;
-    unless(command.entry.is_some(), CommandFault::Twice, tokens)?;
+    fault_if(word.text.as_str() != "-e", CommandFault::Syntax, tokens)?;
+    fault_if(command.entry.is_some(), CommandFault::Twice, tokens)?;
     let (name, rest) = wanted(Want::Name, rest)?;
     command.entry = Some(String::from_str(alloc, name.text.as_str())?);
     Ok(rest)
@@ -43,14 +42,12 @@ fn memory_in<'a>(
     alloc: Global,
     command: &mut Command,
     tokens: &'a [Token],
-) -> Result<&'a [Token], ReadError>
-    requires begins { begins (want.Keyword keyword.Memory) (tokens_of tokens.now) ≡ true }
-    requires ranges { HasRanges command.old }
-    ensures given { Gives (λ x. (command_of command.new, tokens_of x.now)) result (memory_in (command_of command.old) (tokens_of tokens.now)) }
-    ensures ranges { OnOk result (HasRanges command.new) }
+) -> Result<&'a [Token], Failure<PlacedFault>>
+    requires { begins (want.Keyword keyword.Memory) (tokens_of tokens.now) ≡ true }
+    ensures { Meets (λ x. (command_data command.new, tokens_of x.now)) (memory_in (command_data command.old) (tokens_of tokens.now)) result }
 {
-    unless(command.memory.is_some(), CommandFault::Twice, tokens)?;
-    let (ranges, rest) = memory_at(alloc, without(Want::Keyword(Keyword::Memory), tokens))?;
+    fault_if(command.memory.is_some(), CommandFault::Twice, tokens)?;
+    let (ranges, rest) = memory_at(alloc, past(Want::Keyword(Keyword::Memory), tokens))?;
     command.memory = Some(ranges);
     Ok(rest)
 }
@@ -61,14 +58,12 @@ fn sections_in<'a>(
     alloc: Global,
     command: &mut Command,
     tokens: &'a [Token],
-) -> Result<&'a [Token], ReadError>
-    requires begins { begins (want.Keyword keyword.Sections) (tokens_of tokens.now) ≡ true }
-    requires ranges { HasRanges command.old }
-    ensures given { Gives (λ x. (command_of command.new, tokens_of x.now)) result (sections_in (command_of command.old) (tokens_of tokens.now)) }
-    ensures ranges { OnOk result (HasRanges command.new) }
+) -> Result<&'a [Token], Failure<PlacedFault>>
+    requires { begins (want.Keyword keyword.Sections) (tokens_of tokens.now) ≡ true }
+    ensures { Meets (λ x. (command_data command.new, tokens_of x.now)) (sections_in (command_data command.old) (tokens_of tokens.now)) result }
 {
-    unless(command.sections.is_some(), CommandFault::Twice, tokens)?;
-    let (placings, rest) = sections_at(alloc, without(Want::Keyword(Keyword::Sections), tokens))?;
+    fault_if(command.sections.is_some(), CommandFault::Twice, tokens)?;
+    let (placings, rest) = sections_at(alloc, past(Want::Keyword(Keyword::Sections), tokens))?;
     command.sections = Some(placings);
     Ok(rest)
 }
@@ -79,10 +74,8 @@ fn part_in<'a>(
     alloc: Global,
     command: &mut Command,
     tokens: &'a [Token],
-) -> Result<&'a [Token], ReadError>
-    requires ranges { HasRanges command.old }
-    ensures given { Gives (λ x. (command_of command.new, tokens_of x.now)) result (part_in (command_of command.old) (tokens_of tokens.now)) }
-    ensures ranges { OnOk result (HasRanges command.new) }
+) -> Result<&'a [Token], Failure<PlacedFault>>
+    ensures { Meets (λ x. (command_data command.new, tokens_of x.now)) (part_in (command_data command.old) (tokens_of tokens.now)) result }
 {
     if begins(Want::Keyword(Keyword::Memory), tokens) {
         memory_in(alloc, command, tokens)
@@ -94,9 +87,8 @@ fn part_in<'a>(
 }
 
 /// The parts up to the end.
-fn parts_at(alloc: Global, tokens: &[Token]) -> Result<(Command, &[Token]), ReadError>
-    ensures given { Gives (λ x. (command_of x.0, tokens_of x.1.now)) result (repeated want.End part_in (length tokens.now) nothing (tokens_of tokens.now)) }
-    ensures ranges { IfOk result (λ x. HasRanges x.0) }
+fn parts_at(alloc: Global, tokens: &[Token]) -> Result<(Command, &[Token]), Failure<PlacedFault>>
+    ensures { Meets (λ x. (command_data x.0, tokens_of x.1.now)) (repeated want.End part_in (length tokens.now) nothing (tokens_of tokens.now)) result }
 {
     let mut command = Command {
         entry: None,
@@ -116,9 +108,8 @@ fn parts_at(alloc: Global, tokens: &[Token]) -> Result<(Command, &[Token]), Read
 
 /// The command that the tokens spell.
 #[tactic(auto, unfolding(c25_meaning::specs::CommandText::command_at))]
-pub(crate) fn command_at(alloc: Global, tokens: &[Token]) -> Result<Command, ReadError>
-    ensures given { Gives command_of result (command_at (tokens_of tokens.now)) }
-    ensures ranges { IfOk result HasRanges }
+pub(crate) fn command_at(alloc: Global, tokens: &[Token]) -> Result<Command, Failure<PlacedFault>>
+    ensures { Meets command_data (command_at (tokens_of tokens.now)) result }
 {
     let (command, rest) = parts_at(alloc, tokens)?;
     wanted(Want::End, rest)?;

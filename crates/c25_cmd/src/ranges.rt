@@ -1,7 +1,7 @@
 //! The ranges so far, and what finds a name or a word that comes twice in time that does not grow
 //! with their number: a set of the names, and for each word of both pages whether it is in a range.
 
-ghost use Rattle.std.specs.Prelude.{◌≡◌, ◌+◌, ◌*◌, ◌<◌, ◌≤◌, ◌&&◌, ◌||◌, ℕ, List, [], ◌∷◌, ◌++◌, true, false, not, nat_lt, nat_le, length, slice_index_or, IfOk, replicate};
+ghost use Rattle.std.specs.Prelude.{◌≡◌, ◌+◌, ◌*◌, ◌<◌, ◌≤◌, ◌&&◌, ◌||◌, ℕ, [], ◌∷◌, ◌++◌, true, false, not, nat_lt, nat_le, length, slice_index_or, IfOk, replicate};
 ghost use Rattle.std.specs.List.{list_any};
 ghost use Rattle.c25_meaning.specs.Command.{RangeData};
 ghost use Rattle.c25_meaning.specs.CommandMemory.{is_range, overlaps};

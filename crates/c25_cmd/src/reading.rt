@@ -2,16 +2,18 @@
 
 ghost use Rattle.std.specs.Prelude.{◌≡◌, ◌==◌, ◌≤◌, length, count_by, IfOk};
 ghost use Rattle.std.specs.Str.Lines.{lines};
+ghost use Rattle.c25_meaning.specs.Command.{IsCommand};
+ghost use Rattle.c25_meaning.specs.CommandText.{command_of};
 ghost use Rattle.c25_meaning.specs.CommandTokens.{line_at};
-ghost use Rattle.c25_meaning.specs.CommandText as meant;
-ghost use Rattle.c25_cmd.specs.View.{Gives, HasRanges, command_of};
-ghost use Rattle.c25_cmd.specs.Reads.{Reads};
+ghost use Rattle.c25_meaning.specs.Results.{Meets};
+ghost use Rattle.c25_cmd.specs.View.{command_data};
 
 use crate::bytes::front;
 use crate::command::Command;
-use crate::error::{CommandError, ReadError};
 use crate::lexer::tokens;
 use crate::parts::command_at;
+use c25_meaning::command_fault::FaultyCommand;
+use c25_meaning::failure::Failure;
 use std::alloc::Global;
 
 fn line_feeds(text: &[u8]) -> usize
@@ -35,15 +37,6 @@ fn line_at(text: &str, place: usize) -> usize
     (before + 1).min(line_count(text))
 }
 
-/// The command that the text spells, or the place of its first fault.
-fn read(alloc: Global, text: &[u8]) -> Result<Command, ReadError>
-    ensures given { Gives command_of result (meant.command_of text.now) }
-    ensures ranges { IfOk result HasRanges }
-{
-    let found = tokens(alloc, text)?;
-    command_at(alloc, found.as_slice())
-}
-
 /// Reads a command file.
 ///
 /// Words are runs of the characters 21h to 7Eh without signs, `/` and `"`; blanks, tabs, line ends
@@ -59,23 +52,24 @@ fn read(alloc: Global, text: &[u8]) -> Result<Command, ReadError>
 /// read in either case, and are no names. A word that begins with a digit is a number: decimal
 /// without a leading 0, or hexadecimal with `0x` before it or `h` behind it, of at most 19 digits.
 ///
-/// `CommandError::Fault` has the first fault from the front: `Twice` at the second `-e`, `MEMORY`,
-/// `SECTIONS` or name; behind a range's length `RangeSize` and then `RangeOverlap`, both at that
-/// number; `Syntax` at the first word or sign that cannot stand where it is, or at the last line
-/// where the text ends too soon. `CommandError::NoMemory` comes only where a growth was refused.
-pub fn read_command(alloc: Global, text: &str) -> Result<Command, CommandError>
+/// The fault is the first one from the front: `Twice` at the second `-e`, `MEMORY`, `SECTIONS` or
+/// name; behind a range's length `RangeSize` and then `RangeOverlap`, both at that number; `Syntax` at
+/// the first word or sign that cannot stand where it is, or at the last line where the text ends too
+/// soon.
+pub fn read_command(alloc: Global, text: &str) -> Result<Command, Failure<FaultyCommand>>
     // It is the command that the text spells, or its first fault.
-    ensures read { Reads text.now result }
+    ensures read { Meets command_data (command_of text.now) result }
 
-    // Ranges lie within their pages.
-    ensures ranges { IfOk result HasRanges }
+    // Ranges lie within their pages and apart, and no section comes twice.
+    ensures kept { IfOk result (λ c. IsCommand (command_data c)) }
 {
-    match read(alloc, text.as_bytes()) {
+    let found = tokens(alloc, text.as_bytes())?;
+    match command_at(alloc, found.as_slice()) {
         Ok(command) => Ok(command),
-        Err(ReadError::NoMemory) => Err(CommandError::NoMemory),
-        Err(ReadError::Fault(fault)) => Err(CommandError::Fault {
-            fault: fault.fault,
-            line: line_at(text, fault.place),
-        }),
+        Err(Failure::NoMemory(error)) => Err(error.into()),
+        Err(Failure::Fault(first)) => Err(Failure::Fault(FaultyCommand {
+            fault: first.fault,
+            line: line_at(text, first.place),
+        })),
     }
 }

@@ -8,50 +8,51 @@ ghost use Rattle.c25_meaning.specs.CommandSections.{input_at, contents_at, place
 ghost use Rattle.c25_meaning.specs.declared.command_token.Want.TheVariants as want;
 ghost use Rattle.c25_meaning.specs.declared.command_token.Sign.TheVariants as sign;
 ghost use Rattle.c25_cmd.specs.Known.{HasNames};
-ghost use Rattle.c25_cmd.specs.View.{Gives, tokens_of, target_of, placing_of, placings_of};
+ghost use Rattle.c25_meaning.specs.Results.{Meets};
+ghost use Rattle.c25_cmd.specs.View.{tokens_of, target_of, placing_of, placings_of};
 
 use crate::command::{Placing, Target};
-use crate::error::ReadError;
-use crate::grammar::{begins, number_at, page_number_at, unless, wanted, without};
+use crate::grammar::{begins, fault_if, number_at, page_number_at, past, wanted};
 use crate::token::Token;
-use c25_meaning::command_fault::CommandFault;
+use c25_meaning::command_fault::{CommandFault, PlacedFault};
 use c25_meaning::command_token::{Keyword, Sign, Want};
+use c25_meaning::failure::Failure;
 use std::alloc::{AllocError, Global};
 use std::collections::BTreeSet;
 
 /// `*(name)` or nothing.
 #[tactic(auto, unfolding(c25_meaning::specs::CommandSections::input_at))]
-fn input_at<'a>(name: &str, tokens: &'a [Token]) -> Result<&'a [Token], ReadError>
-    ensures { Gives (λ x. tokens_of x.now) result (input_at name.now (tokens_of tokens.now)) }
+fn input_at<'a>(name: &str, tokens: &'a [Token]) -> Result<&'a [Token], Failure<PlacedFault>>
+    ensures { Meets (λ x. tokens_of x.now) (input_at name.now (tokens_of tokens.now)) result }
 {
     if !begins(Want::Sign(Sign::Star), tokens) {
         return Ok(tokens);
     }
-    let tokens = without(Want::Sign(Sign::Star), tokens);
+    let tokens = past(Want::Sign(Sign::Star), tokens);
     let (_, tokens) = wanted(Want::Sign(Sign::OpenParenthesis), tokens)?;
     let (word, rest) = wanted(Want::Name, tokens)?;
-    unless(word.text.as_str() != name, CommandFault::Syntax, tokens)?;
+    fault_if(word.text.as_str() != name, CommandFault::Syntax, tokens)?;
     let (_, rest) = wanted(Want::Sign(Sign::CloseParenthesis), rest)?;
     Ok(rest)
 }
 
 /// The braces and what stands in them, if they are there.
 #[tactic(auto, unfolding(c25_meaning::specs::CommandSections::contents_at))]
-fn contents_at<'a>(name: &str, tokens: &'a [Token]) -> Result<&'a [Token], ReadError>
-    ensures { Gives (λ x. tokens_of x.now) result (contents_at name.now (tokens_of tokens.now)) }
+fn contents_at<'a>(name: &str, tokens: &'a [Token]) -> Result<&'a [Token], Failure<PlacedFault>>
+    ensures { Meets (λ x. tokens_of x.now) (contents_at name.now (tokens_of tokens.now)) result }
 {
     if !begins(Want::Sign(Sign::OpenBrace), tokens) {
         return Ok(tokens);
     }
-    let tokens = input_at(name, without(Want::Sign(Sign::OpenBrace), tokens))?;
+    let tokens = input_at(name, past(Want::Sign(Sign::OpenBrace), tokens))?;
     let (_, tokens) = wanted(Want::Sign(Sign::CloseBrace), tokens)?;
     Ok(tokens)
 }
 
 /// A range's name or an address.
 #[tactic(auto, unfolding(c25_meaning::specs::CommandSections::place_at))]
-fn place_at(alloc: Global, tokens: &[Token]) -> Result<(Target, &[Token]), ReadError>
-    ensures { Gives (λ x. (target_of x.0, tokens_of x.1.now)) result (place_at (tokens_of tokens.now)) }
+fn place_at(alloc: Global, tokens: &[Token]) -> Result<(Target, &[Token]), Failure<PlacedFault>>
+    ensures { Meets (λ x. (target_of x.0, tokens_of x.1.now)) (place_at (tokens_of tokens.now)) result }
 {
     if begins(Want::Name, tokens) {
         let (name, rest) = wanted(Want::Name, tokens)?;
@@ -66,14 +67,14 @@ fn place_at(alloc: Global, tokens: &[Token]) -> Result<(Target, &[Token]), ReadE
 
 /// `> T`, `load = T`, `load > T` or nothing.
 #[tactic(auto, unfolding(c25_meaning::specs::CommandSections::target_at))]
-fn target_at(alloc: Global, tokens: &[Token]) -> Result<(Target, &[Token]), ReadError>
-    ensures { Gives (λ x. (target_of x.0, tokens_of x.1.now)) result (target_at (tokens_of tokens.now)) }
+fn target_at(alloc: Global, tokens: &[Token]) -> Result<(Target, &[Token]), Failure<PlacedFault>>
+    ensures { Meets (λ x. (target_of x.0, tokens_of x.1.now)) (target_at (tokens_of tokens.now)) result }
 {
     if begins(Want::Sign(Sign::Greater), tokens) {
-        return place_at(alloc, without(Want::Sign(Sign::Greater), tokens));
+        return place_at(alloc, past(Want::Sign(Sign::Greater), tokens));
     }
     if begins(Want::Keyword(Keyword::Load), tokens) {
-        let tokens = without(Want::Keyword(Keyword::Load), tokens);
+        let tokens = past(Want::Keyword(Keyword::Load), tokens);
         let (_, tokens) = wanted(Want::LoadSign, tokens)?;
         return place_at(alloc, tokens);
     }
@@ -82,13 +83,13 @@ fn target_at(alloc: Global, tokens: &[Token]) -> Result<(Target, &[Token]), Read
 
 /// `PAGE n` or nothing.
 #[tactic(auto, unfolding(c25_meaning::specs::CommandSections::section_page_at))]
-fn page_at(tokens: &[Token]) -> Result<(Option<u8>, &[Token]), ReadError>
-    ensures { Gives (λ x. (x.0, tokens_of x.1.now)) result (section_page_at (tokens_of tokens.now)) }
+fn page_at(tokens: &[Token]) -> Result<(Option<u8>, &[Token]), Failure<PlacedFault>>
+    ensures { Meets (λ x. (x.0, tokens_of x.1.now)) (section_page_at (tokens_of tokens.now)) result }
 {
     if !begins(Want::Keyword(Keyword::Page), tokens) {
         return Ok((None, tokens));
     }
-    let (number, tokens) = page_number_at(without(Want::Keyword(Keyword::Page), tokens))?;
+    let (number, tokens) = page_number_at(past(Want::Keyword(Keyword::Page), tokens))?;
     Ok((Some(number), tokens))
 }
 
@@ -98,8 +99,8 @@ fn placing_at<'a>(
     alloc: Global,
     name: &str,
     tokens: &'a [Token],
-) -> Result<(Placing, &'a [Token]), ReadError>
-    ensures given { Gives (λ x. (placing_of x.0, tokens_of x.1.now)) result (placing_at name.now (tokens_of tokens.now)) }
+) -> Result<(Placing, &'a [Token]), Failure<PlacedFault>>
+    ensures given { Meets (λ x. (placing_of x.0, tokens_of x.1.now)) (placing_at name.now (tokens_of tokens.now)) result }
     ensures name { IfOk result (λ x. string_bytes x.0.name ≡ name.now) }
 {
     let tokens = contents_at(name, tokens)?;
@@ -107,7 +108,7 @@ fn placing_at<'a>(
     let (page, tokens) = page_at(tokens)?;
     let name = String::from_str(alloc, name)?;
     let placing = Placing { name, target, page };
-    Ok((placing, without(Want::Sign(Sign::Comma), tokens)))
+    Ok((placing, past(Want::Sign(Sign::Comma), tokens)))
 }
 
 /// The sections that have been read, and their names, which find one that comes twice in time that
@@ -135,15 +136,15 @@ fn add_placing<'a>(
     alloc: Global,
     sections: &mut Sections<'a>,
     tokens: &'a [Token],
-) -> Result<&'a [Token], ReadError>
+) -> Result<&'a [Token], Failure<PlacedFault>>
     requires { HasNames (λ k. k.now) sections.old.names (placings_of sections.old.list.items) }
-    ensures given { Gives (λ x. (placings_of sections.new.list.items, tokens_of x.now)) result
-        (more_placings (placings_of sections.old.list.items) (tokens_of tokens.now)) }
+    ensures given { Meets (λ x. (placings_of sections.new.list.items, tokens_of x.now))
+        (more_placings (placings_of sections.old.list.items) (tokens_of tokens.now)) result }
     ensures named { OnOk result (HasNames (λ k. k.now) sections.new.names (placings_of sections.new.list.items)) }
 {
     let (name, rest) = wanted(Want::Name, tokens)?;
     let is_fresh = take_name(sections, name.text.as_str())?;
-    unless(!is_fresh, CommandFault::Twice, tokens)?;
+    fault_if(!is_fresh, CommandFault::Twice, tokens)?;
     let (_, rest) = wanted(Want::Sign(Sign::Colon), rest)?;
     let (placing, rest) = placing_at(alloc, name.text.as_str(), rest)?;
     sections.list.push(placing)?;
@@ -151,9 +152,12 @@ fn add_placing<'a>(
 }
 
 /// The sections up to the brace that closes them.
-fn placings_at(alloc: Global, tokens: &[Token]) -> Result<(Vec<Placing>, &[Token]), ReadError>
-    ensures { Gives (λ x. (placings_of x.0.items, tokens_of x.1.now)) result
-        (repeated (want.Sign sign.CloseBrace) more_placings (length tokens.now) [] (tokens_of tokens.now)) }
+fn placings_at(
+    alloc: Global,
+    tokens: &[Token],
+) -> Result<(Vec<Placing>, &[Token]), Failure<PlacedFault>>
+    ensures { Meets (λ x. (placings_of x.0.items, tokens_of x.1.now))
+        (repeated (want.Sign sign.CloseBrace) more_placings (length tokens.now) [] (tokens_of tokens.now)) result }
 {
     let mut sections = Sections {
         list: Vec::new(alloc),
@@ -175,8 +179,8 @@ fn placings_at(alloc: Global, tokens: &[Token]) -> Result<(Vec<Placing>, &[Token
 pub(crate) fn sections_at(
     alloc: Global,
     tokens: &[Token],
-) -> Result<(Vec<Placing>, &[Token]), ReadError>
-    ensures { Gives (λ x. (placings_of x.0.items, tokens_of x.1.now)) result (sections_at (tokens_of tokens.now)) }
+) -> Result<(Vec<Placing>, &[Token]), Failure<PlacedFault>>
+    ensures { Meets (λ x. (placings_of x.0.items, tokens_of x.1.now)) (sections_at (tokens_of tokens.now)) result }
 {
     let (_, tokens) = wanted(Want::Sign(Sign::OpenBrace), tokens)?;
     let (placings, tokens) = placings_at(alloc, tokens)?;

@@ -1,12 +1,12 @@
 //! What words are: reserved words, numbers or names.
 
 ghost use Rattle.std.specs.Prelude.{◌≡◌, IfOk};
-ghost use Rattle.c25_meaning.specs.CommandTokens.{numeral, is_numeral, keyword_of, numbered, named, word_kind};
+ghost use Rattle.c25_meaning.specs.CommandTokens.{word_numeral, is_numeral, keyword_of, number_kind, name_kind, word_kind};
 ghost use Rattle.c25_cmd.specs.View.{numeral_of};
 
-use crate::bytes::{behind, byte_at, front};
+use crate::bytes::{behind, front};
 use c25_meaning::command_token::{Keyword, Kind};
-use c25_text::{are_digits, digit, value_in};
+use c25_text::{are_digits, byte_at, digit, value_in};
 use std::alloc::{AllocError, Global};
 
 /// The base and the digits of a number.
@@ -16,8 +16,8 @@ pub(crate) struct Numeral<'a> {
     pub digits: &'a [u8],
 }
 
-fn numeral_in(text: &[u8]) -> Numeral<'_>
-    ensures { numeral_of result ≡ numeral text.now }
+fn word_numeral(text: &[u8]) -> Numeral<'_>
+    ensures { numeral_of result ≡ word_numeral text.now }
 {
     let second = byte_at(text, 1);
     let front_len = text.len().saturating_sub(1);
@@ -51,8 +51,8 @@ fn is_numeral(number: Numeral<'_>) -> bool
 }
 
 /// What a word is that begins with a digit. A number above 4,294,967,295 stands as that.
-fn numbered(number: Numeral<'_>) -> Kind
-    ensures { result ≡ numbered (numeral_of number.entry) }
+fn number_kind(number: Numeral<'_>) -> Kind
+    ensures { result ≡ number_kind (numeral_of number.entry) }
 {
     if is_numeral(number) {
         let value = value_in(number.base, number.digits);
@@ -90,8 +90,8 @@ fn keyword_of(lower: &[u8]) -> Option<Keyword>
     }
 }
 
-fn named(keyword: Option<Keyword>) -> Kind
-    ensures { result ≡ named keyword }
+fn name_kind(keyword: Option<Keyword>) -> Kind
+    ensures { result ≡ name_kind keyword }
 {
     match keyword {
         None => Kind::Name,
@@ -105,8 +105,8 @@ pub(crate) fn word_kind(alloc: Global, text: &[u8]) -> Result<Kind, AllocError>
     ensures { IfOk result (λ kind. kind ≡ word_kind text.now) }
 {
     if digit(byte_at(text, 0)) < 10 {
-        return Ok(numbered(numeral_in(text)));
+        return Ok(number_kind(word_numeral(text)));
     }
     let lower = text.to_ascii_lowercase(alloc)?;
-    Ok(named(keyword_of(lower.as_slice())))
+    Ok(name_kind(keyword_of(lower.as_slice())))
 }

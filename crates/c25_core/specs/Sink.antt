@@ -1,6 +1,6 @@
--- When a sink may be said to have failed.
-use Rattle.std.specs.Prelude.{◌≡◌, ◌⊎◌, ◌<◌, ◌-◌, ◌^◌, ℕ}
+-- What a failure of a sink does to the count of its failures.
+use Rattle.std.specs.Prelude.{◌≡◌, ◌+◌, ◌-◌, ◌^◌, ℕ, min}
 
--- a sink has failed between two counts of its failures; the count stays at its highest number
+-- between two counts a sink has failed once; the count stays at 2^64 - 1
 abbrev pub HasFailed : ℕ → ℕ → Type 0
-HasFailed before after = (before < after) ⊎ (before ≡ 2 ^ 64 - 1)
+HasFailed before after = after ≡ min (before + 1) (2 ^ 64 - 1)

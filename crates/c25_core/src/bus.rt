@@ -1,7 +1,7 @@
 //! What the processor needs around it.
 
 ghost use Rattle.std.specs.Prelude.{◌≡◌, ◌∷◌, [], ◌++◌, ℕ, OnOk, OnErr, slice_get, OnSome, IfNone};
-ghost use Rattle.c25_meaning.specs.State.{World, taken};
+ghost use Rattle.c25_meaning.specs.State.{World, is_code, size_at, taken};
 ghost use Rattle.c25_meaning.specs.Memory.{put};
 ghost use Rattle.c25_core.specs.Sink.{HasFailed};
 
@@ -39,7 +39,7 @@ pub trait Bus {
     /// The memories, places, samples and outputs that the bus stands for.
     ghost world: { Self → World };
 
-    /// How often the sink has failed.
+    /// How often the sink has failed, up to 2^64 - 1.
     ghost failures: { Self → ℕ };
 
     /// A word of data memory.
@@ -64,11 +64,11 @@ pub trait Bus {
 
     /// The number of words of the instruction that begins at a program address, where one does.
     fn size_at(&self, address: u16) -> Option<u16>
-        ensures { result ≡ (world self.now).starts address };
+        ensures { result ≡ size_at (world self.now).marks address };
 
     /// Whether a program word belongs to an instruction.
     fn is_code(&self, address: u16) -> bool
-        ensures { result ≡ (world self.now).code address };
+        ensures { result ≡ is_code (world self.now).marks address };
 
     /// Takes the next sample of a port, or None where no sample is left there.
     fn input(&mut self, port: u16) -> Option<u16>

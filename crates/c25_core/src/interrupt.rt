@@ -2,7 +2,7 @@
 
 ghost use Rattle.std.specs.Prelude.{◌≡◌, ◌&&◌};
 ghost use Rattle.c25_meaning.specs.Step.{begun, has, interrupted, latched, taken_under, vectored};
-ghost use Rattle.c25_core.specs.Met.{state_of};
+ghost use Rattle.c25_meaning.specs.State.{state_of};
 
 use crate::bus::Bus;
 use crate::stack::push;

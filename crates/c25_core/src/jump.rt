@@ -1,57 +1,65 @@
 //! Jumps.
 
-ghost use Rattle.std.specs.Prelude.{◌≡◌};
-ghost use Rattle.c25_meaning.specs.Effect.{goes, jump_effect, jump_registers};
+ghost use Rattle.std.specs.Prelude.{◌≡◌, true};
+ghost use Rattle.c25_meaning.specs.Effect.{branch, jump_effect};
 
 use crate::operand::current;
-use crate::stack::push;
+use crate::stack::call;
 use c25_meaning::mnemonic::JumpName;
 use c25_meaning::registers::Registers;
 
-/// Whether a jump is taken.
-fn goes(registers: &Registers, name: JumpName, bio: bool) -> bool
-    ensures { result ≡ goes name bio registers.now }
+/// Goes to the target where a condition holds.
+fn branch(registers: &mut Registers, holds: bool, target: u16)
+    ensures { registers.new ≡ branch holds target registers.old }
+{
+    if holds {
+        registers.pc = target;
+    }
+}
+
+/// Goes to the target and clears OV, where it is set.
+fn branch_on_overflow(registers: &mut Registers, target: u16)
+    ensures { registers.new ≡ jump_effect JumpName.Bv target true registers.old }
+{
+    if registers.acc.ov {
+        registers.acc.ov = false;
+        registers.pc = target;
+    }
+}
+
+/// Clears OV where it is set, and else goes to the target.
+fn branch_without_overflow(registers: &mut Registers, target: u16)
+    ensures { registers.new ≡ jump_effect JumpName.Bnv target true registers.old }
+{
+    if registers.acc.ov {
+        registers.acc.ov = false;
+    } else {
+        registers.pc = target;
+    }
+}
+
+/// Any of the jumps, before the change of its operand; PC already stands behind it.
+pub fn jump(registers: &mut Registers, name: JumpName, target: u16, bio: bool)
+    ensures { registers.new ≡ jump_effect name target bio registers.old }
 {
     let acc = registers.acc.value;
     let negative = acc >= 0x8000_0000;
     match name {
-        JumpName::Bc => registers.acc.c,
-        JumpName::Bnc => !registers.acc.c,
-        JumpName::Bv => registers.acc.ov,
-        JumpName::Bgz => !negative && acc != 0,
-        JumpName::Blez => negative || acc == 0,
-        JumpName::Blz => negative,
-        JumpName::Bgez => !negative,
-        JumpName::Bnz => acc != 0,
-        JumpName::Bz => acc == 0,
-        JumpName::Bnv => !registers.acc.ov,
-        JumpName::Bbz => !registers.tc,
-        JumpName::Bbnz => registers.tc,
-        JumpName::Bioz => !bio,
-        JumpName::Banz => current(registers) != 0,
-        JumpName::Call | JumpName::B => true,
-    }
-}
-
-/// What a jump does besides: `BV` clears OV where it branches, `BNV` where it does not, and `CALL`
-/// pushes the next address.
-fn act(registers: &mut Registers, name: JumpName)
-    ensures { registers.new ≡ jump_registers name registers.old }
-{
-    match name {
-        JumpName::Bv | JumpName::Bnv => registers.acc.ov = false,
-        JumpName::Call => push(registers, registers.pc),
-        _ => {}
-    }
-}
-
-/// Any of the jumps; PC already stands behind it.
-pub fn jump(registers: &mut Registers, name: JumpName, target: u16, bio: bool)
-    ensures { registers.new ≡ jump_effect name target bio registers.old }
-{
-    let goes = goes(registers, name, bio);
-    act(registers, name);
-    if goes {
-        registers.pc = target;
+        JumpName::Bc => branch(registers, registers.acc.c, target),
+        JumpName::Bnc => branch(registers, !registers.acc.c, target),
+        JumpName::Bv => branch_on_overflow(registers, target),
+        JumpName::Bgz => branch(registers, !negative && acc != 0, target),
+        JumpName::Blez => branch(registers, negative || acc == 0, target),
+        JumpName::Blz => branch(registers, negative, target),
+        JumpName::Bgez => branch(registers, !negative, target),
+        JumpName::Bnz => branch(registers, acc != 0, target),
+        JumpName::Bz => branch(registers, acc == 0, target),
+        JumpName::Bnv => branch_without_overflow(registers, target),
+        JumpName::Bbz => branch(registers, !registers.tc, target),
+        JumpName::Bbnz => branch(registers, registers.tc, target),
+        JumpName::Bioz => branch(registers, !bio, target),
+        JumpName::Banz => branch(registers, current(registers) != 0, target),
+        JumpName::Call => call(registers, target),
+        JumpName::B => registers.pc = target,
     }
 }

@@ -1,12 +1,16 @@
 //! The instructions with a second word and an operand in memory.
 
-ghost use Rattle.std.specs.Prelude.{◌≡◌};
-ghost use Rattle.c25_meaning.specs.Effect.{long_mem_effect, plus_product, to, word_product};
+ghost use Rattle.std.specs.Prelude.{◌≡◌, ◌+◌, ◌%◌, ◌^◌};
+ghost use Rattle.c25_meaning.specs.Effect.{long_mem_effect, operand_word, plus_product, settle, to, word_product};
+ghost use Rattle.c25_meaning.specs.Operand.{address_of};
 ghost use Rattle.c25_meaning.specs.State.{data_at};
+ghost use Rattle.c25_meaning.specs.Table.{AddrInRange};
 
 use crate::accumulator::{plus_product, word_product};
 use crate::bus::Bus;
 use crate::memory::{read_data, read_program, write_data};
+use crate::operand::{address_of, settle};
+use c25_meaning::insn::Addr;
 use c25_meaning::mnemonic::LongMemName;
 use c25_meaning::registers::Registers;
 
@@ -20,15 +24,9 @@ fn multiply(registers: &mut Registers, word: u16, factor: u16)
     registers.p = word_product(word, factor);
 }
 
-/// Any of the instructions, with its operand at this address; `at` is the second word, gone up by
-/// the repetitions that are done.
-pub fn long_mem<B: Bus>(
-    registers: &mut Registers,
-    bus: &mut B,
-    name: LongMemName,
-    at: u16,
-    address: u16,
-)
+/// Any of the instructions, with its operand at this address, before the operand's change; `at` is
+/// the second word, gone up by the repetitions that are done.
+fn act<B: Bus>(registers: &mut Registers, bus: &mut B, name: LongMemName, at: u16, address: u16)
     ensures after { long_mem_effect name at (data_at registers.old.cnf (B.world bus.old) address)
         address registers.old (B.world bus.old)
         ≡ to registers.new (B.world bus.new) }
@@ -51,4 +49,27 @@ pub fn long_mem<B: Bus>(
             write_data(bus, cnf, address, moved);
         }
     }
+}
+
+/// Any of the instructions, with its second word and its operand; `repeated` repetitions of it are
+/// done.
+pub fn long_mem<B: Bus>(
+    registers: &mut Registers,
+    bus: &mut B,
+    name: LongMemName,
+    word: u16,
+    operand: &Addr,
+    repeated: u16,
+)
+    requires { AddrInRange operand.now }
+    ensures after { settle operand.now registers.old.arp (long_mem_effect name
+        ((word + repeated) % 2 ^ 16) (operand_word operand.now registers.old (B.world bus.old))
+        (address_of operand.now registers.old) registers.old (B.world bus.old))
+        ≡ to registers.new (B.world bus.new) }
+    ensures failures { B.failures bus.new ≡ B.failures bus.old }
+{
+    let arp = registers.arp;
+    let address = address_of(operand, registers);
+    act(registers, bus, name, word.wrapping_add(repeated), address);
+    settle(registers, operand, arp);
 }

@@ -1,9 +1,11 @@
 //! The instructions with one word and an operand in memory.
 
-ghost use Rattle.std.specs.Prelude.{◌≡◌, ◌%◌, ◌^◌, ◌+◌};
-ghost use Rattle.c25_meaning.specs.Effect.{load_effect, mem_address, mem_effect, mem_operand, repeat, word_product};
-ghost use Rattle.c25_meaning.specs.State.{data_at};
+ghost use Rattle.std.specs.Prelude.{◌≡◌, ◌%◌, ◌^◌, ◌+◌, ◌-◌, ℕ, pos};
+ghost use Rattle.c25_meaning.specs.Arithmetic.{bit};
+ghost use Rattle.c25_meaning.specs.Effect.{mem_address, mem_effect, mem_operand, minus, repeat, settle, to, word_product};
+ghost use Rattle.c25_meaning.specs.State.{World, data_at};
 ghost use Rattle.c25_meaning.specs.Table.{AddrInRange};
+ghost use Rattle.c25_core.specs.Groups.{KeepsMemory, LoadsFactor};
 ghost use Rattle.c25_core.specs.Met.{IsMet};
 
 use crate::accumulator::{
@@ -11,8 +13,8 @@ use crate::accumulator::{
     minus_scaled, plus_high, plus_natural, plus_product, plus_scaled, product_word, word_product,
 };
 use crate::bus::{Bus, Halt};
-use crate::memory::{read_data, read_program, store_program, write_data};
-use crate::operand::{address_of, without_next};
+use crate::memory::{read_data, read_program, store, store_program};
+use crate::operand::{address_of, settle, without_next};
 use crate::stack::{pop, push};
 use crate::status::{load_st0, load_st1, st0, st1};
 use c25_alu::{scaled, subc};
@@ -37,26 +39,21 @@ fn square(registers: &mut Registers, word: u16)
     registers.p = word_product(word, word);
 }
 
-/// The instructions that change registers alone; `word` is the memory word.
-fn load(registers: &mut Registers, name: MemName, word: u16)
-    ensures { registers.new ≡ load_effect name word registers.old }
+/// P = T times m.
+fn multiply(registers: &mut Registers, word: u16)
+    ensures { registers.new
+        ≡ record registers.old { p = word_product registers.old.t word } }
 {
-    let factor = registers.t;
-    let high = u32::from(word) * 0x1_0000;
+    registers.p = word_product(registers.t, word);
+}
+
+/// The instructions that load T or P; `word` is the memory word.
+fn load_factor(registers: &mut Registers, name: MemName, word: u16)
+    requires { LoadsFactor name }
+    ensures { (address k : ℕ) (w : World)
+        → mem_effect name word address k registers.old w ≡ to registers.new w }
+{
     match name {
-        MemName::Mpy => registers.p = word_product(factor, word),
-        MemName::Sqra => {
-            plus_product(registers);
-            square(registers, word);
-        }
-        MemName::Mpya => {
-            plus_product(registers);
-            registers.p = word_product(factor, word);
-        }
-        MemName::Mpys => {
-            minus_product(registers);
-            registers.p = word_product(factor, word);
-        }
         MemName::Lt => registers.t = word,
         MemName::Lta => {
             plus_product(registers);
@@ -66,42 +63,73 @@ fn load(registers: &mut Registers, name: MemName, word: u16)
             registers.acc.value = product_word(registers);
             registers.t = word;
         }
-        MemName::Zalh => registers.acc.value = high,
-        MemName::Zals => registers.acc.value = u32::from(word),
-        MemName::Lact => become_scaled(registers, word, factor % 16),
-        MemName::Addc => plus_natural(registers, u32::from(word) + u32::from(registers.acc.c)),
-        MemName::Subh => minus_high(registers, word),
-        MemName::Subs => minus_natural(registers, u32::from(word)),
-        MemName::Subt => minus_scaled(registers, word, factor % 16),
-        MemName::Subc => registers.acc = subc(registers.acc, scaled(registers.sxm, word, 15)),
-        MemName::Addh => plus_high(registers, word),
-        MemName::Adds => plus_natural(registers, u32::from(word)),
-        MemName::Addt => plus_scaled(registers, word, factor % 16),
-        MemName::Rpt => repeat(registers, (word % 256) as u8),
-        MemName::Xor => registers.acc.value ^= u32::from(word),
-        MemName::Or => registers.acc.value |= u32::from(word),
-        MemName::And => registers.acc.value &= u32::from(word),
-        MemName::Subb => minus_natural(
-            registers,
-            u32::from(word) + (1 - u32::from(registers.acc.c)),
-        ),
-        MemName::Lst => load_st0(registers, word),
-        MemName::Lst1 => load_st1(registers, word),
-        MemName::Ldp => registers.dp = DataPage::new(word % 512),
-        MemName::Lph => registers.p = high + registers.p % 0x1_0000,
-        MemName::Pshd => push(registers, word),
-        MemName::Bitt => registers.tc = bit_of(word, factor),
-        MemName::Sqrs => {
-            minus_product(registers);
-            square(registers, word);
-        }
         MemName::Lts => {
             minus_product(registers);
             registers.t = word;
         }
-        MemName::Zalr => registers.acc.value = high + 0x8000,
-        MemName::Mpyu => registers.p = u32::from(factor) * u32::from(word),
-        _ => {}
+        MemName::Lph => registers.p = u32::from(word) * 0x1_0000 + registers.p % 0x1_0000,
+        MemName::Mpyu => registers.p = u32::from(registers.t) * u32::from(word),
+        MemName::Mpya => {
+            plus_product(registers);
+            multiply(registers, word);
+        }
+        MemName::Mpys => {
+            minus_product(registers);
+            multiply(registers, word);
+        }
+        MemName::Sqra => {
+            plus_product(registers);
+            square(registers, word);
+        }
+        MemName::Sqrs => {
+            minus_product(registers);
+            square(registers, word);
+        }
+        _ => multiply(registers, word),
+    }
+}
+
+/// A -= m, and 1 more where C is 0, the borrow.
+fn minus_with_borrow(registers: &mut Registers, word: u16)
+    ensures { registers.new ≡ minus (pos (word + (1 - bit registers.old.acc.c))) registers.old }
+{
+    let borrow = 1 - u32::from(registers.acc.c);
+    minus_natural(registers, u32::from(word) + borrow)
+}
+
+/// The instructions that leave memory as it is; `word` is the memory word.
+fn load(registers: &mut Registers, name: MemName, word: u16)
+    requires { KeepsMemory name }
+    ensures { (address k : ℕ) (w : World)
+        → mem_effect name word address k registers.old w ≡ to registers.new w }
+{
+    let value = u32::from(word);
+    let shift = registers.t % 16;
+    match name {
+        MemName::Zalh => registers.acc.value = value * 0x1_0000,
+        MemName::Zals => registers.acc.value = value,
+        MemName::Zalr => registers.acc.value = value * 0x1_0000 + 0x8000,
+        MemName::Lact => become_scaled(registers, word, shift),
+        MemName::Addc => plus_natural(registers, value + u32::from(registers.acc.c)),
+        MemName::Addh => plus_high(registers, word),
+        MemName::Adds => plus_natural(registers, value),
+        MemName::Addt => plus_scaled(registers, word, shift),
+        MemName::Subb => minus_with_borrow(registers, word),
+        MemName::Subc => registers.acc = subc(registers.acc, scaled(registers.sxm, word, 15)),
+        MemName::Subh => minus_high(registers, word),
+        MemName::Subs => minus_natural(registers, value),
+        MemName::Subt => minus_scaled(registers, word, shift),
+        MemName::Xor => registers.acc.value ^= value,
+        MemName::Or => registers.acc.value |= value,
+        MemName::And => registers.acc.value &= value,
+        MemName::Lst => load_st0(registers, word),
+        MemName::Lst1 => load_st1(registers, word),
+        MemName::Ldp => registers.dp = DataPage::new(word % 512),
+        MemName::Bitt => registers.tc = bit_of(word, registers.t),
+        MemName::Rpt => repeat(registers, (word % 256) as u8),
+        MemName::Pshd => push(registers, word),
+        MemName::Mar => {}
+        _ => load_factor(registers, name, word),
     }
 }
 
@@ -112,8 +140,30 @@ fn table_address(registers: &Registers, repeated: u16) -> u16
     low_half(registers.acc.value).wrapping_add(repeated)
 }
 
-/// Any of the instructions, with its operand at this address.
-pub fn mem<B: Bus>(
+/// The address of the operand: `SST` and `SST1` take a direct one on page 0.
+fn mem_address(name: MemName, operand: &Addr, registers: &Registers) -> u16
+    ensures { result ≡ mem_address name operand.now registers.now }
+{
+    match (name, operand) {
+        (MemName::Sst, Addr::Direct(low)) | (MemName::Sst1, Addr::Direct(low)) => *low % 128,
+        _ => address_of(operand, registers),
+    }
+}
+
+/// The operand as it changes ARs: `LST` and `LST1` ignore a next register.
+fn mem_operand(name: MemName, operand: &Addr) -> Addr
+    requires { AddrInRange operand.now }
+    ensures value { result ≡ mem_operand name operand.now }
+    ensures in_range { AddrInRange result }
+{
+    match name {
+        MemName::Lst | MemName::Lst1 => without_next(operand),
+        _ => *operand,
+    }
+}
+
+/// Any of the instructions, with its operand at this address, before the operand's change.
+fn act<B: Bus>(
     registers: &mut Registers,
     bus: &mut B,
     name: MemName,
@@ -126,46 +176,27 @@ pub fn mem<B: Bus>(
         result registers.new (B.world bus.old) (B.world bus.new)
         (B.failures bus.old) (B.failures bus.new) }
 {
-    let cnf = registers.cnf;
-    let word = read_data(bus, cnf, address);
+    let word = read_data(bus, registers.cnf, address);
     match name {
         MemName::Ltd => {
             plus_product(registers);
             registers.t = word;
-            write_data(bus, cnf, address.wrapping_add(1), word);
-            Ok(())
+            store(registers, bus, address.wrapping_add(1), word)
         }
-        MemName::Dmov => {
-            write_data(bus, cnf, address.wrapping_add(1), word);
-            Ok(())
-        }
+        MemName::Dmov => store(registers, bus, address.wrapping_add(1), word),
         MemName::Tblr => {
-            let from_program = read_program(bus, cnf, table_address(registers, repeated));
-            write_data(bus, cnf, address, from_program);
-            Ok(())
+            let moved = read_program(bus, registers.cnf, table_address(registers, repeated));
+            store(registers, bus, address, moved)
         }
         MemName::Tblw => store_program(registers, bus, table_address(registers, repeated), word),
-        MemName::Sst => {
-            write_data(bus, cnf, address, st0(registers));
-            Ok(())
-        }
-        MemName::Sst1 => {
-            write_data(bus, cnf, address, st1(registers));
-            Ok(())
-        }
+        MemName::Sst => store(registers, bus, address, st0(registers)),
+        MemName::Sst1 => store(registers, bus, address, st1(registers)),
         MemName::Popd => {
             let top = pop(registers);
-            write_data(bus, cnf, address, top);
-            Ok(())
+            store(registers, bus, address, top)
         }
-        MemName::Spl => {
-            write_data(bus, cnf, address, low_half(product_word(registers)));
-            Ok(())
-        }
-        MemName::Sph => {
-            write_data(bus, cnf, address, high_half(product_word(registers)));
-            Ok(())
-        }
+        MemName::Spl => store(registers, bus, address, low_half(product_word(registers))),
+        MemName::Sph => store(registers, bus, address, high_half(product_word(registers))),
         _ => {
             load(registers, name, word);
             Ok(())
@@ -173,24 +204,26 @@ pub fn mem<B: Bus>(
     }
 }
 
-/// The address of the operand: `SST` and `SST1` take a direct one on page 0.
-pub fn mem_address(name: MemName, operand: &Addr, registers: &Registers) -> u16
-    ensures { result ≡ mem_address name operand.now registers.now }
-{
-    match (name, operand) {
-        (MemName::Sst, Addr::Direct(low)) | (MemName::Sst1, Addr::Direct(low)) => *low % 128,
-        _ => address_of(operand, registers),
-    }
-}
-
-/// The operand as it changes ARs: `LST` and `LST1` ignore a next register.
-pub fn mem_operand(name: MemName, operand: &Addr) -> Addr
+/// Any of the instructions, with its operand; `repeated` repetitions of it are done.
+#[tactic(auto, using(crate::proofs::Settle::IsMet_settle))]
+pub fn mem<B: Bus>(
+    registers: &mut Registers,
+    bus: &mut B,
+    name: MemName,
+    operand: &Addr,
+    repeated: u16,
+) -> Result<(), Halt>
     requires { AddrInRange operand.now }
-    ensures value { result ≡ mem_operand name operand.now }
-    ensures in_range { AddrInRange result }
+    ensures { let address = mem_address name operand.now registers.old in
+        let word = data_at registers.old.cnf (B.world bus.old) address in
+        IsMet (settle (mem_operand name operand.now) registers.old.arp
+        (mem_effect name word address repeated registers.old (B.world bus.old)))
+        result registers.new (B.world bus.old) (B.world bus.new)
+        (B.failures bus.old) (B.failures bus.new) }
 {
-    match name {
-        MemName::Lst | MemName::Lst1 => without_next(operand),
-        _ => *operand,
-    }
+    let arp = registers.arp;
+    let address = mem_address(name, operand, registers);
+    act(registers, bus, name, address, repeated)?;
+    settle(registers, &mem_operand(name, operand), arp);
+    Ok(())
 }

@@ -2,7 +2,7 @@
 //! "Memory Addressing Modes").
 
 ghost use Rattle.std.specs.Prelude.{◌≡◌, ◌<◌, slice_index};
-ghost use Rattle.c25_meaning.specs.Operand.{address_of, changed, settled, with_change, with_next, without_next};
+ghost use Rattle.c25_meaning.specs.Operand.{address_of, changed, after_operand, with_change, with_next, without_next};
 ghost use Rattle.c25_meaning.specs.Table.{AddrInRange, NextInRange};
 
 use c25_bits::{reverse_add, reverse_sub};
@@ -72,7 +72,7 @@ pub fn change_indirect(registers: &mut Registers, change: Change, next: Option<u
 /// Makes the change of an operand, after an instruction that began with this ARP.
 pub fn settle(registers: &mut Registers, operand: &Addr, arp: ArNumber)
     requires { AddrInRange operand.now }
-    ensures { registers.new ≡ settled operand.now arp registers.old }
+    ensures { registers.new ≡ after_operand operand.now arp registers.old }
 {
     match operand {
         Addr::Direct(_) => {}

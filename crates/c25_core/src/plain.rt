@@ -1,12 +1,12 @@
 //! The instructions without an address.
 
-ghost use Rattle.std.specs.Prelude.{◌≡◌};
-ghost use Rattle.c25_meaning.specs.Effect.{compares, norm_effect, operand_change, operand_number, plain_effect, push};
+ghost use Rattle.std.specs.Prelude.{◌≡◌, true, false, slice_index};
+ghost use Rattle.c25_meaning.specs.Effect.{compares, norm_effect, operand_change, operand_number, plain_effect};
 ghost use Rattle.c25_meaning.specs.Arithmetic.{normalized};
 
 use crate::accumulator::{low_half, minus_product, plus_product, product_word};
 use crate::operand::{change_ar, current};
-use crate::stack::{pop, push};
+use crate::stack::{call, pop, push};
 use crate::status::shift_of_number;
 use c25_alu::{
     absolute, negate, norm, rotate_left, rotate_right, shift_left_once, shift_right_once,
@@ -62,74 +62,69 @@ fn normalize(registers: &mut Registers, change: Change)
     }
 }
 
-/// Pushes PC and goes on elsewhere.
-fn call(registers: &mut Registers, target: u16)
-    ensures { registers.new ≡ record (push registers.old.pc registers.old) { pc = target } }
+/// `CMPR`: TC tells how the current register compares with AR0.
+fn compare(registers: &mut Registers, number: u16)
+    ensures { registers.new ≡ record registers.old {
+      tc = compares number
+          (slice_index registers.old.ar registers.old.arp) (slice_index registers.old.ar 0);
+    } }
 {
-    push(registers, registers.pc);
-    registers.pc = target;
+    registers.tc = compares(number, current(registers), registers.ar[0]);
 }
 
-/// Any of the instructions; PC already stands behind it.
+/// `EINT`: interrupts are taken again, behind the next instruction.
+fn enable_interrupts(registers: &mut Registers)
+    ensures { registers.new ≡ record registers.old { intm = false; shadowed = true } }
+{
+    registers.intm = false;
+    registers.shadowed = true;
+}
+
+/// `IDLE`: sleeps until an interrupt.
+fn sleep(registers: &mut Registers)
+    ensures { registers.new ≡ record registers.old { intm = false; asleep = true } }
+{
+    registers.intm = false;
+    registers.asleep = true;
+}
+
+/// Any of the instructions; PC already stands behind it. Of two that name one bit, the second sets
+/// it and the first clears it.
 pub fn plain(registers: &mut Registers, name: PlainName, operand: &PlainOperand)
     ensures { registers.new ≡ plain_effect name operand.now registers.old }
 {
-    let low = low_half(registers.acc.value);
     match name {
-        PlainName::Eint => {
-            registers.intm = false;
-            registers.shadowed = true;
-        }
+        PlainName::Eint => enable_interrupts(registers),
         PlainName::Dint => registers.intm = true,
-        PlainName::Rovm => registers.ovm = false,
-        PlainName::Sovm => registers.ovm = true,
-        PlainName::Cnfd => registers.cnf = false,
-        PlainName::Cnfp => registers.cnf = true,
-        PlainName::Rsxm => registers.sxm = false,
-        PlainName::Ssxm => registers.sxm = true,
-        PlainName::Rxf => registers.xf = false,
-        PlainName::Sxf => registers.xf = true,
+        PlainName::Rovm | PlainName::Sovm => registers.ovm = name == PlainName::Sovm,
+        PlainName::Cnfd | PlainName::Cnfp => registers.cnf = name == PlainName::Cnfp,
+        PlainName::Rsxm | PlainName::Ssxm => registers.sxm = name == PlainName::Ssxm,
+        PlainName::Rxf | PlainName::Sxf => registers.xf = name == PlainName::Sxf,
+        PlainName::Rtxm | PlainName::Stxm => registers.txm = name == PlainName::Stxm,
+        PlainName::Rc | PlainName::Sc => registers.acc.c = name == PlainName::Sc,
+        PlainName::Rtc | PlainName::Stc => registers.tc = name == PlainName::Stc,
+        PlainName::Rfsm | PlainName::Sfsm => registers.fsm = name == PlainName::Sfsm,
+        PlainName::Rhm | PlainName::Shm => registers.hm = name == PlainName::Shm,
         PlainName::Pac => registers.acc.value = product_word(registers),
         PlainName::Apac => plus_product(registers),
         PlainName::Spac => minus_product(registers),
         PlainName::Sfl => registers.acc = shift_left_once(registers.acc),
         PlainName::Sfr => registers.acc = shift_right_once(registers.acc, registers.sxm),
         PlainName::Abs => registers.acc = absolute(registers.acc, registers.ovm),
-        PlainName::Push => push(registers, low),
-        PlainName::Pop => {
-            let top = pop(registers);
-            registers.acc.value = u32::from(top);
-        }
+        PlainName::Push => push(registers, low_half(registers.acc.value)),
+        PlainName::Pop => registers.acc.value = u32::from(pop(registers)),
         PlainName::Trap => call(registers, 0x1E),
-        PlainName::Idle => {
-            registers.intm = false;
-            registers.asleep = true;
-        }
-        PlainName::Rtxm => registers.txm = false,
-        PlainName::Stxm => registers.txm = true,
+        PlainName::Idle => sleep(registers),
         PlainName::Neg => registers.acc = negate(registers.acc, registers.ovm),
-        PlainName::Cala => call(registers, low),
-        PlainName::Bacc => registers.pc = low,
-        PlainName::Ret => {
-            let top = pop(registers);
-            registers.pc = top;
-        }
+        PlainName::Cala => call(registers, low_half(registers.acc.value)),
+        PlainName::Bacc => registers.pc = low_half(registers.acc.value),
+        PlainName::Ret => registers.pc = pop(registers),
         PlainName::Cmpl => registers.acc.value = 0xFFFF_FFFF - registers.acc.value,
-        PlainName::Rc => registers.acc.c = false,
-        PlainName::Sc => registers.acc.c = true,
-        PlainName::Rtc => registers.tc = false,
-        PlainName::Stc => registers.tc = true,
         PlainName::Rol => registers.acc = rotate_left(registers.acc),
         PlainName::Ror => registers.acc = rotate_right(registers.acc),
-        PlainName::Rfsm => registers.fsm = false,
-        PlainName::Sfsm => registers.fsm = true,
-        PlainName::Rhm => registers.hm = false,
-        PlainName::Shm => registers.hm = true,
         PlainName::Spm => registers.pm = shift_of_number(operand_number(operand)),
         PlainName::Fort => registers.fo = operand_number(operand) == 1,
-        PlainName::Cmpr => {
-            registers.tc = compares(operand_number(operand), current(registers), registers.ar[0]);
-        }
+        PlainName::Cmpr => compare(registers, operand_number(operand)),
         PlainName::Norm => normalize(registers, operand_change(operand)),
     }
 }

@@ -1,18 +1,22 @@
 //! The instructions with a port.
 
 ghost use Rattle.std.specs.Prelude.{◌≡◌};
-ghost use Rattle.c25_meaning.specs.Effect.{port_effect};
+ghost use Rattle.c25_meaning.specs.Effect.{operand_word, port_effect, settle};
+ghost use Rattle.c25_meaning.specs.Operand.{address_of};
 ghost use Rattle.c25_meaning.specs.State.{data_at};
+ghost use Rattle.c25_meaning.specs.Table.{AddrInRange};
 ghost use Rattle.c25_core.specs.Met.{IsMet};
 
 use crate::bus::{Bus, Halt};
 use crate::memory::{read_data, write_data};
+use crate::operand::{address_of, settle};
+use c25_meaning::insn::Addr;
 use c25_meaning::mnemonic::PortName;
 use c25_meaning::registers::Registers;
 use c25_meaning::stop::Stop;
 
-/// Either of the instructions, with its operand at this address.
-pub fn port<B: Bus>(
+/// Either of the instructions, with its operand at this address, before the operand's change.
+fn act<B: Bus>(
     registers: &Registers,
     bus: &mut B,
     name: PortName,
@@ -41,4 +45,27 @@ pub fn port<B: Bus>(
             }
         }
     }
+}
+
+/// Either of the instructions, with its operand.
+#[tactic(auto, using(crate::proofs::Settle::IsMet_settle))]
+pub fn port<B: Bus>(
+    registers: &mut Registers,
+    bus: &mut B,
+    name: PortName,
+    operand: &Addr,
+    number: u16,
+) -> Result<(), Halt>
+    requires { AddrInRange operand.now }
+    ensures { IsMet (settle operand.now registers.old.arp (port_effect name
+        (operand_word operand.now registers.old (B.world bus.old))
+        (address_of operand.now registers.old) number registers.old (B.world bus.old)))
+        result registers.new (B.world bus.old) (B.world bus.new)
+        (B.failures bus.old) (B.failures bus.new) }
+{
+    let arp = registers.arp;
+    let address = address_of(operand, registers);
+    act(registers, bus, name, address, number)?;
+    settle(registers, operand, arp);
+    Ok(())
 }

@@ -1,12 +1,12 @@
 //! The processor.
 
 ghost use Rattle.std.specs.Prelude.{◌≡◌, ◌↔◌, ◌&&◌, not, true, OnErr, IfOk};
-ghost use Rattle.c25_meaning.specs.State.{Outcome};
+ghost use Rattle.c25_meaning.specs.State.{StepResult, state_of};
 ghost use Rattle.c25_meaning.specs.Reset.{reset};
 ghost use Rattle.c25_meaning.specs.Status.{regs_of};
 ghost use Rattle.c25_meaning.specs.Step.{begun};
 ghost use Rattle.c25_meaning.specs.WordStep.{WordStep};
-ghost use Rattle.c25_core.specs.Met.{IsMet, state_of};
+ghost use Rattle.c25_core.specs.Met.{IsMet};
 
 use crate::bus::{Bus, Halt, Tick};
 use crate::fetch::fetch;
@@ -97,7 +97,7 @@ impl Core {
     /// take an output. After either all is as before the step, but for the sink's count of
     /// failures.
     pub fn step<B: Bus>(&mut self, lines: Lines, bio: bool, bus: &mut B) -> Result<Tick, Halt>
-        ensures step { (outcome : Outcome)
+        ensures step { (outcome : StepResult)
             × WordStep lines bio (state_of self.old (B.world bus.old)) outcome
             × IsMet outcome result self.new (B.world bus.old) (B.world bus.new)
             (B.failures bus.old) (B.failures bus.new) }

@@ -1,25 +1,22 @@
 //! The instructions with an operand in memory and a shift.
 
 ghost use Rattle.std.specs.Prelude.{◌≡◌, ◌<◌};
-ghost use Rattle.c25_meaning.specs.Effect.{shifted_effect, to};
+ghost use Rattle.c25_meaning.specs.Effect.{operand_word, settle, shifted_effect, to};
+ghost use Rattle.c25_meaning.specs.Operand.{address_of};
 ghost use Rattle.c25_meaning.specs.State.{data_at};
-ghost use Rattle.c25_meaning.specs.Table.{shift_limit};
+ghost use Rattle.c25_meaning.specs.Table.{AddrInRange, shift_limit};
 
 use crate::accumulator::{become_scaled, high_half, low_half, minus_scaled, plus_scaled};
 use crate::bus::Bus;
 use crate::memory::{read_data, write_data};
+use crate::operand::{address_of, settle};
 use c25_alu::shift_left;
+use c25_meaning::insn::Addr;
 use c25_meaning::mnemonic::ShiftedName;
 use c25_meaning::registers::Registers;
 
-/// Any of the instructions, with its operand at this address.
-pub fn shifted<B: Bus>(
-    registers: &mut Registers,
-    bus: &mut B,
-    name: ShiftedName,
-    address: u16,
-    shift: u16,
-)
+/// Any of the instructions, with its operand at this address, before the operand's change.
+fn act<B: Bus>(registers: &mut Registers, bus: &mut B, name: ShiftedName, address: u16, shift: u16)
     requires { shift < shift_limit name }
     ensures after { shifted_effect name (data_at registers.old.cnf (B.world bus.old) address)
         address shift registers.old (B.world bus.old)
@@ -36,4 +33,26 @@ pub fn shifted<B: Bus>(
         ShiftedName::Sacl => write_data(bus, cnf, address, low_half(stored)),
         ShiftedName::Sach => write_data(bus, cnf, address, high_half(stored)),
     }
+}
+
+/// Any of the instructions, with its operand.
+pub fn shifted<B: Bus>(
+    registers: &mut Registers,
+    bus: &mut B,
+    name: ShiftedName,
+    operand: &Addr,
+    shift: u16,
+)
+    requires shift { shift < shift_limit name }
+    requires operand { AddrInRange operand.now }
+    ensures after { settle operand.now registers.old.arp (shifted_effect name
+        (operand_word operand.now registers.old (B.world bus.old))
+        (address_of operand.now registers.old) shift registers.old (B.world bus.old))
+        ≡ to registers.new (B.world bus.new) }
+    ensures failures { B.failures bus.new ≡ B.failures bus.old }
+{
+    let arp = registers.arp;
+    let address = address_of(operand, registers);
+    act(registers, bus, name, address, shift);
+    settle(registers, operand, arp);
 }

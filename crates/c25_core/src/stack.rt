@@ -1,7 +1,7 @@
 //! The hardware stack (SPRU014, "Hardware Stack").
 
 ghost use Rattle.std.specs.Prelude.{◌≡◌, slice_index};
-ghost use Rattle.c25_meaning.specs.Effect.{popped, push, pushed};
+ghost use Rattle.c25_meaning.specs.Effect.{call, popped, push, pushed};
 
 use c25_meaning::registers::Registers;
 
@@ -26,6 +26,14 @@ pub fn push(registers: &mut Registers, word: u16)
     ensures { registers.new ≡ push word registers.old }
 {
     registers.stack = pushed(registers.stack, word);
+}
+
+/// Pushes PC and goes on elsewhere.
+pub fn call(registers: &mut Registers, target: u16)
+    ensures { registers.new ≡ call target registers.old }
+{
+    push(registers, registers.pc);
+    registers.pc = target;
 }
 
 /// Pops a word.

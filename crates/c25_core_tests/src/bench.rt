@@ -2,7 +2,6 @@
 //! a sink that can be closed.
 
 ghost use Rattle.std.specs.Prelude.{◌≡◌, IfOk, OnOk, OnErr, vec_len};
-ghost use Rattle.c25_meaning.specs.State.{size_at, is_code};
 ghost use Rattle.c25_meaning.specs.Table.{InRange};
 
 use crate::generator::Generator;
@@ -11,7 +10,9 @@ use c25_core::{Bus, SinkFailed};
 use c25_isa::encode;
 use c25_meaning::insn::Insn;
 use c25_meaning::mark::Mark;
-use std::alloc::{AllocError, Global};
+use c25_meaning::marks::{is_code, size_at};
+use c25_meaning::no_memory::NoMemory;
+use std::alloc::Global;
 
 /// What lies around the processor in a test.
 #[derive(Drop)]
@@ -32,15 +33,15 @@ pub struct Bench {
 }
 
 /// A memory of zeros.
-fn zeros(alloc: Global) -> Result<Vec<u16>, AllocError>
+fn zeros(alloc: Global) -> Result<Vec<u16>, NoMemory>
     ensures { IfOk result (λ words. vec_len words ≡ 65536) }
 {
-    Vec::from_elem(alloc, 0, 65536)
+    Ok(Vec::from_elem(alloc, 0, 65536)?)
 }
 
 impl Bench {
     /// A bench whose memories are all 0, without instructions and samples.
-    pub fn new(alloc: Global) -> Result<Bench, AllocError> {
+    pub fn new(alloc: Global) -> Result<Bench, NoMemory> {
         Ok(Bench {
             words: zeros(alloc)?,
             program: zeros(alloc)?,
@@ -53,12 +54,7 @@ impl Bench {
     }
 
     /// Puts an instruction of these words at an address.
-    pub fn place(
-        &mut self,
-        address: u16,
-        first: u16,
-        second: Option<u16>,
-    ) -> Result<(), AllocError> {
+    pub fn place(&mut self, address: u16, first: u16, second: Option<u16>) -> Result<(), NoMemory> {
         self.program[usize::from(address)] = first;
         if let Some(second) = second {
             self.program[usize::from(address.wrapping_add(1))] = second;
@@ -69,7 +65,7 @@ impl Bench {
     }
 
     /// Puts an instruction at an address, and gives the address behind it.
-    pub fn place_insn(&mut self, address: u16, insn: &Insn) -> Result<u16, AllocError>
+    pub fn place_insn(&mut self, address: u16, insn: &Insn) -> Result<u16, NoMemory>
         requires { InRange insn.now }
     {
         let code = encode(insn);
@@ -122,9 +118,10 @@ impl Bench {
 }
 
 impl Bus for Bench {
-    ghost use Rattle.c25_core_tests.specs.Worlds.{world_of};
+    ghost use Rattle.c25_meaning.specs.Memory.{memory_of};
+    ghost use Rattle.c25_core_tests.specs.Worlds.{samples_of};
 
-    ghost world = { λ b. world_of b.words.items b.program.items b.marks.items b.samples b.outputs.items };
+    ghost world = { λ b. record { words = memory_of b.words.items; program = memory_of b.program.items; marks = b.marks.items; samples = samples_of b.samples; outputs = b.outputs.items } };
 
     ghost failures = { λ b. b.failures };
 
@@ -132,7 +129,7 @@ impl Bus for Bench {
         self.words[usize::from(address)]
     }
 
-    #[tactic(auto, using(crate::proofs::Writes::memory_of_set))]
+    #[tactic(auto, using(c25_meaning::proofs::Memories::memory_of_set))]
     fn set_data(&mut self, address: u16, word: u16) {
         self.words[usize::from(address)] = word;
     }
@@ -141,25 +138,17 @@ impl Bus for Bench {
         self.program[usize::from(address)]
     }
 
-    #[tactic(auto, using(crate::proofs::Writes::memory_of_set))]
+    #[tactic(auto, using(c25_meaning::proofs::Memories::memory_of_set))]
     fn set_program(&mut self, address: u16, word: u16) {
         self.program[usize::from(address)] = word;
     }
 
-    #[tactic(auto, unfolding(c25_meaning::specs::State::size_at))]
     fn size_at(&self, address: u16) -> Option<u16> {
-        self.marks
-            .iter()
-            .find(|mark| mark.address == address)
-            .map(|mark| mark.size)
+        size_at(&self.marks, address)
     }
 
-    #[tactic(auto, unfolding(c25_meaning::specs::State::is_code))]
     fn is_code(&self, address: u16) -> bool {
-        self.marks.iter().any(|mark| {
-            mark.address <= address
-                && u32::from(address) < u32::from(mark.address) + u32::from(mark.size)
-        })
+        is_code(&self.marks, address)
     }
 
     #[tactic(auto, using(crate::proofs::Writes::samples_of_set))]

@@ -8,9 +8,9 @@ use bitflags::Flags;
 use c25_core::{Bus, Halt, Tick};
 use c25_isa::{decode, size_of};
 use c25_meaning::lines::Lines;
+use c25_meaning::no_memory::NoMemory;
 use c25_meaning::registers::Regs;
 use c25_meaning::stop::Stop;
-use std::alloc::AllocError;
 use std::fmt;
 
 /// An instruction in a state.
@@ -125,7 +125,7 @@ impl Case {
     }
 
     /// Makes the state, and runs the steps up to the one that stops.
-    pub fn run(&self, bench: &mut Bench, generator: &mut Generator) -> Result<End, AllocError> {
+    pub fn run(&self, bench: &mut Bench, generator: &mut Generator) -> Result<End, NoMemory> {
         bench.clear();
         self.draw_around(bench, generator);
         let start = match self.prefix {

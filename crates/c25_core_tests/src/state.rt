@@ -10,7 +10,7 @@ use c25_core::Core;
 use c25_meaning::insn::{Addr, Change, Insn, PlainOperand};
 use c25_meaning::lines::Lines;
 use c25_meaning::mnemonic::{ArMemName, JumpName, MemName, PlainName};
-use std::alloc::AllocError;
+use c25_meaning::no_memory::NoMemory;
 
 /// An instruction with a direct operand.
 pub fn mem(name: MemName, low: u16) -> Insn
@@ -68,7 +68,7 @@ impl State {
 
     /// Makes this state by a program at address 0, of 26 steps, which goes on at `start`. Its words
     /// are at data addresses 60h to 77h.
-    pub fn make(&self, bench: &mut Bench, start: u16) -> Result<Core, AllocError> {
+    pub fn make(&self, bench: &mut Bench, start: u16) -> Result<Core, NoMemory> {
         self.write_words(bench);
         let mut at = 0;
         for word in 0..8 {

@@ -2,5 +2,3 @@
 #![tactic(auto)]
 
 pub mod script;
-#[cfg(test)]
-mod tests;

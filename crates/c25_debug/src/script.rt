@@ -1,42 +1,25 @@
 //! Scripts: commands of the debugger, one a line.
 
 ghost use Rattle.std.specs.Prelude.{◌≡◌};
-ghost use Rattle.c25_meaning.specs.Script.{range_of, plain_command, command_with_one, command_with_two, script_of};
-ghost use Rattle.c25_debug.specs.Reads.{ReadsScript};
+ghost use Rattle.c25_meaning.specs.Script.{words_in_memory, plain_command, command_with_one, command_with_two, script_of};
+ghost use Rattle.c25_meaning.specs.Results.{MeetsBy};
 
-use c25_items::{ItemsError, LineFormat, decimal_of, hexadecimal_of, is_word, read_items};
-use c25_meaning::no_memory::NoMemory;
+use c25_items::{LineFormat, decimal_of, hexadecimal_of, is_word, read_items};
+use c25_meaning::failure::Failure;
 use c25_meaning::script::Cmd;
 use std::alloc::Global;
 use std::marker::Model;
 use thiserror::Error;
 
-/// Why a script is refused.
+/// The first line of a text, counted from 1, whose words are no command (95).
 #[derive(Clone, Copy, Debug, PartialEq, Eq, Error)]
-pub enum ScriptError {
-    /// A growth was refused.
-    #[error("{}", NoMemory)]
-    NoMemory,
-    /// The first line, counted from 1, whose words are no command (95).
-    #[error("line {line}: BadCommand")]
-    BadCommand { line: usize },
+#[error("line {line}: BadCommand")]
+pub struct BadCommand {
+    pub line: usize,
 }
 
-impl From<ItemsError> for ScriptError {
-    ghost use Rattle.std.specs.Prelude.{◌≡◌};
-    ghost use Rattle.c25_debug.specs.Reads.{script_error};
-
-    ghost from_gives = { λ fault e. e ≡ script_error fault };
-
-    fn from(error: ItemsError) -> ScriptError {
-        match error {
-            ItemsError::NoMemory => ScriptError::NoMemory,
-            ItemsError::Faulty { line } => ScriptError::BadCommand { line },
-        }
-    }
-}
-
-/// The commands of a script, in order. Contracts see it as their list.
+/// The commands of a script, in order; no `data` and no `prog` goes on past the memory. Contracts see
+/// it as their list.
 #[derive(Drop, Debug)]
 pub struct Script {
     commands: Vec<Cmd>,
@@ -45,16 +28,23 @@ pub struct Script {
 impl Model for Script {
     ghost use Rattle.std.specs.Prelude.{List};
     ghost use Rattle.c25_meaning.specs.declared.script.Cmd.{Cmd};
+    ghost use Rattle.c25_debug.specs.WithinMemory.{AreWithin};
 
     ghost Value = { List Cmd };
 
     ghost view = { λ s. s.commands.items };
+
+    ghost invariant = { λ s. AreWithin s.commands.items };
 }
 
 impl Script {
+    ghost use Rattle.std.specs.Prelude.{◌≡◌};
+    ghost use Rattle.c25_debug.specs.WithinMemory.{AreWithin};
+
     /// The commands, the first one first.
     pub fn as_slice(&self) -> &[Cmd]
-        ensures { result.now ≡ self.now }
+        ensures commands { result.now ≡ self.now }
+        ensures within { AreWithin result.now }
     {
         self.commands.as_slice()
     }
@@ -99,9 +89,9 @@ fn command_with_one(word: &[u8], number: &[u8]) -> Option<Cmd>
 }
 
 /// An address and a count of words from there on, which all lie in the memory.
-#[tactic(auto, unfolding(c25_meaning::specs::Script::range_of))]
-fn range_of(address: &[u8], count: &[u8]) -> Option<(u16, u32)>
-    ensures { result ≡ range_of address.now count.now }
+#[tactic(auto, unfolding(c25_meaning::specs::Script::words_in_memory))]
+fn words_in_memory(address: &[u8], count: &[u8]) -> Option<(u16, u32)>
+    ensures { result ≡ words_in_memory address.now count.now }
 {
     let address = hexadecimal_of(1, address)?;
     let count = decimal_of(u32::MAX, count)?;
@@ -118,10 +108,10 @@ fn command_with_two(word: &[u8], address: &[u8], count: &[u8]) -> Option<Cmd>
     ensures { result ≡ command_with_two word.now address.now count.now }
 {
     if is_word(word, "data") {
-        let (address, count) = range_of(address, count)?;
+        let (address, count) = words_in_memory(address, count)?;
         Some(Cmd::Data { address, count })
     } else if is_word(word, "prog") {
-        let (address, count) = range_of(address, count)?;
+        let (address, count) = words_in_memory(address, count)?;
         Some(Cmd::Prog { address, count })
     } else {
         None
@@ -132,11 +122,15 @@ fn command_with_two(word: &[u8], address: &[u8], count: &[u8]) -> Option<Cmd>
 struct CommandLines;
 
 impl LineFormat for CommandLines {
-    ghost use Rattle.c25_meaning.specs.Script.{command_of};
+    ghost use Rattle.c25_meaning.specs.Script.{script_command_of};
 
     type Item = Cmd;
 
-    ghost item_of = { command_of };
+    type Fault = BadCommand;
+
+    ghost item_of = { script_command_of };
+
+    ghost line_of = { λ f. f.line };
 
     fn item(_before: &[Cmd], words: &[&[u8]]) -> Option<Cmd> {
         match words {
@@ -146,11 +140,15 @@ impl LineFormat for CommandLines {
             _ => None,
         }
     }
+
+    fn fault(line: usize) -> BadCommand {
+        BadCommand { line }
+    }
 }
 
 /// The script of a text, or the first line that is neither blank nor a command.
-pub fn read_script(alloc: Global, text: &str) -> Result<Script, ScriptError>
-    ensures { ReadsScript result (script_of text.now) }
+pub fn read_script(alloc: Global, text: &str) -> Result<Script, Failure<BadCommand>>
+    ensures { MeetsBy (λ f. f.line) (λ x. x) (script_of text.now) result }
 {
     let commands = read_items::<CommandLines>(alloc, text)?;
     Ok(Script { commands })

@@ -1,20 +1,24 @@
 -- From what is found to what the grammar says.
 use Rattle.std.proofs.Common.{◌≡◌, ℕ, ◌+◌, ◌<◌, ◌≤◌, true, false, List, length, get_or, drop, reverse, Option, Some, None, Result, Ok, Err, is_some, refl, sym, ap, subst, ◌∙◌, arith}
-use Rattle.std.specs.Option.{is_none, option_map}
-use Rattle.std.specs.Result.{IsErrOf}
+use Rattle.std.specs.Option.{is_none, ok_or, option_map}
+use Rattle.std.specs.Result.{IfOk, IsErrOf}
 use Rattle.std.proofs.lemmas.List.{at_drop_more, drop_all}
 use Rattle.std.proofs.lemmas.Bool.{false≢true}
 use Rattle.c25_meaning.specs.Tree.{Tree, Mark, mark_of, IsTreeOf, depth}
 use Rattle.c25_meaning.specs.Reading.{State, Found, start, step, finished, run, run_on}
+use Rattle.c25_meaning.specs.Results.{Fails, Meets}
+use Rattle.c25_meaning.specs.declared.expression.ExpressionFault.{ExpressionFault}
+use Rattle.c25_meaning.specs.declared.expression.ExpressionFault.TheVariants.{BadExpression, TooDeep}
+use Rattle.c25_meaning.specs.declared.failure.Failure.{Failure}
+use Rattle.c25_meaning.specs.declared.failure.Failure.TheVariants.{NoMemory, Fault}
 use Rattle.c25_text.specs.View.{piece_of}
 use Rattle.c25_text.specs.declared.tokens.Token.{Token}
 use Rattle.c25_expr.specs.Completes.{nesting, opens, completes}
 use Rattle.c25_expr.specs.Postfix.{runs}
 use Rattle.c25_expr.specs.View.{marks_of}
-use Rattle.c25_expr.specs.declared.reading.ExprError.{ExprError}
 use Rattle.c25_expr.proofs.Complete.{run_complete, run_tree, run_items}
 use Rattle.c25_expr.proofs.Reach.{reach, reach-depth, nesting-reach, depth_ended}
-use Rattle.c25_expr.proofs.Accepts.{HasShape, is_some-run}
+use Rattle.c25_expr.proofs.Accepts.{HasShape, HasShape-step, is_some-run}
 use Rattle.c25_expr.proofs.Rooms.{runs_postfix}
 
 -- one token more
@@ -22,6 +26,16 @@ pub run_more : (ts : List Token) (i : ℕ) (d : Token) (s : State) (o : Option S
 run_more ts i d s o l e =
     at_drop_more (λ us. run (marks_of us) s) ts i d l
     ∙ ap (run_on (run (marks_of (drop (i + 1) ts)))) e
+
+-- what is answered is there
+pub some_of : {A : Type 0} (o : Option A) (x : A) → ok_or o BadExpression ≡ Ok x → o ≡ Some x
+some_of None x h = absurd (cc)
+some_of (Some y) x h = cc
+
+-- behind one token more the state has its shape, and what is found from there on is what was to be found
+pub one_more : (ts : List Token) (i : ℕ) (d : Token) (s t : State) → i < length ts → HasShape s → run (marks_of (drop i ts)) s ≡ run (marks_of ts) start → ok_or (step s (mark_of (piece_of (get_or ts i d)))) BadExpression ≡ Ok t
+    → HasShape t × (run (marks_of (drop (i + 1) ts)) t ≡ run (marks_of ts) start)
+one_more ts i d s t l shape told h = let e = some_of _ t h in (HasShape-step s t _ shape e, sym (run_more ts i d s _ l e) ∙ told)
 
 -- where nothing is found there is no tree
 pub no_tree : (ms : List Mark) → run ms start ≡ None → (e : Tree) → IsTreeOf ms e → ⊥
@@ -73,12 +87,41 @@ ended_runs ms s f told shallow h =
     runs_postfix f.tree f.items tree.grouped (omega (arith, depth_ended s.frames s.current s.items f h, shallow)) (run_items f ms (told ∙ h))
 
 -- the error of a result
-abbrev error_of : {T : Type 0} → Result T ExprError → Option ExprError
+abbrev error_of : {T : Type 0} → Result T (Failure ExpressionFault) → Option (Failure ExpressionFault)
 error_of (Ok x) = None
 error_of (Err f) = Some f
 
-pub err_same : {T : Type 0} (f g : ExprError) → IsErrOf {T = T} (Err f) g → f ≡ g
+err_same : {T : Type 0} (f g : Failure ExpressionFault) → IsErrOf {T = T} (Err f) g → f ≡ g
 err_same f g h = let e : Some f ≡ Some g = ap error_of h in cc
 
-pub as_unit : {T : Type 0} (f g : ExprError) → IsErrOf {T = T} (Err f) g → IsErrOf {T = Unit {0}} (Err f) g
-as_unit f g h = ap (λ (x : ExprError). Err x) (err_same f g h)
+pub fault_same : {T : Type 0} (f g : ExpressionFault) → IsErrOf {T = T} (Err (Fault f)) (Fault g) → f ≡ g
+fault_same f g h = let e : Fault f ≡ Fault g = err_same (Fault f) (Fault g) h in cc
+
+pub as_unit : {T : Type 0} (f g : Failure ExpressionFault) → IsErrOf {T = T} (Err f) g → IsErrOf {T = Unit {0}} (Err f) g
+as_unit f g h = ap (λ (x : Failure ExpressionFault). Err x) (err_same f g h)
+
+-- a fault is that nothing is there
+pub failed : {A : Type 0} (o : Option A) (f : Failure ExpressionFault) → Fails (ok_or o BadExpression) f
+    → (IsErrOf {T = Unit {0}} (Err f) (Fault BadExpression) → o ≡ None) × (IsErrOf {T = Unit {0}} (Err f) (Fault TooDeep) → ⊥)
+failed None (NoMemory n) h = (λ bad. refl, λ deep. let e = err_same _ _ deep in cc)
+failed (Some y) (NoMemory n) h = (λ bad. let e = err_same _ _ bad in absurd (cc), λ deep. let e = err_same _ _ deep in cc)
+failed None (Fault f) h = (λ bad. refl, λ deep. let e = fault_same _ _ deep in cc)
+failed (Some y) (Fault f) h = absurd (cc)
+
+-- the same of an answer
+pub record Answered {A T : Type 0} (view : T → A) (o : Option A) (r : Result T (Failure ExpressionFault)) : Type 0 where
+  pub ok : IfOk r (λ x. o ≡ Some (view x))
+  pub bad : IsErrOf r (Fault BadExpression) → o ≡ None
+  pub deep : IsErrOf r (Fault TooDeep) → ⊥
+
+pub answered : {A T : Type 0} (view : T → A) (o : Option A) (r : Result T (Failure ExpressionFault)) → Meets view (ok_or o BadExpression) r → Answered view o r
+answered view o (Ok x) h = record { ok = some_of o (view x) h; bad = λ bad. absurd (cc); deep = λ deep. cc }
+answered view o (Err f) h = let p = failed o f h in record { ok = tt; bad = λ bad. p.0 (as_unit _ _ bad); deep = λ deep. p.1 (as_unit _ _ deep) }
+
+-- the tree that is found at the end
+abbrev pub tree_found : State → Option Tree
+tree_found s = option_map (λ (f : Found). f.tree) (finished s)
+
+pub none_found : (o : Option Found) → option_map (λ (f : Found). f.tree) o ≡ None → o ≡ None
+none_found None h = refl
+none_found (Some f) h = absurd (cc)

@@ -3,16 +3,17 @@ use Rattle.std.proofs.Common.{◌≡◌, ℕ, ◌<◌, ◌≤◌, true, false, c
 use Rattle.std.specs.Result.{IsErrOf, IfOk}
 use Rattle.c25_meaning.specs.Tree.{Tree, Mark, IsTreeOf, depth, mark_of}
 use Rattle.c25_meaning.specs.Reading.{Found, run, start, tree_in, tree_within}
+use Rattle.c25_meaning.specs.Results.{Meets}
+use Rattle.c25_meaning.specs.declared.expression.ExpressionFault.{ExpressionFault}
 use Rattle.c25_meaning.specs.declared.expression.ExpressionFault.TheVariants.{BadExpression, TooDeep}
+use Rattle.c25_meaning.specs.declared.failure.Failure.{Failure}
+use Rattle.c25_meaning.specs.declared.failure.Failure.TheVariants.{NoMemory, Fault}
 use Rattle.c25_text.specs.View.{piece_of}
 use Rattle.c25_text.specs.declared.tokens.Token.{Token}
 use Rattle.c25_expr.specs.View.{tree_of, marks_of}
 use Rattle.c25_expr.specs.declared.tree.Expr.{Expr}
-use Rattle.c25_expr.specs.declared.reading.ExprError.{ExprError}
-use Rattle.c25_expr.specs.declared.reading.ExprError.TheVariants as error
 use Rattle.c25_expr.proofs.Complete.{run_complete, run_tree}
 use Rattle.c25_expr.specs.Pieces.{pieces_of}
-use Rattle.c25_expr.specs.Told.{ReadsTree}
 
 marks-pieces : (ts : List Token) → map mark_of (pieces_of ts) ≡ marks_of ts
 marks-pieces [] = refl
@@ -38,12 +39,12 @@ bad : (ms : List Mark) → ((e : Tree) → IsTreeOf ms e → ⊥) → tree_in ms
 bad ms none = bad_by ms (run ms start) refl none
 
 -- what is told of a list of tokens is what its pieces read as
-pub reads_tree : (ts : List Token) (r : Result Expr ExprError)
+pub reads_tree : (ts : List Token) (r : Result Expr (Failure ExpressionFault))
     → IfOk r (λ e. IsTreeOf (marks_of ts) (tree_of e) × (depth (tree_of e) ≤ 64))
-    → (IsErrOf r error.BadExpression → (e : Tree) → IsTreeOf (marks_of ts) e → ⊥)
-    → (IsErrOf r error.TooDeep → (e : Tree) × IsTreeOf (marks_of ts) e × (64 < depth e))
-    → ReadsTree (pieces_of ts) r
+    → (IsErrOf r (Fault BadExpression) → (e : Tree) → IsTreeOf (marks_of ts) e → ⊥)
+    → (IsErrOf r (Fault TooDeep) → (e : Tree) × IsTreeOf (marks_of ts) e × (64 < depth e))
+    → Meets tree_of (tree_in (map mark_of (pieces_of ts))) r
 reads_tree ts (Ok e) ok none past = ap tree_in (marks-pieces ts) ∙ whole (marks_of ts) (tree_of e) ok.0 ok.1
-reads_tree ts (Err (error.NoMemory n)) ok none past = tt
-reads_tree ts (Err error.BadExpression) ok none past = ap tree_in (marks-pieces ts) ∙ bad (marks_of ts) (none (search rules))
-reads_tree ts (Err error.TooDeep) ok none past = let p = past (search rules) in ap tree_in (marks-pieces ts) ∙ deep (marks_of ts) p.0 p.1 p.2
+reads_tree ts (Err (NoMemory n)) ok none past = tt
+reads_tree ts (Err (Fault BadExpression)) ok none past = ap tree_in (marks-pieces ts) ∙ bad (marks_of ts) (none (search rules))
+reads_tree ts (Err (Fault TooDeep)) ok none past = let p = past (search rules) in ap tree_in (marks-pieces ts) ∙ deep (marks_of ts) p.0 p.1 p.2

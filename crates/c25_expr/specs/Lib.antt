@@ -3,5 +3,4 @@ pub mod Pieces
 pub mod Postfix
 pub mod Stack
 pub mod Symbols
-pub mod Told
 pub mod View

@@ -2,7 +2,8 @@
 use Rattle.std.specs.Prelude.{ℕ, pos, List, [], ◌∷◌, Option, Result, Ok, Err}
 use Rattle.c25_meaning.specs.Reading.{Item, Push, Wrap, Apply, Combine}
 use Rattle.c25_meaning.specs.Tree.{Tree}
-use Rattle.c25_meaning.specs.Value.{◌>>=◌, leaf_value, unary_value, binary_value, value_of}
+use Rattle.c25_meaning.specs.Results.{◌>>=◌}
+use Rattle.c25_meaning.specs.Value.{leaf_value, unary_value, binary_value, value_of}
 use Rattle.c25_meaning.specs.declared.value.ValueFault.{ValueFault}
 use Rattle.c25_meaning.specs.declared.value.Base.TheVariants.{Absolute}
 use Rattle.c25_meaning.specs.declared.value.Value.{Value}

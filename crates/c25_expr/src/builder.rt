@@ -1,7 +1,8 @@
 //! How an expression is read, token by token.
 
 ghost use Rattle.std.specs.Prelude.{◌≡◌, ◌≢◌, ◌+◌, ◌<◌, ◌≤◌, ◌^◌, Some, None, Err, true, false, map, reverse, length, slice_index, OnOk, OnErr, IfOk, IsErrOf, is_none, vec_len};
-ghost use Rattle.std.specs.Option.{option_map};
+ghost use Rattle.std.specs.Option.{ok_or, option_map};
+ghost use Rattle.c25_meaning.specs.Results.{Meets};
 ghost use Rattle.c25_meaning.specs.Tree.{mark_of};
 ghost use Rattle.c25_meaning.specs.Reading.{Found, start, settle, reduced, step, opened, followed, closed, finished, unary_of, binary_of, is_open, is_close};
 ghost use Rattle.c25_text.specs.View.{piece_of};
@@ -10,10 +11,10 @@ ghost use Rattle.c25_expr.specs.Postfix.{item_of, runs, last_tree};
 ghost use Rattle.c25_expr.specs.View.{tree_of, leaf_item, marks_of};
 
 use crate::completes::completes;
-use crate::reading::ExprError;
 use crate::signs::{LOOSEST, binary_of, level_of, unary_of};
 use crate::tree::{Expr, Item};
-use c25_meaning::expression::{BinaryOperator, UnaryOperator};
+use c25_meaning::expression::{BinaryOperator, ExpressionFault, UnaryOperator};
+use c25_meaning::failure::Failure;
 use c25_meaning::line::{Sign, TokenKind};
 use c25_meaning::no_memory::NoMemory;
 use c25_text::constant_value;
@@ -116,28 +117,24 @@ impl Builder {
 
     /// What is told where the nesting has passed the limit before the rest of the tokens.
     #[tactic(auto, using(crate::proofs::Frames::is_none_operand))]
-    pub(crate) fn refusal(&self, rest: &[Token<'_>]) -> ExprError
+    pub(crate) fn refusal(&self, rest: &[Token<'_>]) -> ExpressionFault
         requires { vec_len self.now.frames + length rest.now < 2 ^ 64 }
-        ensures deep { result ≡ ExprError.TooDeep
+        ensures deep { result ≡ ExpressionFault.TooDeep
             → completes (marks_of rest.now) (is_none (state_of self.now).current) (opens (state_of self.now).frames) ≡ true }
-        ensures bad { result ≡ ExprError.BadExpression
+        ensures bad { result ≡ ExpressionFault.BadExpression
             → completes (marks_of rest.now) (is_none (state_of self.now).current) (opens (state_of self.now).frames) ≡ false }
     {
         if completes(rest, self.expects, self.open_groups()) {
-            ExprError::TooDeep
+            ExpressionFault::TooDeep
         } else {
-            ExprError::BadExpression
+            ExpressionFault::BadExpression
         }
     }
 
     /// A sign where an operand has to come.
-    fn open(&mut self, sign: Sign) -> Result<(), ExprError>
+    fn open(&mut self, sign: Sign) -> Result<(), Failure<ExpressionFault>>
         requires { self.old.expects ≡ true }
-        ensures ok { OnOk result (opened (state_of self.old).frames (items_of self.old) (unary_of sign) (is_open sign)
-            ≡ Some (state_of self.new)) }
-        ensures bad { IsErrOf result ExprError.BadExpression
-            → opened (state_of self.old).frames (items_of self.old) (unary_of sign) (is_open sign) ≡ None }
-        ensures deep { result ≢ Err ExprError.TooDeep }
+        ensures { Meets (λ _. state_of self.new) (ok_or (opened (state_of self.old).frames (items_of self.old) (unary_of sign) (is_open sign)) ExpressionFault.BadExpression) result }
     {
         if let Some(operator) = unary_of(sign) {
             self.frames.push(Frame::Pending(operator))?;
@@ -146,19 +143,17 @@ impl Builder {
             self.frames.push(Frame::Open)?;
             Ok(())
         } else {
-            Err(ExprError::BadExpression)
+            Err(Failure::Fault(ExpressionFault::BadExpression))
         }
     }
 
     /// The innermost group ends behind the last operand.
-    fn close(&mut self) -> Result<(), ExprError>
+    fn close(&mut self) -> Result<(), Failure<ExpressionFault>>
         requires { self.old.expects ≡ false }
-        ensures ok { OnOk result (closed (behind self.old) ≡ Some (state_of self.new)) }
-        ensures bad { IsErrOf result ExprError.BadExpression → closed (behind self.old) ≡ None }
-        ensures deep { result ≢ Err ExprError.TooDeep }
+        ensures { Meets (λ _. state_of self.new) (ok_or (closed (behind self.old)) ExpressionFault.BadExpression) result }
     {
         let Some(Frame::Open) = self.frames.pop() else {
-            return Err(ExprError::BadExpression);
+            return Err(Failure::Fault(ExpressionFault::BadExpression));
         };
         self.items.push(Item::Group)?;
         self.settle()?;
@@ -166,13 +161,9 @@ impl Builder {
     }
 
     /// A sign behind an operand.
-    fn follow(&mut self, sign: Sign) -> Result<(), ExprError>
+    fn follow(&mut self, sign: Sign) -> Result<(), Failure<ExpressionFault>>
         requires { self.old.expects ≡ false }
-        ensures ok { OnOk result (followed (behind self.old).frames (last_tree (trees_of self.old)) (items_of self.old) (binary_of sign) (is_close sign)
-            ≡ Some (state_of self.new)) }
-        ensures bad { IsErrOf result ExprError.BadExpression
-            → followed (behind self.old).frames (last_tree (trees_of self.old)) (items_of self.old) (binary_of sign) (is_close sign) ≡ None }
-        ensures deep { result ≢ Err ExprError.TooDeep }
+        ensures { Meets (λ _. state_of self.new) (ok_or (followed (behind self.old).frames (last_tree (trees_of self.old)) (items_of self.old) (binary_of sign) (is_close sign)) ExpressionFault.BadExpression) result }
     {
         if let Some(operator) = binary_of(sign) {
             self.reduce(level_of(operator))?;
@@ -183,17 +174,13 @@ impl Builder {
             self.reduce(LOOSEST)?;
             self.close()
         } else {
-            Err(ExprError::BadExpression)
+            Err(Failure::Fault(ExpressionFault::BadExpression))
         }
     }
 
     /// One token.
-    pub(crate) fn take(&mut self, token: &Token<'_>) -> Result<(), ExprError>
-        ensures ok { OnOk result (step (state_of self.old) (mark_of (piece_of token.now))
-            ≡ Some (state_of self.new)) }
-        ensures bad { IsErrOf result ExprError.BadExpression
-            → step (state_of self.old) (mark_of (piece_of token.now)) ≡ None }
-        ensures deep { result ≢ Err ExprError.TooDeep }
+    pub(crate) fn take(&mut self, token: &Token<'_>) -> Result<(), Failure<ExpressionFault>>
+        ensures { Meets (λ _. state_of self.new) (ok_or (step (state_of self.old) (mark_of (piece_of token.now))) ExpressionFault.BadExpression) result }
     {
         let leaf = leaf_of(self.alloc, token)?;
         match (leaf, token.kind) {
@@ -205,26 +192,23 @@ impl Builder {
             }
             (None, TokenKind::Sign(sign)) if self.expects => self.open(sign),
             (None, TokenKind::Sign(sign)) => self.follow(sign),
-            _ => Err(ExprError::BadExpression),
+            _ => Err(Failure::Fault(ExpressionFault::BadExpression)),
         }
     }
 
     /// The expression, where all is closed.
-    pub(crate) fn finish(self) -> Result<Expr, ExprError>
+    pub(crate) fn finish(self) -> Result<Expr, Failure<ExpressionFault>>
         requires { (f : Found) → finished (state_of self) ≡ Some f → runs (reverse f.items) 0
             ≡ true }
-        ensures ok { IfOk result (λ e. option_map (λ f. f.tree) (finished (state_of self))
-            ≡ Some (tree_of e)) }
-        ensures bad { IsErrOf result ExprError.BadExpression → finished (state_of self) ≡ None }
-        ensures deep { result ≢ Err ExprError.TooDeep }
+        ensures { Meets tree_of (ok_or (option_map (λ f. f.tree) (finished (state_of self))) ExpressionFault.BadExpression) result }
     {
         let mut builder = self;
         if builder.expects {
-            return Err(ExprError::BadExpression);
+            return Err(Failure::Fault(ExpressionFault::BadExpression));
         }
         builder.reduce(LOOSEST)?;
         if !builder.frames.is_empty() {
-            return Err(ExprError::BadExpression);
+            return Err(Failure::Fault(ExpressionFault::BadExpression));
         }
         Ok(Expr {
             items: builder.items,

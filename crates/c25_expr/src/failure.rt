@@ -1,47 +1,15 @@
-//! Why a line is refused.
+//! Faults of lines, expressions and values as faults of a source.
 
 ghost use Rattle.std.specs.Prelude.{◌≡◌};
 ghost use Rattle.c25_meaning.specs.Operands.{line_fault};
-ghost use Rattle.c25_meaning.specs.Statement.{value_fault};
+ghost use Rattle.c25_meaning.specs.Statement.{expression_fault, value_fault};
 
+use c25_meaning::expression::ExpressionFault;
 use c25_meaning::line::LineFault;
 use c25_meaning::statement::FaultKind;
 use c25_meaning::value::ValueFault;
-use std::alloc::{AllocError, AllocFailed};
-use thiserror::Error;
 
-/// Why a line is refused, for those that read its operands and take memory for it.
-#[derive(Clone, Copy, PartialEq, Eq, Debug, Error)]
-pub enum Failure {
-    /// A growth was refused (9).
-    #[error("NoMemory")]
-    NoMemory,
-    /// The line is wrong.
-    #[error("{0:?}")]
-    Faulty(FaultKind),
-}
-
-impl From<AllocError> for Failure {
-    ghost use Rattle.c25_expr.specs.declared.failure.Failure.TheVariants.{NoMemory};
-
-    ghost from_gives = { λ _ e. e ≡ NoMemory };
-
-    fn from(_error: AllocError) -> Failure {
-        Failure::NoMemory
-    }
-}
-
-impl<T: Drop> From<AllocFailed<T>> for Failure {
-    ghost use Rattle.c25_expr.specs.declared.failure.Failure.TheVariants.{NoMemory};
-
-    ghost from_gives = { λ _ e. e ≡ NoMemory };
-
-    fn from(_error: AllocFailed<T>) -> Failure {
-        Failure::NoMemory
-    }
-}
-
-/// A fault of a line's text as a fault of a source: each has the number that it has there.
+/// A fault of a line's text as a fault of a source.
 pub fn line_fault(fault: LineFault) -> FaultKind
     ensures { result ≡ line_fault fault }
 {
@@ -53,7 +21,7 @@ pub fn line_fault(fault: LineFault) -> FaultKind
     }
 }
 
-/// A fault of a value as a fault of a source: each has the number that it has there.
+/// A fault of a value as a fault of a source.
 pub fn value_fault(fault: ValueFault) -> FaultKind
     ensures { result ≡ value_fault fault }
 {
@@ -62,5 +30,15 @@ pub fn value_fault(fault: ValueFault) -> FaultKind
         ValueFault::NotAbsolute => FaultKind::NotAbsolute,
         ValueFault::DivideByZero => FaultKind::DivideByZero,
         ValueFault::ValueRange => FaultKind::ValueRange,
+    }
+}
+
+/// The fault of tokens that are no expression as a fault of a source.
+pub fn expression_fault(fault: ExpressionFault) -> FaultKind
+    ensures { result ≡ expression_fault fault }
+{
+    match fault {
+        ExpressionFault::BadExpression => FaultKind::BadExpression,
+        ExpressionFault::TooDeep => FaultKind::TooDeep,
     }
 }

@@ -2,8 +2,6 @@
 #![tactic(auto)]
 
 mod builder;
-#[cfg(test)]
-mod cases;
 mod completes;
 pub mod failure;
 pub mod laws;
@@ -12,7 +10,5 @@ mod operators;
 pub mod reading;
 mod signs;
 pub mod symbols;
-#[cfg(test)]
-mod tests;
 pub mod tree;
 pub mod value;

@@ -7,16 +7,17 @@ ghost use Rattle.c25_expr.specs.Pieces.{pieces_of};
 
 use c25_meaning::insn::Change;
 use c25_meaning::line::{Sign, TokenKind};
+use c25_meaning::no_memory::NoMemory;
 use c25_meaning::statement::Written;
 use c25_text::line::Line;
 use c25_text::tokens::Token;
-use std::alloc::{AllocError, Global};
+use std::alloc::Global;
 
 /// The tokens of a line's operands, in order, up to its comment. They borrow the line.
-pub fn tokens_of<'a>(alloc: Global, line: &Line<'a>) -> Result<Vec<Token<'a>>, AllocError>
+pub fn tokens_of<'a>(alloc: Global, line: &Line<'a>) -> Result<Vec<Token<'a>>, NoMemory>
     ensures { IfOk result (λ v. pieces_of v.items ≡ (parts_of line.now).pieces) }
 {
-    line.tokens().collect(alloc)
+    Ok(line.tokens().collect(alloc)?)
 }
 
 fn is_comma(kind: TokenKind) -> bool
@@ -33,13 +34,13 @@ fn is_comma(kind: TokenKind) -> bool
 pub fn operands_of<'a, 'b>(
     alloc: Global,
     tokens: &'b [Token<'a>],
-) -> Result<Vec<&'b [Token<'a>]>, AllocError>
+) -> Result<Vec<&'b [Token<'a>]>, NoMemory>
     ensures { IfOk result (λ v. map (λ x. pieces_of x.now) v.items ≡ operands_of (pieces_of tokens.now)) }
 {
     if tokens.is_empty() {
         return Ok(Vec::new(alloc));
     }
-    tokens.split(|token| is_comma(token.kind)).collect(alloc)
+    Ok(tokens.split(|token| is_comma(token.kind)).collect(alloc)?)
 }
 
 fn is_star(kind: TokenKind) -> bool

@@ -1,45 +1,19 @@
 //! The symbols of a module, in order of definition.
 
-ghost use Rattle.std.specs.Prelude.{◌≡◌, ◌≢◌, ◌↔◌, [], ◌∷◌, ◌++◌, IsSome, IsErrOf, OnOk, OnErr};
+ghost use Rattle.std.specs.Prelude.{◌≡◌, ◌↔◌, [], ◌∷◌, ◌++◌, IsSome, IsErrOf, OnOk, OnErr};
 ghost use Rattle.c25_meaning.specs.Value.{predefined};
 
-use c25_meaning::no_memory::NoMemory;
+use c25_meaning::failure::Failure;
 use c25_meaning::value::{Base, Value};
 use indexmap::IndexMap;
-use std::alloc::{AllocError, AllocFailed, Global};
+use std::alloc::Global;
 use std::marker::Model;
 use thiserror::Error;
 
-/// Why a name is not defined.
+/// A name stands for something already (26).
 #[derive(Clone, Copy, PartialEq, Eq, Debug, Error)]
-pub enum DefineError {
-    /// A growth was refused (9).
-    #[error("NoMemory")]
-    NoMemory(NoMemory),
-    /// The name stands for something already (26).
-    #[error("Defined")]
-    Defined,
-}
-
-impl From<AllocError> for DefineError {
-    ghost use Rattle.c25_expr.specs.declared.symbols.DefineError.TheVariants.{Defined};
-
-    ghost from_gives = { λ _ e. e ≢ Defined };
-
-    fn from(_error: AllocError) -> Self {
-        DefineError::NoMemory(NoMemory)
-    }
-}
-
-impl<T: Drop> From<AllocFailed<T>> for DefineError {
-    ghost use Rattle.c25_expr.specs.declared.symbols.DefineError.TheVariants.{Defined};
-
-    ghost from_gives = { λ _ e. e ≢ Defined };
-
-    fn from(_error: AllocFailed<T>) -> Self {
-        DefineError::NoMemory(NoMemory)
-    }
-}
+#[error("Defined")]
+pub struct Defined;
 
 /// What names stand for, in order of definition, and the current place. The names `AR0` to `AR7` and
 /// `PA0` to `PA15` stand for their numbers and are not among those that were defined.
@@ -105,15 +79,15 @@ impl Symbols {
     }
 
     /// Defines a name that stands for nothing yet. It comes last in the order of definition.
-    pub fn define(&mut self, name: &str, value: Value) -> Result<(), DefineError>
-        ensures defined { IsErrOf result DefineError.Defined
+    pub fn define(&mut self, name: &str, value: Value) -> Result<(), Failure<Defined>>
+        ensures defined { IsErrOf result (Failure.Fault (record {}))
             ↔ IsSome (value_named self.old name.now) }
         ensures ok { OnOk result (self.new
             ≡ record self.old { entries = self.old.entries ++ (name.now, value) ∷ [] }) }
         ensures err { OnErr result (self.new ≡ self.old) }
     {
         if self.get(name).is_some() {
-            return Err(DefineError::Defined);
+            return Err(Failure::Fault(Defined));
         }
         let name = String::from_str(self.alloc, name)?;
         self.entries.insert(name, value)?;

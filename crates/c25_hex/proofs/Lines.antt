@@ -8,7 +8,8 @@ use Rattle.hex.specs.Hex.{IsBytes, decode_of, is_hex_digit, encode_with, encode_
 use Rattle.hex.proofs.HexLemmas.{IsDigits-upper_digits, decode_of-encode_upper}
 use Rattle.c25_meaning.specs.declared.hex_fault.HexFault.{HexFault}
 use Rattle.c25_meaning.specs.declared.hex_fault.HexFault.TheVariants.{AfterEnd, BadDigit, BadCount}
-use Rattle.c25_meaning.specs.Hex.{HexState, bytes_of, decoded, checked_line, count_fits, effect, after_line, ◌>>=◌}
+use Rattle.c25_meaning.specs.Hex.{HexState, bytes_of, decoded, checked_line, count_fits, after_bytes, after_line}
+use Rattle.c25_meaning.specs.Results.{◌>>=◌}
 use Rattle.c25_meaning.specs.HexText.{line_body, with_sum, hex_line}
 
 -- ---- digits
@@ -93,13 +94,13 @@ line_checked address kind bytes is =
 
 -- a line with a `:` before the end line is read
 started : (s : HexState) (digits : List ℕ) → s.ended ≡ false
-    → after_line s (58 ∷ digits) ≡ (bytes_of (58 ∷ digits) >>= λ bytes. checked_line bytes >>= λ same. effect s same)
+    → after_line s (58 ∷ digits) ≡ (bytes_of (58 ∷ digits) >>= λ bytes. checked_line bytes >>= λ same. after_bytes s same)
 unfolding after_line
 started s digits running = cond-false s.ended (Err AfterEnd) _ running
 
 -- a written line has the effect of its bytes
 pub line_taken : (s : HexState) (address kind : ℕ) (bytes : List ℕ) → IsLine address kind bytes → s.ended ≡ false
-    → after_line s (hex_line address kind bytes) ≡ effect s (with_sum (line_body address kind bytes))
+    → after_line s (hex_line address kind bytes) ≡ after_bytes s (with_sum (line_body address kind bytes))
 unfolding hex_line
 line_taken s address kind bytes is running =
     let read = bytes_back (with_sum (line_body address kind bytes)) (line_bytes_fit address kind bytes is) in
@@ -183,7 +184,7 @@ cut_refused s address kind bytes [] rest u is e some left running taken = some r
 cut_refused s address kind bytes (c ∷ digits) rest u is e some left running taken =
     let colon : c ≡ 58 = cc e in
     let joined : digits ++ rest ≡ encode_upper (with_sum (line_body address kind bytes)) = cc e in
-    let read : (bytes_of (58 ∷ digits) >>= λ bytes. checked_line bytes >>= λ same. effect s same) ≡ Ok u =
+    let read : (bytes_of (58 ∷ digits) >>= λ bytes. checked_line bytes >>= λ same. after_bytes s same) ≡ Ok u =
     sym (started s digits running) ∙ ap (λ (first : ℕ). after_line s (first ∷ digits)) (sym colon) ∙ taken in
     elim (cut_digits digits rest (with_sum (line_body address kind bytes)) joined) [
       | inl odd ↦ (let bad = odd_refused digits odd in cc (rw bad.1 at read))

@@ -1,8 +1,10 @@
 -- What is written is read back, and what begins it is not read.
-use Rattle.std.proofs.Common.{◌≡◌, ◌≢◌, ℕ, false, List, [], ◌∷◌, ◌++◌, sym, ap, ◌∙◌}
+use Rattle.std.proofs.Common.{◌≡◌, ◌≢◌, ℕ, ◌+◌, ◌*◌, false, List, [], ◌∷◌, ◌++◌, sym, ap, ◌∙◌}
 use Rattle.std.specs.Ordering.{nat_cmp}
 use Rattle.std.specs.FinMap as map
-use Rattle.c25_meaning.specs.Hex.{start, after_lines, SpellsWords}
+use Rattle.std.specs.Cmp.{nat_cmp_total}
+use Rattle.std.specs.FinMap.{same_map, nat_cmp-IsAntisymmetric}
+use Rattle.c25_meaning.specs.Hex.{start, after_lines, word_of, SpellsWords}
 use Rattle.c25_meaning.specs.HexText.{stretches, lines_on, written}
 use Rattle.c25_meaning.specs.WordMap.{IsWordMap}
 use Rattle.c25_hex.proofs.Ascending.{word_map_ascends}
@@ -38,3 +40,10 @@ without_last words front inside joined =
       ap (λ (ls : List (List ℕ)). after_lines 0 start ls) (lines_without_last start reads.last all front reads.goes (sym joined) some ∙ sym (lines_back start reads.last all reads.goes)) ∙ whole.1,
       whole.2,
     )
+
+-- one text spells no two maps of words
+pub same_words : (text : List ℕ) (words other : map.FinMap nat_cmp ℕ) → SpellsWords text words → SpellsWords text other → words ≡ other
+same_words text words other one two =
+    let given : one.0 ≡ two.0 = cc (one.1, two.1) in
+    same_map nat_cmp_total nat_cmp-IsAntisymmetric words other
+    (λ a. one.2 a ∙ ap (λ (bytes : map.FinMap nat_cmp ℕ). word_of (map.get bytes (2 * a)) (map.get bytes (2 * a + 1))) given ∙ sym (two.2 a))

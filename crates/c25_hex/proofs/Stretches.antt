@@ -5,7 +5,7 @@ use Rattle.std.specs.Ordering.{nat_cmp}
 use Rattle.std.proofs.lemmas.Bool.{le-leb, le-ltb, cases_Bool, cond-true, cond-false, and_parts, leb-true, leb-false, ltb-true, eqb-true, eqb-false, not-true}
 use Rattle.std.proofs.lemmas.List.{length-append, append-nil, take_at}
 use Rattle.hex.specs.Hex.{IsBytes}
-use Rattle.c25_meaning.specs.Hex.{HexState, start, effect, with_bytes, after_line, put_bytes, gives_again, has_odd_word}
+use Rattle.c25_meaning.specs.Hex.{HexState, start, after_bytes, with_bytes, after_line, put_bytes, gives_again, has_odd_word}
 use Rattle.c25_meaning.specs.HexText.{Stretch, alone, goes_on, stretches, stretches_on, word_bytes, data_line, base_line, end_line, needs_base, lines_on, line_body, with_sum, hex_line}
 use Rattle.c25_hex.proofs.Held.{Holds, AllBelow, entries_from, holds_words, below_words, below_more, none_again, no_odd_word, nothing_held}
 use Rattle.c25_hex.proofs.Lines.{IsLine, line_taken}
@@ -50,8 +50,8 @@ taken_bytes s address place bytes at in_base in_all free =
 word_pair : (n : ℕ) → 256 * (n / 256) + n % 256 ≡ n
 word_pair n = omega arith
 
-data_effect : (s : HexState) (address : ℕ) (bytes : List ℕ) → effect s (with_sum (line_body address 0 bytes)) ≡ with_bytes s address bytes
-unfolding effect
+data_effect : (s : HexState) (address : ℕ) (bytes : List ℕ) → after_bytes s (with_sum (line_body address 0 bytes)) ≡ with_bytes s address bytes
+unfolding after_bytes
 data_effect s address bytes =
     let front : take (length bytes) (bytes ++ ((256 - Rattle.std.specs.Prelude.sum (line_body address 0 bytes) % 256) % 256) ∷ []) ≡ bytes = take_at bytes _ (length bytes) refl in
     let at = word_pair address in
@@ -109,7 +109,7 @@ base_form = record { address_in = lit< tt; kind_in = lit≤ tt; few = lit< tt; f
 
 -- the base line sets the base of the upper half
 base_taken : (s : HexState) → s.ended ≡ false → after_line s base_line ≡ Ok (record s { base = 65536 })
-unfolding effect
+unfolding after_bytes
 base_taken s running = line_taken s 0 4 (0 ∷ 1 ∷ []) base_form running
 
 end_form : IsLine 0 1 []
@@ -117,7 +117,7 @@ end_form = record { address_in = lit< tt; kind_in = lit≤ tt; few = lit< tt; fi
 
 -- the end line ends the text where each word has both bytes
 end_taken : (s : HexState) → s.ended ≡ false → has_odd_word s.bytes ≡ false → after_line s end_line ≡ Ok (record s { ended = true })
-unfolding effect
+unfolding after_bytes
 end_taken s running even = line_taken s 0 1 [] end_form running ∙ rw even refl
 
 -- ---- lines in a row

@@ -19,3 +19,8 @@ pub fn no_prefix_spells_words()
     ensures without_last { (words : map.FinMap nat_cmp ℕ) (front : List ℕ) → IsWordMap words
         → written words ≡ front ++ 10 ∷ [] → SpellsWords front words }
 {}
+
+/// Two maps of words that one text spells are one.
+pub fn one_text_spells_one_map()
+    ensures { (text : List ℕ) (words other : map.FinMap nat_cmp ℕ) → SpellsWords text words → SpellsWords text other → words ≡ other }
+{}

@@ -1,7 +1,6 @@
 //! Intel hex texts of words, read and written.
 #![tactic(auto)]
 
-mod error;
 mod kind;
 pub mod laws;
 mod line;
@@ -13,7 +12,6 @@ mod words;
 mod writer;
 mod writing;
 
-pub use error::HexError;
 pub use reading::read_hex;
 pub use writing::write_hex;
 

@@ -4,27 +4,13 @@ ghost use Rattle.std.specs.Prelude.{◌≡◌, ◌≤◌, ◌+◌, length, sum, 
 ghost use Rattle.std.specs.List.{list_all};
 ghost use Rattle.hex.specs.Hex.{is_hex_digit};
 ghost use Rattle.c25_meaning.specs.Hex as spec;
-ghost use Rattle.c25_meaning.specs.Bytes.{is_blank};
-ghost use Rattle.c25_hex.specs.View.{LineGives, code_of};
+ghost use Rattle.c25_meaning.specs.Results.{Meets};
+ghost use Rattle.c25_hex.specs.View.{code_of};
 
-use crate::error::LineError;
 use crate::kind::Kind;
+use c25_meaning::failure::Failure;
 use c25_meaning::hex_fault::HexFault;
-use hex::FromHexError;
 use std::alloc::Global;
-
-fn is_blank(byte: u8) -> bool
-    ensures { result ≡ is_blank byte }
-{
-    byte == b' ' || byte == b'\t'
-}
-
-/// Whether a line has blanks and tabs alone.
-pub(crate) fn all_blank(line: &[u8]) -> bool
-    ensures { result ≡ list_all is_blank line.now }
-{
-    line.iter().all(|byte| is_blank(*byte))
-}
 
 fn is_hex_digit(byte: u8) -> bool
     ensures { result ≡ is_hex_digit byte }
@@ -42,20 +28,20 @@ fn all_digits(digits: &[u8]) -> bool
 
 /// The bytes of a line: pairs of digits behind `:`.
 #[tactic(auto, unfolding(c25_meaning::specs::Hex::bytes_of))]
-pub(crate) fn bytes_of(alloc: Global, line: &[u8]) -> Result<Vec<u8>, LineError>
-    ensures { LineGives (λ bytes. bytes.items) result (spec.bytes_of line.now) }
+pub(crate) fn bytes_of(alloc: Global, line: &[u8]) -> Result<Vec<u8>, Failure<HexFault>>
+    ensures { Meets (λ bytes. bytes.items) (spec.bytes_of line.now) result }
 {
     if line.is_empty() || line[0] != b':' {
-        return Err(LineError::Fault(HexFault::BadStart));
+        return Err(Failure::Fault(HexFault::BadStart));
     }
     let digits = &line[1..];
     if !all_digits(digits) {
-        return Err(LineError::Fault(HexFault::BadDigit));
+        return Err(Failure::Fault(HexFault::BadDigit));
     }
-    match hex::decode(alloc, digits) {
-        Ok(bytes) => Ok(bytes),
-        Err(FromHexError::OutOfMemory) => Err(LineError::NoMemory),
-        Err(_) => Err(LineError::Fault(HexFault::BadCount)),
+    let mut bytes = vec![in alloc; 0u8; digits.len() / 2]?;
+    match hex::decode_to_slice(digits, &mut bytes) {
+        Ok(()) => Ok(bytes),
+        Err(_) => Err(Failure::Fault(HexFault::BadCount)),
     }
 }
 

@@ -4,13 +4,15 @@ ghost use Rattle.std.specs.Prelude.{◌≡◌, ◌≤◌, ◌<◌, ◌+◌, ◌^
 ghost use Rattle.std.specs.List.{list_any};
 ghost use Rattle.c25_meaning.specs.Hex as spec;
 ghost use Rattle.c25_hex.specs.Cells.{cells_map, has_odd_pair, same_given};
-ghost use Rattle.c25_hex.specs.View.{LineGives, code_of, state_of};
+ghost use Rattle.c25_meaning.specs.Results.{Meets};
+ghost use Rattle.c25_hex.specs.View.{code_of, hex_state};
 
-use crate::error::LineError;
 use crate::kind::Kind;
-use crate::line::{all_blank, bytes_of, kind_of};
+use crate::line::{bytes_of, kind_of};
 use crate::state::Reader;
+use c25_meaning::failure::Failure;
 use c25_meaning::hex_fault::HexFault;
+use c25_text::all_blank;
 use std::alloc::Global;
 
 fn any_given(cells: &[Option<u8>]) -> bool
@@ -80,8 +82,8 @@ impl Reader {
         requires address_in { address < 2 ^ 16 }
         requires short { length bytes.now < 2 ^ 8 }
         ensures { MatchResult result
-            (λ _. spec.with_bytes (state_of self.old) address bytes.now ≡ Ok (state_of self.new))
-            (λ f. spec.with_bytes (state_of self.old) address bytes.now ≡ Err f) }
+            (λ _. spec.with_bytes (hex_state self.old) address bytes.now ≡ Ok (hex_state self.new))
+            (λ f. spec.with_bytes (hex_state self.old) address bytes.now ≡ Err f) }
     {
         let count = bytes.len();
         let place = self.base + address;
@@ -99,15 +101,15 @@ impl Reader {
     }
 
     /// Takes a line whose form is right.
-    #[tactic(auto, unfolding(c25_meaning::specs::Hex::effect))]
-    fn take_effect(&mut self, kind: Kind, bytes: &[u8]) -> Result<(), HexFault>
+    #[tactic(auto, unfolding(c25_meaning::specs::Hex::after_bytes))]
+    fn take_checked_line(&mut self, kind: Kind, bytes: &[u8]) -> Result<(), HexFault>
         requires long { 5 ≤ length bytes.now }
         requires counted { length bytes.now ≡ slice_index bytes.now 0 + 5 }
         requires kind { code_of kind ≡ slice_index bytes.now 3 }
         requires fits { IsTrue (spec.count_fits (slice_index bytes.now 3) (slice_index bytes.now 0)) }
         ensures { MatchResult result
-            (λ _. spec.effect (state_of self.old) bytes.now ≡ Ok (state_of self.new))
-            (λ f. spec.effect (state_of self.old) bytes.now ≡ Err f) }
+            (λ _. spec.after_bytes (hex_state self.old) bytes.now ≡ Ok (hex_state self.new))
+            (λ f. spec.after_bytes (hex_state self.old) bytes.now ≡ Err f) }
     {
         let count = bytes[0] as usize;
         match kind {
@@ -133,18 +135,17 @@ impl Reader {
 
     /// Reads one line more.
     #[tactic(auto, unfolding(c25_meaning::specs::Hex::after_line))]
-    pub(crate) fn take_line(&mut self, alloc: Global, line: &[u8]) -> Result<(), LineError>
-        ensures { LineGives (λ _. state_of self.new) result (spec.after_line (state_of self.old) line.now) }
+    pub(crate) fn take_line(&mut self, alloc: Global, line: &[u8]) -> Result<(), Failure<HexFault>>
+        ensures { Meets (λ _. hex_state self.new) (spec.after_line (hex_state self.old) line.now) result }
     {
         if all_blank(line) {
             return Ok(());
         }
         if self.ended {
-            return Err(LineError::Fault(HexFault::AfterEnd));
+            return Err(Failure::Fault(HexFault::AfterEnd));
         }
         let bytes = bytes_of(alloc, line)?;
-        let kind = kind_of(&bytes)?;
-        self.take_effect(kind, &bytes)?;
-        Ok(())
+        let kind = kind_of(&bytes).map_err(Failure::Fault)?;
+        self.take_checked_line(kind, &bytes).map_err(Failure::Fault)
     }
 }

@@ -4,12 +4,13 @@ ghost use Rattle.std.specs.Prelude.{◌≡◌, IfOk, IfErr, vec_len};
 ghost use Rattle.std.specs.FinMap as map;
 ghost use Rattle.c25_meaning.specs.Hex as spec;
 ghost use Rattle.c25_hex.specs.Cells.{cells_map};
-ghost use Rattle.c25_hex.specs.View.{TextGives, TextFails, state_of};
+ghost use Rattle.c25_meaning.specs.Results.{Meets, Fails};
+ghost use Rattle.c25_hex.specs.View.{at_line, hex_state};
 
-use crate::error::HexError;
 use crate::state::Reader;
 use crate::words::words_of;
-use c25_meaning::hex_fault::HexFault;
+use c25_meaning::failure::Failure;
+use c25_meaning::hex_fault::{HexFault, PlacedHexFault};
 use c25_meaning::no_memory::NoMemory;
 use c25_meaning::word_map::WordMap;
 use std::alloc::Global;
@@ -26,7 +27,7 @@ fn none_given(alloc: Global) -> Result<Vec<Option<u8>>, NoMemory>
 }
 
 fn start(alloc: Global) -> Result<Reader, NoMemory>
-    ensures { IfOk result (λ r. state_of r ≡ spec.start) }
+    ensures { IfOk result (λ r. hex_state r ≡ spec.start) }
 {
     let bytes = none_given(alloc)?;
     Ok(Reader {
@@ -36,9 +37,19 @@ fn start(alloc: Global) -> Result<Reader, NoMemory>
     })
 }
 
+/// The failure of a line, with the number of the line.
+fn at_line(failure: Failure<HexFault>, line: usize) -> Failure<PlacedHexFault>
+    ensures { result ≡ at_line failure line }
+{
+    match failure {
+        Failure::NoMemory(error) => Failure::NoMemory(error),
+        Failure::Fault(fault) => Failure::Fault(PlacedHexFault { fault, line }),
+    }
+}
+
 /// The bytes that the lines give.
-fn bytes_given(alloc: Global, text: &str) -> Result<Reader, HexError>
-    ensures { TextGives (λ r. cells_map r.bytes.items) result (spec.bytes_given text.now) }
+fn bytes_given(alloc: Global, text: &str) -> Result<Reader, Failure<PlacedHexFault>>
+    ensures { Meets (λ r. cells_map r.bytes.items) (spec.bytes_given text.now) result }
 {
     let mut reader = start(alloc)?;
     let mut number = 0usize;
@@ -46,14 +57,14 @@ fn bytes_given(alloc: Global, text: &str) -> Result<Reader, HexError>
         number += 1;
         match reader.take_line(alloc, line.as_bytes()) {
             Ok(()) => {}
-            Err(error) => return Err(error.at(number)),
+            Err(failure) => return Err(at_line(failure, number)),
         }
     }
     if !reader.ended {
-        return Err(HexError::Fault {
+        return Err(Failure::Fault(PlacedHexFault {
             fault: HexFault::NoEnd,
             line: number,
-        });
+        }));
     }
     Ok(reader)
 }
@@ -63,13 +74,13 @@ fn bytes_given(alloc: Global, text: &str) -> Result<Reader, HexError>
 /// A line is `:` and pairs of digits in either case. Lines end in LF or CRLF, the last one may lack
 /// its end, and lines of blanks and tabs are skipped.
 ///
-/// `HexError::Fault` has the first fault and its line. For one line that is, in this order:
+/// The fault is the first one and its line. For one line that is, in this order:
 /// `AfterEnd`, `BadStart`, `BadDigit`, `BadCount` (of the digits), `BadSum`, `BadKind`, `BadCount`
 /// (of the kind), `AddressRange`, `Twice`; at the end line `OddWord`; and `NoEnd` at the last line,
-/// or at line 0 of a text without lines. `HexError::NoMemory` comes only where a growth was refused.
-pub fn read_hex(alloc: Global, text: &str) -> Result<WordMap, HexError>
+/// or at line 0 of a text without lines. It refuses for want of memory too.
+pub fn read_hex(alloc: Global, text: &str) -> Result<WordMap, Failure<PlacedHexFault>>
     ensures found { IfOk result (λ words. spec.SpellsWords text.now words) }
-    ensures refused { IfErr result (λ e. TextFails e (spec.bytes_given text.now)) }
+    ensures refused { IfErr result (λ e. Fails (spec.bytes_given text.now) e) }
 {
     let reader = bytes_given(alloc, text)?;
     Ok(words_of(alloc, &reader.bytes)?)

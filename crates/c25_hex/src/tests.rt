@@ -2,7 +2,8 @@
 //! one place.
 
 use super::*;
-use c25_meaning::hex_fault::HexFault;
+use c25_meaning::failure::Failure;
+use c25_meaning::hex_fault::{HexFault, PlacedHexFault};
 use c25_meaning::word_map::WordMap;
 use std::process::Abort;
 use std::test::Fail;
@@ -105,7 +106,7 @@ const FAULTS: &[(&str, HexFault, usize)] = &[
 fn the_first_fault_is_told(rt: HostRuntime) {
     for (text, fault, line) in FAULTS {
         let told = match read_hex(rt.alloc(), text) {
-            Err(HexError::Fault { fault, line }) => Some((fault, line)),
+            Err(Failure::Fault(PlacedHexFault { fault, line })) => Some((fault, line)),
             _ => None,
         };
         assert_eq!(rt; told, Some((*fault, *line)), "in {text:?}");

@@ -12,8 +12,7 @@ use std::alloc::Global;
 
 /// The Intel hex text of words: lines of at most eight words, ascending, the line of the base before
 /// the first word at 8000h or above, and the end line; each ends in LF, and digits are upper case.
-///
-/// `NoMemory` comes only where a growth was refused.
+/// It refuses for want of memory alone.
 pub fn write_hex(alloc: Global, words: &WordMap) -> Result<String, NoMemory>
     ensures written { IfOk result (λ text. string_bytes text ≡ written words.now) }
     ensures spelled { IfOk result (λ text. SpellsWords (string_bytes text) words.now) }

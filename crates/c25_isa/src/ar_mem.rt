@@ -2,7 +2,7 @@
 //! byte.
 
 ghost use Rattle.std.specs.Prelude.{◌≡◌, ℕ, pos, ◌+◌, ◌*◌, ◌%◌, ◌++◌, ◌<◌, ◌≤◌, ◌^◌, Some, IfNone, IfSome, OnOk, string_bytes};
-ghost use Rattle.c25_meaning.specs.Table.{ar_mem_row, SameLetters, size, placed, first_word, Reads, AddrInRange};
+ghost use Rattle.c25_meaning.specs.Table.{ar_mem_row, SameLetters, size, placed, opcode_word, Reads, AddrInRange};
 ghost use Rattle.c25_meaning.specs.Show.{show};
 ghost use Rattle.c25_meaning.specs.declared.mnemonic.ArMemName.{ArMemName};
 ghost use Rattle.c25_meaning.specs.declared.mnemonic.Mnemonic.TheVariants as family;
@@ -13,7 +13,7 @@ use crate::{addr, rows, text};
 use c25_bits::Field;
 use c25_meaning::insn::{Addr, Insn};
 use c25_meaning::mnemonic::ArMemName;
-use std::alloc::AllocError;
+use c25_meaning::no_memory::NoMemory;
 
 macro_rules! ar_mem_rows {
     ($what:ident $value:expr) => {
@@ -70,7 +70,7 @@ pub(crate) fn size_of(name: ArMemName) -> u16
 pub(crate) fn encode(name: ArMemName, register: u16, addr: Addr) -> u16
     requires register_in_range { register < 8 }
     requires addr_in_range { AddrInRange addr }
-    ensures { result ≡ first_word (insn.ArMem name register addr) }
+    ensures { result ≡ opcode_word (insn.ArMem name register addr) }
 {
     base_of(name) + (register << 8) + addr::byte_of_addr(addr)
 }
@@ -93,7 +93,7 @@ pub(crate) fn show(
     name: ArMemName,
     register: u16,
     addr: Addr,
-) -> Result<(), AllocError>
+) -> Result<(), NoMemory>
     ensures { OnOk result
         (string_bytes out.new ≡ string_bytes out.old ++ show (insn.ArMem name register addr)) }
 {

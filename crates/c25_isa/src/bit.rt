@@ -1,7 +1,7 @@
 //! The test of a bit of a memory operand: one word, the bit code in the high byte.
 
 ghost use Rattle.std.specs.Prelude.{◌≡◌, ℕ, pos, ◌+◌, ◌*◌, ◌%◌, ◌++◌, ◌<◌, ◌≤◌, ◌^◌, Some, IfNone, IfSome, OnOk, string_bytes};
-ghost use Rattle.c25_meaning.specs.Table.{bit_row, SameLetters, size, placed, first_word, Reads, AddrInRange};
+ghost use Rattle.c25_meaning.specs.Table.{bit_row, SameLetters, size, placed, opcode_word, Reads, AddrInRange};
 ghost use Rattle.c25_meaning.specs.Show.{show};
 ghost use Rattle.c25_meaning.specs.declared.mnemonic.BitName.{BitName};
 ghost use Rattle.c25_meaning.specs.declared.mnemonic.Mnemonic.TheVariants as family;
@@ -12,7 +12,7 @@ use crate::{addr, rows, text};
 use c25_bits::Field;
 use c25_meaning::insn::{Addr, Insn};
 use c25_meaning::mnemonic::BitName;
-use std::alloc::AllocError;
+use c25_meaning::no_memory::NoMemory;
 
 macro_rules! bit_rows {
     ($what:ident $value:expr) => {
@@ -66,7 +66,7 @@ pub(crate) fn size_of(name: BitName) -> u16
 pub(crate) fn encode(name: BitName, addr: Addr, code: u16) -> u16
     requires code_in_range { code < 16 }
     requires addr_in_range { AddrInRange addr }
-    ensures { result ≡ first_word (insn.Bit name addr code) }
+    ensures { result ≡ opcode_word (insn.Bit name addr code) }
 {
     base_of(name) + (code << 8) + addr::byte_of_addr(addr)
 }
@@ -84,7 +84,7 @@ pub(crate) fn decode(first: u16) -> Option<Insn>
 }
 
 /// Appends an instruction's text.
-pub(crate) fn show(out: &mut String, name: BitName, addr: Addr, code: u16) -> Result<(), AllocError>
+pub(crate) fn show(out: &mut String, name: BitName, addr: Addr, code: u16) -> Result<(), NoMemory>
     ensures { OnOk result
         (string_bytes out.new ≡ string_bytes out.old ++ show (insn.Bit name addr code)) }
 {

@@ -1,7 +1,7 @@
 //! Jumps: two words, the first with an indirect operand byte below a high byte of the row's own.
 
 ghost use Rattle.std.specs.Prelude.{◌≡◌, ℕ, Option, ◌+◌, ◌*◌, ◌++◌, ◌≤◌, ◌^◌, Some, IfNone, IfSome, OnOk, string_bytes};
-ghost use Rattle.c25_meaning.specs.Table.{jump_row, SameLetters, size, first_word, Reads, NextInRange};
+ghost use Rattle.c25_meaning.specs.Table.{jump_row, SameLetters, size, opcode_word, Reads, NextInRange};
 ghost use Rattle.c25_meaning.specs.Show.{show};
 ghost use Rattle.c25_meaning.specs.declared.mnemonic.JumpName.{JumpName};
 ghost use Rattle.c25_meaning.specs.declared.mnemonic.Mnemonic.TheVariants as family;
@@ -12,7 +12,7 @@ use crate::{addr, rows, text};
 use c25_bits::Field;
 use c25_meaning::insn::{Change, Insn};
 use c25_meaning::mnemonic::JumpName;
-use std::alloc::AllocError;
+use c25_meaning::no_memory::NoMemory;
 
 macro_rules! jump_rows {
     ($what:ident $value:expr) => {
@@ -79,7 +79,7 @@ pub(crate) fn size_of(name: JumpName) -> u16
 /// The first word of an instruction.
 pub(crate) fn encode(name: JumpName, word: u16, change: Change, next: Option<u16>) -> u16
     requires { NextInRange next }
-    ensures { result ≡ first_word (insn.Jump name word change next) }
+    ensures { result ≡ opcode_word (insn.Jump name word change next) }
 {
     base_of(name) + addr::byte_of_indirect(change, next)
 }
@@ -107,7 +107,7 @@ pub(crate) fn show(
     word: u16,
     change: Change,
     next: Option<u16>,
-) -> Result<(), AllocError>
+) -> Result<(), NoMemory>
     ensures { OnOk result
         (string_bytes out.new ≡ string_bytes out.old ++ show (insn.Jump name word change next)) }
 {

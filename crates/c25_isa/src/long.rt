@@ -2,7 +2,7 @@
 //! byte.
 
 ghost use Rattle.std.specs.Prelude.{◌≡◌, ℕ, ◌+◌, ◌*◌, ◌++◌, ◌<◌, ◌^◌, Some, IfNone, IfSome, OnOk, string_bytes};
-ghost use Rattle.c25_meaning.specs.Table.{long_row, SameLetters, size, high_limit, first_word, Reads};
+ghost use Rattle.c25_meaning.specs.Table.{long_row, SameLetters, size, high_limit, opcode_word, Reads};
 ghost use Rattle.c25_meaning.specs.Show.{show};
 ghost use Rattle.c25_meaning.specs.declared.mnemonic.LongName.{LongName};
 ghost use Rattle.c25_meaning.specs.declared.mnemonic.Mnemonic.TheVariants as family;
@@ -12,7 +12,7 @@ use crate::{rows, text};
 use c25_bits::Field;
 use c25_meaning::insn::Insn;
 use c25_meaning::mnemonic::LongName;
-use std::alloc::AllocError;
+use c25_meaning::no_memory::NoMemory;
 
 macro_rules! long_rows {
     ($what:ident $value:expr) => {
@@ -70,7 +70,7 @@ pub(crate) fn size_of(name: LongName) -> u16
 /// The first word of an instruction.
 pub(crate) fn encode(name: LongName, number: u16, high: u16) -> u16
     requires { high < high_limit name }
-    ensures { result ≡ first_word (insn.Long name number high) }
+    ensures { result ≡ opcode_word (insn.Long name number high) }
 {
     base_of(name) + (high << 8)
 }
@@ -91,12 +91,7 @@ pub(crate) fn decode(first: u16, second: u16) -> Option<Insn>
 }
 
 /// Appends an instruction's text.
-pub(crate) fn show(
-    out: &mut String,
-    name: LongName,
-    number: u16,
-    high: u16,
-) -> Result<(), AllocError>
+pub(crate) fn show(out: &mut String, name: LongName, number: u16, high: u16) -> Result<(), NoMemory>
     ensures { OnOk result
         (string_bytes out.new ≡ string_bytes out.old ++ show (insn.Long name number high)) }
 {
@@ -109,7 +104,7 @@ pub(crate) fn show(
         _ => {
             out.push_str(" ")?;
             text::push_long(out, number)?;
-            write!(out, ",{high}")
+            Ok(write!(out, ",{high}")?)
         }
     }
 }

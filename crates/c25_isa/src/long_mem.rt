@@ -2,7 +2,7 @@
 //! memory operand alone.
 
 ghost use Rattle.std.specs.Prelude.{◌≡◌, ℕ, ◌+◌, ◌*◌, ◌++◌, ◌≤◌, ◌^◌, Some, IfNone, IfSome, OnOk, string_bytes};
-ghost use Rattle.c25_meaning.specs.Table.{long_mem_row, SameLetters, size, first_word, Reads, AddrInRange};
+ghost use Rattle.c25_meaning.specs.Table.{long_mem_row, SameLetters, size, opcode_word, Reads, AddrInRange};
 ghost use Rattle.c25_meaning.specs.Show.{show};
 ghost use Rattle.c25_meaning.specs.declared.mnemonic.LongMemName.{LongMemName};
 ghost use Rattle.c25_meaning.specs.declared.mnemonic.Mnemonic.TheVariants as family;
@@ -13,7 +13,7 @@ use crate::{addr, rows, text};
 use c25_bits::Field;
 use c25_meaning::insn::{Addr, Insn};
 use c25_meaning::mnemonic::LongMemName;
-use std::alloc::AllocError;
+use c25_meaning::no_memory::NoMemory;
 
 macro_rules! long_mem_rows {
     ($what:ident $value:expr) => {
@@ -69,7 +69,7 @@ pub(crate) fn size_of(name: LongMemName) -> u16
 /// The first word of an instruction.
 pub(crate) fn encode(name: LongMemName, word: u16, addr: Addr) -> u16
     requires { AddrInRange addr }
-    ensures { result ≡ first_word (insn.LongMem name word addr) }
+    ensures { result ≡ opcode_word (insn.LongMem name word addr) }
 {
     base_of(name) + addr::byte_of_addr(addr)
 }
@@ -92,7 +92,7 @@ pub(crate) fn show(
     name: LongMemName,
     word: u16,
     addr: Addr,
-) -> Result<(), AllocError>
+) -> Result<(), NoMemory>
     ensures { OnOk result
         (string_bytes out.new ≡ string_bytes out.old ++ show (insn.LongMem name word addr)) }
 {

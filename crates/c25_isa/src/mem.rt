@@ -2,7 +2,7 @@
 //! byte.
 
 ghost use Rattle.std.specs.Prelude.{◌≡◌, ℕ, ◌+◌, ◌*◌, ◌++◌, ◌≤◌, ◌^◌, Some, IfNone, IfSome, OnOk, string_bytes};
-ghost use Rattle.c25_meaning.specs.Table.{mem_row, SameLetters, size, first_word, Reads, AddrInRange};
+ghost use Rattle.c25_meaning.specs.Table.{mem_row, SameLetters, size, opcode_word, Reads, AddrInRange};
 ghost use Rattle.c25_meaning.specs.Show.{show};
 ghost use Rattle.c25_meaning.specs.declared.mnemonic.MemName.{MemName};
 ghost use Rattle.c25_meaning.specs.declared.mnemonic.Mnemonic.TheVariants as family;
@@ -13,7 +13,7 @@ use crate::{addr, rows, text};
 use c25_bits::Field;
 use c25_meaning::insn::{Addr, Insn};
 use c25_meaning::mnemonic::MemName;
-use std::alloc::AllocError;
+use c25_meaning::no_memory::NoMemory;
 
 macro_rules! mem_rows {
     ($what:ident $value:expr) => {
@@ -106,7 +106,7 @@ pub(crate) fn size_of(name: MemName) -> u16
 /// The first word of an instruction.
 pub(crate) fn encode(name: MemName, addr: Addr) -> u16
     requires { AddrInRange addr }
-    ensures { result ≡ first_word (insn.Mem name addr) }
+    ensures { result ≡ opcode_word (insn.Mem name addr) }
 {
     base_of(name) + addr::byte_of_addr(addr)
 }
@@ -124,7 +124,7 @@ pub(crate) fn decode(first: u16) -> Option<Insn>
 }
 
 /// Appends an instruction's text.
-pub(crate) fn show(out: &mut String, name: MemName, addr: Addr) -> Result<(), AllocError>
+pub(crate) fn show(out: &mut String, name: MemName, addr: Addr) -> Result<(), NoMemory>
     ensures { OnOk result
         (string_bytes out.new ≡ string_bytes out.old ++ show (insn.Mem name addr)) }
 {

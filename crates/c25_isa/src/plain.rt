@@ -3,7 +3,7 @@
 
 ghost use Rattle.std.specs.Prelude.{◌≡◌, ℕ, ◌+◌, ◌++◌, ◌≤◌, ◌<◌, ◌^◌, Some, IfNone, IfSome, OnOk, string_bytes};
 ghost use Rattle.c25_isa.specs.Extent.{plain_extent};
-ghost use Rattle.c25_meaning.specs.Table.{plain_row, SameLetters, size, plain_number, PlainInRange, first_word, Reads};
+ghost use Rattle.c25_meaning.specs.Table.{plain_row, SameLetters, size, plain_number, PlainInRange, opcode_word, Reads};
 ghost use Rattle.c25_meaning.specs.Show.{show};
 ghost use Rattle.c25_meaning.specs.declared.mnemonic.PlainName.{PlainName};
 ghost use Rattle.c25_meaning.specs.declared.insn.PlainOperand.{PlainOperand};
@@ -13,7 +13,7 @@ ghost use Rattle.c25_meaning.specs.declared.mnemonic.Mnemonic.TheVariants as fam
 use crate::{addr, rows, text};
 use c25_meaning::insn::{Insn, PlainOperand};
 use c25_meaning::mnemonic::PlainName;
-use std::alloc::AllocError;
+use c25_meaning::no_memory::NoMemory;
 
 macro_rules! plain_rows {
     ($what:ident $value:expr) => {
@@ -137,7 +137,7 @@ fn number_of(name: PlainName, operand: PlainOperand) -> u16
 /// The first word of an instruction.
 pub(crate) fn encode(name: PlainName, operand: PlainOperand) -> u16
     requires { PlainInRange name operand }
-    ensures { result ≡ first_word (insn.Plain name operand) }
+    ensures { result ≡ opcode_word (insn.Plain name operand) }
 {
     base_of(name) + number_of(name, operand)
 }
@@ -155,21 +155,17 @@ pub(crate) fn decode(first: u16) -> Option<Insn>
 }
 
 /// Appends an instruction's text.
-pub(crate) fn show(
-    out: &mut String,
-    name: PlainName,
-    operand: PlainOperand,
-) -> Result<(), AllocError>
+pub(crate) fn show(out: &mut String, name: PlainName, operand: PlainOperand) -> Result<(), NoMemory>
     ensures { OnOk result
         (string_bytes out.new ≡ string_bytes out.old ++ show (insn.Plain name operand)) }
 {
     out.push_str(text_of(name))?;
     match operand {
         PlainOperand::Nothing => Ok(()),
-        PlainOperand::Number(number) => write!(out, " {number}"),
+        PlainOperand::Number(number) => Ok(write!(out, " {number}")?),
         PlainOperand::Change(change) => {
             out.push_str(" ")?;
-            out.push_str(text::text_of_change(change))
+            Ok(out.push_str(text::text_of_change(change))?)
         }
     }
 }

@@ -1,7 +1,7 @@
 //! Instructions with a memory operand and a port: one word, the port in the high byte.
 
 ghost use Rattle.std.specs.Prelude.{◌≡◌, ℕ, pos, ◌+◌, ◌*◌, ◌%◌, ◌++◌, ◌<◌, ◌≤◌, ◌^◌, Some, IfNone, IfSome, OnOk, string_bytes};
-ghost use Rattle.c25_meaning.specs.Table.{port_row, SameLetters, size, placed, first_word, Reads, AddrInRange};
+ghost use Rattle.c25_meaning.specs.Table.{port_row, SameLetters, size, placed, opcode_word, Reads, AddrInRange};
 ghost use Rattle.c25_meaning.specs.Show.{show};
 ghost use Rattle.c25_meaning.specs.declared.mnemonic.PortName.{PortName};
 ghost use Rattle.c25_meaning.specs.declared.mnemonic.Mnemonic.TheVariants as family;
@@ -12,7 +12,7 @@ use crate::{addr, rows, text};
 use c25_bits::Field;
 use c25_meaning::insn::{Addr, Insn};
 use c25_meaning::mnemonic::PortName;
-use std::alloc::AllocError;
+use c25_meaning::no_memory::NoMemory;
 
 macro_rules! port_rows {
     ($what:ident $value:expr) => {
@@ -68,7 +68,7 @@ pub(crate) fn size_of(name: PortName) -> u16
 pub(crate) fn encode(name: PortName, addr: Addr, port: u16) -> u16
     requires port_in_range { port < 16 }
     requires addr_in_range { AddrInRange addr }
-    ensures { result ≡ first_word (insn.Port name addr port) }
+    ensures { result ≡ opcode_word (insn.Port name addr port) }
 {
     base_of(name) + (port << 8) + addr::byte_of_addr(addr)
 }
@@ -86,12 +86,7 @@ pub(crate) fn decode(first: u16) -> Option<Insn>
 }
 
 /// Appends an instruction's text.
-pub(crate) fn show(
-    out: &mut String,
-    name: PortName,
-    addr: Addr,
-    port: u16,
-) -> Result<(), AllocError>
+pub(crate) fn show(out: &mut String, name: PortName, addr: Addr, port: u16) -> Result<(), NoMemory>
     ensures { OnOk result
         (string_bytes out.new ≡ string_bytes out.old ++ show (insn.Port name addr port)) }
 {

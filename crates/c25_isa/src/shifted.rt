@@ -1,7 +1,7 @@
 //! Instructions with a memory operand and a shift: one word, the shift in the high byte.
 
 ghost use Rattle.std.specs.Prelude.{◌≡◌, ℕ, pos, ◌+◌, ◌*◌, ◌%◌, ◌++◌, ◌<◌, ◌≤◌, ◌^◌, Some, IfNone, IfSome, OnOk, string_bytes};
-ghost use Rattle.c25_meaning.specs.Table.{shifted_row, SameLetters, size, placed, first_word, Reads, AddrInRange, shift_limit};
+ghost use Rattle.c25_meaning.specs.Table.{shifted_row, SameLetters, size, placed, opcode_word, Reads, AddrInRange, shift_limit};
 ghost use Rattle.c25_meaning.specs.Show.{show};
 ghost use Rattle.c25_meaning.specs.declared.mnemonic.ShiftedName.{ShiftedName};
 ghost use Rattle.c25_meaning.specs.declared.mnemonic.Mnemonic.TheVariants as family;
@@ -12,7 +12,7 @@ use crate::{addr, rows, text};
 use c25_bits::Field;
 use c25_meaning::insn::{Addr, Insn};
 use c25_meaning::mnemonic::ShiftedName;
-use std::alloc::AllocError;
+use c25_meaning::no_memory::NoMemory;
 
 macro_rules! shifted_rows {
     ($what:ident $value:expr) => {
@@ -72,7 +72,7 @@ pub(crate) fn size_of(name: ShiftedName) -> u16
 pub(crate) fn encode(name: ShiftedName, addr: Addr, shift: u16) -> u16
     requires shift_in_range { shift < shift_limit name }
     requires addr_in_range { AddrInRange addr }
-    ensures { result ≡ first_word (insn.Shifted name addr shift) }
+    ensures { result ≡ opcode_word (insn.Shifted name addr shift) }
 {
     base_of(name) + (shift << 8) + addr::byte_of_addr(addr)
 }
@@ -95,7 +95,7 @@ pub(crate) fn show(
     name: ShiftedName,
     addr: Addr,
     shift: u16,
-) -> Result<(), AllocError>
+) -> Result<(), NoMemory>
     ensures { OnOk result
         (string_bytes out.new ≡ string_bytes out.old ++ show (insn.Shifted name addr shift)) }
 {

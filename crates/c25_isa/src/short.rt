@@ -3,7 +3,7 @@
 ghost use Rattle.std.specs.Prelude.{◌≡◌, ℕ, ℤ, ◌+◌, ◌*◌, ◌++◌, ◌<◌, ◌≤◌, ◌^◌, Some, IfNone, IfSome, OnOk, string_bytes};
 ghost use Rattle.c25_bits.specs.Cut.{cut};
 ghost use Rattle.c25_isa.specs.Extent.{extent};
-ghost use Rattle.c25_meaning.specs.Table.{short_row, SameLetters, size, short_width, ShortInRange, first_word, Reads};
+ghost use Rattle.c25_meaning.specs.Table.{short_row, SameLetters, size, short_width, ShortInRange, opcode_word, Reads};
 ghost use Rattle.c25_meaning.specs.Show.{show};
 ghost use Rattle.c25_meaning.specs.declared.mnemonic.ShortName.{ShortName};
 ghost use Rattle.c25_meaning.specs.declared.mnemonic.Mnemonic.TheVariants as family;
@@ -13,7 +13,7 @@ use crate::rows;
 use c25_bits::Field;
 use c25_meaning::insn::Insn;
 use c25_meaning::mnemonic::ShortName;
-use std::alloc::AllocError;
+use c25_meaning::no_memory::NoMemory;
 
 macro_rules! short_rows {
     ($what:ident $value:expr) => {
@@ -85,7 +85,7 @@ fn bits_of(name: ShortName, register: u16, number: i16) -> u16
 /// The first word of an instruction.
 pub(crate) fn encode(name: ShortName, register: u16, number: i16) -> u16
     requires { ShortInRange name register number }
-    ensures { result ≡ first_word (insn.Short name register number) }
+    ensures { result ≡ opcode_word (insn.Short name register number) }
 {
     base_of(name) + bits_of(name, register, number)
 }
@@ -116,14 +116,14 @@ pub(crate) fn show(
     name: ShortName,
     register: u16,
     number: i16,
-) -> Result<(), AllocError>
+) -> Result<(), NoMemory>
     ensures { OnOk result
         (string_bytes out.new ≡ string_bytes out.old ++ show (insn.Short name register number)) }
 {
     out.push_str(text_of(name))?;
     match name {
-        ShortName::Lark => write!(out, " AR{register},{number}"),
-        _ => write!(out, " {number}"),
+        ShortName::Lark => Ok(write!(out, " AR{register},{number}")?),
+        _ => Ok(write!(out, " {number}")?),
     }
 }
 

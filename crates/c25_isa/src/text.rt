@@ -6,16 +6,17 @@ ghost use Rattle.c25_meaning.specs.Show.{show, hex_digit, two_digits, four_digit
 use crate::{ar_mem, bit, jump, long, long_mem, mem, plain, port, shifted, short};
 use c25_meaning::insn::{Addr, Change, Insn};
 use c25_meaning::no_memory::NoMemory;
-use std::alloc::{AllocError, Global};
+use std::alloc::Global;
 
 /// Appends a word as a hexadecimal constant of four digits.
 #[tactic(auto, using(std::proofs::lemmas::Fmt::hex_byte))]
-pub(crate) fn push_long(out: &mut String, number: u16) -> Result<(), AllocError>
+pub(crate) fn push_long(out: &mut String, number: u16) -> Result<(), NoMemory>
     ensures { OnOk result (string_bytes out.new ≡ string_bytes out.old ++ long_text number) }
 {
     let high = number >> 8;
     let low = number % 256;
-    write!(out, "0{high:02X}{low:02X}h")
+    write!(out, "0{high:02X}{low:02X}h")?;
+    Ok(())
 }
 
 /// An indirect form.
@@ -35,27 +36,27 @@ pub(crate) fn text_of_change(change: Change) -> &'static str
 
 /// Appends a direct address, or an indirect form.
 #[tactic(auto, using(std::proofs::lemmas::Fmt::hex_byte))]
-pub(crate) fn push_place(out: &mut String, addr: Addr) -> Result<(), AllocError>
+pub(crate) fn push_place(out: &mut String, addr: Addr) -> Result<(), NoMemory>
     ensures { OnOk result (string_bytes out.new ≡ string_bytes out.old ++ place_text addr) }
 {
     match addr {
-        Addr::Direct(low) => write!(out, "0{:02X}h", low % 256),
-        Addr::Indirect(change, _) => out.push_str(text_of_change(change)),
+        Addr::Direct(low) => Ok(write!(out, "0{:02X}h", low % 256)?),
+        Addr::Indirect(change, _) => Ok(out.push_str(text_of_change(change))?),
     }
 }
 
 /// Appends a next register, where there is one.
-pub(crate) fn push_next(out: &mut String, next: Option<u16>) -> Result<(), AllocError>
+pub(crate) fn push_next(out: &mut String, next: Option<u16>) -> Result<(), NoMemory>
     ensures { OnOk result (string_bytes out.new ≡ string_bytes out.old ++ next_text next) }
 {
     match next {
         None => Ok(()),
-        Some(next) => write!(out, ",AR{next}"),
+        Some(next) => Ok(write!(out, ",AR{next}")?),
     }
 }
 
 /// Appends the next register of an operand, where there is one.
-pub(crate) fn push_tail(out: &mut String, addr: Addr) -> Result<(), AllocError>
+pub(crate) fn push_tail(out: &mut String, addr: Addr) -> Result<(), NoMemory>
     ensures { OnOk result (string_bytes out.new ≡ string_bytes out.old ++ tail_text addr) }
 {
     match addr {

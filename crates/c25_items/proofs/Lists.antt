@@ -1,7 +1,7 @@
 -- The items of the lines, a line at a time.
 use Rattle.std.proofs.Common.{◌≡◌, ℕ, zero, suc, map, arith, ◌+◌, ◌<◌, ◌≤◌, List, [], ◌∷◌, length, get_or, drop, Option, Some, None, Ok, Err, refl, ap, sym, ◌∙◌}
 use Rattle.std.proofs.lemmas.List.{at_drop_more, drop_all}
-use Rattle.c25_meaning.specs.Items.{items, or_fault, with_line, words_of}
+use Rattle.c25_meaning.specs.Items.{items, or_fault, with_line, line_words}
 
 map_len : {X Y : Type 0} (f : X → Y) (xs : List X) → length (map f xs) ≡ length xs
 map_len f [] = refl
@@ -14,12 +14,12 @@ at_index f (x ∷ xs) zero d l = refl
 at_index f (x ∷ xs) (suc i) d l = at_index f xs i d (omega arith)
 
 module _ {A : Type 0} (item : List A → List (List ℕ) → Option A) where
-  more : (before now : List A) (number : ℕ) (line : List ℕ) (rest : List (List ℕ)) → with_line item before (words_of line) ≡ Some now
+  more : (before now : List A) (number : ℕ) (line : List ℕ) (rest : List (List ℕ)) → with_line item before (line_words line) ≡ Some now
       → items item before number (line ∷ rest) ≡ items item now (number + 1) rest
   unfolding items
   more before now number line rest h = ap (λ o. or_fault number o (λ found. items item found (number + 1) rest)) h
 
-  faulty : (before : List A) (number : ℕ) (line : List ℕ) (rest : List (List ℕ)) → with_line item before (words_of line) ≡ None
+  faulty : (before : List A) (number : ℕ) (line : List ℕ) (rest : List (List ℕ)) → with_line item before (line_words line) ≡ None
       → items item before number (line ∷ rest) ≡ Err number
   unfolding items
   faulty before number line rest h = ap (λ o. or_fault number o (λ found. items item found (number + 1) rest)) h
@@ -32,11 +32,11 @@ module _ {A : Type 0} (item : List A → List (List ℕ) → Option A) where
         ∙ ap (λ (l : List ℕ). items item before number (l ∷ drop (index + 1) (map view xs))) (at_index view xs index d here ∙ sym is)
 
     -- the line is read
-    pub items_more : (now : List A) → with_line item before (words_of line) ≡ Some now → items item before number (drop index (map view xs)) ≡ items item now (number + 1) (drop (index + 1) (map view xs))
+    pub items_more : (now : List A) → with_line item before (line_words line) ≡ Some now → items item before number (drop index (map view xs)) ≡ items item now (number + 1) (drop (index + 1) (map view xs))
     items_more now h = first ∙ more before now number line (drop (index + 1) (map view xs)) h
 
     -- the line is faulty
-    pub items_fault : with_line item before (words_of line) ≡ None → items item before number (drop index (map view xs)) ≡ Err number
+    pub items_fault : with_line item before (line_words line) ≡ None → items item before number (drop index (map view xs)) ≡ Err number
     items_fault h = first ∙ faulty before number line (drop (index + 1) (map view xs)) h
 
   -- no line is left

@@ -3,7 +3,7 @@
 ghost use Rattle.std.specs.Prelude.{◌≡◌, IfOk, map};
 ghost use Rattle.std.specs.Str.{str_eq_ignore_ascii_case};
 ghost use Rattle.std.specs.Str.Lines.{lines};
-ghost use Rattle.c25_meaning.specs.Items.{words_of};
+ghost use Rattle.c25_meaning.specs.Items.{line_words};
 
 use c25_text::is_blank;
 use std::alloc::{AllocError, Global};
@@ -16,8 +16,8 @@ pub(crate) fn lines_of(alloc: Global, text: &str) -> Result<Vec<&str>, AllocErro
 }
 
 /// The words of a line.
-pub(crate) fn words_of(alloc: Global, line: &[u8]) -> Result<Vec<&[u8]>, AllocError>
-    ensures { IfOk result (λ v. map (λ w. w.now) v.items ≡ words_of line.now) }
+pub(crate) fn line_words(alloc: Global, line: &[u8]) -> Result<Vec<&[u8]>, AllocError>
+    ensures { IfOk result (λ v. map (λ w. w.now) v.items ≡ line_words line.now) }
 {
     line.split(|b| is_blank(*b))
         .filter(|word| word.len() != 0)

@@ -4,7 +4,7 @@ pub mod Dictionary
 pub mod Entries
 pub mod Expander
 pub mod Expanders
-pub mod Frames
+pub mod Scopes
 pub mod Macros
 pub mod Refusals
 pub mod Stages

@@ -1,34 +1,37 @@
 -- Where an expander stands.
 use Rattle.std.specs.Prelude.{◌≡◌, ℕ, List, Option, Result, Ok, Err}
 use Rattle.std.specs.String.{string_bytes}
-use Rattle.c25_meaning.specs.Files.{Files, file_name}
+use Rattle.c25_meaning.specs.ExpansionAnswers.{ExpansionFault, Faulty, Missing}
 use Rattle.c25_meaning.specs.ExpansionRuns.{start_of}
+use Rattle.c25_meaning.specs.Files.{Files, file_name}
+use Rattle.c25_meaning.specs.declared.failure.Failure.{Failure}
+use Rattle.c25_meaning.specs.declared.failure.Failure.TheVariants.{NoMemory, Fault}
 use Rattle.c25_macro.specs.Config.{config}
 use Rattle.c25_macro.specs.Expander as exp
-use Rattle.c25_macro.specs.Expander.{Failure, NoMemory, Faulty, Missing, begun_at, Tells}
+use Rattle.c25_macro.specs.Expander.{begun_at, Tells}
 use Rattle.c25_macro.specs.declared.answer.ExpLine.{ExpLine}
-use Rattle.c25_macro.specs.declared.answer.ExpandError.{ExpandError}
+use Rattle.c25_macro.specs.declared.answer.ExpandFault.{ExpandFault}
 use Rattle.c25_macro.specs.declared.refusal.Refusal.{Refusal}
 use Rattle.c25_macro.specs.declared.refusal.Refusal.TheVariants as refusal
 use Rattle.c25_macro.specs.declared.stage.Stage.{Stage}
 use Rattle.c25_macro.specs.declared.stage.Stage.TheVariants as stage
 
 -- the failure of a refusal
-abbrev pub failure_in : Files → Refusal → Failure
-failure_in files refusal.NoMemory = NoMemory
-failure_in files (refusal.Faulty place kind) = Faulty (file_name files place.file) place.line kind
-failure_in files (refusal.Missing place name) = Missing (file_name files place.file) place.line (string_bytes name)
+abbrev pub failure_in : Files → Failure Refusal → Failure ExpansionFault
+failure_in files (NoMemory n) = NoMemory n
+failure_in files (Fault (refusal.Faulty place kind)) = Fault (Faulty (file_name files place.file) place.line kind)
+failure_in files (Fault (refusal.Missing place name)) = Fault (Missing (file_name files place.file) place.line (string_bytes name))
 
 -- where an expander stands
 abbrev pub stage_of : Files → List ℕ → Stage → exp.Stage
 stage_of files name stage.Before = begun_at (start_of files name)
 stage_of files name (stage.Standing s) = exp.Stands (config s.state)
-stage_of files name stage.NoModule = exp.Failed (Missing name 0 name)
-stage_of files name stage.NoMemory = exp.Failed NoMemory
-stage_of files name (stage.Faulty file line kind) = exp.Failed (Faulty file.now line kind)
-stage_of files name (stage.Missing file line wanted) = exp.Failed (Missing file.now line (string_bytes wanted))
+stage_of files name stage.NoModule = exp.Failed (Fault (Missing name 0 name))
+stage_of files name (stage.NoMemory n) = exp.Failed (NoMemory n)
+stage_of files name (stage.Faulty f) = exp.Failed (Fault (Faulty f.file.now f.line f.kind))
+stage_of files name (stage.Missing file line wanted) = exp.Failed (Fault (Missing file.now line (string_bytes wanted)))
 
 -- the stage is behind this refusal, and the answer tells it
-abbrev pub IsRefused : Files → List ℕ → Refusal → Stage → Result (Option ExpLine) ExpandError → Type 0
+abbrev pub IsRefused : Files → List ℕ → Failure Refusal → Stage → Result (Option ExpLine) (Failure ExpandFault) → Type 0
 IsRefused files name refusal new (Err e) = (stage_of files name new ≡ exp.Failed (failure_in files refusal)) × Tells (failure_in files refusal) e
 IsRefused files name refusal new (Ok o) = ⊥

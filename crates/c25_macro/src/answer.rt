@@ -14,18 +14,12 @@ pub struct ExpLine<'a> {
     pub text: String,
 }
 
-/// Why no line is given.
+/// The line of this number in this file is wrong, or a file that it asks for is not there (10 to 13,
+/// 20 to 25, 30 to 36, 38, 51, 52); line 0 where the module itself is not there (30).
 #[derive(Clone, Copy, PartialEq, Eq, Debug, Error)]
-pub enum ExpandError<'a> {
-    /// A growth was refused (9).
-    #[error("NoMemory")]
-    NoMemory,
-    /// The line of this number in this file is wrong, or a file that it asks for is not there (10 to 13,
-    /// 20 to 25, 30 to 36, 38, 51, 52); line 0 where the module itself is not there (30).
-    #[error("{file}:{line}: {kind:?}")]
-    Line {
-        file: &'a str,
-        line: usize,
-        kind: FaultKind,
-    },
+#[error("{file}:{line}: {kind:?}")]
+pub struct ExpandFault<'a> {
+    pub file: &'a str,
+    pub line: usize,
+    pub kind: FaultKind,
 }

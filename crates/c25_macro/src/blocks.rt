@@ -1,6 +1,6 @@
 //! Macros, loops and copied files.
 
-ghost use Rattle.std.specs.Prelude.{◌≡◌, ◌<◌, ◌^◌, ◌||◌, is_some, OnOk, IfErr};
+ghost use Rattle.std.specs.Prelude.{◌≡◌, ◌<◌, ◌^◌, ◌||◌, is_some};
 ghost use Rattle.std.specs.Option.{option_map};
 ghost use Rattle.std.specs.String.{string_bytes};
 ghost use Rattle.c25_meaning.specs.Expansion as exp;
@@ -9,18 +9,19 @@ ghost use Rattle.c25_meaning.specs.Spellings.{spelling_of};
 ghost use Rattle.c25_expr.specs.View.{tree_of};
 ghost use Rattle.c25_macro.specs.Acts.{bytes_of_names};
 ghost use Rattle.c25_macro.specs.Config.{config, GoesOn};
-ghost use Rattle.c25_macro.specs.Frames.{test_of};
+ghost use Rattle.c25_macro.specs.Scopes.{test_of};
 
 use crate::files::Files;
-use crate::frame::{Block, Branches, Frame, Kind, Source, Stack};
 use crate::refusal::{Refusal, fault};
 use crate::rows::{Rows, rows_of};
+use crate::scope::{Block, Branches, Kind, Scope, Source, Stack};
 use crate::state::{Mode, State};
 use crate::values::{is_zero, number};
 use c25_expr::symbols::Symbols;
 use c25_expr::tree::Expr;
 use c25_isa::mnemonic;
 use c25_meaning::expansion::Place;
+use c25_meaning::failure::Failure;
 use c25_meaning::statement::FaultKind;
 use c25_substitution::parameters::Arguments;
 
@@ -56,7 +57,7 @@ impl State {
         place: Place,
         name: String,
         parameters: Vec<String>,
-    ) -> Result<(), Refusal>
+    ) -> Result<(), Failure<Refusal>>
         ensures { GoesOn (rule.begins_macro place (string_bytes name) (bytes_of_names parameters.items) (config self.old)) result (config self.new) }
     {
         if self.is_taken(name.as_str()) {
@@ -78,7 +79,7 @@ impl State {
         place: Place,
         body: Rows,
         arguments: Arguments,
-    ) -> Result<(), Refusal>
+    ) -> Result<(), Failure<Refusal>>
         requires { (config self.old).names.count < 2 ^ 31 }
         ensures { GoesOn (rule.begins_expansion place body arguments (config self.old)) result (config self.new) }
     {
@@ -92,7 +93,7 @@ impl State {
     }
 
     /// The lines through the end of the innermost such block are dropped.
-    pub(crate) fn leave_block(&mut self, block: Block, place: Place) -> Result<(), Refusal>
+    pub(crate) fn leave_block(&mut self, block: Block, place: Place) -> Result<(), Failure<Refusal>>
         ensures { GoesOn (rule.leaves (test_of block) place (config self.old)) result (config self.new) }
     {
         if self.leave(block) {
@@ -103,7 +104,7 @@ impl State {
     }
 
     /// The lines of a loop of so many turns follow.
-    fn collect(&mut self, place: Place, turns: usize) -> Result<(), Refusal>
+    fn collect(&mut self, place: Place, turns: usize) -> Result<(), Failure<Refusal>>
         ensures { GoesOn (rule.collects place turns (config self.old)) result (config self.new) }
     {
         if self.is_full() {
@@ -124,7 +125,7 @@ impl State {
         symbols: &Symbols,
         place: Place,
         count: Option<Expr>,
-    ) -> Result<(), Refusal>
+    ) -> Result<(), Failure<Refusal>>
         ensures { GoesOn (rule.begins_loop symbols.now place (option_map tree_of count) (config self.old)) result (config self.new) }
     {
         match count {
@@ -140,7 +141,7 @@ impl State {
     }
 
     /// `.break` whose condition holds or not.
-    fn break_if(&mut self, holds: bool, place: Place) -> Result<(), Refusal>
+    fn break_if(&mut self, holds: bool, place: Place) -> Result<(), Failure<Refusal>>
         ensures { GoesOn (rule.breaks_if holds place (config self.old)) result (config self.new) }
     {
         if !self.stands_in(Block::Turn) {
@@ -160,7 +161,7 @@ impl State {
         symbols: &Symbols,
         place: Place,
         condition: Option<Expr>,
-    ) -> Result<(), Refusal>
+    ) -> Result<(), Failure<Refusal>>
         ensures { GoesOn (rule.breaks symbols.now place (option_map tree_of condition) (config self.old)) result (config self.new) }
     {
         match condition {
@@ -176,9 +177,8 @@ impl State {
     }
 
     /// `.asg`
-    pub(crate) fn assign(&mut self, name: &str, text: String) -> Result<(), Refusal>
-        ensures ok { OnOk result (config self.new ≡ record (config self.old) { names = exp.assigned name.now (string_bytes text) (config self.old).names }) }
-        ensures err { IfErr result (λ refusal. refusal ≡ Refusal.NoMemory) }
+    pub(crate) fn assign(&mut self, name: &str, text: String) -> Result<(), Failure<Refusal>>
+        ensures { GoesOn (exp.Goes (record (config self.old) { names = exp.assigned name.now (string_bytes text) (config self.old).names })) result (config self.new) }
     {
         self.names.assign(name, text)?;
         Ok(())
@@ -192,7 +192,7 @@ impl State {
         place: Place,
         expression: &Expr,
         name: &str,
-    ) -> Result<(), Refusal>
+    ) -> Result<(), Failure<Refusal>>
         ensures { GoesOn (rule.evaluates symbols.now place (tree_of expression.now) name.now (config self.old)) result (config self.new) }
     {
         let number = match number(symbols, expression) {
@@ -206,7 +206,12 @@ impl State {
 
     /// `.copy`
     #[tactic(auto, unfolding(c25_meaning::specs::ExpansionRules::copies))]
-    pub(crate) fn copy(&mut self, files: &Files, place: Place, name: String) -> Result<(), Refusal>
+    pub(crate) fn copy(
+        &mut self,
+        files: &Files,
+        place: Place,
+        name: String,
+    ) -> Result<(), Failure<Refusal>>
         ensures { GoesOn (rule.copies files.now place (string_bytes name) (config self.old)) result (config self.new) }
     {
         match files.find(name.as_str()) {
@@ -219,18 +224,18 @@ impl State {
                 self.open(Kind::Copied, last, rows)?;
                 Ok(())
             }
-            None => Err(Refusal::Missing { place, name }),
+            None => Err(Failure::Fault(Refusal::Missing { place, name })),
         }
     }
 
     /// `.end`
     #[tactic(auto, unfolding(c25_meaning::specs::ExpansionRules::ends_all))]
-    pub(crate) fn end_all(&mut self, place: Place) -> Result<(), Refusal>
+    pub(crate) fn end_all(&mut self, place: Place) -> Result<(), Failure<Refusal>>
         ensures { GoesOn (rule.ends_all place (config self.old)) result (config self.new) }
     {
         self.top = Source {
             rows: Rows::new(self.alloc),
-            frame: Frame {
+            scope: Scope {
                 kind: Kind::Copied,
                 last: place,
                 branches: Branches::new(self.alloc),

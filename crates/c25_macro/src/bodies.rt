@@ -8,12 +8,13 @@ ghost use Rattle.c25_macro.specs.Acts.{bytes_of_names};
 ghost use Rattle.c25_macro.specs.Config.{config, GoesOn};
 
 use crate::directive::directive_in;
-use crate::frame::Kind;
 use crate::macros::Macro;
 use crate::refusal::Refusal;
 use crate::rows::{Row, Rows};
+use crate::scope::Kind;
 use crate::state::{Mode, State};
 use c25_meaning::expansion::{Directive, Place};
+use c25_meaning::failure::Failure;
 
 impl State {
     /// A line of a macro's body, or its end.
@@ -25,7 +26,7 @@ impl State {
         parameters: Vec<String>,
         mut body: Rows,
         nested: usize,
-    ) -> Result<(), Refusal>
+    ) -> Result<(), Failure<Refusal>>
         requires { nested < 2 ^ 32 }
         ensures { GoesOn (rule.in_macro row (rule.directive_in (first_word row.text)) (string_bytes name) (bytes_of_names parameters.items) body nested (config self.old)) result (config self.new) }
     {
@@ -52,7 +53,12 @@ impl State {
     }
 
     /// The turns of a loop whose lines were collected.
-    fn begin_turns(&mut self, place: Place, turns: usize, body: Rows) -> Result<(), Refusal>
+    fn begin_turns(
+        &mut self,
+        place: Place,
+        turns: usize,
+        body: Rows,
+    ) -> Result<(), Failure<Refusal>>
         ensures { GoesOn (rule.turns_begin place turns body (config self.old)) result (config self.new) }
     {
         if turns == 0 {
@@ -73,7 +79,7 @@ impl State {
         turns: usize,
         mut body: Rows,
         nested: usize,
-    ) -> Result<(), Refusal>
+    ) -> Result<(), Failure<Refusal>>
         requires { nested < 2 ^ 32 }
         ensures { GoesOn (rule.in_loop row (rule.directive_in (first_word row.text)) turns body nested (config self.old)) result (config self.new) }
     {

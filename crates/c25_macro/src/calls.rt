@@ -5,11 +5,12 @@ ghost use Rattle.std.specs.Option.{option_map};
 ghost use Rattle.c25_macro.specs.Expander.{begun, IsNext, IsKept, missing_of, left_of};
 ghost use Rattle.c25_macro.specs.Expanders.{expansion_of};
 
-use crate::answer::{ExpLine, ExpandError};
+use crate::answer::{ExpLine, ExpandFault};
 use crate::expander::Expander;
 use crate::files::Files;
 use crate::stage::{Stage, advance};
 use c25_expr::symbols::Symbols;
+use c25_meaning::failure::Failure;
 use std::alloc::Global;
 use std::mem;
 
@@ -35,7 +36,10 @@ impl<'a> Expander<'a> {
     /// than 1,024 bytes, or takes more than 1,024 replacements), and where expansion consumes it 10 to
     /// 13, 51, 52, 20, 21, then 22 to 25, then 30 to 36. The label of a consumed line is given as a line
     /// of its own behind 21, so that the caller can define it first.
-    pub fn next_line(&mut self, symbols: &Symbols) -> Result<Option<ExpLine<'a>>, ExpandError<'a>>
+    pub fn next_line(
+        &mut self,
+        symbols: &Symbols,
+    ) -> Result<Option<ExpLine<'a>>, Failure<ExpandFault<'a>>>
         ensures next { IsNext (expansion_of self.old) symbols.now result (expansion_of self.new).stage }
         // At most 200,000 lines are given: each is one less that may be read.
         ensures fewer { IfOk result (λ o. IfSome o (λ _. left_of (expansion_of self.new).stage < left_of (expansion_of self.old).stage)) }

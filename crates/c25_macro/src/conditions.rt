@@ -4,15 +4,37 @@ ghost use Rattle.std.specs.Prelude.{◌≡◌};
 ghost use Rattle.c25_meaning.specs.ExpansionRules as rule;
 ghost use Rattle.c25_expr.specs.View.{tree_of};
 ghost use Rattle.c25_macro.specs.Config.{config, GoesOn};
-ghost use Rattle.c25_macro.specs.Frames.{other_branches};
+ghost use Rattle.c25_macro.specs.Scopes.{other_branches};
 
 use crate::refusal::{Refusal, fault};
 use crate::state::State;
 use crate::values::{is_zero, number};
 use c25_expr::symbols::Symbols;
 use c25_expr::tree::Expr;
-use c25_meaning::expansion::{Branch, Place};
+use c25_meaning::expansion::{Branch, Phase, Place};
+use c25_meaning::failure::Failure;
 use c25_meaning::statement::FaultKind;
+
+/// Whether the lines of an `.if` are taken.
+pub(crate) fn takes_lines(phase: Phase) -> bool
+    ensures { result ≡ rule.takes_lines phase }
+{
+    match phase {
+        Phase::Taking | Phase::ElseTaking => true,
+        Phase::Seeking | Phase::Passing | Phase::ElsePassing => false,
+    }
+}
+
+/// The phase behind a condition.
+fn phase_of(number: i32) -> Phase
+    ensures { result ≡ rule.phase_of number }
+{
+    if is_zero(number) {
+        Phase::Seeking
+    } else {
+        Phase::Taking
+    }
+}
 
 impl State {
     /// `.if`
@@ -22,7 +44,7 @@ impl State {
         symbols: &Symbols,
         place: Place,
         condition: &Expr,
-    ) -> Result<(), Refusal>
+    ) -> Result<(), Failure<Refusal>>
         ensures { GoesOn (rule.begins_if symbols.now place (tree_of condition.now) (config self.old)) result (config self.new) }
     {
         let number = match number(symbols, condition) {
@@ -32,68 +54,36 @@ impl State {
         if self.is_full() {
             return Err(fault(FaultKind::Depth, place));
         }
-        let holds = !is_zero(number);
-        self.top.frame.branches.push(Branch {
-            active: holds,
-            taken: holds,
-            has_else: false,
+        self.top.scope.branches.push(Branch {
+            phase: phase_of(number),
             nested: 0,
         })?;
         Ok(())
     }
 
-    /// `.elseif` behind a branch that was taken, of the innermost `.if`, which was taken off.
-    pub(crate) fn pass_elseif(&mut self, place: Place, branch: Branch) -> Result<(), Refusal>
-        ensures { GoesOn (rule.passes_elseif place branch (config self.old).frame.branches (config self.old)) result (config self.new) }
+    /// The innermost `.if` goes on in this phase.
+    pub(crate) fn enter(&mut self, branch: Branch, phase: Phase) -> Result<(), Failure<Refusal>>
+        ensures { GoesOn (rule.enters branch (other_branches (config self.old).scope.branches) (config self.old) phase) result (config self.new) }
     {
-        if branch.has_else {
-            return Err(fault(FaultKind::StrayEnd, place));
-        }
-        self.top.frame.branches.push(Branch {
-            active: false,
-            ..branch
-        })?;
+        let branches = &mut self.top.scope.branches;
+        branches.replace(Branch { phase, ..branch })?;
         Ok(())
     }
 
-    /// The same of the innermost `.if` where it stands.
-    pub(crate) fn pass_innermost(&mut self, place: Place, branch: Branch) -> Result<(), Refusal>
-        ensures { GoesOn (rule.passes_elseif place branch (other_branches (config self.old).frame.branches) (config self.old)) result (config self.new) }
-    {
-        if branch.has_else {
-            return Err(fault(FaultKind::StrayEnd, place));
-        }
-        self.top.frame.branches.replace(Branch {
-            active: false,
-            ..branch
-        })?;
-        Ok(())
-    }
-
-    /// `.elseif` where no branch was taken, of the innermost `.if`, which was taken off.
-    fn try_elseif(
+    /// `.elseif` where a condition is still sought.
+    fn seek(
         &mut self,
         symbols: &Symbols,
         place: Place,
         condition: &Expr,
         branch: Branch,
-    ) -> Result<(), Refusal>
-        ensures { GoesOn (rule.tries_elseif symbols.now place (tree_of condition.now) branch (config self.old).frame.branches (config self.old)) result (config self.new) }
+    ) -> Result<(), Failure<Refusal>>
+        ensures { GoesOn (rule.needed symbols.now place (tree_of condition.now) (λ number. rule.enters branch (other_branches (config self.old).scope.branches) (config self.old) (rule.phase_of number))) result (config self.new) }
     {
-        let number = match number(symbols, condition) {
-            Ok(number) => number,
-            Err(kind) => return Err(fault(kind, place)),
-        };
-        if branch.has_else {
-            return Err(fault(FaultKind::StrayEnd, place));
+        match number(symbols, condition) {
+            Ok(number) => self.enter(branch, phase_of(number)),
+            Err(kind) => Err(fault(kind, place)),
         }
-        let holds = !is_zero(number);
-        self.top.frame.branches.push(Branch {
-            active: holds,
-            taken: holds,
-            ..branch
-        })?;
-        Ok(())
     }
 
     /// `.elseif`
@@ -102,43 +92,41 @@ impl State {
         symbols: &Symbols,
         place: Place,
         condition: &Expr,
-    ) -> Result<(), Refusal>
-        ensures { GoesOn (rule.elseif_by symbols.now place (tree_of condition.now) (config self.old).frame.branches (config self.old)) result (config self.new) }
+    ) -> Result<(), Failure<Refusal>>
+        ensures { GoesOn (rule.elseif_by symbols.now place (tree_of condition.now) (config self.old).scope.branches (config self.old)) result (config self.new) }
     {
-        match self.top.frame.branches.pop() {
-            None => match number(symbols, condition) {
+        let Some(branch) = self.top.scope.branches.innermost() else {
+            return match number(symbols, condition) {
                 Ok(_) => Err(fault(FaultKind::StrayEnd, place)),
                 Err(kind) => Err(fault(kind, place)),
-            },
-            Some(branch) if branch.taken => self.pass_elseif(place, branch),
-            Some(branch) => self.try_elseif(symbols, place, condition, branch),
+            };
+        };
+        match branch.phase {
+            Phase::Seeking => self.seek(symbols, place, condition, branch),
+            Phase::Taking | Phase::Passing => self.enter(branch, Phase::Passing),
+            Phase::ElseTaking | Phase::ElsePassing => Err(fault(FaultKind::StrayEnd, place)),
         }
     }
 
     /// `.else`
-    pub(crate) fn pass_else(&mut self, place: Place) -> Result<(), Refusal>
-        ensures { GoesOn (rule.else_by place (config self.old).frame.branches (config self.old)) result (config self.new) }
+    pub(crate) fn pass_else(&mut self, place: Place) -> Result<(), Failure<Refusal>>
+        ensures { GoesOn (rule.else_by place (config self.old).scope.branches (config self.old)) result (config self.new) }
     {
-        let Some(branch) = self.top.frame.branches.pop() else {
+        let Some(branch) = self.top.scope.branches.innermost() else {
             return Err(fault(FaultKind::StrayEnd, place));
         };
-        if branch.has_else {
-            return Err(fault(FaultKind::StrayEnd, place));
+        match branch.phase {
+            Phase::Seeking => self.enter(branch, Phase::ElseTaking),
+            Phase::Taking | Phase::Passing => self.enter(branch, Phase::ElsePassing),
+            Phase::ElseTaking | Phase::ElsePassing => Err(fault(FaultKind::StrayEnd, place)),
         }
-        self.top.frame.branches.push(Branch {
-            active: !branch.taken,
-            taken: true,
-            has_else: true,
-            nested: branch.nested,
-        })?;
-        Ok(())
     }
 
     /// `.endif`
-    pub(crate) fn end_if(&mut self, place: Place) -> Result<(), Refusal>
-        ensures { GoesOn (rule.endif_by place (config self.old).frame.branches (config self.old)) result (config self.new) }
+    pub(crate) fn end_if(&mut self, place: Place) -> Result<(), Failure<Refusal>>
+        ensures { GoesOn (rule.endif_by place (config self.old).scope.branches (config self.old)) result (config self.new) }
     {
-        match self.top.frame.branches.pop() {
+        match self.top.scope.branches.pop() {
             Some(_) => Ok(()),
             None => Err(fault(FaultKind::StrayEnd, place)),
         }

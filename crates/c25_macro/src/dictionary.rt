@@ -7,16 +7,17 @@ ghost use Rattle.c25_meaning.specs.Expansion as exp;
 ghost use Rattle.c25_meaning.specs.Texts.{with_name};
 ghost use Rattle.c25_macro.specs.Acts.{macro_of};
 ghost use Rattle.c25_macro.specs.Dictionary.{dictionary_of};
-ghost use Rattle.c25_macro.specs.Frames.{kind_of};
+ghost use Rattle.c25_macro.specs.Scopes.{kind_of};
 ghost use Rattle.c25_substitution.specs.View.{names_of};
 
 use crate::expansions::{Expansion, Expansions};
-use crate::frame::Kind;
 use crate::macros::{Macro, Macros};
+use crate::scope::Kind;
+use c25_meaning::no_memory::NoMemory;
 use c25_substitution::parameters::Arguments;
 use c25_substitution::texts::Texts;
 use c25_substitution::visible::Visible;
-use std::alloc::{AllocError, Global};
+use std::alloc::Global;
 
 /// What names stand for: macros, the names of `.asg` and `.eval`, and the parameters of the expansions
 /// that are open.
@@ -59,7 +60,7 @@ impl Dictionary {
     }
 
     /// A macro of a new name.
-    pub(crate) fn define(&mut self, name: String, definition: Macro) -> Result<(), AllocError>
+    pub(crate) fn define(&mut self, name: String, definition: Macro) -> Result<(), NoMemory>
         ensures { OnOk result (dictionary_of self.new ≡ record (dictionary_of self.old) { macros = with_name (dictionary_of self.old).macros (string_bytes name) (macro_of definition) }) }
     {
         self.macros.put(name, definition)
@@ -92,7 +93,7 @@ impl Dictionary {
     }
 
     /// From now on a name stands for a text: a parameter of the innermost expansion, where it is one.
-    pub(crate) fn assign(&mut self, name: &str, text: String) -> Result<(), AllocError>
+    pub(crate) fn assign(&mut self, name: &str, text: String) -> Result<(), NoMemory>
         ensures { OnOk result (dictionary_of self.new ≡ exp.assigned name.now (string_bytes text) (dictionary_of self.old)) }
     {
         match self.expansions.pop() {
@@ -102,12 +103,7 @@ impl Dictionary {
     }
 
     /// The same in this expansion, which is the innermost again.
-    fn assign_in(
-        &mut self,
-        expansion: Expansion,
-        name: &str,
-        text: String,
-    ) -> Result<(), AllocError>
+    fn assign_in(&mut self, expansion: Expansion, name: &str, text: String) -> Result<(), NoMemory>
         ensures { OnOk result (dictionary_of self.new ≡ exp.assigned name.now (string_bytes text) (record (dictionary_of self.old) { expansions = expansion ∷ (dictionary_of self.old).expansions })) }
     {
         let mut expansion = expansion;
@@ -121,7 +117,7 @@ impl Dictionary {
     }
 
     /// An expansion begins.
-    pub(crate) fn begin(&mut self, arguments: Arguments) -> Result<(), AllocError>
+    pub(crate) fn begin(&mut self, arguments: Arguments) -> Result<(), NoMemory>
         requires { self.old.count < 2 ^ 31 }
         ensures { OnOk result (dictionary_of self.new ≡ exp.called arguments (dictionary_of self.old)) }
     {

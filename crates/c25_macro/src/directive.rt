@@ -6,15 +6,13 @@ ghost use Rattle.c25_meaning.specs.ExpansionRules.{directive_in};
 ghost use Rattle.c25_meaning.specs.Line.{first_word};
 
 use c25_meaning::expansion::Directive;
+use c25_text::byte_at;
 use c25_text::line::first_word;
 
 fn is_dotted(word: &str) -> bool
     ensures { result ≡ (slice_index word.now 0 == 46) }
 {
-    match word.as_bytes() {
-        [first, ..] => *first == b'.',
-        [] => false,
-    }
+    byte_at(word.as_bytes(), 0) == b'.'
 }
 
 /// The directive that a word is, if it is one that expansion takes, in either case.

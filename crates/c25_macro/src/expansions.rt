@@ -8,8 +8,9 @@ ghost use Rattle.std.specs.String.{string_bytes};
 ghost use Rattle.c25_meaning.specs.Texts.{with_name};
 ghost use Rattle.c25_macro.specs.Macros.{innermost};
 
+use c25_meaning::no_memory::NoMemory;
 use c25_substitution::parameters::Arguments;
-use std::alloc::{AllocError, Global};
+use std::alloc::Global;
 use std::marker::Model;
 
 /// An expansion that is open: its number, counted from 1, and what its parameters stand for.
@@ -83,7 +84,7 @@ impl Expansions {
     }
 
     /// One more, inside the others.
-    pub(crate) fn push(&mut self, expansion: Expansion) -> Result<(), AllocError>
+    pub(crate) fn push(&mut self, expansion: Expansion) -> Result<(), NoMemory>
         ensures { OnOk result (self.new ≡ expansion ∷ self.old) }
     {
         self.open.push(expansion)?;

@@ -5,42 +5,16 @@ ghost use Rattle.std.specs.Option.{option_map};
 ghost use Rattle.c25_meaning.specs.Files.{text_named, file_name};
 ghost use Rattle.c25_meaning.specs.Rows.{file_number};
 
-use c25_meaning::no_memory::NoMemory;
+use c25_meaning::failure::Failure;
 use indexmap::IndexMap;
-use std::alloc::{AllocError, AllocFailed, Global};
+use std::alloc::Global;
 use std::marker::Model;
 use thiserror::Error;
 
-/// Why a text is not added.
+/// The name is there already (37).
 #[derive(Clone, Copy, PartialEq, Eq, Debug, Error)]
-pub enum AddError {
-    /// A growth was refused (9).
-    #[error("NoMemory")]
-    NoMemory,
-    /// The name is there already (37).
-    #[error("FileTwice")]
-    FileTwice,
-}
-
-impl From<AllocError> for AddError {
-    ghost use Rattle.c25_macro.specs.declared.files.AddError.TheVariants.{NoMemory};
-
-    ghost from_gives = { λ _ e. e ≡ NoMemory };
-
-    fn from(_error: AllocError) -> AddError {
-        AddError::NoMemory
-    }
-}
-
-impl<T: Drop> From<AllocFailed<T>> for AddError {
-    ghost use Rattle.c25_macro.specs.declared.files.AddError.TheVariants.{NoMemory};
-
-    ghost from_gives = { λ _ e. e ≡ NoMemory };
-
-    fn from(_error: AllocFailed<T>) -> AddError {
-        AddError::NoMemory
-    }
-}
+#[error("FileTwice")]
+pub struct FileTwice;
 
 /// Texts by their names, in the order in which they were added. Names are compared byte by byte.
 #[derive(Drop)]
@@ -102,13 +76,13 @@ impl Files {
     }
 
     /// Adds a text under a new name. After a refusal the files are as before.
-    pub fn add(&mut self, name: &str, text: &str) -> Result<(), AddError>
-        ensures twice { IsErrOf result AddError.FileTwice ↔ IsSome (text_named self.old name.now) }
+    pub fn add(&mut self, name: &str, text: &str) -> Result<(), Failure<FileTwice>>
+        ensures twice { IsErrOf result (Failure.Fault (record {})) ↔ IsSome (text_named self.old name.now) }
         ensures ok { OnOk result (self.new ≡ self.old ++ (name.now, text.now) ∷ []) }
         ensures err { OnErr result (self.new ≡ self.old) }
     {
         if self.text(name).is_some() {
-            return Err(AddError::FileTwice);
+            return Err(Failure::Fault(FileTwice));
         }
         let name = String::from_str(self.alloc, name)?;
         let text = String::from_str(self.alloc, text)?;

@@ -1,31 +1,31 @@
 //! Lines as they are read: skipped, taken, substituted, and given or consumed.
 
 ghost use Rattle.std.specs.Prelude.{◌≡◌, ◌<◌, ◌^◌, Result};
+ghost use Rattle.std.specs.String.{string_bytes};
 ghost use Rattle.c25_meaning.specs.Line.{first_word};
 ghost use Rattle.c25_meaning.specs.Acts as acts;
 ghost use Rattle.c25_meaning.specs.ExpansionBounds.{nesting};
 ghost use Rattle.c25_meaning.specs.ExpansionRules as rule;
 ghost use Rattle.c25_meaning.specs.declared.statement.FaultKind.{FaultKind};
-ghost use Rattle.c25_expr.specs.Told.{Tells};
+ghost use Rattle.c25_meaning.specs.Results.{Meets};
 ghost use Rattle.c25_macro.specs.Acts.{act_of, order_of};
 ghost use Rattle.c25_macro.specs.Config.{config, Follows, GoesOn};
 ghost use Rattle.c25_macro.specs.Dictionary.{dictionary_of};
-ghost use Rattle.c25_macro.specs.Frames.{other_branches};
-ghost use Rattle.c25_substitution.specs.View.{IsLine};
+ghost use Rattle.c25_macro.specs.Scopes.{other_branches};
 
 use crate::act::{Act, Order};
+use crate::conditions::takes_lines;
 use crate::directive::directive_in;
 use crate::files::Files;
-use crate::frame::Block;
 use crate::orders::{read_call, read_order};
 use crate::refusal::{Refusal, at_place, fault};
 use crate::rows::Row;
+use crate::scope::Block;
 use crate::state::{Mode, Progress, State};
-use c25_expr::failure::Failure;
 use c25_expr::symbols::Symbols;
-use c25_meaning::expansion::{Branch, Directive, Place};
+use c25_meaning::expansion::{Branch, Directive, LongLine, Phase, Place};
+use c25_meaning::failure::Failure;
 use c25_meaning::statement::FaultKind;
-use c25_substitution::output::WriteError;
 use c25_substitution::substitution::{substitute, substitute_before_comma, unsubstituted};
 use c25_text::line::first_word;
 
@@ -38,7 +38,7 @@ impl State {
         symbols: &Symbols,
         place: Place,
         act: Act,
-    ) -> Result<(), Refusal>
+    ) -> Result<(), Failure<Refusal>>
         requires { (config self.old).names.count < 2 ^ 31 }
         ensures { GoesOn (rule.acts files.now symbols.now place (act_of act) (config self.old)) result (config self.new) }
     {
@@ -69,7 +69,7 @@ impl State {
         symbols: &Symbols,
         place: Place,
         order: Order,
-    ) -> Result<Progress, Refusal>
+    ) -> Result<Progress, Failure<Refusal>>
         requires { (config self.old).names.count < 2 ^ 31 }
         ensures { Follows (rule.labelled files.now symbols.now place (order_of order).label (order_of order).act (config self.old)) result (config self.new) }
     {
@@ -92,10 +92,10 @@ impl State {
         files: &Files,
         symbols: &Symbols,
         place: Place,
-        order: Result<Order, Failure>,
-    ) -> Result<Progress, Refusal>
+        order: Result<Order, Failure<FaultKind>>,
+    ) -> Result<Progress, Failure<Refusal>>
         requires { (config self.old).names.count < 2 ^ 31 }
-        ensures { (told : Result acts.Order FaultKind) → Tells told order order_of
+        ensures { (told : Result acts.Order FaultKind) → Meets order_of told order
             → Follows (rule.consumed files.now symbols.now place told (config self.old)) result (config self.new) }
     {
         match order {
@@ -106,9 +106,14 @@ impl State {
 
     /// A line whose first word is no directive of expansion: a macro is called, or else the line is
     /// given.
-    fn call(&mut self, files: &Files, symbols: &Symbols, row: Row) -> Result<Progress, Refusal>
+    fn call(
+        &mut self,
+        files: &Files,
+        symbols: &Symbols,
+        row: Row,
+    ) -> Result<Progress, Failure<Refusal>>
         requires { (config self.old).names.count < 2 ^ 31 }
-        ensures { Follows (rule.calls files.now symbols.now row (rule.macro_of (first_word row.text) (config self.old)) (config self.old)) result (config self.new) }
+        ensures { Follows (rule.calls files.now symbols.now row (rule.macro_of (first_word row.text) (config self.old).names) (config self.old)) result (config self.new) }
     {
         let Some(word) = first_word(row.text()) else {
             return Ok(Progress::Given(row));
@@ -128,7 +133,7 @@ impl State {
         files: &Files,
         symbols: &Symbols,
         row: Row,
-    ) -> Result<Progress, Refusal>
+    ) -> Result<Progress, Failure<Refusal>>
         requires { (config self.old).names.count < 2 ^ 31 }
         ensures { Follows (rule.uses files.now symbols.now row (rule.directive_in (first_word row.text)) (config self.old)) result (config self.new) }
     {
@@ -142,8 +147,12 @@ impl State {
     }
 
     /// A line substituted, as its first word asks for.
-    fn substituted(&self, directive: Option<Directive>, text: &str) -> Result<String, WriteError>
-        ensures { IsLine (rule.substituted_as directive (dictionary_of self.now.names) text.now) result }
+    fn substituted(
+        &self,
+        directive: Option<Directive>,
+        text: &str,
+    ) -> Result<String, Failure<LongLine>>
+        ensures { Meets string_bytes (rule.substituted_as directive (dictionary_of self.now.names) text.now) result }
     {
         let names = self.names.visible();
         let number = self.names.number();
@@ -163,15 +172,31 @@ impl State {
         symbols: &Symbols,
         row: Row,
         directive: Option<Directive>,
-    ) -> Result<Progress, Refusal>
+    ) -> Result<Progress, Failure<Refusal>>
         requires { (config self.old).names.count < 2 ^ 31 }
         ensures { Follows (rule.used files.now symbols.now row directive (config self.old)) result (config self.new) }
     {
         match self.substituted(directive, row.text()) {
             Ok(text) => self.use_substituted(files, symbols, Row::new(row.place(), text)),
-            Err(WriteError::LongLine) => Err(fault(FaultKind::LongLine, row.place())),
-            Err(WriteError::NoMemory(_)) => Err(Refusal::NoMemory),
+            Err(Failure::NoMemory(error)) => Err(Failure::NoMemory(error)),
+            Err(Failure::Fault(_)) => Err(fault(FaultKind::LongLine, row.place())),
         }
+    }
+
+    /// A substituted line of this directive.
+    fn obey(
+        &mut self,
+        files: &Files,
+        symbols: &Symbols,
+        place: Place,
+        directive: Directive,
+        text: &str,
+    ) -> Result<Progress, Failure<Refusal>>
+        requires { (config self.old).names.count < 2 ^ 31 }
+        ensures { Follows (rule.consumed files.now symbols.now place (acts.order_of directive text.now) (config self.old)) result (config self.new) }
+    {
+        let order = read_order(self.alloc, directive, text);
+        self.consume(files, symbols, place, order)
     }
 
     /// A line that ends or goes on with an `.if` whose lines are skipped.
@@ -182,29 +207,66 @@ impl State {
         symbols: &Symbols,
         row: Row,
         directive: Directive,
-    ) -> Result<Progress, Refusal>
+    ) -> Result<Progress, Failure<Refusal>>
         requires { (config self.old).names.count < 2 ^ 31 }
         ensures { Follows (rule.resumes files.now symbols.now row directive (config self.old)) result (config self.new) }
     {
         match self.substituted(Some(directive), row.text()) {
-            Ok(text) => {
-                let order = read_order(self.alloc, directive, text.as_str());
-                self.consume(files, symbols, row.place(), order)
-            }
-            Err(WriteError::LongLine) => Err(fault(FaultKind::LongLine, row.place())),
-            Err(WriteError::NoMemory(_)) => Err(Refusal::NoMemory),
+            Ok(text) => self.obey(files, symbols, row.place(), directive, text.as_str()),
+            Err(Failure::NoMemory(error)) => Err(Failure::NoMemory(error)),
+            Err(Failure::Fault(_)) => Err(fault(FaultKind::LongLine, row.place())),
         }
     }
 
     /// The innermost `.if` has so many more nested in its skipped lines.
-    fn nest(&mut self, branch: Branch, nested: usize) -> Result<Progress, Refusal>
-        ensures { Follows (rule.nests nested branch (other_branches (config self.old).frame.branches) (config self.old)) result (config self.new) }
+    fn nest(&mut self, branch: Branch, nested: usize) -> Result<Progress, Failure<Refusal>>
+        ensures { Follows (rule.nests nested branch (other_branches (config self.old).scope.branches) (config self.old)) result (config self.new) }
     {
         self.top
-            .frame
+            .scope
             .branches
             .replace(Branch { nested, ..branch })?;
         Ok(Progress::Went)
+    }
+
+    /// A line whose first word is `.elseif` before substitution.
+    fn read_elseif(
+        &mut self,
+        files: &Files,
+        symbols: &Symbols,
+        row: Row,
+        branch: Branch,
+    ) -> Result<Progress, Failure<Refusal>>
+        requires { (config self.old).names.count < 2 ^ 31 }
+        ensures { Follows (rule.reads_elseif files.now symbols.now row branch (other_branches (config self.old).scope.branches) (config self.old)) result (config self.new) }
+    {
+        match branch.phase {
+            Phase::Seeking => self.resume(files, symbols, row, Directive::ElseIf),
+            Phase::Taking | Phase::Passing => {
+                self.enter(branch, Phase::Passing)?;
+                Ok(Progress::Went)
+            }
+            Phase::ElseTaking | Phase::ElsePassing => Err(fault(FaultKind::StrayEnd, row.place())),
+        }
+    }
+
+    /// A line whose first word is `.else` before substitution, in lines that are skipped.
+    fn skip_else(
+        &mut self,
+        files: &Files,
+        symbols: &Symbols,
+        row: Row,
+        branch: Branch,
+    ) -> Result<Progress, Failure<Refusal>>
+        requires { (config self.old).names.count < 2 ^ 31 }
+        ensures { Follows (rule.else_in branch.phase row.place (λ _. rule.resumes files.now symbols.now row Directive.Else (config self.old))) result (config self.new) }
+    {
+        match branch.phase {
+            Phase::Seeking | Phase::Taking | Phase::Passing => {
+                self.resume(files, symbols, row, Directive::Else)
+            }
+            Phase::ElseTaking | Phase::ElsePassing => Err(fault(FaultKind::StrayEnd, row.place())),
+        }
     }
 
     /// A line that is skipped, in no nested `.if`.
@@ -215,21 +277,14 @@ impl State {
         row: Row,
         directive: Option<Directive>,
         branch: Branch,
-    ) -> Result<Progress, Refusal>
+    ) -> Result<Progress, Failure<Refusal>>
         requires { (config self.old).names.count < 2 ^ 31 }
-        ensures { Follows (rule.skips_outer files.now symbols.now row directive branch (other_branches (config self.old).frame.branches) (config self.old)) result (config self.new) }
+        ensures { Follows (rule.skips_outer files.now symbols.now row directive branch (other_branches (config self.old).scope.branches) (config self.old)) result (config self.new) }
     {
         match directive {
             Some(Directive::If) => self.nest(branch, 1),
-            Some(Directive::ElseIf) if branch.has_else => {
-                Err(fault(FaultKind::StrayEnd, row.place()))
-            }
-            Some(Directive::ElseIf) if branch.taken => Ok(Progress::Went),
-            Some(Directive::ElseIf) => self.resume(files, symbols, row, Directive::ElseIf),
-            Some(Directive::Else) if branch.has_else => {
-                Err(fault(FaultKind::StrayEnd, row.place()))
-            }
-            Some(Directive::Else) => self.resume(files, symbols, row, Directive::Else),
+            Some(Directive::ElseIf) => self.read_elseif(files, symbols, row, branch),
+            Some(Directive::Else) => self.skip_else(files, symbols, row, branch),
             Some(Directive::EndIf) => self.resume(files, symbols, row, Directive::EndIf),
             _ => Ok(Progress::Went),
         }
@@ -240,10 +295,10 @@ impl State {
         &mut self,
         directive: Option<Directive>,
         branch: Branch,
-    ) -> Result<Progress, Refusal>
+    ) -> Result<Progress, Failure<Refusal>>
         requires some { 0 < branch.nested }
         requires few { branch.nested < 2 ^ 31 }
-        ensures { Follows (rule.skips_nested directive branch (other_branches (config self.old).frame.branches) (config self.old)) result (config self.new) }
+        ensures { Follows (rule.skips_nested directive branch (other_branches (config self.old).scope.branches) (config self.old)) result (config self.new) }
     {
         match directive {
             Some(Directive::If) => self.nest(branch, branch.nested + 1),
@@ -261,10 +316,10 @@ impl State {
         row: Row,
         directive: Option<Directive>,
         branch: Branch,
-    ) -> Result<Progress, Refusal>
+    ) -> Result<Progress, Failure<Refusal>>
         requires expansions { (config self.old).names.count < 2 ^ 31 }
         requires few { branch.nested < 2 ^ 31 }
-        ensures { Follows (rule.skips files.now symbols.now row directive branch (other_branches (config self.old).frame.branches) (config self.old)) result (config self.new) }
+        ensures { Follows (rule.skips files.now symbols.now row directive branch (other_branches (config self.old).scope.branches) (config self.old)) result (config self.new) }
     {
         if branch.nested == 0 {
             self.skip_outer(files, symbols, row, directive, branch)
@@ -281,15 +336,12 @@ impl State {
         row: Row,
         directive: Option<Directive>,
         branch: Branch,
-    ) -> Result<Progress, Refusal>
+    ) -> Result<Progress, Failure<Refusal>>
         requires expansions { (config self.old).names.count < 2 ^ 31 }
-        ensures { Follows (rule.takes files.now symbols.now row directive branch (other_branches (config self.old).frame.branches) (config self.old)) result (config self.new) }
+        ensures { Follows (rule.takes files.now symbols.now row directive branch (other_branches (config self.old).scope.branches) (config self.old)) result (config self.new) }
     {
         match directive {
-            Some(Directive::ElseIf) => {
-                self.pass_innermost(row.place(), branch)?;
-                Ok(Progress::Went)
-            }
+            Some(Directive::ElseIf) => self.read_elseif(files, symbols, row, branch),
             _ => self.use_line(files, symbols, row, directive),
         }
     }
@@ -300,15 +352,17 @@ impl State {
         files: &Files,
         symbols: &Symbols,
         row: Row,
-    ) -> Result<Progress, Refusal>
+    ) -> Result<Progress, Failure<Refusal>>
         requires expansions { (config self.old).names.count < 2 ^ 31 }
-        requires nested { nesting (config self.old).frame.branches < 2 ^ 31 }
-        ensures { Follows (rule.reads_by files.now symbols.now row (rule.directive_in (first_word row.text)) (config self.old).frame.branches (config self.old)) result (config self.new) }
+        requires nested { nesting (config self.old).scope.branches < 2 ^ 31 }
+        ensures { Follows (rule.reads_by files.now symbols.now row (rule.directive_in (first_word row.text)) (config self.old).scope.branches (config self.old)) result (config self.new) }
     {
         let directive = directive_in(row.text());
-        match self.top.frame.branches.innermost() {
+        match self.top.scope.branches.innermost() {
             None => self.use_line(files, symbols, row, directive),
-            Some(branch) if branch.active => self.take(files, symbols, row, directive, branch),
+            Some(branch) if takes_lines(branch.phase) => {
+                self.take(files, symbols, row, directive, branch)
+            }
             Some(branch) => self.skip(files, symbols, row, directive, branch),
         }
     }

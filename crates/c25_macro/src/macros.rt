@@ -9,8 +9,9 @@ ghost use Rattle.c25_meaning.specs.Texts.{with_name};
 ghost use Rattle.c25_macro.specs.Acts.{macro_of};
 
 use crate::rows::Rows;
+use c25_meaning::no_memory::NoMemory;
 use indexmap::IndexMap;
-use std::alloc::{AllocError, Global};
+use std::alloc::Global;
 use std::marker::Model;
 
 /// A macro: the names of its parameters, at most 32, and its lines as they were written.
@@ -51,7 +52,7 @@ impl Macros {
         self.entries.get(name)
     }
 
-    pub(crate) fn put(&mut self, name: String, definition: Macro) -> Result<(), AllocError>
+    pub(crate) fn put(&mut self, name: String, definition: Macro) -> Result<(), NoMemory>
         ensures { OnOk result (self.new ≡ with_name self.old (string_bytes name) (macro_of definition)) }
     {
         self.entries.insert(name, definition)?;

@@ -1,47 +1,53 @@
 //! What lines ask of expansion.
 
-ghost use Rattle.std.specs.Prelude.{◌≡◌, [], ◌∷◌, IfOk, slice_index};
+ghost use Rattle.std.specs.Prelude.{◌≡◌, [], ◌∷◌, IfOk};
 ghost use Rattle.std.specs.Option.{option_map};
 ghost use Rattle.std.specs.String.{string_bytes};
-ghost use Rattle.c25_meaning.specs.Bytes.{is_blank};
 ghost use Rattle.c25_meaning.specs.Acts as acts;
 ghost use Rattle.c25_text.specs.View.{parts_of};
 ghost use Rattle.c25_expr.specs.Pieces.{pieces_of, operands_view};
-ghost use Rattle.c25_expr.specs.Told.{Tells};
+ghost use Rattle.c25_meaning.specs.Results.{Meets};
 ghost use Rattle.c25_macro.specs.Acts as view;
 
 use crate::act::{Act, Order};
 use crate::macros::Macro;
 use crate::operands::{condition_in, expression_in, name_in, names_in, option_in, string_in};
-use c25_expr::failure::{Failure, line_fault};
+use c25_expr::failure::line_fault;
 use c25_expr::operands::{operands_of, tokens_of, written_of};
 use c25_meaning::expansion::Directive;
+use c25_meaning::failure::Failure;
+use c25_meaning::no_memory::NoMemory;
 use c25_meaning::statement::{FaultKind, Written};
 use c25_substitution::arguments::{arguments, assigned_text};
 use c25_text::line::{Line, split_line};
 use c25_text::tokens::Token;
-use std::alloc::{AllocError, Global};
+use c25_text::{byte_at, is_blank};
+use std::alloc::Global;
 
 /// How many parameters a macro can have.
 const MOST_PARAMETERS: usize = 32;
 
 /// A directive that takes no operand.
-fn without(act: Act, operands: &[&[Token<'_>]]) -> Result<Act, Failure>
-    ensures { Tells (acts.without (view.act_of act) (operands_view operands.now)) result view.act_of }
+fn without(act: Act, operands: &[&[Token<'_>]]) -> Result<Act, Failure<FaultKind>>
+    ensures { Meets view.act_of (acts.without (view.act_of act) (operands_view operands.now)) result }
 {
     match operands {
         [] => Ok(act),
-        _ => Err(Failure::Faulty(FaultKind::OperandCount)),
+        _ => Err(Failure::Fault(FaultKind::OperandCount)),
     }
 }
 
 /// `.macro`
-fn definition_in(alloc: Global, line: &Line<'_>, operands: &[&[Token<'_>]]) -> Result<Act, Failure>
-    ensures { Tells (acts.definition_in (parts_of line.now) (operands_view operands.now)) result view.act_of }
+fn definition_in(
+    alloc: Global,
+    line: &Line<'_>,
+    operands: &[&[Token<'_>]],
+) -> Result<Act, Failure<FaultKind>>
+    ensures { Meets view.act_of (acts.definition_in (parts_of line.now) (operands_view operands.now)) result }
 {
     let parameters = names_in(alloc, operands)?;
     if parameters.len() > MOST_PARAMETERS {
-        return Err(Failure::Faulty(FaultKind::TooManyParameters));
+        return Err(Failure::Fault(FaultKind::TooManyParameters));
     }
     let name = String::from_str(alloc, line.label.unwrap_or(""))?;
     Ok(Act::Define { name, parameters })
@@ -58,8 +64,12 @@ fn last_of_two<'a, 'b>(operands: &'b [&'b [Token<'a>]]) -> Option<&'b [Token<'a>
 }
 
 /// `.asg`
-fn assignment_in(alloc: Global, text: &str, operands: &[&[Token<'_>]]) -> Result<Act, Failure>
-    ensures { Tells (acts.assignment_in text.now (operands_view operands.now)) result view.act_of }
+fn assignment_in(
+    alloc: Global,
+    text: &str,
+    operands: &[&[Token<'_>]],
+) -> Result<Act, Failure<FaultKind>>
+    ensures { Meets view.act_of (acts.assignment_in text.now (operands_view operands.now)) result }
 {
     match last_of_two(operands) {
         Some(last) => {
@@ -67,13 +77,17 @@ fn assignment_in(alloc: Global, text: &str, operands: &[&[Token<'_>]]) -> Result
             let text = assigned_text(alloc, text)?;
             Ok(Act::Assign { text, name })
         }
-        None => Err(Failure::Faulty(FaultKind::OperandCount)),
+        None => Err(Failure::Fault(FaultKind::OperandCount)),
     }
 }
 
 /// The operands of `.eval` in their order, the first being one that is read as an expression.
-fn evaluation_of(alloc: Global, first: &[Token<'_>], second: &[Token<'_>]) -> Result<Act, Failure>
-    ensures { Tells (acts.evaluation_in (pieces_of first.now ∷ pieces_of second.now ∷ [])) result view.act_of }
+fn evaluation_of(
+    alloc: Global,
+    first: &[Token<'_>],
+    second: &[Token<'_>],
+) -> Result<Act, Failure<FaultKind>>
+    ensures { Meets view.act_of (acts.evaluation_in (pieces_of first.now ∷ pieces_of second.now ∷ [])) result }
 {
     match written_of(first) {
         Written::Expression => {
@@ -81,27 +95,27 @@ fn evaluation_of(alloc: Global, first: &[Token<'_>], second: &[Token<'_>]) -> Re
             let expression = expression_in(alloc, first)?;
             Ok(Act::Evaluate { expression, name })
         }
-        _ => Err(Failure::Faulty(FaultKind::OperandForm)),
+        _ => Err(Failure::Fault(FaultKind::OperandForm)),
     }
 }
 
 /// `.eval`
-fn evaluation_in(alloc: Global, operands: &[&[Token<'_>]]) -> Result<Act, Failure>
-    ensures { Tells (acts.evaluation_in (operands_view operands.now)) result view.act_of }
+fn evaluation_in(alloc: Global, operands: &[&[Token<'_>]]) -> Result<Act, Failure<FaultKind>>
+    ensures { Meets view.act_of (acts.evaluation_in (operands_view operands.now)) result }
 {
     match operands {
         [first, second] => evaluation_of(alloc, first, second),
-        _ => Err(Failure::Faulty(FaultKind::OperandCount)),
+        _ => Err(Failure::Fault(FaultKind::OperandCount)),
     }
 }
 
 /// `.copy`
-fn copy_in(alloc: Global, operands: &[&[Token<'_>]]) -> Result<Act, Failure>
-    ensures { Tells (acts.copy_in (operands_view operands.now)) result view.act_of }
+fn copy_in(alloc: Global, operands: &[&[Token<'_>]]) -> Result<Act, Failure<FaultKind>>
+    ensures { Meets view.act_of (acts.copy_in (operands_view operands.now)) result }
 {
     match operands {
         [operand] => Ok(Act::Copy(string_in(alloc, operand)?)),
-        _ => Err(Failure::Faulty(FaultKind::OperandCount)),
+        _ => Err(Failure::Fault(FaultKind::OperandCount)),
     }
 }
 
@@ -113,8 +127,8 @@ fn act_of(
     text: &str,
     line: &Line<'_>,
     operands: &[&[Token<'_>]],
-) -> Result<Act, Failure>
-    ensures { Tells (acts.act_of directive text.now (parts_of line.now) (operands_view operands.now)) result view.act_of }
+) -> Result<Act, Failure<FaultKind>>
+    ensures { Meets view.act_of (acts.act_of directive text.now (parts_of line.now) (operands_view operands.now)) result }
 {
     match directive {
         Directive::If => Ok(Act::If(condition_in(alloc, operands)?)),
@@ -134,37 +148,29 @@ fn act_of(
 }
 
 /// The parts of a line.
-fn parts_in(text: &str) -> Result<Line<'_>, Failure>
-    ensures { Tells (acts.parts_in text.now) result parts_of }
+fn parts_in(text: &str) -> Result<Line<'_>, Failure<FaultKind>>
+    ensures { Meets parts_of (acts.parts_in text.now) result }
 {
     match split_line(text) {
         Ok(line) => Ok(line),
-        Err(fault) => Err(Failure::Faulty(line_fault(fault))),
-    }
-}
-
-/// Whether a blank or a tab stands in column 1.
-fn begins_blank(text: &str) -> bool
-    ensures { result ≡ is_blank (slice_index text.now 0) }
-{
-    match text.as_bytes() {
-        [first, ..] => *first == b' ' || *first == b'\t',
-        [] => false,
+        Err(fault) => Err(Failure::Fault(line_fault(fault))),
     }
 }
 
 /// The parts of a line with a directive: `.macro` needs a label.
-fn parts_for(directive: Directive, text: &str) -> Result<Line<'_>, Failure>
-    ensures { Tells (acts.parts_for directive text.now) result parts_of }
+fn parts_for(directive: Directive, text: &str) -> Result<Line<'_>, Failure<FaultKind>>
+    ensures { Meets parts_of (acts.parts_for directive text.now) result }
 {
     match directive {
-        Directive::Macro if begins_blank(text) => Err(Failure::Faulty(FaultKind::BadLabel)),
+        Directive::Macro if is_blank(byte_at(text.as_bytes(), 0)) => {
+            Err(Failure::Fault(FaultKind::BadLabel))
+        }
         _ => parts_in(text),
     }
 }
 
 /// A copy of a label.
-fn text_of(alloc: Global, label: Option<&str>) -> Result<Option<String>, AllocError>
+fn text_of(alloc: Global, label: Option<&str>) -> Result<Option<String>, NoMemory>
     ensures { IfOk result (λ o. option_map string_bytes o ≡ option_map (λ s. s.now) label.entry) }
 {
     match label {
@@ -178,7 +184,7 @@ fn label_for(
     alloc: Global,
     directive: Directive,
     label: Option<&str>,
-) -> Result<Option<String>, AllocError>
+) -> Result<Option<String>, NoMemory>
     ensures { IfOk result (λ o. option_map string_bytes o ≡ acts.label_for directive (option_map (λ s. s.now) label.entry)) }
 {
     match directive {
@@ -189,8 +195,12 @@ fn label_for(
 
 /// What a line with a directive asks for.
 #[tactic(auto, unfolding(c25_meaning::specs::Acts::order_of))]
-pub(crate) fn read_order(alloc: Global, directive: Directive, text: &str) -> Result<Order, Failure>
-    ensures { Tells (acts.order_of directive text.now) result view.order_of }
+pub(crate) fn read_order(
+    alloc: Global,
+    directive: Directive,
+    text: &str,
+) -> Result<Order, Failure<FaultKind>>
+    ensures { Meets view.order_of (acts.order_of directive text.now) result }
 {
     let line = parts_for(directive, text)?;
     let tokens = tokens_of(alloc, &line)?;
@@ -202,8 +212,12 @@ pub(crate) fn read_order(alloc: Global, directive: Directive, text: &str) -> Res
 
 /// What a line that calls a macro asks for.
 #[tactic(auto, unfolding(c25_meaning::specs::Acts::call_of))]
-pub(crate) fn read_call(alloc: Global, called: &Macro, text: &str) -> Result<Order, Failure>
-    ensures { Tells (acts.call_of (view.macro_of called.now) text.now) result view.order_of }
+pub(crate) fn read_call(
+    alloc: Global,
+    called: &Macro,
+    text: &str,
+) -> Result<Order, Failure<FaultKind>>
+    ensures { Meets view.order_of (acts.call_of (view.macro_of called.now) text.now) result }
 {
     let line = parts_in(text)?;
     let label = text_of(alloc, line.label)?;

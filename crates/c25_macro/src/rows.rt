@@ -8,7 +8,8 @@ ghost use Rattle.c25_meaning.specs.ExpansionRuns.{is_empty};
 ghost use Rattle.c25_macro.specs.Views.{texts_of};
 
 use c25_meaning::expansion::Place;
-use std::alloc::{AllocError, Global};
+use c25_meaning::no_memory::NoMemory;
+use std::alloc::Global;
 use std::collections::VecDeque;
 use std::marker::Model;
 
@@ -54,7 +55,7 @@ impl Row {
         self.text
     }
 
-    pub(crate) fn copy(&self, alloc: Global) -> Result<Row, AllocError>
+    pub(crate) fn copy(&self, alloc: Global) -> Result<Row, NoMemory>
         ensures { IfOk result (λ row. row ≡ self.now) }
     {
         let text = String::from_str(alloc, self.text.as_str())?;
@@ -91,7 +92,7 @@ impl Rows {
     }
 
     /// One line more, behind the others.
-    pub(crate) fn push(&mut self, row: Row) -> Result<(), AllocError>
+    pub(crate) fn push(&mut self, row: Row) -> Result<(), NoMemory>
         ensures { OnOk result (self.new ≡ self.old ++ row ∷ []) }
     {
         self.rows.push_back(row)?;
@@ -123,7 +124,7 @@ impl Rows {
     }
 
     /// The same lines.
-    pub(crate) fn copy(&self, alloc: Global) -> Result<Rows, AllocError>
+    pub(crate) fn copy(&self, alloc: Global) -> Result<Rows, NoMemory>
         ensures { IfOk result (λ rows. rows ≡ self.now) }
     {
         Ok(Rows {
@@ -132,7 +133,7 @@ impl Rows {
     }
 }
 
-fn copied(alloc: Global, rows: &VecDeque<Row>) -> Result<VecDeque<Row>, AllocError>
+fn copied(alloc: Global, rows: &VecDeque<Row>) -> Result<VecDeque<Row>, NoMemory>
     ensures { IfOk result (λ copy. copy.items ≡ rows.now.items) }
 {
     let mut copy = VecDeque::with_capacity(alloc, rows.len())?;
@@ -143,14 +144,14 @@ fn copied(alloc: Global, rows: &VecDeque<Row>) -> Result<VecDeque<Row>, AllocErr
 }
 
 /// The lines of a text.
-fn lines_of(alloc: Global, text: &str) -> Result<Vec<&str>, AllocError>
+fn lines_of(alloc: Global, text: &str) -> Result<Vec<&str>, NoMemory>
     ensures { IfOk result (λ v. texts_of v.items ≡ lines text.now) }
 {
-    text.lines().collect(alloc)
+    Ok(text.lines().collect(alloc)?)
 }
 
 /// These lines of a file, from its first on.
-fn numbered(alloc: Global, file: usize, lines: &[&str]) -> Result<Rows, AllocError>
+fn numbered(alloc: Global, file: usize, lines: &[&str]) -> Result<Rows, NoMemory>
     ensures { IfOk result (λ rows. rows ≡ rows_from file 1 (texts_of lines.now)) }
 {
     let mut rows = Rows::new(alloc);
@@ -166,7 +167,7 @@ fn numbered(alloc: Global, file: usize, lines: &[&str]) -> Result<Rows, AllocErr
 }
 
 /// The lines of a file with this text.
-pub(crate) fn rows_of(alloc: Global, file: usize, text: &str) -> Result<Rows, AllocError>
+pub(crate) fn rows_of(alloc: Global, file: usize, text: &str) -> Result<Rows, NoMemory>
     ensures { IfOk result (λ rows. rows ≡ rows_of file text.now) }
 {
     let lines = lines_of(alloc, text)?;

@@ -1,13 +1,14 @@
 //! Where an expansion stands, and its next line.
 
 ghost use Rattle.std.specs.Prelude.{◌≡◌};
+ghost use Rattle.c25_meaning.specs.ExpansionAnswers.{expanded_line};
 ghost use Rattle.c25_meaning.specs.ExpansionBounds.{IsBounded};
 ghost use Rattle.c25_meaning.specs.ExpansionRuns.{first, start_of};
 ghost use Rattle.c25_macro.specs.Config.{config};
-ghost use Rattle.c25_macro.specs.Expander.{line_of, shown, begun_at, Comes, IsNextAt, IsKept, Missing, Tells};
+ghost use Rattle.c25_macro.specs.Expander.{shown, begun_at, Comes, IsNextAt, IsKept};
 ghost use Rattle.c25_macro.specs.Stages.{stage_of, IsRefused};
 
-use crate::answer::{ExpLine, ExpandError};
+use crate::answer::{ExpLine, ExpandFault};
 use crate::files::Files;
 use crate::refusal::Refusal;
 use crate::rows::Row;
@@ -15,6 +16,8 @@ use crate::standing::Standing;
 use crate::state::State;
 use c25_expr::symbols::Symbols;
 use c25_meaning::expansion::Place;
+use c25_meaning::failure::Failure;
+use c25_meaning::no_memory::NoMemory;
 use c25_meaning::statement::FaultKind;
 use std::alloc::Global;
 
@@ -28,13 +31,9 @@ pub(crate) enum Stage<'a> {
     /// The module is not there.
     NoModule,
     /// A growth was refused.
-    NoMemory,
+    NoMemory(NoMemory),
     /// A line is wrong.
-    Faulty {
-        file: &'a str,
-        line: usize,
-        kind: FaultKind,
-    },
+    Faulty(ExpandFault<'a>),
     /// The file of this name, that a line asks for, is not there.
     Missing {
         file: &'a str,
@@ -44,11 +43,11 @@ pub(crate) enum Stage<'a> {
 }
 
 /// The answer at a stage.
-type Answer<'a> = Result<Option<ExpLine<'a>>, ExpandError<'a>>;
+type Answer<'a> = Result<Option<ExpLine<'a>>, Failure<ExpandFault<'a>>>;
 
 /// A line with the name of its file.
 fn show<'a>(files: &'a Files, row: Row) -> ExpLine<'a>
-    ensures { shown result ≡ line_of files.now row }
+    ensures { shown result ≡ expanded_line files.now row }
 {
     let Place { file, line } = row.place();
     ExpLine {
@@ -59,10 +58,10 @@ fn show<'a>(files: &'a Files, row: Row) -> ExpLine<'a>
 }
 
 /// A file that the line of this number in this file asks for is not there.
-fn no_file(file: &str, line: usize) -> ExpandError<'_>
-    ensures { result ≡ ExpandError.Line file.entry line FaultKind.NoFile }
+fn no_file(file: &str, line: usize) -> ExpandFault<'_>
+    ensures { result ≡ record { file = file.entry; line = line; kind = FaultKind.NoFile } }
 {
-    ExpandError::Line {
+    ExpandFault {
         file,
         line,
         kind: FaultKind::NoFile,
@@ -70,23 +69,23 @@ fn no_file(file: &str, line: usize) -> ExpandError<'_>
 }
 
 /// The stage behind a refusal, and what is told of it.
-fn refuse<'a>(files: &'a Files, name: &'a str, refusal: Refusal) -> (Stage<'a>, Answer<'a>)
-    ensures { IsRefused files.now name.now refusal result.0 result.1 }
+fn refuse<'a>(files: &'a Files, name: &'a str, failure: Failure<Refusal>) -> (Stage<'a>, Answer<'a>)
+    ensures { IsRefused files.now name.now failure result.0 result.1 }
 {
-    match refusal {
-        Refusal::NoMemory => (Stage::NoMemory, Err(ExpandError::NoMemory)),
-        Refusal::Faulty { place, kind } => {
+    match failure {
+        Failure::NoMemory(error) => (Stage::NoMemory(error), Err(Failure::NoMemory(error))),
+        Failure::Fault(Refusal::Faulty { place, kind }) => {
             let file = files.name(place.file);
             let line = place.line;
-            let error = ExpandError::Line { file, line, kind };
-            (Stage::Faulty { file, line, kind }, Err(error))
+            let fault = ExpandFault { file, line, kind };
+            (Stage::Faulty(fault), Err(Failure::Fault(fault)))
         }
-        Refusal::Missing { place, name } => {
+        Failure::Fault(Refusal::Missing { place, name }) => {
             let file = files.name(place.file);
             let line = place.line;
             (
                 Stage::Missing { file, line, name },
-                Err(no_file(file, line)),
+                Err(Failure::Fault(no_file(file, line))),
             )
         }
     }
@@ -110,7 +109,7 @@ fn go_on<'a>(
             (Stage::Standing(Standing { state }), Ok(Some(line)))
         }
         Ok(None) => (Stage::Standing(Standing { state }), Ok(None)),
-        Err(refusal) => refuse(files, name, refusal),
+        Err(failure) => refuse(files, name, failure),
     }
 }
 
@@ -127,9 +126,9 @@ fn begin<'a>(
     match files.find(name) {
         Some((file, text)) => match State::new(alloc, file, text) {
             Ok(state) => go_on(files, name, state, symbols),
-            Err(_) => (Stage::NoMemory, Err(ExpandError::NoMemory)),
+            Err(error) => (Stage::NoMemory(error), Err(Failure::NoMemory(error))),
         },
-        None => (Stage::NoModule, Err(no_file(name, 0))),
+        None => (Stage::NoModule, Err(Failure::Fault(no_file(name, 0)))),
     }
 }
 
@@ -147,17 +146,12 @@ pub(crate) fn advance<'a>(
     match stage {
         Stage::Before => begin(alloc, files, name, symbols),
         Stage::Standing(Standing { state }) => go_on(files, name, state, symbols),
-        Stage::NoModule => (Stage::NoModule, Err(no_file(name, 0))),
-        Stage::NoMemory => (Stage::NoMemory, Err(ExpandError::NoMemory)),
-        Stage::Faulty { file, line, kind } => {
-            let error = ExpandError::Line { file, line, kind };
-            (Stage::Faulty { file, line, kind }, Err(error))
-        }
-        Stage::Missing { file, line, name } => {
-            (
-                Stage::Missing { file, line, name },
-                Err(no_file(file, line)),
-            )
-        }
+        Stage::NoModule => (Stage::NoModule, Err(Failure::Fault(no_file(name, 0)))),
+        Stage::NoMemory(error) => (Stage::NoMemory(error), Err(Failure::NoMemory(error))),
+        Stage::Faulty(fault) => (Stage::Faulty(fault), Err(Failure::Fault(fault))),
+        Stage::Missing { file, line, name } => (
+            Stage::Missing { file, line, name },
+            Err(Failure::Fault(no_file(file, line))),
+        ),
     }
 }

@@ -4,14 +4,15 @@ ghost use Rattle.std.specs.Prelude.{◌≡◌, ◌<◌, ◌^◌, ◌++◌, Some,
 ghost use Rattle.c25_meaning.specs.Expansion as exp;
 ghost use Rattle.c25_meaning.specs.ExpansionRuns.{start};
 ghost use Rattle.c25_macro.specs.Config.{config, mode_of};
-ghost use Rattle.c25_macro.specs.Frames.{kind_of, test_of};
+ghost use Rattle.c25_macro.specs.Scopes.{kind_of, test_of};
 
 use crate::act::Act;
 use crate::dictionary::Dictionary;
-use crate::frame::{Block, Branches, Frame, Kind, Source, Stack};
 use crate::rows::{Row, Rows, rows_of};
+use crate::scope::{Block, Branches, Kind, Scope, Source, Stack};
 use c25_meaning::expansion::Place;
-use std::alloc::{AllocError, Global};
+use c25_meaning::no_memory::NoMemory;
+use std::alloc::Global;
 use std::mem;
 
 /// How the next line is looked at.
@@ -72,7 +73,7 @@ pub(crate) const MOST_OPEN: usize = 32;
 
 impl State {
     /// Before the first line of a file with this text.
-    pub(crate) fn new(alloc: Global, file: usize, text: &str) -> Result<State, AllocError>
+    pub(crate) fn new(alloc: Global, file: usize, text: &str) -> Result<State, NoMemory>
         ensures { IfOk result (λ s. config s ≡ start file text.now) }
     {
         let rows = rows_of(alloc, file, text)?;
@@ -81,7 +82,7 @@ impl State {
             alloc,
             top: Source {
                 rows,
-                frame: Frame {
+                scope: Scope {
                     kind: Kind::Copied,
                     last,
                     branches: Branches::new(alloc),
@@ -95,12 +96,12 @@ impl State {
     }
 
     /// Opens a file, an expansion or a turn.
-    pub(crate) fn open(&mut self, kind: Kind, last: Place, rows: Rows) -> Result<(), AllocError>
+    pub(crate) fn open(&mut self, kind: Kind, last: Place, rows: Rows) -> Result<(), NoMemory>
         ensures { OnOk result (config self.new ≡ exp.opened (kind_of kind) last rows (config self.old)) }
     {
         let source = Source {
             rows,
-            frame: Frame {
+            scope: Scope {
                 kind,
                 last,
                 branches: Branches::new(self.alloc),
@@ -114,14 +115,14 @@ impl State {
     pub(crate) fn is_full(&self) -> bool
         ensures { result ≡ exp.is_full (config self.now) }
     {
-        self.top.frame.branches.len().min(MOST_OPEN) + self.below.count() >= MOST_OPEN
+        self.top.scope.branches.len().min(MOST_OPEN) + self.below.count() >= MOST_OPEN
     }
 
     /// Whether such a block is open.
     pub(crate) fn stands_in(&self, block: Block) -> bool
         ensures { result ≡ exp.stands_in (test_of block) (config self.now) }
     {
-        self.top.frame.kind.is(block) || self.below.has(block)
+        self.top.scope.kind.is(block) || self.below.has(block)
     }
 
     /// The source in which the innermost such block stands is the current one again; all that it
@@ -129,13 +130,13 @@ impl State {
     #[tactic(auto, using(crate::proofs::Lists::after_closes))]
     pub(crate) fn leave(&mut self, block: Block) -> bool
         ensures { MatchBool result
-            (exp.left_through (test_of block) (config self.old).lines (config self.old).frame (config self.old).outer (config self.old).names (config self.old) ≡ Some (config self.new))
-            (exp.left_through (test_of block) (config self.old).lines (config self.old).frame (config self.old).outer (config self.old).names (config self.old) ≡ None) }
+            (exp.left_through (test_of block) (config self.old).lines (config self.old).scope (config self.old).outer (config self.old).names (config self.old) ≡ Some (config self.new))
+            (exp.left_through (test_of block) (config self.old).lines (config self.old).scope (config self.old).outer (config self.old).names (config self.old) ≡ None) }
     {
         while let Some(source) = self.below.pop() {
             let ended = mem::replace(&mut self.top, source);
-            self.names.end(&ended.frame.kind);
-            if ended.frame.kind.is(block) {
+            self.names.end(&ended.scope.kind);
+            if ended.scope.kind.is(block) {
                 return true;
             }
         }

@@ -9,11 +9,12 @@ ghost use Rattle.c25_meaning.specs.Value.{Table};
 ghost use Rattle.c25_macro.specs.Config.{config, mode_of, Follows, Answers};
 
 use crate::files::Files;
-use crate::frame::Kind;
 use crate::refusal::{Refusal, fault};
 use crate::rows::Row;
+use crate::scope::Kind;
 use crate::state::{Mode, Progress, State};
 use c25_expr::symbols::Symbols;
+use c25_meaning::failure::Failure;
 use c25_meaning::statement::FaultKind;
 use std::mem;
 
@@ -23,25 +24,25 @@ impl State {
         ensures { result ≡ runs.is_closed (config self.now) }
     {
         match &self.mode {
-            Mode::Reading => self.top.frame.branches.is_empty(),
-            Mode::Acting { .. } => self.top.frame.branches.is_empty(),
+            Mode::Reading => self.top.scope.branches.is_empty(),
+            Mode::Acting { .. } => self.top.scope.branches.is_empty(),
             Mode::InMacro { .. } => false,
             Mode::InLoop { .. } => false,
         }
     }
 
     /// The next turn of a loop, or what stood behind the file, expansion or turn that ends here.
-    fn end_source(&mut self) -> Result<Progress, Refusal>
+    fn end_source(&mut self) -> Result<Progress, Failure<Refusal>>
         requires { self.old.top.rows ≡ [] }
         ensures { (files : meaning.Files) (s : Table) → Follows (runs.front files s (config self.old).lines (config self.old)) result (config self.new) }
     {
         if !self.is_closed() {
-            return Err(fault(FaultKind::OpenBlock, self.top.frame.last));
+            return Err(fault(FaultKind::OpenBlock, self.top.scope.last));
         }
         if self.below.is_empty() {
             return Ok(Progress::Finished);
         }
-        if let Kind::Turn { body, more } = &mut self.top.frame.kind
+        if let Kind::Turn { body, more } = &mut self.top.scope.kind
             && *more > 0
             && !body.is_empty()
         {
@@ -52,7 +53,7 @@ impl State {
         match self.below.pop() {
             Some(source) => {
                 let ended = mem::replace(&mut self.top, source);
-                self.names.end(&ended.frame.kind);
+                self.names.end(&ended.scope.kind);
                 Ok(Progress::Went)
             }
             None => Ok(Progress::Finished),
@@ -66,9 +67,9 @@ impl State {
         symbols: &Symbols,
         row: Row,
         mode: Mode,
-    ) -> Result<Progress, Refusal>
+    ) -> Result<Progress, Failure<Refusal>>
         requires expansions { (config self.old).names.count < 2 ^ 31 }
-        requires skipped { nesting (config self.old).frame.branches < 2 ^ 31 }
+        requires skipped { nesting (config self.old).scope.branches < 2 ^ 31 }
         requires collected { nested_of (mode_of mode) < 2 ^ 31 }
         ensures { Follows (runs.read_by files.now symbols.now row (mode_of mode) (config self.old)) result (config self.new) }
     {
@@ -96,7 +97,12 @@ impl State {
     }
 
     /// The next line is read, or else the innermost file, expansion or turn ends.
-    fn read(&mut self, files: &Files, symbols: &Symbols, mode: Mode) -> Result<Progress, Refusal>
+    fn read(
+        &mut self,
+        files: &Files,
+        symbols: &Symbols,
+        mode: Mode,
+    ) -> Result<Progress, Failure<Refusal>>
         requires bounded { IsBounded (record (config self.old) { mode = mode_of mode }) }
         requires reading { (config self.old).mode ≡ exp.Reading }
         ensures { Follows (runs.front files.now symbols.now (config self.old).lines (record (config self.old) { mode = mode_of mode })) result (config self.new) }
@@ -114,7 +120,7 @@ impl State {
 
     /// One rewriting.
     #[tactic(auto, unfolding(c25_meaning::specs::ExpansionRuns::rewrite))]
-    fn step(&mut self, files: &Files, symbols: &Symbols) -> Result<Progress, Refusal>
+    fn step(&mut self, files: &Files, symbols: &Symbols) -> Result<Progress, Failure<Refusal>>
         requires { IsBounded (config self.old) }
         ensures { Follows (runs.rewrite files.now symbols.now (config self.old)) result (config self.new) }
     {
@@ -128,7 +134,11 @@ impl State {
     }
 
     /// The next line, or None where none comes any more.
-    pub(crate) fn next(&mut self, files: &Files, symbols: &Symbols) -> Result<Option<Row>, Refusal>
+    pub(crate) fn next(
+        &mut self,
+        files: &Files,
+        symbols: &Symbols,
+    ) -> Result<Option<Row>, Failure<Refusal>>
         requires { IsBounded (config self.old) }
         ensures answer { Answers (runs.first files.now symbols.now (config self.old)) result (config self.new) }
         ensures bounded { OnOk result (IsBounded (config self.new)) }
@@ -138,7 +148,7 @@ impl State {
                 Ok(Progress::Given(row)) => return Ok(Some(row)),
                 Ok(Progress::Finished) => return Ok(None),
                 Ok(Progress::Went) => {}
-                Err(refusal) => return Err(refusal),
+                Err(failure) => return Err(failure),
             }
         }
     }

@@ -78,7 +78,7 @@ module _ (files : Files) (s : Table) where
 
   -- ---- the first itself
 
-  leads_before : (n : ℕ) (c d last : Config) → rewrite files s c ≡ Goes d → Leads files s n d last → Leads files s (suc n) c last
+  pub leads_before : (n : ℕ) (c d last : Config) → rewrite files s c ≡ Goes d → Leads files s n d last → Leads files s (suc n) c last
   leads_before zero c d last e h = (c, refl, e ∙ ap Goes h)
   leads_before (suc n) c d last e (mid, before, goes_on) = (mid, leads_before n c d mid e before, goes_on)
 

@@ -1,7 +1,7 @@
 -- Where the first words of each family lie.
 use Rattle.std.proofs.Common.{◌≡◌, ℕ, ◌<◌, ◌≤◌, ◌⊎◌, subst, arith}
 use Rattle.std.proofs.lemmas.Grind.{common_steps}
-use Rattle.c25_meaning.specs.Table.{first_word, InRange, Reads}
+use Rattle.c25_meaning.specs.Table.{opcode_word, InRange, Reads}
 use Rattle.c25_meaning.specs.declared.insn.Insn.{Insn}
 use Rattle.c25_meaning.specs.declared.insn.Insn.TheVariants as insn
 use Rattle.c25_meaning.proofs.OperandBytes.{operand_byte_below}
@@ -37,17 +37,17 @@ IsPlaced (insn.Jump name value change next) word = Between 0x5e00 0x6000 word �
 IsPlaced (insn.Plain name operand) word = Between 0xce00 0xcf00 word
 
 -- an instruction's first word lies with its family's
-pub first_word_placed : (i : Insn) → InRange i → IsPlaced i (first_word i)
-first_word_placed (insn.Mem name addr) h = grind (arith, common_steps, operand_byte_below)
-first_word_placed (insn.Shifted name addr shift) h = grind (arith, common_steps, operand_byte_below)
-first_word_placed (insn.ArMem name register addr) h = grind (arith, common_steps, operand_byte_below)
-first_word_placed (insn.Port name addr port) h = grind (arith, common_steps, operand_byte_below)
-first_word_placed (insn.Bit name addr code) h = grind (arith, common_steps, operand_byte_below)
-first_word_placed (insn.Short name register number) h = grind (arith, common_steps)
-first_word_placed (insn.Long name number high) h = grind (arith, common_steps)
-first_word_placed (insn.LongMem name value addr) h = grind (arith, common_steps, operand_byte_below)
-first_word_placed (insn.Jump name value change next) h = grind (arith, common_steps)
-first_word_placed (insn.Plain name operand) h = grind (arith, common_steps)
+pub opcode_word_placed : (i : Insn) → InRange i → IsPlaced i (opcode_word i)
+opcode_word_placed (insn.Mem name addr) h = grind (arith, common_steps, operand_byte_below)
+opcode_word_placed (insn.Shifted name addr shift) h = grind (arith, common_steps, operand_byte_below)
+opcode_word_placed (insn.ArMem name register addr) h = grind (arith, common_steps, operand_byte_below)
+opcode_word_placed (insn.Port name addr port) h = grind (arith, common_steps, operand_byte_below)
+opcode_word_placed (insn.Bit name addr code) h = grind (arith, common_steps, operand_byte_below)
+opcode_word_placed (insn.Short name register number) h = grind (arith, common_steps)
+opcode_word_placed (insn.Long name number high) h = grind (arith, common_steps)
+opcode_word_placed (insn.LongMem name value addr) h = grind (arith, common_steps, operand_byte_below)
+opcode_word_placed (insn.Jump name value change next) h = grind (arith, common_steps)
+opcode_word_placed (insn.Plain name operand) h = grind (arith, common_steps)
 
 -- words that lie with a family's lie with no other's
 apart : (x y : Insn) (word : ℕ) → IsPlaced x word → IsPlaced y word → kind x ≡ kind y
@@ -65,4 +65,4 @@ apart (insn.Plain name operand) y word p q = grind arith
 -- two instructions with one first word are of one family
 pub same_kind : (first second other : ℕ) (x y : Insn) → Reads first second x → Reads first other y → kind x ≡ kind y
 same_kind first second other x y of_x of_y =
-    apart x y first (subst (IsPlaced x) of_x.first_is (first_word_placed x of_x.in_range)) (subst (IsPlaced y) of_y.first_is (first_word_placed y of_y.in_range))
+    apart x y first (subst (IsPlaced x) of_x.first_is (opcode_word_placed x of_x.in_range)) (subst (IsPlaced y) of_y.first_is (opcode_word_placed y of_y.in_range))

@@ -1,6 +1,6 @@
 -- What holds before the first item of a text, and stays true with each further one, holds of all its items.
 use Rattle.std.proofs.Common.{◌≡◌, ℕ, ◌+◌, ◌==◌, Bool, true, false, List, [], ◌∷◌, ◌++◌, length, Option, Some, None, Result, Ok, option_map, if◌then◌else◌, subst, refl}
-use Rattle.c25_meaning.specs.Items.{ItemOf, with_line, or_fault, items, words_of}
+use Rattle.c25_meaning.specs.Items.{ItemOf, with_line, or_fault, items, line_words}
 
 module _ {A : Type 0} (Holds : List A → Type 0) (item : ItemOf A) (stays : (before : List A) (words : List (List ℕ)) (a : A) → Holds before → item before words ≡ Some a → Holds (before ++ a ∷ [])) where
   added : (before now : List A) (found : Option A) → ((a : A) → found ≡ Some a → Holds (before ++ a ∷ [])) → option_map (λ a. before ++ a ∷ []) found ≡ Some now → Holds now
@@ -19,5 +19,5 @@ module _ {A : Type 0} (Holds : List A → Type 0) (item : ItemOf A) (stays : (be
   unfolding items
   items_hold before now number [] holds h = subst Holds (cc) holds
   items_hold before now number (line ∷ rest) holds h =
-      onward (with_line item before (words_of line)) number (λ between. items item between (number + 1) rest) now
-      (λ between e. items_hold between now (number + 1) rest (with_one (length (words_of line) == 0) before between (words_of line) holds e)) h
+      onward (with_line item before (line_words line)) number (λ between. items item between (number + 1) rest) now
+      (λ between e. items_hold between now (number + 1) rest (with_one (length (line_words line) == 0) before between (line_words line) holds e)) h

@@ -2,7 +2,8 @@
 use Rattle.std.proofs.Common.{◌≡◌, ℕ, zero, suc, ◌+◌, ◌-◌, ◌/◌, ◌<◌, ◌≤◌, ◌^◌, ℤ, pos, negsuc, ◌≤ℤ◌, ◌<ℤ◌, Result, Ok, Err, Bool, true, false, cond, not, ◌||◌, int_lt, List, [], ◌∷◌, ◌++◌, length, slice_get, slice_index, Option, Some, None, IfSome, subst, arith, rules, refl}
 use Rattle.std.specs.Int.{w16, cast_signed}
 use Rattle.c25_bits.specs.Cut.{cut}
-use Rattle.c25_meaning.specs.Statement.{within, below, number_in, relocation_of, address_number, address_fits, Entry, address_entry, number_entry, entry_by, entry_of, Sheet, blank_sheet, with_entry, taken, valued, sheet_of, fold_ok, ◌>>=◌, form_row}
+use Rattle.c25_meaning.specs.Statement.{within, below, number_in, relocation_of, address_number, address_fits, Entry, address_entry, entry_by, entry_of, Sheet, blank_sheet, with_entry, entered, valued, sheet_of, form_row}
+use Rattle.c25_meaning.specs.Results.{◌>>=◌, fold_ok}
 use Rattle.std.proofs.lemmas.Int.{ints}
 use Rattle.std.proofs.lemmas.Bool.{not-false}
 use Rattle.std.proofs.lemmas.Bool.Decides.{nat_tests}
@@ -11,8 +12,8 @@ use Rattle.c25_meaning.specs.Value.{Table}
 use Rattle.c25_meaning.specs.declared.value.Value.{Value}
 use Rattle.c25_meaning.specs.declared.value.Base.{Base}
 use Rattle.c25_meaning.specs.declared.value.Base.TheVariants as base
-use Rattle.c25_meaning.specs.declared.statement.RelocationKind.{RelocationKind}
-use Rattle.c25_meaning.specs.declared.statement.RelocationKind.TheVariants as relocation
+use Rattle.c25_meaning.specs.declared.relocation.RelocationKind.{RelocationKind}
+use Rattle.c25_meaning.specs.declared.relocation.RelocationKind.TheVariants as relocation
 use Rattle.c25_meaning.specs.declared.statement.Field.{Field}
 use Rattle.c25_meaning.specs.declared.statement.Field.TheVariants as field
 use Rattle.c25_meaning.specs.Table.{InRange, AddrInRange, size, size_of}
@@ -151,8 +152,8 @@ holds_number field.Page9 z n h = let p = within_ok (pos 0) (pos 511) z _ n h in 
 holds_number field.Word16 z n h = let p = within_ok (negsuc 32767) (pos 65535) z _ n h in rw p.2 (cut_below z 16)
 holds_number (field.Number limit) z n h = let p = below_ok limit z _ n h in rw p.2 (at_most z limit p.0 p.1)
 holds_number field.Signed13 z n h = let p = within_ok (negsuc 4095) (pos 4095) z _ n h in rw p.2 (signed_back z p.0 p.1)
-holds_number field.Word z n h = tt
-holds_number field.Byte z n h = tt
+holds_number field.Word z n h = let e : cut z 16 ≡ n = cc in rw (← e) (cut_below z 16)
+holds_number field.Byte z n h = let p = within_ok (negsuc 127) (pos 255) z _ n h in rw p.2 (cut_below z 8)
 
 quarter : (n : ℕ) → n < 65536 → n / 128 < 512
 quarter n h = omega arith
@@ -170,8 +171,10 @@ holds_address field.Word16 relocation.Low7 z h = absurd (cc)
 holds_address field.Word16 relocation.Page9 z h = absurd (cc)
 holds_address (field.Number limit) kind z h = absurd (cc)
 holds_address field.Signed13 kind z h = absurd (cc)
-holds_address field.Word kind z h = tt
-holds_address field.Byte kind z h = tt
+holds_address field.Word relocation.Word16 z h = cut_below z 16
+holds_address field.Word relocation.Low7 z h = absurd (cc)
+holds_address field.Word relocation.Page9 z h = absurd (cc)
+holds_address field.Byte kind z h = absurd (cc)
 
 -- a field holds what a value gives it
 pub holds_entry : (f : Field) (v : Value) (e : Entry) → entry_of f v ≡ Ok e → Holds f e.number
@@ -191,9 +194,9 @@ holds_entry f v e h = by_base v.base h
     by_base (base.External n) h = by_kind (relocation_of f) (λ kind e. holds_address f kind v.offset e) h
 
 -- one operand more
-pub fits_taken : (f : Form) (table : Table) (s new : Sheet) (e : Tree) → Fits f s.numbers → taken f table s e ≡ Ok new → Fits f new.numbers
-unfolding taken
-fits_taken f table s new e fits h = by_value (valued table e) h
+pub fits_entered : (f : Form) (table : Table) (s new : Sheet) (e : Tree) → Fits f s.numbers → entered f table s e ≡ Ok new → Fits f new.numbers
+unfolding entered
+fits_entered f table s new e fits h = by_value (valued table e) h
   where
     by_entry : (r : Result Entry FaultKind) → ((n : Entry) → r ≡ Ok n → Holds (form_field f (length s.numbers)) n.number) → (r >>= λ n. Ok (with_entry s n)) ≡ Ok new → Fits f new.numbers
     by_entry (Ok n) holds h = let q : with_entry s n ≡ new = cc in subst (λ (x : Sheet). Fits f x.numbers) q (each_push (λ k m. Holds (form_field f k) m) s.numbers n.number fits (holds n refl) (holds_zero-form f))
@@ -203,13 +206,13 @@ fits_taken f table s new e fits h = by_value (valued table e) h
     by_value (Ok v) h = by_entry (entry_of (form_field f (length s.numbers)) v) (λ n e. holds_entry _ v n e) h
     by_value (Err g) h = absurd (cc)
 
-fits_fold : (f : Form) (table : Table) (es : List Tree) (s new : Sheet) → Fits f s.numbers → fold_ok (taken f table) s es ≡ Ok new → Fits f new.numbers
+fits_fold : (f : Form) (table : Table) (es : List Tree) (s new : Sheet) → Fits f s.numbers → fold_ok (entered f table) s es ≡ Ok new → Fits f new.numbers
 fits_fold f table [] s new fits h = let q : s ≡ new = cc in subst (λ (x : Sheet). Fits f x.numbers) q fits
-fits_fold f table (e ∷ es) s new fits h = on (taken f table s e) refl h (λ next. fits_fold f table es next new)
+fits_fold f table (e ∷ es) s new fits h = on (entered f table s e) refl h (λ next. fits_fold f table es next new)
   where
-    on : (r : Result Sheet FaultKind) → taken f table s e ≡ r → (r >>= λ next. fold_ok (taken f table) next es) ≡ Ok new
-        → ((next : Sheet) → Fits f next.numbers → fold_ok (taken f table) next es ≡ Ok new → Fits f new.numbers) → Fits f new.numbers
-    on (Ok next) was h go = go next (fits_taken f table s next e fits was) h
+    on : (r : Result Sheet FaultKind) → entered f table s e ≡ r → (r >>= λ next. fold_ok (entered f table) next es) ≡ Ok new
+        → ((next : Sheet) → Fits f next.numbers → fold_ok (entered f table) next es ≡ Ok new → Fits f new.numbers) → Fits f new.numbers
+    on (Ok next) was h go = go next (fits_entered f table s next e fits was) h
     on (Err g) was h go = absurd (cc)
 
 -- the numbers of all operands fit

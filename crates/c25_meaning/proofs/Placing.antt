@@ -6,12 +6,12 @@ use Rattle.std.proofs.lemmas.List.{get_or-append_right}
 use Rattle.std.proofs.lemmas.Bool.Decides.{nat_tests}
 use Rattle.c25_meaning.specs.declared.insn.Insn.{Insn}
 use Rattle.c25_meaning.specs.declared.insn.Insn.TheVariants as insn
-use Rattle.c25_meaning.specs.Table.{InRange, size_of, words, first_word, second_word}
+use Rattle.c25_meaning.specs.Table.{InRange, size_of, words, opcode_word, second_word}
 use Rattle.c25_meaning.specs.Statements.{statement_at, IsImageOf}
 use Rattle.std.specs.List.{All, sum_by, fold}
 use Rattle.std.proofs.lemmas.List.Elements.{All-head, All-tail}
 use Rattle.c25_meaning.specs.Fits.{FitsMemory}
-use Rattle.c25_meaning.specs.Placing.{placed, all_words, loaded_world}
+use Rattle.c25_meaning.specs.Placing.{laid_out, all_words, first_state}
 
 -- an instruction has as many words as its size
 pub length_words : (i : Insn) → length (words i) ≡ size_of i
@@ -45,10 +45,10 @@ pub record Stands (at : ℕ) (is : List Insn) (a : ℕ) (i : Insn) : Type 0 wher
   pub from : at ≤ a
   pub room : a + size_of i ≤ at + total_size is
   pub in_range : InRange i
-  pub first : slice_index (all_words is) (a - at) ≡ first_word i
+  pub first : slice_index (all_words is) (a - at) ≡ opcode_word i
   pub second : IfSome (second_word i) (λ word. slice_index (all_words is) (a - at + 1) ≡ word)
 
-first_of : (i : Insn) (rest : List ℕ) (k : ℕ) → k ≡ 0 → slice_index (words i ++ rest) k ≡ first_word i
+first_of : (i : Insn) (rest : List ℕ) (k : ℕ) → k ≡ 0 → slice_index (words i ++ rest) k ≡ opcode_word i
 first_of i rest k e = rw e refl
 
 second_of : (i : Insn) (rest : List ℕ) (k : ℕ) → k ≡ 0 → IfSome (second_word i) (λ word. slice_index (words i ++ rest) (k + 1) ≡ word)
@@ -82,7 +82,7 @@ further at h is a i s =
           s.second;
     }
 
-pub stands : (at : ℕ) (is : List Insn) (a : ℕ) (i : Insn) → All InRange is → statement_at (placed at is) a ≡ Some i → Stands at is a i
+pub stands : (at : ℕ) (is : List Insn) (a : ℕ) (i : Insn) → All InRange is → statement_at (laid_out at is) a ≡ Some i → Stands at is a i
 unfolding statement_at total_size
 stands at [] a i all e = absurd (cc)
 stands at (h ∷ is) a i all e = go (at == a) refl e (λ later. further at h is a i (stands (at + size_of h) is a i (All-tail InRange h is all) later))
@@ -95,15 +95,15 @@ stands at (h ∷ is) a i all e = go (at == a) refl e (λ later. further at h is 
           from = omega arith;
           room = omega arith;
           in_range = subst InRange same (All-head InRange h is all);
-          first = first_of h (all_words is) (a - at) zero_off ∙ ap first_word same;
+          first = first_of h (all_words is) (a - at) zero_off ∙ ap opcode_word same;
           second = subst (λ (j : Insn). IfSome (second_word j) (λ word. slice_index (words h ++ all_words is) (a - at + 1) ≡ word)) same (second_of h (all_words is) (a - at) zero_off);
         }
 
-    go : (b : Bool) → (at == a) ≡ b → option_map (λ s. s.insn) (if b then Some (record { address = at; insn = h }) else find (λ s. s.address == a) (placed (at + size_of h) is)) ≡ Some i → (statement_at (placed (at + size_of h) is) a ≡ Some i → Stands at (h ∷ is) a i) → Stands at (h ∷ is) a i
+    go : (b : Bool) → (at == a) ≡ b → option_map (λ s. s.insn) (if b then Some (record { address = at; insn = h }) else find (λ s. s.address == a) (laid_out (at + size_of h) is)) ≡ Some i → (statement_at (laid_out (at + size_of h) is) a ≡ Some i → Stands at (h ∷ is) a i) → Stands at (h ∷ is) a i
     go true q found later = let same : h ≡ i = cc in here same (grind (arith, nat_tests))
     go false q found later = later found
 
-pub loaded_is_image : (is : List Insn) → FitsMemory is → IsImageOf (placed 0 is) (loaded_world is)
+pub loaded_is_image : (is : List Insn) → FitsMemory is → IsImageOf (laid_out 0 is) (first_state is).world
 loaded_is_image is held =
     let all = held.in_range in
     let fits : total_size is ≤ 2 ^ 16 = omega (arith, held.room, total_of_sum is) in

@@ -2,7 +2,7 @@
 use Rattle.std.proofs.Common.{◌≡◌, ◌%◌, Some, refl}
 use Rattle.c25_meaning.specs.Table.{mem_row, shifted_row, ar_mem_row, port_row, short_row, long_row, long_mem_row, jump_row, plain_row}
 use Rattle.c25_meaning.proofs.Keys.{found_by, one_by}
-use Rattle.c25_meaning.proofs.RowNames.{mem_names, shifted_names, ar_mem_names, port_names, short_names, long_names, long_mem_names, jump_names, plain_names}
+use Rattle.c25_meaning.specs.Spellings.{mem_names, shifted_names, ar_mem_names, port_names, short_names, long_names, long_mem_names, jump_names, plain_names}
 use Rattle.c25_meaning.specs.declared.mnemonic.MemName.{MemName}
 use Rattle.c25_meaning.specs.declared.mnemonic.MemName.TheVariants as mem
 use Rattle.c25_meaning.specs.declared.mnemonic.ShiftedName.{ShiftedName}

@@ -77,3 +77,8 @@ pub in_range-insert : (m n : map.FinMap nat_cmp ℕ) (k w : ℕ) → n ≡ map.i
 in_range-insert m n k w e inside in_k in_w address word is =
     one_in_range (eq_by_cmp nat_cmp address k) m k w address word refl inside in_k in_w
     (sym (get-insert nat_cmp_total m k w address) ∙ ap (λ (o : map.FinMap nat_cmp ℕ). map.get o address) (sym e) ∙ is)
+
+-- what lists a map kept in order lists its view
+pub listed_view : (m : BTreeMap ℕ ℕ) (seen : map.FinMap nat_cmp ℕ) (listed : List (ℕ × ℕ)) → listed ≡ m.entries → tree.IsOrdered nat_cmp m → map.from_entries {R = nat_cmp} m.entries ≡ seen → listed ≡ map.entries seen
+listed_view m seen listed all ordered view =
+    all ∙ entries_view m ordered ∙ ap (λ (n : map.FinMap nat_cmp ℕ). map.entries n) view

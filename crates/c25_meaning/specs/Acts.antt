@@ -1,22 +1,21 @@
 -- What a line asks of expansion by its directive and operands, or its first fault of 10 to 13, 51, 52, 20, 21 (SPRU018,
 -- assembler directives and macro language).
-use Rattle.std.specs.Prelude.{ℕ, Bool, true, false, List, [], ◌∷◌, ◌++◌, map, length, nat_lt, slice_index, if◌then◌else◌, codes, Option, Some, None, Result, Ok, Err}
-use Rattle.std.specs.Option.{option_map, ok_or}
+use Rattle.std.specs.Prelude.{ℕ, Bool, true, false, List, [], ◌∷◌, map, length, nat_lt, slice_index, if◌then◌else◌, codes, Option, Some, None, Result, Ok, Err}
+use Rattle.std.specs.Option.{ok_or}
 use Rattle.std.specs.Str.{str_eq_ignore_ascii_case}
 use Rattle.c25_meaning.specs.Bytes.{is_blank}
 use Rattle.c25_meaning.specs.Line.{Piece, Parts, line_of}
 use Rattle.c25_meaning.specs.Operands.{operands_of, written_of, is_quoted, line_fault}
 use Rattle.c25_meaning.specs.Tree.{Tree, mark_of}
 use Rattle.c25_meaning.specs.Reading.{tree_in}
-use Rattle.c25_meaning.specs.Statement.{◌>>=◌, told}
+use Rattle.c25_meaning.specs.Results.{◌>>=◌, told}
+use Rattle.c25_meaning.specs.Statement.{expression_fault}
 use Rattle.c25_meaning.specs.Forms.{is_expression}
 use Rattle.c25_meaning.specs.Texts.{Texts}
 use Rattle.c25_meaning.specs.Arguments.{arguments, assigned_text, string_text}
 use Rattle.c25_meaning.specs.Rows.{Row}
 use Rattle.c25_meaning.specs.declared.line.TokenKind.{TokenKind}
 use Rattle.c25_meaning.specs.declared.line.TokenKind.TheVariants as kind
-use Rattle.c25_meaning.specs.declared.expression.ExpressionFault.{ExpressionFault}
-use Rattle.c25_meaning.specs.declared.expression.ExpressionFault.TheVariants as expression
 use Rattle.c25_meaning.specs.declared.expansion.Directive.{Directive}
 use Rattle.c25_meaning.specs.declared.expansion.Directive.TheVariants as directive
 use Rattle.c25_meaning.specs.declared.statement.Written.{Written}
@@ -76,15 +75,9 @@ directive_of word = directive_among word directives
 
 -- ---- operands
 
--- a tree, or its fault as a line's
-abbrev pub tree_told : Result Tree ExpressionFault → Result Tree FaultKind
-tree_told (Ok e) = Ok e
-tree_told (Err expression.BadExpression) = Err fault.BadExpression
-tree_told (Err expression.TooDeep) = Err fault.TooDeep
-
 -- the operand's tree, where it is written as an expression
 abbrev pub tree_by : Written → List Piece → Result Tree FaultKind
-tree_by written.Expression operand = tree_told (tree_in (map mark_of operand))
+tree_by written.Expression operand = told expression_fault (tree_in (map mark_of operand))
 tree_by _ operand = Err fault.OperandForm
 
 -- an operand that is an expression

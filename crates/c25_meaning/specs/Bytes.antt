@@ -6,6 +6,10 @@ use Rattle.std.specs.Prelude.{ℕ, Bool, ◌||◌, ◌&&◌, ◌==◌, not, nat_
 abbrev pub is_blank : ℕ → Bool
 is_blank b = b == 32 || b == 9
 
+-- a blank, a tab, or a character of a line's end, LF or CR
+abbrev pub is_space : ℕ → Bool
+is_space b = is_blank b || b == 10 || b == 13
+
 -- `0` to `9`
 abbrev pub is_digit : ℕ → Bool
 is_digit b = nat_le 48 b && nat_le b 57

@@ -1,6 +1,6 @@
 -- What a command file tells the linker (SPRU018, linker description, the directives MEMORY and SECTIONS, and the
 -- option -e; that there are two pages of 65,536 words is the TMS320C25's).
-use Rattle.std.specs.Prelude.{ℕ, ◌+◌, ◌<◌, ◌≤◌, List, Option, None}
+use Rattle.std.specs.Prelude.{◌≡◌, ℕ, ◌+◌, ◌<◌, ◌≤◌, List, [], ◌∷◌, All, Option, None, IfSome}
 
 -- a range of a page
 pub record RangeData : Type 0 where
@@ -36,3 +36,29 @@ pub record IsRange (r : RangeData) : Type 0 where
   pub page : r.page ≤ 1
   pub words : 0 < r.size
   pub within : r.origin + r.size ≤ 65536
+
+-- a word of the range's page lies in the range
+abbrev pub HasWord : RangeData → ℕ → Type 0
+HasWord r word = (r.origin ≤ word) × (word < r.origin + r.size)
+
+-- two ranges, if they are of one page, have no name and no word in common
+pub record AreApart (r s : RangeData) : Type 0 where
+  pub names : r.page ≡ s.page → ¬ (r.name ≡ s.name)
+  pub words : r.page ≡ s.page → (word : ℕ) → HasWord r word → ¬ HasWord s word
+
+-- two sections are not the same one
+abbrev pub AreOthers : PlacingData → PlacingData → Type 0
+AreOthers p q = ¬ (p.name ≡ q.name)
+
+-- what holds of each with each that comes later
+abbrev pub Pairwise : {A : Type 0} → (A → A → Type 0) → List A → Type 0
+Pairwise holds [] = Unit {0}
+Pairwise holds (x ∷ xs) = All (holds x) xs × Pairwise holds xs
+
+-- what every command keeps: ranges lie within their pages and apart, and no section comes twice or stands on a
+-- third page
+pub record IsCommand (c : CommandData) : Type 0 where
+  pub ranges : IfSome c.memory (All IsRange)
+  pub apart : IfSome c.memory (Pairwise AreApart)
+  pub sections : IfSome c.sections (Pairwise AreOthers)
+  pub pages : IfSome c.sections (All (λ p. IfSome p.page (λ n. n ≤ 1)))

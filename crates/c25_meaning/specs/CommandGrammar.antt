@@ -1,7 +1,7 @@
 -- How command files are read from the front: a reader answers what it reads and the tokens behind it, or the first
 -- fault. Here are the readers of single tokens (own: the grammar of SPRU018, linker description, is in the files
 -- that use these).
-use Rattle.std.specs.Prelude.{ℕ, zero, suc, ◌==◌, Bool, true, false, List, [], ◌∷◌, drop, Option, Some, None, Result, Ok, Err, nat_lt, if◌then◌else◌}
+use Rattle.std.specs.Prelude.{◌≡◌, ℕ, zero, suc, ◌==◌, ◌≤◌, Bool, true, false, List, [], ◌∷◌, length, drop, Option, Some, None, Result, Ok, Err, nat_lt, if◌then◌else◌}
 use Rattle.c25_meaning.specs.declared.command_token.Sign.{Sign}
 use Rattle.c25_meaning.specs.declared.command_token.Sign.TheVariants as sign
 use Rattle.c25_meaning.specs.declared.command_token.Keyword.{Keyword}
@@ -14,29 +14,20 @@ use Rattle.c25_meaning.specs.declared.command_fault.CommandFault.{CommandFault}
 use Rattle.c25_meaning.specs.declared.command_fault.CommandFault.TheVariants.{Syntax}
 use Rattle.c25_meaning.specs.declared.command_fault.PlacedFault.{PlacedFault}
 use Rattle.c25_meaning.specs.CommandTokens.{Token}
-
--- the first of two steps that fails, or what both give
-infixl 10 ◌>>=◌
-abbrev pub ◌>>=◌ : {A B : Type 0} → Result A PlacedFault → (A → Result B PlacedFault) → Result B PlacedFault
-(Ok x) >>= f = f x
-(Err e) >>= f = Err e
+use Rattle.c25_meaning.specs.Results.{◌>>=◌}
 
 -- a value and the tokens behind it
 abbrev pub Reading : Type 0 → Type 0
 Reading A = Result (A × List Token) PlacedFault
 
--- a fault told at a place
-abbrev pub refused : {A : Type 0} → CommandFault → ℕ → Result A PlacedFault
-refused fault place = Err (record { fault = fault; place = place })
-
--- a fault told at the first token
-abbrev pub told : {A : Type 0} → CommandFault → List Token → Result A PlacedFault
-told fault [] = refused fault 0
-told fault (t ∷ ts) = refused fault t.place
+-- a fault at the first token
+abbrev pub fault_at : CommandFault → List Token → PlacedFault
+fault_at fault [] = record { fault = fault; place = 0 }
+fault_at fault (t ∷ ts) = record { fault = fault; place = t.place }
 
 -- a fault where the test holds
-abbrev pub unless : Bool → CommandFault → List Token → Result (Unit {0}) PlacedFault
-unless test fault ts = if test then told fault ts else Ok tt
+abbrev pub fault_if : Bool → CommandFault → List Token → Result (Unit {0}) PlacedFault
+fault_if test fault ts = if test then Err (fault_at fault ts) else Ok tt
 
 -- the number of a sign among the signs
 abbrev pub sign_number : Sign → ℕ
@@ -81,40 +72,55 @@ begins w (t ∷ ts) = passes w t.kind
 
 -- a token that must stand here
 unfoldable pub wanted : Want → List Token → Reading Token
-wanted w [] = told Syntax []
-wanted w (t ∷ ts) = if passes w t.kind then Ok (t, ts) else told Syntax (t ∷ ts)
+wanted w [] = Err (fault_at Syntax [])
+wanted w (t ∷ ts) = if passes w t.kind then Ok (t, ts) else Err (fault_at Syntax (t ∷ ts))
 
 -- the tokens behind one that may be left out
-abbrev pub without : Want → List Token → List Token
-without w ts = if begins w ts then drop 1 ts else ts
+abbrev pub past : Want → List Token → List Token
+past w ts = if begins w ts then drop 1 ts else ts
 
--- one after another up to what ends them, at most n: there are no more of them than tokens
+-- one after another up to what ends them, at most n
 unfoldable pub repeated : {S : Type 0} → Want → (S → List Token → Reading S) → ℕ → S → List Token → Reading S
 repeated last one zero s ts = Ok (s, ts)
 repeated last one (suc n) s ts = if begins last ts then Ok (s, ts) else (do
   next ← one s ts
   repeated last one n next.0 next.1)
 
+-- the same, with what ends them
+abbrev pub at_most : {S : Type 0} → ℕ → Want → (S → List Token → Reading S) → S → List Token → Reading S
+at_most n last one s ts = do
+  all ← repeated last one n s ts
+  end ← wanted last all.1
+  Ok (all.0, end.1)
+
+-- all of them: there are no more than tokens
+abbrev pub up_to : {S : Type 0} → Want → (S → List Token → Reading S) → S → List Token → Reading S
+up_to last one s ts = at_most (length ts) last one s ts
+
+-- so no count from there on gives anything else
+abbrev pub CountIsEnough : {S : Type 0} → Want → (S → List Token → Reading S) → Type 0
+CountIsEnough {S} last one = (n : ℕ) (s : S) (ts : List Token) → length ts ≤ n → at_most n last one s ts ≡ up_to last one s ts
+
 -- the number that a token is
-abbrev pub number_in : Kind → Option ℕ
-number_in (kind.Number n) = Some n
-number_in _ = None
+abbrev pub number_of_kind : Kind → Option ℕ
+number_of_kind (kind.Number n) = Some n
+number_of_kind _ = None
 
 -- a number in front of the tokens behind it, which must be there
-abbrev pub numbered : Option ℕ → List Token → List Token → Reading ℕ
-numbered None ts rest = told Syntax ts
-numbered (Some n) ts rest = Ok (n, rest)
+abbrev pub number_before : Option ℕ → List Token → List Token → Reading ℕ
+number_before None ts rest = Err (fault_at Syntax ts)
+number_before (Some n) ts rest = Ok (n, rest)
 
 -- a number that must stand here
 unfoldable pub number_at : List Token → Reading ℕ
-number_at [] = told Syntax []
-number_at (t ∷ ts) = numbered (number_in t.kind) (t ∷ ts) ts
+number_at [] = Err (fault_at Syntax [])
+number_at (t ∷ ts) = number_before (number_of_kind t.kind) (t ∷ ts) ts
 
 -- the number of a page: 0 or 1
 unfoldable pub page_number_at : List Token → Reading ℕ
 page_number_at ts = do
   n ← number_at ts
-  checked ← unless (nat_lt 1 n.0) Syntax ts
+  checked ← fault_if (nat_lt 1 n.0) Syntax ts
   Ok n
 
 -- `keyword =`: the tokens behind it

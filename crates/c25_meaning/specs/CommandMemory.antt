@@ -1,6 +1,6 @@
 -- MEMORY { [PAGE n :] NAME [(attributes)] : origin = number [,] length = number ... } (SPRU018, linker description,
 -- the MEMORY directive; that attributes count for nothing and where each fault is told are this project's own).
-use Rattle.std.specs.Prelude.{ℕ, ◌+◌, ◌==◌, ◌||◌, ◌&&◌, Bool, List, [], ◌∷◌, ◌++◌, length, drop, Result, Ok, nat_lt, if◌then◌else◌}
+use Rattle.std.specs.Prelude.{ℕ, ◌+◌, ◌==◌, ◌||◌, ◌&&◌, Bool, List, [], ◌∷◌, ◌++◌, drop, Result, Ok, nat_lt, if◌then◌else◌}
 use Rattle.std.specs.List.{list_any}
 use Rattle.std.specs.Str.{bytes_eq}
 use Rattle.c25_meaning.specs.declared.command_token.Sign.TheVariants as sign
@@ -9,7 +9,8 @@ use Rattle.c25_meaning.specs.declared.command_token.Want.TheVariants as want
 use Rattle.c25_meaning.specs.declared.command_fault.CommandFault.TheVariants.{RangeOverlap, RangeSize, Twice}
 use Rattle.c25_meaning.specs.declared.command_fault.PlacedFault.{PlacedFault}
 use Rattle.c25_meaning.specs.CommandTokens.{Token}
-use Rattle.c25_meaning.specs.CommandGrammar.{◌>>=◌, Reading, unless, begins, wanted, without, repeated, number_at, page_number_at, setting_at}
+use Rattle.c25_meaning.specs.CommandGrammar.{Reading, fault_if, begins, wanted, past, up_to, number_at, page_number_at, setting_at}
+use Rattle.c25_meaning.specs.Results.{◌>>=◌}
 use Rattle.c25_meaning.specs.Command.{RangeData}
 
 -- the page of the ranges from here on
@@ -39,17 +40,17 @@ unfoldable pub extent_at : ℕ → List RangeData → List Token → Reading (�
 extent_at page before ts = do
   start ← setting_at keyword.Origin ts
   origin ← number_at start
-  count ← setting_at keyword.Length (without (want.Sign sign.Comma) origin.1)
+  count ← setting_at keyword.Length (past (want.Sign sign.Comma) origin.1)
   size ← number_at count
-  fits ← unless (size.0 == 0 || nat_lt 65536 (origin.0 + size.0)) RangeSize count
-  apart ← unless (list_any (overlaps page origin.0 size.0) before) RangeOverlap count
+  fits ← fault_if (size.0 == 0 || nat_lt 65536 (origin.0 + size.0)) RangeSize count
+  apart ← fault_if (list_any (overlaps page origin.0 size.0) before) RangeOverlap count
   Ok ((origin.0, size.0), size.1)
 
 -- a range of that page behind others
 unfoldable pub range_at : ℕ → List RangeData → List Token → Reading RangeData
 range_at page before ts = do
   name ← wanted want.Name ts
-  fresh ← unless (list_any (is_range page name.0.text) before) Twice ts
+  fresh ← fault_if (list_any (is_range page name.0.text) before) Twice ts
   after ← attributes_at name.1
   colon ← wanted (want.Sign sign.Colon) after
   extent ← extent_at page before colon.1
@@ -70,6 +71,5 @@ more_ranges s ts = do
 unfoldable pub memory_at : List Token → Reading (List RangeData)
 memory_at ts = do
   brace ← wanted (want.Sign sign.OpenBrace) ts
-  ranges ← repeated (want.Sign sign.CloseBrace) more_ranges (length brace.1) (0, []) brace.1
-  close ← wanted (want.Sign sign.CloseBrace) ranges.1
-  Ok (ranges.0.1, close.1)
+  ranges ← up_to (want.Sign sign.CloseBrace) more_ranges (0, []) brace.1
+  Ok (ranges.0.1, ranges.1)

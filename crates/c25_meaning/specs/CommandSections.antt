@@ -1,6 +1,6 @@
 -- SECTIONS { name : [{ } or { *(name) }] [> T or load = T or load > T] [PAGE n] [,] ... } (SPRU018, linker
 -- description, the SECTIONS directive, in part; where each fault is told is this project's own).
-use Rattle.std.specs.Prelude.{ℕ, Bool, not, List, [], ◌∷◌, ◌++◌, length, drop, Option, Some, None, Result, Ok, if◌then◌else◌}
+use Rattle.std.specs.Prelude.{ℕ, Bool, not, List, [], ◌∷◌, ◌++◌, drop, Option, Some, None, Result, Ok, if◌then◌else◌}
 use Rattle.std.specs.List.{list_any}
 use Rattle.std.specs.Str.{bytes_eq}
 use Rattle.c25_meaning.specs.declared.command_token.Sign.TheVariants as sign
@@ -9,7 +9,8 @@ use Rattle.c25_meaning.specs.declared.command_token.Want.TheVariants as want
 use Rattle.c25_meaning.specs.declared.command_fault.CommandFault.TheVariants.{Syntax, Twice}
 use Rattle.c25_meaning.specs.declared.command_fault.PlacedFault.{PlacedFault}
 use Rattle.c25_meaning.specs.CommandTokens.{Token}
-use Rattle.c25_meaning.specs.CommandGrammar.{◌>>=◌, Reading, unless, begins, wanted, without, repeated, number_at, page_number_at}
+use Rattle.c25_meaning.specs.CommandGrammar.{Reading, fault_if, begins, wanted, past, up_to, number_at, page_number_at}
+use Rattle.c25_meaning.specs.Results.{◌>>=◌}
 use Rattle.c25_meaning.specs.Command.{TargetData, Anywhere, InRange, At, PlacingData}
 
 -- `*(name)` with the section's own name, or nothing: the tokens behind it
@@ -17,7 +18,7 @@ unfoldable pub input_at : List ℕ → List Token → Result (List Token) Placed
 input_at name ts = if begins (want.Sign sign.Star) ts then (do
   paren ← wanted (want.Sign sign.OpenParenthesis) (drop 1 ts)
   word ← wanted want.Name paren.1
-  same ← unless (not (bytes_eq word.0.text name)) Syntax paren.1
+  same ← fault_if (not (bytes_eq word.0.text name)) Syntax paren.1
   close ← wanted (want.Sign sign.CloseParenthesis) word.1
   Ok close.1) else Ok ts
 
@@ -56,7 +57,7 @@ placing_at name ts = do
   after ← contents_at name ts
   target ← target_at after
   page ← section_page_at target.1
-  Ok (record { name = name; target = target.0; page = page.0 }, without (want.Sign sign.Comma) page.1)
+  Ok (record { name = name; target = target.0; page = page.0 }, past (want.Sign sign.Comma) page.1)
 
 -- whether a section has this name
 abbrev pub is_placing : List ℕ → PlacingData → Bool
@@ -66,7 +67,7 @@ is_placing name p = bytes_eq p.name name
 unfoldable pub more_placings : List PlacingData → List Token → Reading (List PlacingData)
 more_placings before ts = do
   name ← wanted want.Name ts
-  fresh ← unless (list_any (is_placing name.0.text) before) Twice ts
+  fresh ← fault_if (list_any (is_placing name.0.text) before) Twice ts
   colon ← wanted (want.Sign sign.Colon) name.1
   placing ← placing_at name.0.text colon.1
   Ok (before ++ placing.0 ∷ [], placing.1)
@@ -75,6 +76,4 @@ more_placings before ts = do
 unfoldable pub sections_at : List Token → Reading (List PlacingData)
 sections_at ts = do
   brace ← wanted (want.Sign sign.OpenBrace) ts
-  placings ← repeated (want.Sign sign.CloseBrace) more_placings (length brace.1) [] brace.1
-  close ← wanted (want.Sign sign.CloseBrace) placings.1
-  Ok (placings.0, close.1)
+  up_to (want.Sign sign.CloseBrace) more_placings [] brace.1

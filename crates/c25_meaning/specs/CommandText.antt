@@ -1,13 +1,15 @@
 -- The command that a text spells, or its first fault from the front: MEMORY, SECTIONS and -e name in any order, each
 -- at most once (SPRU018, linker description, linker command files; that each comes once is this project's own).
-use Rattle.std.specs.Prelude.{ℕ, not, List, length, drop, codes, Some, is_some, Result, Ok, if◌then◌else◌}
+use Rattle.std.specs.Prelude.{ℕ, not, List, drop, codes, Some, is_some, Result, Ok, if◌then◌else◌}
 use Rattle.std.specs.Str.{bytes_eq}
 use Rattle.c25_meaning.specs.declared.command_token.Keyword.TheVariants as keyword
 use Rattle.c25_meaning.specs.declared.command_token.Want.TheVariants as want
 use Rattle.c25_meaning.specs.declared.command_fault.CommandFault.TheVariants.{Syntax, Twice}
 use Rattle.c25_meaning.specs.declared.command_fault.PlacedFault.{PlacedFault}
-use Rattle.c25_meaning.specs.CommandTokens.{Token, tokens}
-use Rattle.c25_meaning.specs.CommandGrammar.{◌>>=◌, Reading, unless, begins, wanted, repeated}
+use Rattle.c25_meaning.specs.declared.command_fault.FaultyCommand.{FaultyCommand}
+use Rattle.c25_meaning.specs.CommandTokens.{Token, tokens, line_at}
+use Rattle.c25_meaning.specs.CommandGrammar.{Reading, fault_if, begins, wanted, up_to}
+use Rattle.c25_meaning.specs.Results.{◌>>=◌, told}
 use Rattle.c25_meaning.specs.Command.{CommandData, nothing}
 use Rattle.c25_meaning.specs.CommandMemory.{memory_at}
 use Rattle.c25_meaning.specs.CommandSections.{sections_at}
@@ -16,22 +18,22 @@ use Rattle.c25_meaning.specs.CommandSections.{sections_at}
 unfoldable pub entry_in : CommandData → List Token → Reading CommandData
 entry_in command ts = do
   word ← wanted want.Name ts
-  option ← unless (not (bytes_eq word.0.text (codes "-e"))) Syntax ts
-  fresh ← unless (is_some command.entry) Twice ts
+  option ← fault_if (not (bytes_eq word.0.text (codes "-e"))) Syntax ts
+  fresh ← fault_if (is_some command.entry) Twice ts
   name ← wanted want.Name word.1
   Ok (record command { entry = Some name.0.text }, name.1)
 
 -- MEMORY
 unfoldable pub memory_in : CommandData → List Token → Reading CommandData
 memory_in command ts = do
-  fresh ← unless (is_some command.memory) Twice ts
+  fresh ← fault_if (is_some command.memory) Twice ts
   ranges ← memory_at (drop 1 ts)
   Ok (record command { memory = Some ranges.0 }, ranges.1)
 
 -- SECTIONS
 unfoldable pub sections_in : CommandData → List Token → Reading CommandData
 sections_in command ts = do
-  fresh ← unless (is_some command.sections) Twice ts
+  fresh ← fault_if (is_some command.sections) Twice ts
   placings ← sections_at (drop 1 ts)
   Ok (record command { sections = Some placings.0 }, placings.1)
 
@@ -45,10 +47,9 @@ part_in command ts =
 -- the command that the tokens spell
 unfoldable pub command_at : List Token → Result CommandData PlacedFault
 command_at ts = do
-  parts ← repeated want.End part_in (length ts) nothing ts
-  end ← wanted want.End parts.1
+  parts ← up_to want.End part_in nothing ts
   Ok parts.0
 
--- the command that a text spells
-abbrev pub command_of : List ℕ → Result CommandData PlacedFault
-command_of text = command_at (tokens text)
+-- the command that a text spells; a fault is told with the line of its token
+abbrev pub command_of : List ℕ → Result CommandData FaultyCommand
+command_of text = told (λ f. record { fault = f.fault; line = line_at text f.place }) (command_at (tokens text))

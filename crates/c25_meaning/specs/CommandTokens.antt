@@ -6,6 +6,7 @@ use Rattle.std.specs.List.{prefix_len}
 use Rattle.std.specs.Str.{bytes_eq}
 use Rattle.std.specs.Str.Lines.{lines}
 use Rattle.std.specs.Char.{to_ascii_lowercase}
+use Rattle.c25_meaning.specs.Bytes.{is_space}
 use Rattle.c25_meaning.specs.Digits.{Numeral, digit, are_digits, value_in}
 use Rattle.c25_meaning.specs.declared.command_token.Sign.{Sign}
 use Rattle.c25_meaning.specs.declared.command_token.Sign.TheVariants as sign
@@ -17,10 +18,6 @@ use Rattle.c25_meaning.specs.declared.command_token.Lexeme.{Lexeme}
 use Rattle.c25_meaning.specs.declared.command_token.Lexeme.TheVariants as piece
 
 -- ---- characters
-
--- blank, tab, line feed and carriage return
-abbrev pub is_space : ℕ → Bool
-is_space b = b == 32 || b == 9 || b == 10 || b == 13
 
 -- { } ( ) : , = > *
 abbrev pub sign_of : ℕ → Option Sign
@@ -48,28 +45,28 @@ comment_len [] = None
 comment_len (b ∷ rest) = if b == 42 && slice_index rest 0 == 47 then Some 2 else option_map (λ n. n + 1) (comment_len rest)
 
 -- a comment with so many bytes behind its `/*`
-abbrev pub comment_of : Option ℕ → Lexeme
-comment_of None = piece.OpenComment
-comment_of (Some n) = piece.Comment (n + 2)
+abbrev pub comment_piece : Option ℕ → Lexeme
+comment_piece None = piece.OpenComment
+comment_piece (Some n) = piece.Comment (n + 2)
 
 -- a sign, or a character that can stand nowhere
-abbrev pub signed : Option Sign → Lexeme
-signed None = piece.Stray
-signed (Some s) = piece.Sign s
+abbrev pub sign_piece : Option Sign → Lexeme
+sign_piece None = piece.Stray
+sign_piece (Some s) = piece.Sign s
 
 -- what stands at the front of a text that is not empty
 unfoldable pub lexeme : List ℕ → Lexeme
 lexeme text =
     if is_space (slice_index text 0) then piece.Blank
     else (if is_word (slice_index text 0) then piece.Word (prefix_len is_word text)
-    else (if slice_index text 0 == 47 && slice_index text 1 == 42 then comment_of (comment_len (drop 2 text))
-    else signed (sign_of (slice_index text 0))))
+    else (if slice_index text 0 == 47 && slice_index text 1 == 42 then comment_piece (comment_len (drop 2 text))
+    else sign_piece (sign_of (slice_index text 0))))
 
 -- ---- words
 
 -- `0x` before hexadecimal digits, `h` behind them, or decimal digits
-abbrev pub numeral : List ℕ → Numeral
-numeral text =
+abbrev pub word_numeral : List ℕ → Numeral
+word_numeral text =
     if slice_index text 0 == 48 && (slice_index text 1 == 120 || slice_index text 1 == 88) then record { base = 16; digits = drop 2 text }
     else (if slice_index text (length text - 1) == 104 || slice_index text (length text - 1) == 72
     then record { base = 16; digits = take (length text - 1) text }
@@ -81,12 +78,12 @@ is_numeral n = are_digits n.base n.digits && nat_lt (length n.digits) 20
     && not (n.base == 10 && slice_index n.digits 0 == 48 && nat_lt 1 (length n.digits))
 
 -- the value, or 4,294,967,295 where it is larger
-abbrev pub value_of : Numeral → ℕ
-value_of n = min (value_in n.base n.digits) (2 ^ 32 - 1)
+abbrev pub capped_value : Numeral → ℕ
+capped_value n = min (value_in n.base n.digits) (2 ^ 32 - 1)
 
 -- a number, or a word that only begins as one
-abbrev pub numbered : Numeral → Kind
-numbered n = if is_numeral n then kind.Number (value_of n) else kind.Malformed
+abbrev pub number_kind : Numeral → Kind
+number_kind n = if is_numeral n then kind.Number (capped_value n) else kind.Malformed
 
 -- the reserved word of a spelling in lower case
 abbrev pub keyword_of : List ℕ → Option Keyword
@@ -101,13 +98,13 @@ keyword_of lower =
     else None))))))
 
 -- a reserved word, or else a name
-abbrev pub named : Option Keyword → Kind
-named None = kind.Name
-named (Some k) = kind.Keyword k
+abbrev pub name_kind : Option Keyword → Kind
+name_kind None = kind.Name
+name_kind (Some k) = kind.Keyword k
 
 -- a word that begins with a digit is a number; reserved words are read in either case
 unfoldable pub word_kind : List ℕ → Kind
-word_kind text = if nat_lt (digit (slice_index text 0)) 10 then numbered (numeral text) else named (keyword_of (map to_ascii_lowercase text))
+word_kind text = if nat_lt (digit (slice_index text 0)) 10 then number_kind (word_numeral text) else name_kind (keyword_of (map to_ascii_lowercase text))
 
 -- ---- tokens
 

@@ -1,17 +1,16 @@
 -- What expansion works on: one flat list of lines still to come, rewritten at its front (SPRU018, macro language and
 -- assembler directives; the limits and the numbering of expansions are this project's own).
-use Rattle.std.specs.Prelude.{ℕ, ◌+◌, List, [], ◌∷◌, ◌++◌, Bool, true, false, ◌||◌, not, Option, Some, None, ℤ, pos, negsuc, nat_le, if◌then◌else◌, length, map, sum_by, is_some}
+use Rattle.std.specs.Prelude.{ℕ, ◌+◌, List, [], ◌∷◌, ◌++◌, Bool, true, false, ◌||◌, Option, Some, None, nat_le, if◌then◌else◌, length, map, sum_by, is_some}
 use Rattle.std.specs.List.{list_any}
 use Rattle.std.specs.Map.{lookup}
 use Rattle.std.specs.Str.{bytes_eq}
 use Rattle.c25_meaning.specs.Acts.{Act, Macro}
 use Rattle.c25_meaning.specs.Rows.{Row}
-use Rattle.c25_meaning.specs.Pieces.{visible}
+use Rattle.c25_meaning.specs.Fragments.{visible}
 use Rattle.c25_meaning.specs.Texts.{Named, Texts, with_name}
 use Rattle.c25_meaning.specs.declared.expansion.Place.{Place}
 use Rattle.c25_meaning.specs.declared.expansion.Branch.{Branch}
 use Rattle.c25_meaning.specs.declared.statement.FaultKind.{FaultKind}
-use Rattle.c25_meaning.specs.declared.statement.FaultKind.TheVariants as fault
 
 -- a line still to come, or the end of a copied file, of an expansion or of a turn of a loop
 pub data Item : Type 0 where
@@ -26,7 +25,7 @@ pub data Kind : Type 0 where
   Turn : (body : List Row) (more : ℕ) → Kind
 
 -- a file, expansion or turn that is open: where its last line stands, and the `.if`s begun in it, the innermost first
-pub record Frame : Type 0 where
+pub record Scope : Type 0 where
   pub kind : Kind
   pub last : Place
   pub branches : List Branch
@@ -57,9 +56,9 @@ pub record Dictionary : Type 0 where
 -- all that stands at a line
 pub record Config : Type 0 where
   pub lines : List Item
-  pub frame : Frame
+  pub scope : Scope
   -- those in which it stands, the innermost first
-  pub outer : List Frame
+  pub outer : List Scope
   pub mode : Mode
   pub names : Dictionary
   -- how many lines may still be read
@@ -81,7 +80,7 @@ unless test kind place next = if test then Faults place kind else next
 
 -- how many expansions, copied files, loops and `.if`s are open
 abbrev pub depth : Config → ℕ
-depth c = length c.frame.branches + sum_by (λ f. length f.branches + 1) c.outer
+depth c = length c.scope.branches + sum_by (λ f. length f.branches + 1) c.outer
 
 -- no more may be opened
 abbrev pub is_full : Config → Bool
@@ -90,11 +89,11 @@ is_full c = nat_le 32 (depth c)
 -- these lines come next, and then an end
 abbrev pub opened : Kind → Place → List Row → Config → Config
 opened kind last rows c =
-    record c { lines = map Read rows ++ Close ∷ c.lines; frame = record { kind = kind; last = last; branches = [] }; outer = c.frame ∷ c.outer }
+    record c { lines = map Read rows ++ Close ∷ c.lines; scope = record { kind = kind; last = last; branches = [] }; outer = c.scope ∷ c.outer }
 
 -- with these `.if`s in the innermost file, expansion or turn
 abbrev pub with_branches : List Branch → Config → Config
-with_branches branches c = record c { frame = record { kind = c.frame.kind; last = c.frame.last; branches = branches } }
+with_branches branches c = record c { scope = record { kind = c.scope.kind; last = c.scope.last; branches = branches } }
 
 -- the lines after the next end
 abbrev pub after_close : List Item → List Item
@@ -114,12 +113,12 @@ without_ended Copied names = names
 without_ended (Turn body more) names = names
 
 -- lines dropped through the end of the innermost file, expansion or turn that passes the test
-abbrev pub left_through : (Kind → Bool) → List Item → Frame → List Frame → Dictionary → Config → Option Config
-left_through test lines frame [] names c = None
-left_through test lines frame (f ∷ fs) names c =
-    if test frame.kind
-    then Some (record c { lines = after_close lines; frame = f; outer = fs; names = without_ended frame.kind names })
-    else left_through test (after_close lines) f fs (without_ended frame.kind names) c
+abbrev pub left_through : (Kind → Bool) → List Item → Scope → List Scope → Dictionary → Config → Option Config
+left_through test lines scope [] names c = None
+left_through test lines scope (f ∷ fs) names c =
+    if test scope.kind
+    then Some (record c { lines = after_close lines; scope = f; outer = fs; names = without_ended scope.kind names })
+    else left_through test (after_close lines) f fs (without_ended scope.kind names) c
 
 -- an expansion
 abbrev pub is_expansion : Kind → Bool
@@ -135,7 +134,7 @@ is_turn Copied = false
 
 -- whether a file, expansion or turn that passes the test is open
 abbrev pub stands_in : (Kind → Bool) → Config → Bool
-stands_in test c = test c.frame.kind || list_any (λ f. test f.kind) c.outer
+stands_in test c = test c.scope.kind || list_any (λ f. test f.kind) c.outer
 
 -- ---- names
 

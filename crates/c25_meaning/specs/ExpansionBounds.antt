@@ -3,7 +3,7 @@ use Rattle.std.specs.Prelude.{◌≡◌, ℕ, ◌+◌, ◌≤◌, max, List, [],
 use Rattle.c25_meaning.specs.Files.{Files}
 use Rattle.c25_meaning.specs.Rows.{Row}
 use Rattle.c25_meaning.specs.Value.{Table}
-use Rattle.c25_meaning.specs.Expansion.{Frame, Mode, Reading, Acting, InMacro, InLoop, Config, Rewriting, Gives, Goes, Finishes, Faults, Misses, depth}
+use Rattle.c25_meaning.specs.Expansion.{Scope, Mode, Reading, Acting, InMacro, InLoop, Config, Rewriting, Gives, Goes, Finishes, Faults, Misses, depth}
 use Rattle.c25_meaning.specs.ExpansionRuns.{rewrite}
 use Rattle.c25_meaning.specs.declared.expansion.Branch.{Branch}
 
@@ -44,13 +44,13 @@ nesting [] = 0
 nesting (b ∷ bs) = max b.nested (nesting bs)
 
 -- the same in these files, expansions and turns
-abbrev pub deepest : List Frame → ℕ
+abbrev pub deepest : List Scope → ℕ
 deepest [] = 0
 deepest (f ∷ fs) = max (nesting f.branches) (deepest fs)
 
 -- the same in all that are open
 abbrev pub skipping : Config → ℕ
-skipping c = deepest (c.frame ∷ c.outer)
+skipping c = deepest (c.scope ∷ c.outer)
 
 -- what nests or is counted has a line of its own among the 200,000 that may be read, and at most 32 blocks are open
 pub record IsBounded (c : Config) : Type 0 where

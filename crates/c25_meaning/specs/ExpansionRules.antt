@@ -1,7 +1,25 @@
 -- What each line does to the lines still to come, one rule a directive (SPRU018, macro language and assembler directives:
--- conditional assembly, macros, loops, substitution symbols, `.copy`). The faults of a line are told in this order: 34, 38,
--- 10 to 13, 51, 52, 20, 21, then those of its label's line, then 22 to 25, then 30 to 36.
-use Rattle.std.specs.Prelude.{ℕ, ◌+◌, ◌-◌, ◌==◌, List, [], ◌∷◌, ◌++◌, Bool, true, false, not, ◌&&◌, ◌||◌, Option, Some, None, Result, Ok, Err, ℤ, pos, negsuc, nat_lt, if◌then◌else◌, is_some}
+-- conditional assembly, macros, loops, substitution symbols, `.copy`; the order of the tests is this project's own).
+--
+-- The tests of a line in their order: the first that fails is told, and none behind it is made.
+--
+--   34        it is the 200,001st line that is read                           `reads` of ExpansionRuns
+--             into a body that is collected it goes with no further test      `in_macro`, `in_loop`
+--   32        it begins with `.elseif` or `.else`, behind an `.else`          `reads_elseif`, `skips_outer`
+--             if it is skipped, no further test is made                       `skips_outer`, `skips_nested`
+--   38        substituted it is too long, or takes too many replacements      `unless_long`
+--   10 to 13  it has no label, or no parts                                    `parts_for`, `parts_in` of Acts
+--   51, 52, 20, 21, 35  its operands: count, form, expressions, parameters    `act_of` of Acts
+--             its label is given as a line                                    `labelled`
+--   22 to 25  the value of its operand                                        `needed`
+--   30        there is no such file                                           `copies_by`
+--   32        it goes on with, ends or leaves a block that is not open        `elseif_by`, `else_by`, `endif_by`, `leaves`,
+--                                                                             `breaks_if`, `Stray` in `acts`
+--   33        32 blocks are open                                              `begins_if`, `begins_expansion`, `collects`, `copies_by`
+--   36        the name is a macro's or a mnemonic's                           `begins_macro`
+--
+-- 31, a block that is left open, is told at the end of the file or body in which it began (`closes` of ExpansionRuns).
+use Rattle.std.specs.Prelude.{ℕ, ◌+◌, ◌-◌, ◌==◌, List, [], ◌∷◌, ◌++◌, Bool, true, false, not, ◌||◌, Option, Some, None, Result, Ok, Err, ℤ, pos, negsuc, if◌then◌else◌, is_some}
 use Rattle.std.specs.Fmt.{signed_decimal}
 use Rattle.c25_meaning.specs.Line.{first_word}
 use Rattle.c25_meaning.specs.Tree.{Tree}
@@ -13,12 +31,15 @@ use Rattle.c25_meaning.specs.Rows.{Row, rows_of, last_place, file_number}
 use Rattle.c25_meaning.specs.Substitution.{substituted, substituted_before_comma, unsubstituted}
 use Rattle.c25_meaning.specs.Texts.{Texts, with_name}
 use Rattle.c25_meaning.specs.Acts.{Act, If, ElseIf, Else, EndIf, Define, Stray, Exit, Loop, Break, Assign, Evaluate, Copy, End, Call, Macro, Order, directive_of, order_of, call_of}
-use Rattle.c25_meaning.specs.Expansion.{Item, Kind, Copied, Expanded, Turn, Frame, Mode, Reading, Acting, InMacro, InLoop, Dictionary, Config, Rewriting, Gives, Goes, Finishes, Faults, Misses, unless, is_full, opened, with_branches, left_through, is_expansion, is_turn, stands_in, macro_named, seen, number_of, assigned, called}
+use Rattle.c25_meaning.specs.Expansion.{Kind, Copied, Expanded, Turn, Reading, Acting, InMacro, InLoop, Dictionary, Config, Rewriting, Gives, Goes, Faults, Misses, unless, is_full, opened, with_branches, left_through, is_expansion, is_turn, stands_in, macro_named, seen, number_of, assigned, called}
 use Rattle.c25_meaning.specs.declared.value.Base.{Base}
 use Rattle.c25_meaning.specs.declared.value.Base.TheVariants.{Absolute}
 use Rattle.c25_meaning.specs.declared.value.Value.{Value}
 use Rattle.c25_meaning.specs.declared.expansion.Place.{Place}
 use Rattle.c25_meaning.specs.declared.expansion.Branch.{Branch}
+use Rattle.c25_meaning.specs.declared.expansion.Phase.{Phase}
+use Rattle.c25_meaning.specs.declared.expansion.Phase.TheVariants.{Seeking, Taking, Passing, ElseTaking, ElsePassing}
+use Rattle.c25_meaning.specs.declared.expansion.LongLine.{LongLine}
 use Rattle.c25_meaning.specs.declared.expansion.Directive.{Directive}
 use Rattle.c25_meaning.specs.declared.expansion.Directive.TheVariants as directive
 use Rattle.c25_meaning.specs.declared.statement.FaultKind.{FaultKind}
@@ -45,40 +66,65 @@ with_number place (Err kind) next = Faults place kind
 abbrev pub needed : Table → Place → Tree → (ℤ → Rewriting) → Rewriting
 needed s place e next = with_number place (absolute (valued s e)) next
 
--- ---- conditional lines
+-- ---- conditional lines: `.elseif` and `.else` by the phase of the `.if` that they go on with
+--
+--   phase         its lines   `.elseif`                                        `.else`
+--   Seeking       skipped     Taking where its operand is not 0, else Seeking  ElseTaking
+--   Taking        taken       Passing, its operand not valued                  ElsePassing
+--   Passing       skipped     Passing, not looked at any further               ElsePassing
+--   ElseTaking    taken       32                                               32
+--   ElsePassing   skipped     32                                               32
 
--- an `.if` that was just opened
-abbrev pub begun : Bool → Branch
-begun true_so = record { active = true_so; taken = true_so; has_else = false; nested = 0 }
+-- whether its lines are taken
+abbrev pub takes_lines : Phase → Bool
+takes_lines Seeking = false
+takes_lines Taking = true
+takes_lines Passing = false
+takes_lines ElseTaking = true
+takes_lines ElsePassing = false
+
+-- `.elseif`, where `sought` follows a condition that is still sought
+abbrev pub elseif_in : Phase → Place → (Phase → Rewriting) → Rewriting → Rewriting
+elseif_in Seeking place next sought = sought
+elseif_in Taking place next sought = next Passing
+elseif_in Passing place next sought = next Passing
+elseif_in ElseTaking place next sought = Faults place fault.StrayEnd
+elseif_in ElsePassing place next sought = Faults place fault.StrayEnd
+
+-- `.else`
+abbrev pub else_in : Phase → Place → (Phase → Rewriting) → Rewriting
+else_in Seeking place next = next ElseTaking
+else_in Taking place next = next ElsePassing
+else_in Passing place next = next ElsePassing
+else_in ElseTaking place next = Faults place fault.StrayEnd
+else_in ElsePassing place next = Faults place fault.StrayEnd
+
+-- the phase behind a condition
+abbrev pub phase_of : ℤ → Phase
+phase_of number = if is_zero number then Seeking else Taking
 
 -- `.if`
 unfoldable pub begins_if : Table → Place → Tree → Config → Rewriting
 begins_if s place e c = needed s place e (λ number.
-    unless (is_full c) fault.Depth place (Goes (with_branches (begun (not (is_zero number)) ∷ c.frame.branches) c)))
+    unless (is_full c) fault.Depth place (Goes (with_branches (record { phase = phase_of number; nested = 0 } ∷ c.scope.branches) c)))
 
 -- the innermost `.if` of a file, expansion or turn goes on so
 abbrev pub innermost : Branch → List Branch → Config → Rewriting
 innermost branch branches c = Goes (with_branches (branch ∷ branches) c)
 
--- `.elseif` behind a branch that was taken
-abbrev pub passes_elseif : Place → Branch → List Branch → Config → Rewriting
-passes_elseif place b bs c = unless b.has_else fault.StrayEnd place (innermost (record b { active = false }) bs c)
-
--- `.elseif` where none was
-abbrev pub tries_elseif : Table → Place → Tree → Branch → List Branch → Config → Rewriting
-tries_elseif s place e b bs c = needed s place e (λ number. unless b.has_else fault.StrayEnd place
-    (innermost (record b { active = not (is_zero number); taken = not (is_zero number) }) bs c))
+-- it goes on in this phase
+abbrev pub enters : Branch → List Branch → Config → Phase → Rewriting
+enters b bs c phase = innermost (record b { phase = phase }) bs c
 
 -- `.elseif`
 abbrev pub elseif_by : Table → Place → Tree → List Branch → Config → Rewriting
 elseif_by s place e [] c = needed s place e (λ number. Faults place fault.StrayEnd)
-elseif_by s place e (b ∷ bs) c = if b.taken then passes_elseif place b bs c else tries_elseif s place e b bs c
+elseif_by s place e (b ∷ bs) c = elseif_in b.phase place (enters b bs c) (needed s place e (λ number. enters b bs c (phase_of number)))
 
--- `.else`: its lines are taken where no branch was
+-- `.else`
 abbrev pub else_by : Place → List Branch → Config → Rewriting
 else_by place [] c = Faults place fault.StrayEnd
-else_by place (b ∷ bs) c = unless b.has_else fault.StrayEnd place
-    (innermost (record b { active = not b.taken; taken = true; has_else = true }) bs c)
+else_by place (b ∷ bs) c = else_in b.phase place (enters b bs c)
 
 -- `.endif`
 abbrev pub endif_by : Place → List Branch → Config → Rewriting
@@ -100,7 +146,7 @@ begins_expansion place body arguments c =
 
 -- the lines through the end of the innermost expansion or turn are dropped
 abbrev pub leaves : (Kind → Bool) → Place → Config → Rewriting
-leaves test place c = elim (left_through test c.lines c.frame c.outer c.names c) [ None ↦ Faults place fault.StrayEnd | Some rest ↦ Goes rest ]
+leaves test place c = elim (left_through test c.lines c.scope c.outer c.names c) [ None ↦ Faults place fault.StrayEnd | Some rest ↦ Goes rest ]
 
 -- how many turns a count asks for
 abbrev pub turns_of : ℤ → ℕ
@@ -144,14 +190,14 @@ copies files place name c = copies_by (text_named files name) (file_number files
 
 -- `.end`: nothing comes any more, and no block is open
 unfoldable pub ends_all : Place → Config → Rewriting
-ends_all place c = Goes (record c { lines = []; frame = record { kind = Copied; last = place; branches = [] }; outer = []; names = record c.names { expansions = [] } })
+ends_all place c = Goes (record c { lines = []; scope = record { kind = Copied; last = place; branches = [] }; outer = []; names = record c.names { expansions = [] } })
 
 -- what a line asks for is done
 unfoldable pub acts : Files → Table → Place → Act → Config → Rewriting
 acts files s place (If e) c = begins_if s place e c
-acts files s place (ElseIf e) c = elseif_by s place e c.frame.branches c
-acts files s place Else c = else_by place c.frame.branches c
-acts files s place EndIf c = endif_by place c.frame.branches c
+acts files s place (ElseIf e) c = elseif_by s place e c.scope.branches c
+acts files s place Else c = else_by place c.scope.branches c
+acts files s place EndIf c = endif_by place c.scope.branches c
 acts files s place (Define name parameters) c = begins_macro place name parameters c
 acts files s place Stray c = Faults place fault.StrayEnd
 acts files s place Exit c = leaves is_expansion place c
@@ -176,9 +222,9 @@ consumed files s place (Err kind) c = Faults place kind
 consumed files s place (Ok order) c = labelled files s place order.label order.act c
 
 -- the macro that a word names
-abbrev pub macro_of : Option (List ℕ) → Config → Option Macro
-macro_of None c = None
-macro_of (Some word) c = macro_named c.names word
+abbrev pub macro_of : Option (List ℕ) → Dictionary → Option Macro
+macro_of None names = None
+macro_of (Some word) names = macro_named names word
 
 -- a line whose first word is no directive of expansion: a macro is called, or else the line is given
 abbrev pub calls : Files → Table → Row → Option Macro → Config → Rewriting
@@ -188,7 +234,7 @@ calls files s row (Some m) c = consumed files s row.place (call_of m row.text) c
 -- a substituted line with this directive, if any
 abbrev pub uses : Files → Table → Row → Option Directive → Config → Rewriting
 uses files s row (Some d) c = consumed files s row.place (order_of d row.text) c
-uses files s row None c = calls files s row (macro_of (first_word row.text) c) c
+uses files s row None c = calls files s row (macro_of (first_word row.text) c.names) c
 
 -- the directive that a word is
 abbrev pub directive_in : Option (List ℕ) → Option Directive
@@ -196,16 +242,16 @@ directive_in None = None
 directive_in (Some word) = directive_of word
 
 -- a line substituted, as its first word before that asks for
-abbrev pub substituted_as : Option Directive → Dictionary → List ℕ → Option (List ℕ)
+abbrev pub substituted_as : Option Directive → Dictionary → List ℕ → Result (List ℕ) LongLine
 substituted_as (Some directive.Macro) names text = unsubstituted text
 substituted_as (Some directive.Assign) names text = substituted_before_comma (seen names) (number_of names.expansions) text
 substituted_as (Some directive.Evaluate) names text = substituted_before_comma (seen names) (number_of names.expansions) text
 substituted_as _ names text = substituted (seen names) (number_of names.expansions) text
 
 -- what follows a substituted line, unless it got too long
-abbrev pub unless_long : Place → Option (List ℕ) → (List ℕ → Rewriting) → Rewriting
-unless_long place None next = Faults place fault.LongLine
-unless_long place (Some text) next = next text
+abbrev pub unless_long : Place → Result (List ℕ) LongLine → (List ℕ → Rewriting) → Rewriting
+unless_long place (Err e) next = Faults place fault.LongLine
+unless_long place (Ok text) next = next text
 
 -- a line that is used, with this first word: the word after substitution decides what it does
 unfoldable pub used : Files → Table → Row → Option Directive → Config → Rewriting
@@ -223,12 +269,15 @@ resumes files s row d c = unless_long row.place (substituted_as (Some d) c.names
 abbrev pub nests : ℕ → Branch → List Branch → Config → Rewriting
 nests nested b bs c = innermost (record b { nested = nested }) bs c
 
+-- a line whose first word is `.elseif` before substitution: only where a condition is still sought it is looked at any further
+abbrev pub reads_elseif : Files → Table → Row → Branch → List Branch → Config → Rewriting
+reads_elseif files s row b bs c = elseif_in b.phase row.place (enters b bs c) (resumes files s row directive.ElseIf c)
+
 -- a line with this first word in lines that are skipped, in no nested `.if`
 abbrev pub skips_outer : Files → Table → Row → Option Directive → Branch → List Branch → Config → Rewriting
 skips_outer files s row (Some directive.If) b bs c = nests 1 b bs c
-skips_outer files s row (Some directive.ElseIf) b bs c =
-    unless b.has_else fault.StrayEnd row.place (if b.taken then Goes c else resumes files s row directive.ElseIf c)
-skips_outer files s row (Some directive.Else) b bs c = unless b.has_else fault.StrayEnd row.place (resumes files s row directive.Else c)
+skips_outer files s row (Some directive.ElseIf) b bs c = reads_elseif files s row b bs c
+skips_outer files s row (Some directive.Else) b bs c = else_in b.phase row.place (λ phase. resumes files s row directive.Else c)
 skips_outer files s row (Some directive.EndIf) b bs c = resumes files s row directive.EndIf c
 skips_outer files s row _ b bs c = Goes c
 
@@ -242,15 +291,15 @@ skips_nested _ b bs c = Goes c
 unfoldable pub skips : Files → Table → Row → Option Directive → Branch → List Branch → Config → Rewriting
 skips files s row d b bs c = if b.nested == 0 then skips_outer files s row d b bs c else skips_nested d b bs c
 
--- a line in the lines that are taken: an `.elseif` there is not looked at any further
+-- a line in lines that are taken
 abbrev pub takes : Files → Table → Row → Option Directive → Branch → List Branch → Config → Rewriting
-takes files s row (Some directive.ElseIf) b bs c = passes_elseif row.place b bs c
+takes files s row (Some directive.ElseIf) b bs c = reads_elseif files s row b bs c
 takes files s row d b bs c = used files s row d c
 
 -- a line with this first word, by the `.if`s that are open where it stands
 abbrev pub reads_by : Files → Table → Row → Option Directive → List Branch → Config → Rewriting
 reads_by files s row d [] c = used files s row d c
-reads_by files s row d (b ∷ bs) c = if b.active then takes files s row d b bs c else skips files s row d b bs c
+reads_by files s row d (b ∷ bs) c = if takes_lines b.phase then takes files s row d b bs c else skips files s row d b bs c
 
 -- ---- lines that are collected
 

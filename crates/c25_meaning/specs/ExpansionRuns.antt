@@ -4,10 +4,8 @@ use Rattle.c25_meaning.specs.Line.{first_word}
 use Rattle.c25_meaning.specs.Value.{Table}
 use Rattle.c25_meaning.specs.Files.{Files, text_named}
 use Rattle.c25_meaning.specs.Rows.{Row, rows_of, last_place, file_number}
-use Rattle.c25_meaning.specs.Expansion.{Item, Read, Close, Kind, Copied, Expanded, Turn, Frame, Mode, Reading, Acting, InMacro, InLoop, Config, Rewriting, Gives, Goes, Finishes, Faults, Misses, unless, without_ended}
+use Rattle.c25_meaning.specs.Expansion.{Item, Read, Close, Kind, Copied, Expanded, Turn, Scope, Mode, Reading, Acting, InMacro, InLoop, Config, Rewriting, Gives, Goes, Finishes, Faults, Misses, unless, without_ended}
 use Rattle.c25_meaning.specs.ExpansionRules.{acts, directive_in, reads_by, in_macro, in_loop}
-use Rattle.c25_meaning.specs.declared.expansion.Place.{Place}
-use Rattle.c25_meaning.specs.declared.expansion.Branch.{Branch}
 use Rattle.c25_meaning.specs.declared.statement.FaultKind.TheVariants as fault
 
 -- ---- one rewriting
@@ -16,7 +14,7 @@ use Rattle.c25_meaning.specs.declared.statement.FaultKind.TheVariants as fault
 abbrev pub read_by : Files → Table → Row → Mode → Config → Rewriting
 read_by files s row (InMacro name parameters body nested) c = in_macro row (directive_in (first_word row.text)) name parameters body nested c
 read_by files s row (InLoop turns body nested) c = in_loop row (directive_in (first_word row.text)) turns body nested c
-read_by files s row _ c = reads_by files s row (directive_in (first_word row.text)) c.frame.branches c
+read_by files s row _ c = reads_by files s row (directive_in (first_word row.text)) c.scope.branches c
 
 -- the next line is read: 200,000 at most
 abbrev pub reads : Files → Table → Row → List Item → Config → Rewriting
@@ -37,30 +35,30 @@ is_empty (x ∷ xs) = false
 
 -- no block is open that began in the innermost file, expansion or turn
 abbrev pub is_closed : Config → Bool
-is_closed c = is_reading c.mode && is_empty c.frame.branches
+is_closed c = is_reading c.mode && is_empty c.scope.branches
 
 -- what stood behind the end of the innermost file, expansion or turn
-abbrev pub back : List Item → List Frame → Config → Rewriting
+abbrev pub back : List Item → List Scope → Config → Rewriting
 back rest [] c = Finishes c
-back rest (f ∷ fs) c = Goes (record c { lines = rest; frame = f; outer = fs; names = without_ended c.frame.kind c.names })
+back rest (f ∷ fs) c = Goes (record c { lines = rest; scope = f; outer = fs; names = without_ended c.scope.kind c.names })
 
 -- the next turn of a loop that has one and has lines, or else what stood behind
 abbrev pub ended : Kind → List Item → Config → Rewriting
 ended (Turn body more) rest c =
     if nat_lt 0 more && not (is_empty body)
-    then Goes (record c { lines = map Read body ++ Close ∷ rest; frame = record { kind = Turn body (more - 1); last = c.frame.last; branches = [] } })
+    then Goes (record c { lines = map Read body ++ Close ∷ rest; scope = record { kind = Turn body (more - 1); last = c.scope.last; branches = [] } })
     else back rest c.outer c
 ended Copied rest c = back rest c.outer c
 ended Expanded rest c = back rest c.outer c
 
 -- blocks end in the file or body where they began
 abbrev pub closes : Rewriting → Config → Rewriting
-closes next c = if is_closed c then next else Faults c.frame.last fault.OpenBlock
+closes next c = if is_closed c then next else Faults c.scope.last fault.OpenBlock
 
 -- one rewriting of the front
 abbrev pub front : Files → Table → List Item → Config → Rewriting
 front files s (Read row ∷ rest) c = reads files s row rest c
-front files s (Close ∷ rest) c = closes (ended c.frame.kind rest c) c
+front files s (Close ∷ rest) c = closes (ended c.scope.kind rest c) c
 front files s [] c = closes (Finishes c) c
 
 -- what a line asked for is done after its label was given, or else the front is rewritten
@@ -122,7 +120,7 @@ first files s c = last_within files s (weight c) c
 abbrev pub start : ℕ → List ℕ → Config
 start file text = record {
   lines = map Read (rows_of file text);
-  frame = record { kind = Copied; last = last_place (record { file = file; line = 0 }) (rows_of file text); branches = [] };
+  scope = record { kind = Copied; last = last_place (record { file = file; line = 0 }) (rows_of file text); branches = [] };
   outer = [];
   mode = Reading;
   names = record { macros = []; texts = []; expansions = []; count = 0 };

@@ -16,8 +16,8 @@ Holds field.Page9 n = n < 512
 Holds field.Word16 n = n < 2 ^ 16
 Holds (field.Number limit) n = n < limit
 Holds field.Signed13 n = (negsuc 4095 ≤ℤ cast_signed w16 n) × (cast_signed w16 n ≤ℤ pos 4095)
-Holds field.Word n = Unit {0}
-Holds field.Byte n = Unit {0}
+Holds field.Word n = n < 2 ^ 16
+Holds field.Byte n = n < 2 ^ 8
 
 -- each field of a form holds its number, which is 0 where none is written
 abbrev pub Fits : Form → List ℕ → Type 0

@@ -2,7 +2,7 @@
 -- then one of another kind than is asked for (52) (SPRU014, instruction set and addressing modes).
 use Rattle.std.specs.Prelude.{ℕ, zero, suc, ◌+◌, ◌||◌, ◌&&◌, Bool, true, false, nat_lt, if◌then◌else◌, List, [], ◌∷◌, length, slice_get, Option, Some, None, Result, Ok, Err}
 use Rattle.std.specs.List.{list_all}
-use Rattle.c25_meaning.specs.Statement.{◌>>=◌}
+use Rattle.c25_meaning.specs.Results.{◌>>=◌}
 use Rattle.c25_meaning.specs.declared.insn.Change.{Change}
 use Rattle.c25_meaning.specs.declared.insn.Change.TheVariants as change
 use Rattle.c25_meaning.specs.declared.mnemonic.Mnemonic.{Mnemonic}

@@ -7,16 +7,12 @@ use Rattle.std.specs.Str.Lines.{lines}
 use Rattle.std.specs.Ordering.{nat_cmp}
 use Rattle.std.specs.FinMap as map
 use Rattle.c25_meaning.specs.Bytes.{is_blank}
+use Rattle.c25_meaning.specs.Results.{◌>>=◌, told}
 use Rattle.hex.specs.Hex.{decode_of, is_hex_digit}
 use Rattle.hex.specs.declared.error.FromHexError.{FromHexError}
 use Rattle.c25_meaning.specs.declared.hex_fault.HexFault.{HexFault}
+use Rattle.c25_meaning.specs.declared.hex_fault.PlacedHexFault.{PlacedHexFault}
 use Rattle.c25_meaning.specs.declared.hex_fault.HexFault.TheVariants.{BadStart, BadDigit, BadCount, BadSum, BadKind, OddWord, Twice, NoEnd, AfterEnd, AddressRange}
-
--- the second step, where the first finds no fault
-infixl 10 ◌>>=◌
-abbrev pub ◌>>=◌ : {A B E : Type 0} → Result A E → (A → Result B E) → Result B E
-(Ok x) >>= f = f x
-(Err e) >>= f = Err e
 
 -- how far a text has been read: the base, the bytes given so far by their addresses, and whether the end line was met
 pub record HexState : Type 0 where
@@ -38,13 +34,14 @@ bytes_of line =
     else (if not (list_all is_hex_digit (drop 1 line)) then Err BadDigit
     else decoded (decode_of (drop 1 line)))
 
--- whether a kind may have a count: any for data, none for the end, two bytes for a base, four for a start address
+-- whether a kind may have a count: any for data (0), none for the end (1), two bytes for a base (2, 4), four for a start address (3, 5)
 abbrev pub count_fits : ℕ → ℕ → Bool
 count_fits kind count =
     if kind == 0 then true
     else (if kind == 1 then count == 0
     else (if kind == 2 || kind == 4 then count == 2
-    else count == 4))
+    else (if kind == 3 || kind == 5 then count == 4
+    else false)))
 
 -- count, two bytes of address, kind, as many bytes as the count says, and a sum that makes the whole a multiple of 256
 unfoldable pub checked_line : List ℕ → Result (List ℕ) HexFault
@@ -85,31 +82,31 @@ abbrev pub pair_at : List ℕ → ℕ → ℕ
 pair_at bytes at = 256 * slice_index bytes at + slice_index bytes (at + 1)
 
 -- what a line does whose form is right: 0 is data, 1 the end, 2 a segment base, 4 a linear base; 3 and 5, the start addresses, do nothing
-unfoldable pub effect : HexState → List ℕ → Result HexState HexFault
-effect s bytes =
+unfoldable pub after_bytes : HexState → List ℕ → Result HexState HexFault
+after_bytes s bytes =
     if slice_index bytes 3 == 0 then with_bytes s (pair_at bytes 1) (take (slice_index bytes 0) (drop 4 bytes))
     else (if slice_index bytes 3 == 1 then (if has_odd_word s.bytes then Err OddWord else Ok (record s { ended = true }))
     else (if slice_index bytes 3 == 2 then Ok (record s { base = 16 * pair_at bytes 4 })
     else (if slice_index bytes 3 == 4 then Ok (record s { base = 65536 * pair_at bytes 4 })
-    else Ok s)))
+    else (if slice_index bytes 3 == 3 || slice_index bytes 3 == 5 then Ok s
+    else Err BadKind))))
 
 -- a line, without its end, after the lines before it
 unfoldable pub after_line : HexState → List ℕ → Result HexState HexFault
 after_line s line =
     if list_all is_blank line then Ok s
     else (if s.ended then Err AfterEnd
-    else (bytes_of line >>= λ bytes. checked_line bytes >>= λ same. effect s same))
+    else (bytes_of line >>= λ bytes. checked_line bytes >>= λ same. after_bytes s same))
 
 -- ---- the text
 
--- a fault, and the number of its line
-abbrev pub numbered : {A : Type 0} → ℕ → Result A HexFault → Result A (HexFault × ℕ)
-numbered n (Ok x) = Ok x
-numbered n (Err f) = Err (f, n)
+-- a line as it is read, its fault with the number of the line
+abbrev pub numbered : {A : Type 0} → ℕ → Result A HexFault → Result A PlacedHexFault
+numbered n read = told (λ f. record { fault = f; line = n }) read
 
 -- after n lines: the bytes given in the end, or the first fault and its line
-unfoldable pub after_lines : ℕ → HexState → List (List ℕ) → Result (map.FinMap nat_cmp ℕ) (HexFault × ℕ)
-after_lines n s [] = if s.ended then Ok s.bytes else Err (NoEnd, n)
+unfoldable pub after_lines : ℕ → HexState → List (List ℕ) → Result (map.FinMap nat_cmp ℕ) PlacedHexFault
+after_lines n s [] = if s.ended then Ok s.bytes else Err (record { fault = NoEnd; line = n })
 after_lines n s (line ∷ rest) = numbered (n + 1) (after_line s line) >>= λ t. after_lines (n + 1) t rest
 
 -- before the first line
@@ -117,7 +114,7 @@ abbrev pub start : HexState
 start = record { base = 0; bytes = map.empty; ended = false }
 
 -- the bytes that a text gives by their addresses, or its first fault and the line of it; lines end in LF or CRLF, and the last may lack its end
-abbrev pub bytes_given : List ℕ → Result (map.FinMap nat_cmp ℕ) (HexFault × ℕ)
+abbrev pub bytes_given : List ℕ → Result (map.FinMap nat_cmp ℕ) PlacedHexFault
 bytes_given text = after_lines 0 start (lines text)
 
 -- the word of two bytes, the high one first

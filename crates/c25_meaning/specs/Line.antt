@@ -5,6 +5,7 @@ use Rattle.std.specs.Prelude.{◌≡◌, ◌<◌, ◌⊎◌, ℕ, zero, suc, ◌
 use Rattle.std.specs.List.{prefix_len, take_while, list_all}
 use Rattle.c25_meaning.specs.Bytes.{is_blank, is_field, is_visible, begins_name, goes_on_name}
 use Rattle.c25_meaning.specs.Lexeme.{lexeme}
+use Rattle.c25_meaning.specs.Results.{◌>>=◌}
 use Rattle.c25_meaning.specs.declared.line.LineFault.{LineFault}
 use Rattle.c25_meaning.specs.declared.line.LineFault.TheVariants.{BadLabel, StrayText}
 use Rattle.c25_meaning.specs.declared.line.TokenKind.{TokenKind}
@@ -94,12 +95,6 @@ label_of (b ∷ rest) = if is_label (b ∷ rest) then Ok (Some (without_colon (b
 abbrev pub word_of : ℕ → List ℕ → Result (Option Part) LineFault
 word_of at [] = Ok None
 word_of at (b ∷ rest) = if list_all is_visible (b ∷ rest) then Ok (Some (record { start = at; text = b ∷ rest })) else Err StrayText
-
--- one part after another, up to the first fault
-infixl 10 ◌>>=◌
-abbrev pub ◌>>=◌ : {A B : Type 0} → Result A LineFault → (A → Result B LineFault) → Result B LineFault
-(Ok x) >>= f = f x
-(Err e) >>= f = Err e
 
 -- where the blanks at a place end
 abbrev pub past_blanks : ℕ → List ℕ → ℕ

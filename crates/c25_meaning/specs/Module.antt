@@ -1,18 +1,18 @@
 -- What a module of relocatable words consists of, and which lists are a module. Sections, symbols and relocation
 -- are those of SPRU018's chapters on sections and on the assembler; the records that hold them are this project's own.
-use Rattle.std.specs.Prelude.{◌<◌, ℕ, ℤ, pos, ◌+◌, ◌-◌, ◌%◌, Bool, true, false, ◌||◌, ◌&&◌, ◌==◌, not, nat_lt, nat_le, slice_index, List, [], ◌∷◌, ◌++◌, length, Option, Some, None, ◌^◌, FitsSigned}
+use Rattle.std.specs.Prelude.{◌≡◌, ◌<◌, ℕ, ℤ, pos, ◌+◌, ◌-◌, ◌%◌, Bool, true, false, ◌||◌, ◌&&◌, ◌==◌, not, nat_lt, nat_le, slice_index, List, [], ◌∷◌, ◌++◌, length, Option, Some, None, ◌^◌, FitsSigned}
 use Rattle.std.specs.Int.{w32}
 use Rattle.std.specs.List.{slice_get, list_all, list_any, AllByRecursion}
 use Rattle.std.specs.Ordering.{int_eq}
 use Rattle.std.specs.Str.{bytes_eq}
-use Rattle.c25_meaning.specs.Bytes.{begins_name, goes_on_name}
+use Rattle.c25_meaning.specs.Bytes.{is_visible, begins_name, goes_on_name}
 use Rattle.c25_meaning.specs.declared.object.SymbolKind.{SymbolKind}
 use Rattle.c25_meaning.specs.declared.object.SymbolKind.TheVariants.{Absolute, InSection, External}
 use Rattle.c25_meaning.specs.declared.object.Scope.{Scope}
 use Rattle.c25_meaning.specs.declared.object.Scope.TheVariants.{Local, Global}
 use Rattle.c25_meaning.specs.declared.object.ModuleMark.{ModuleMark}
-use Rattle.c25_meaning.specs.declared.object.FieldKind.{FieldKind}
-use Rattle.c25_meaning.specs.declared.object.FieldKind.TheVariants.{Word16, Low7, Page9}
+use Rattle.c25_meaning.specs.declared.relocation.RelocationKind.{RelocationKind}
+use Rattle.c25_meaning.specs.declared.relocation.RelocationKind.TheVariants.{Word16, Low7, Page9}
 use Rattle.c25_meaning.specs.declared.object.RelocationBase.{RelocationBase}
 use Rattle.c25_meaning.specs.declared.object.RelocationBase.TheVariants as base
 use Rattle.c25_meaning.specs.declared.object.Relocation.{Relocation}
@@ -45,7 +45,7 @@ pub record Contents : Type 0 where
 
 -- what a section's name is made of
 abbrev pub is_section_byte : ℕ → Bool
-is_section_byte b = nat_le 33 b && nat_le b 126 && not (b == 34)
+is_section_byte b = is_visible b && not (b == 34)
 
 -- 1 to 32 characters 21h to 7Eh without the quote
 abbrev pub is_section_name : List ℕ → Bool
@@ -94,13 +94,13 @@ section_fits before s =
 -- ---- marks
 
 -- the words of a section, if there is one
-abbrev pub words_of : Option SectionData → List ℕ
-words_of None = []
-words_of (Some s) = body_words s.body
+abbrev pub section_words : Option SectionData → List ℕ
+section_words None = []
+section_words (Some s) = body_words s.body
 
 -- the words of a section by its number: none where it is uninitialised, or where there is no such section
 abbrev pub words_at : List SectionData → ℕ → List ℕ
-words_at sections number = words_of (slice_get sections number)
+words_at sections number = section_words (slice_get sections number)
 
 -- a place at or behind another
 abbrev pub is_from : ℕ → ℕ → ℕ → ℕ → Bool
@@ -154,8 +154,9 @@ abbrev pub is_external : Option SymbolData → Bool
 is_external None = false
 is_external (Some y) = is_external_kind y.kind where
   is_external_kind : SymbolKind → Bool
+  is_external_kind Absolute = false
+  is_external_kind (InSection number) = false
   is_external_kind External = true
-  is_external_kind _ = false
 
 -- a section that there is, or a symbol that is external
 abbrev pub base_fits : List SectionData → List SymbolData → RelocationBase → Bool
@@ -163,7 +164,7 @@ base_fits sections symbols (base.Section number) = nat_lt number (length section
 base_fits sections symbols (base.External number) = is_external (slice_get symbols number)
 
 -- a field has as many values
-abbrev pub field_values : FieldKind → ℕ
+abbrev pub field_values : RelocationKind → ℕ
 field_values Word16 = 65536
 field_values Low7 = 128
 field_values Page9 = 512
@@ -208,3 +209,8 @@ pub record IsSized (c : Contents) : Type 0 where
   pub words : AllByRecursion (λ s. AllByRecursion (λ w. w < 2 ^ 16) (body_words s.body)) c.sections
   pub values : AllByRecursion (λ y. FitsSigned w32 y.value) c.symbols
   pub addends : AllByRecursion (λ r. FitsSigned w32 r.addend) c.relocations
+
+-- the contents of a module
+pub record IsModule (c : Contents) : Type 0 where
+  pub lists : is_module c ≡ true
+  pub sized : IsSized c

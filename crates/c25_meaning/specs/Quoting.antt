@@ -1,6 +1,6 @@
 -- Which bytes of a line stand outside quotes and comment (own; quotes as in SPRU018, assembler description, character
 -- strings and constants): here a quote is closed by the next such quote or by the end of the text, so any text will do.
-use Rattle.std.specs.Prelude.{ℕ, suc, ◌+◌, Bool, true, false, ◌&&◌, ◌||◌, ◌==◌, if◌then◌else◌, List, [], ◌∷◌, length, Option, Some, None}
+use Rattle.std.specs.Prelude.{ℕ, ◌+◌, Bool, true, false, ◌||◌, ◌==◌, if◌then◌else◌, List, [], ◌∷◌, length, Option, Some, None}
 use Rattle.c25_meaning.specs.declared.quoting.Quoting.{Quoting}
 use Rattle.c25_meaning.specs.declared.quoting.Quoting.TheVariants.{Outside, Within, Throughout, Comment}
 

@@ -1,7 +1,7 @@
 -- The tree of tokens as a function, token by token with one stack (own: C's order; the language tools' guide,
 -- SPRU018, assembler description, expressions). That it gives the trees of `Tree.IsTreeOf` and no others is a law of the crate that reads
 -- expressions.
-use Rattle.std.specs.Prelude.{ℕ, ◌+◌, Bool, true, false, nat_le, if◌then◌else◌, List, [], ◌∷◌, Option, Some, None, Result, Ok, Err}
+use Rattle.std.specs.Prelude.{ℕ, Bool, true, false, nat_le, if◌then◌else◌, List, [], ◌∷◌, Option, Some, None, Result, Ok, Err}
 use Rattle.c25_meaning.specs.declared.line.Sign.{Sign}
 use Rattle.c25_meaning.specs.declared.line.Sign.TheVariants as sign
 use Rattle.c25_meaning.specs.declared.expression.UnaryOperator.{UnaryOperator}

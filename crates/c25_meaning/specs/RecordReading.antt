@@ -8,13 +8,14 @@ use Rattle.c25_meaning.specs.declared.object.SymbolKind.TheVariants.{Absolute, I
 use Rattle.c25_meaning.specs.declared.object.Scope.{Scope}
 use Rattle.c25_meaning.specs.declared.object.Scope.TheVariants.{Local, Global}
 use Rattle.c25_meaning.specs.declared.object.ModuleMark.{ModuleMark}
-use Rattle.c25_meaning.specs.declared.object.FieldKind.{FieldKind}
-use Rattle.c25_meaning.specs.declared.object.FieldKind.TheVariants.{Word16, Low7, Page9}
+use Rattle.c25_meaning.specs.declared.relocation.RelocationKind.{RelocationKind}
+use Rattle.c25_meaning.specs.declared.relocation.RelocationKind.TheVariants.{Word16, Low7, Page9}
 use Rattle.c25_meaning.specs.declared.object.RelocationBase.{RelocationBase}
 use Rattle.c25_meaning.specs.declared.object.RelocationBase.TheVariants as base
 use Rattle.c25_meaning.specs.declared.object.Relocation.{Relocation}
 use Rattle.c25_meaning.specs.declared.object.ObjectFault.{ObjectFault}
 use Rattle.c25_meaning.specs.declared.object.ObjectFault.TheVariants.{BadMagic, BadVersion, Short, BadTag, BadField, Trailing}
+use Rattle.c25_meaning.specs.Results.{◌>>=◌}
 use Rattle.c25_meaning.specs.Module.{SectionBody, Uninitialised, Initialised, SectionData, SymbolData, Contents, section_fits, mark_fits, symbol_fits, relocation_fits, has_sections}
 
 -- ---- the parts of payloads, by their places
@@ -42,13 +43,13 @@ mark_of bytes =
     then Some (record { section = short_at bytes 0; offset = short_at bytes 2; size = slice_index bytes 4 })
     else None
 
--- the kind of a code; a section stands only with the kind that is in one
+-- the kind of a code, with its two bytes for a section: 0 where there is none
 abbrev pub kind_of : ℕ → ℕ → Option SymbolKind
 kind_of code section =
-    if code == 1 then Some (InSection section)
-    else (if not (section == 0) then None
-    else (if code == 0 then Some Absolute
-    else (if code == 2 then Some External else None)))
+    if code == 0 then (if section == 0 then Some Absolute else None)
+    else (if code == 1 then Some (InSection section)
+    else (if code == 2 then (if section == 0 then Some External else None)
+    else None))
 
 -- the scope of a code
 abbrev pub scope_of : ℕ → Option Scope
@@ -67,7 +68,7 @@ symbol_of bytes =
     (kind_of (slice_index bytes 0) (short_at bytes 2)))
 
 -- the field of a code
-abbrev pub field_of : ℕ → Option FieldKind
+abbrev pub field_of : ℕ → Option RelocationKind
 field_of code = if code == 1 then Some Word16 else (if code == 2 then Some Low7 else (if code == 3 then Some Page9 else None))
 
 -- the base of a code, with its number
@@ -75,7 +76,7 @@ abbrev pub base_of : ℕ → ℕ → Option RelocationBase
 base_of code index = if code == 0 then Some (base.Section index) else (if code == 1 then Some (base.External index) else None)
 
 -- a relocation of this field and base with the place and the addend that the payload holds
-abbrev pub relocation_with : List ℕ → FieldKind → RelocationBase → Relocation
+abbrev pub relocation_with : List ℕ → RelocationKind → RelocationBase → Relocation
 relocation_with bytes kind base = record { section = short_at bytes 0; offset = short_at bytes 2; kind = kind; base = base; addend = cast_signed w32 (long_at bytes 8) }
 
 -- section, offset, field, base, number, addend: twelve bytes
@@ -104,11 +105,6 @@ section_of bytes =
 
 -- ---- a record after others
 
-infixl 10 ◌>>=◌
-abbrev pub ◌>>=◌ : {A B : Type 0} → Result A ObjectFault → (A → Result B ObjectFault) → Result B ObjectFault
-(Ok x) >>= f = f x
-(Err e) >>= f = Err e
-
 -- what there is, or else the payload is bad
 abbrev pub required : {A : Type 0} → Option A → Result A ObjectFault
 required None = Err BadField
@@ -119,7 +115,7 @@ abbrev pub checked : {A : Type 0} → (A → Bool) → Option A → Result A Obj
 checked fits None = Err BadField
 checked fits (Some x) = if fits x then Ok x else Err BadField
 
--- the tag of the list that grew last
+-- the tag of the list that grew last, that of the sections before any has grown
 abbrev pub latest : Contents → ℕ
 latest c =
     if nat_lt 0 (length c.relocations) then 4
@@ -154,14 +150,15 @@ with_relocation c payload = do
   r ← checked (relocation_fits c.sections c.symbols c.relocations) (relocation_of payload)
   Ok (record c { relocations = c.relocations ++ r ∷ [] })
 
--- the record of a tag; the sections come first and begin with `.text`
+-- the record of a tag, 1 to 4: a section, or, behind a section at least, a mark, a symbol or a relocation
 unfoldable pub with_record : Contents → ℕ → List ℕ → Result Contents ObjectFault
 with_record c tag payload =
     if tag == 1 then with_section c payload
     else (if not (has_sections c) then Err BadField
     else (if tag == 2 then with_mark c payload
     else (if tag == 3 then with_symbol c payload
-    else with_relocation c payload)))
+    else (if tag == 4 then with_relocation c payload
+    else Err BadTag))))
 
 -- ---- all of the bytes
 
@@ -182,7 +179,7 @@ unfoldable pub ended : Contents → List ℕ → List ℕ → Result Contents Ob
 ended c payload rest =
     if has_sections c && length payload == 0 then (if length rest == 0 then Ok c else Err Trailing) else Err BadField
 
--- the records after those of `c`, at most so many
+-- the records after those of `c`, at most so many: first that one is cut off, then that its tag may not follow, then its payload
 unfoldable pub read_from : ℕ → Contents → List ℕ → Result Contents ObjectFault
 read_from zero c bytes = Err Short
 read_from (suc n) c bytes = do
@@ -195,7 +192,7 @@ read_from (suc n) c bytes = do
 abbrev pub nothing_read : Contents
 nothing_read = record { sections = []; marks = []; symbols = []; relocations = [] }
 
--- a record takes a byte at least
+-- all of them; a record takes a byte at least, so there are no more than bytes
 abbrev pub read_all : List ℕ → Result Contents ObjectFault
 read_all bytes = read_from (length bytes) nothing_read bytes
 

@@ -8,8 +8,8 @@ use Rattle.c25_meaning.specs.declared.object.SymbolKind.TheVariants.{Absolute, I
 use Rattle.c25_meaning.specs.declared.object.Scope.{Scope}
 use Rattle.c25_meaning.specs.declared.object.Scope.TheVariants.{Local, Global}
 use Rattle.c25_meaning.specs.declared.object.ModuleMark.{ModuleMark}
-use Rattle.c25_meaning.specs.declared.object.FieldKind.{FieldKind}
-use Rattle.c25_meaning.specs.declared.object.FieldKind.TheVariants.{Word16, Low7, Page9}
+use Rattle.c25_meaning.specs.declared.relocation.RelocationKind.{RelocationKind}
+use Rattle.c25_meaning.specs.declared.relocation.RelocationKind.TheVariants.{Word16, Low7, Page9}
 use Rattle.c25_meaning.specs.declared.object.RelocationBase.{RelocationBase}
 use Rattle.c25_meaning.specs.declared.object.RelocationBase.TheVariants as base
 use Rattle.c25_meaning.specs.declared.object.Relocation.{Relocation}
@@ -60,7 +60,7 @@ symbol_payload y =
     kind_code y.kind ∷ (scope_code y.scope ∷ (to_be_bytes w16 (kind_section y.kind) ++ (to_be_bytes w32 (cast_unsigned w32 y.value) ++ counted y.name)))
 
 -- the code of a field
-abbrev pub field_code : FieldKind → ℕ
+abbrev pub field_code : RelocationKind → ℕ
 field_code Word16 = 1
 field_code Low7 = 2
 field_code Page9 = 3

@@ -7,16 +7,16 @@ use Rattle.c25_meaning.specs.Digits.{decimal_of, hexadecimal_of}
 use Rattle.c25_meaning.specs.Items.{ItemOf, items_of}
 
 -- a command with a count
-abbrev pub counted : (ℕ → Cmd) → List ℕ → Option Cmd
-counted make count = option_map make (decimal_of 4294967295 count)
+abbrev pub count_command : (ℕ → Cmd) → List ℕ → Option Cmd
+count_command make count = option_map make (decimal_of 4294967295 count)
 
 -- a command with an address
-abbrev pub placed : (ℕ → Cmd) → List ℕ → Option Cmd
-placed make address = option_map make (hexadecimal_of 1 address)
+abbrev pub address_command : (ℕ → Cmd) → List ℕ → Option Cmd
+address_command make address = option_map make (hexadecimal_of 1 address)
 
 -- an address and a count of words from there on, which all lie in the memory
-unfoldable pub range_of : List ℕ → List ℕ → Option (ℕ × ℕ)
-range_of address count =
+unfoldable pub words_in_memory : List ℕ → List ℕ → Option (ℕ × ℕ)
+words_in_memory address count =
     option_and_then (λ a. option_and_then (λ n. if nat_le (a + n) 65536 then Some (a, n) else None) (decimal_of 4294967295 count)) (hexadecimal_of 1 address)
 
 -- the command that is one word
@@ -31,27 +31,27 @@ plain_command word =
 -- the command that is a word and a number
 unfoldable pub command_with_one : List ℕ → List ℕ → Option Cmd
 command_with_one word number =
-    if str_eq_ignore_ascii_case word (codes "step") then counted cmd.Step number
-    else (if str_eq_ignore_ascii_case word (codes "run") then counted cmd.Run number
-    else (if str_eq_ignore_ascii_case word (codes "list") then counted cmd.List number
-    else (if str_eq_ignore_ascii_case word (codes "break") then placed cmd.Break number
-    else (if str_eq_ignore_ascii_case word (codes "clear") then placed cmd.Clear number
+    if str_eq_ignore_ascii_case word (codes "step") then count_command cmd.Step number
+    else (if str_eq_ignore_ascii_case word (codes "run") then count_command cmd.Run number
+    else (if str_eq_ignore_ascii_case word (codes "list") then count_command cmd.List number
+    else (if str_eq_ignore_ascii_case word (codes "break") then address_command cmd.Break number
+    else (if str_eq_ignore_ascii_case word (codes "clear") then address_command cmd.Clear number
     else None))))
 
 -- the command that is a word, an address and a count
 unfoldable pub command_with_two : List ℕ → List ℕ → List ℕ → Option Cmd
 command_with_two word address count =
-    if str_eq_ignore_ascii_case word (codes "data") then option_map (λ r. cmd.Data r.0 r.1) (range_of address count)
-    else (if str_eq_ignore_ascii_case word (codes "prog") then option_map (λ r. cmd.Prog r.0 r.1) (range_of address count)
+    if str_eq_ignore_ascii_case word (codes "data") then option_map (λ r. cmd.Data r.0 r.1) (words_in_memory address count)
+    else (if str_eq_ignore_ascii_case word (codes "prog") then option_map (λ r. cmd.Prog r.0 r.1) (words_in_memory address count)
     else None)
 
 -- the command that the words of a line are
-abbrev pub command_of : ItemOf Cmd
-command_of before (word ∷ []) = plain_command word
-command_of before (word ∷ number ∷ []) = command_with_one word number
-command_of before (word ∷ address ∷ count ∷ []) = command_with_two word address count
-command_of before _ = None
+abbrev pub script_command_of : ItemOf Cmd
+script_command_of before (word ∷ []) = plain_command word
+script_command_of before (word ∷ number ∷ []) = command_with_one word number
+script_command_of before (word ∷ address ∷ count ∷ []) = command_with_two word address count
+script_command_of before _ = None
 
 -- the commands of a script, or its first faulty line
 abbrev pub script_of : List ℕ → Result (List Cmd) ℕ
-script_of = items_of command_of
+script_of = items_of script_command_of

@@ -4,18 +4,15 @@ use Rattle.std.specs.Prelude.{ℕ, ◌+◌, Bool, true, ◌&&◌, is_some, nat_l
 use Rattle.std.specs.Str.Lines.{lines}
 use Rattle.c25_meaning.specs.Table.{size}
 use Rattle.c25_meaning.specs.Value.{Table, value_named}
-use Rattle.c25_meaning.specs.Statement.{◌>>=◌, fold_ok, sheet_of, insn_of, form_row}
+use Rattle.c25_meaning.specs.Results.{◌>>=◌, fold_ok, told}
+use Rattle.c25_meaning.specs.Statement.{sheet_of, insn_of, form_row}
 use Rattle.c25_meaning.specs.StatementLine.{Operation, LineStatement, read_line}
 use Rattle.c25_meaning.specs.declared.value.Base.TheVariants.{Section}
 use Rattle.c25_meaning.specs.declared.value.Value.{Value}
 use Rattle.c25_meaning.specs.declared.insn.Insn.{Insn}
+use Rattle.c25_meaning.specs.declared.source.SourceFault.{SourceFault}
 use Rattle.c25_meaning.specs.declared.statement.FaultKind.{FaultKind}
 use Rattle.c25_meaning.specs.declared.statement.FaultKind.TheVariants as fault
-
--- a fault and its line, counted from 1
-pub record SourceFault : Type 0 where
-  pub line : ℕ
-  pub kind : FaultKind
 
 -- the instructions, one behind another from address 0, and whether each address among their operands is in the
 -- range of its field
@@ -25,8 +22,7 @@ pub record SourceMeaning : Type 0 where
 
 -- a result of a line
 abbrev pub at_line : {A : Type 0} → ℕ → Result A FaultKind → Result A SourceFault
-at_line line (Ok x) = Ok x
-at_line line (Err kind) = Err (record { line = line; kind = kind })
+at_line line r = told (λ kind. record { line = line; kind = kind }) r
 
 -- ---- the first phase: places and names
 

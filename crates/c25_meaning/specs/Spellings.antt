@@ -1,6 +1,6 @@
 -- The names of the instructions, and what a word spells (SPRU014, instruction set; ZAC, NOP and LARP are
 -- other spellings of LACK, MAR and MAR).
-use Rattle.std.specs.Prelude.{ℕ, Bool, List, [], ◌∷◌, ◌++◌, Option, map, find}
+use Rattle.std.specs.Prelude.{ℕ, List, [], ◌∷◌, ◌++◌, Option, map, find}
 use Rattle.std.specs.Str.{str_eq_ignore_ascii_case}
 use Rattle.c25_meaning.specs.Table.{spelling_text}
 use Rattle.c25_meaning.specs.declared.mnemonic.Spelling.{Spelling}

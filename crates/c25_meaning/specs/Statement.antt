@@ -1,8 +1,9 @@
 -- Instruction statements as syntax (SPRU014, instruction set; SPRU018, source statement format): which field each
 -- operand fills, the number that a value or an address gives it, and the instruction of the numbers.
-use Rattle.std.specs.Prelude.{ℕ, zero, suc, ◌+◌, ◌/◌, ◌||◌, ◌&&◌, not, Bool, true, false, List, [], ◌∷◌, ◌++◌, length, Option, Some, None, Result, Ok, Err, ℤ, pos, negsuc, int_lt, if◌then◌else◌, slice_get, slice_index}
+use Rattle.std.specs.Prelude.{ℕ, zero, suc, ◌/◌, ◌||◌, ◌&&◌, not, Bool, true, List, [], ◌∷◌, ◌++◌, length, Option, Some, None, Result, Ok, Err, ℤ, pos, negsuc, int_lt, if◌then◌else◌, slice_get, slice_index}
 use Rattle.std.specs.Int.{w16, cast_signed}
 use Rattle.c25_bits.specs.Cut.{cut}
+use Rattle.c25_meaning.specs.Results.{◌>>=◌, fold_ok, told}
 use Rattle.c25_meaning.specs.Table.{shift_limit}
 use Rattle.c25_meaning.specs.Tree.{Tree}
 use Rattle.c25_meaning.specs.Value.{Table, value_of, value_named}
@@ -11,6 +12,8 @@ use Rattle.c25_meaning.specs.declared.value.Base.TheVariants.{Absolute}
 use Rattle.c25_meaning.specs.declared.value.Value.{Value}
 use Rattle.c25_meaning.specs.declared.value.ValueFault.{ValueFault}
 use Rattle.c25_meaning.specs.declared.value.ValueFault.TheVariants as value
+use Rattle.c25_meaning.specs.declared.expression.ExpressionFault.{ExpressionFault}
+use Rattle.c25_meaning.specs.declared.expression.ExpressionFault.TheVariants as expression
 use Rattle.c25_meaning.specs.declared.insn.Insn.{Insn}
 use Rattle.c25_meaning.specs.declared.insn.Insn.TheVariants as insn
 use Rattle.c25_meaning.specs.declared.insn.Addr.{Addr}
@@ -32,21 +35,10 @@ use Rattle.c25_meaning.specs.declared.statement.Form.{Form}
 use Rattle.c25_meaning.specs.declared.statement.Form.TheVariants as form
 use Rattle.c25_meaning.specs.declared.statement.Field.{Field}
 use Rattle.c25_meaning.specs.declared.statement.Field.TheVariants as field
-use Rattle.c25_meaning.specs.declared.statement.RelocationKind.{RelocationKind}
-use Rattle.c25_meaning.specs.declared.statement.RelocationKind.TheVariants as relocation
+use Rattle.c25_meaning.specs.declared.relocation.RelocationKind.{RelocationKind}
+use Rattle.c25_meaning.specs.declared.relocation.RelocationKind.TheVariants as relocation
 use Rattle.c25_meaning.specs.declared.statement.FaultKind.{FaultKind}
 use Rattle.c25_meaning.specs.declared.statement.FaultKind.TheVariants as fault
-
--- what follows a result, if it is no fault
-infixl 10 ◌>>=◌
-abbrev pub ◌>>=◌ : {A B E : Type 0} → Result A E → (A → Result B E) → Result B E
-(Ok x) >>= f = f x
-(Err e) >>= f = Err e
-
--- a fold that ends with the first fault
-abbrev pub fold_ok : {A B E : Type 0} → (A → B → Result A E) → A → List B → Result A E
-fold_ok step a [] = Ok a
-fold_ok step a (b ∷ bs) = step a b >>= λ next. fold_ok step next bs
 
 -- ---- which field an operand fills
 
@@ -223,17 +215,17 @@ entry_by _ field z = address_entry (relocation_of field) z
 abbrev pub entry_of : Field → Value → Result Entry FaultKind
 entry_of field v = entry_by v.base field v.offset
 
--- a result whose faults are told as a line's
-abbrev pub told : {A E : Type 0} → (E → FaultKind) → Result A E → Result A FaultKind
-told as_line (Ok x) = Ok x
-told as_line (Err f) = Err (as_line f)
-
 -- a value's fault as a line's
 abbrev pub value_fault : ValueFault → FaultKind
 value_fault value.Undefined = fault.Undefined
 value_fault value.NotAbsolute = fault.NotAbsolute
 value_fault value.DivideByZero = fault.DivideByZero
 value_fault value.ValueRange = fault.ValueRange
+
+-- the fault of tokens that are no expression as a line's
+abbrev pub expression_fault : ExpressionFault → FaultKind
+expression_fault expression.BadExpression = fault.BadExpression
+expression_fault expression.TooDeep = fault.TooDeep
 
 -- the value of an expression under symbols, `$` being their current place
 abbrev pub valued : Table → Tree → Result Value FaultKind
@@ -253,12 +245,12 @@ abbrev pub with_entry : Sheet → Entry → Sheet
 with_entry sheet e = record { numbers = sheet.numbers ++ e.number ∷ []; in_range = sheet.in_range && e.in_range }
 
 -- one operand more
-unfoldable pub taken : Form → Table → Sheet → Tree → Result Sheet FaultKind
-taken f table sheet e = valued table e >>= λ v. entry_of (form_field f (length sheet.numbers)) v >>= λ n. Ok (with_entry sheet n)
+unfoldable pub entered : Form → Table → Sheet → Tree → Result Sheet FaultKind
+entered f table sheet e = valued table e >>= λ v. entry_of (form_field f (length sheet.numbers)) v >>= λ n. Ok (with_entry sheet n)
 
 -- all operands, left to right
 abbrev pub sheet_of : Form → Table → List Tree → Result Sheet FaultKind
-sheet_of f table trees = fold_ok (taken f table) blank_sheet trees
+sheet_of f table trees = fold_ok (entered f table) blank_sheet trees
 
 -- the row of the opcode table that a form belongs to
 abbrev pub form_row : Form → Mnemonic

@@ -7,7 +7,7 @@ use Rattle.c25_meaning.specs.Tree.{Tree, mark_of}
 use Rattle.c25_meaning.specs.Reading.{tree_in}
 use Rattle.c25_meaning.specs.Spellings.{spelling_of}
 use Rattle.c25_meaning.specs.Operands.{operands_of, written_of, line_fault}
-use Rattle.c25_meaning.specs.Statement.{◌>>=◌, fold_ok, told}
+use Rattle.c25_meaning.specs.Results.{◌>>=◌, fold_ok, told}
 use Rattle.c25_meaning.specs.Forms.{form_of, is_expression}
 use Rattle.c25_meaning.specs.declared.expression.ExpressionFault.{ExpressionFault}
 use Rattle.c25_meaning.specs.declared.expression.ExpressionFault.TheVariants as expression

@@ -1,10 +1,10 @@
 -- Steps of the statements of a program, and images of statements.
-use Rattle.std.specs.Prelude.{◌≡◌, ℕ, ◌+◌, ◌%◌, ◌^◌, ◌≤◌, ◌==◌, ◌↔◌, Bool, ◌&&◌, List, Option, None, Some, find, nat_le, nat_lt, if◌then◌else◌}
+use Rattle.std.specs.Prelude.{◌≡◌, ℕ, ◌+◌, ◌%◌, ◌^◌, ◌≤◌, ◌↔◌, Bool, List, map, Option, None, Some, if◌then◌else◌}
 use Rattle.std.specs.Option.{option_map, option_and_then}
-use Rattle.std.specs.List.{list_any}
+use Rattle.c25_meaning.specs.declared.mark.Mark.{Mark}
 use Rattle.c25_meaning.specs.declared.insn.Insn.{Insn}
 use Rattle.c25_meaning.specs.declared.lines.Lines.{Lines}
-use Rattle.c25_meaning.specs.State.{World, State, Outcome}
+use Rattle.c25_meaning.specs.State.{World, State, StepResult, first_at, size_at, is_code}
 use Rattle.c25_meaning.specs.Table.{Reads, size_of}
 use Rattle.c25_meaning.specs.Step.{clear_of_b0, begun, stepped}
 use Rattle.c25_meaning.specs.WordStep.{WordStep}
@@ -17,27 +17,31 @@ pub record Statement : Type 0 where
 
 -- the instruction whose statement stands at an address
 unfoldable pub statement_at : List Statement → ℕ → Option Insn
-statement_at statements address = option_map (λ s. s.insn) (find (λ s. s.address == address) statements)
+statement_at statements address = option_map (λ s. s.insn) (first_at (λ s. s.address) statements address)
 
--- whether a program word belongs to a statement
-unfoldable pub is_of_statement : List Statement → ℕ → Bool
-is_of_statement statements address =
-    list_any (λ s. nat_le s.address address && nat_lt address (s.address + size_of s.insn)) statements
+-- the place of a statement
+abbrev pub mark_of : Statement → Mark
+mark_of s = record { address = s.address; size = size_of s.insn }
+
+-- the places of statements
+abbrev pub marks_of : List Statement → List Mark
+marks_of statements = map mark_of statements
 
 -- an instruction, unless a word of it lies in B0
 abbrev pub outside_b0 : Bool → ℕ → Insn → Option Insn
 outside_b0 cnf pc i = if clear_of_b0 cnf pc (size_of i) then Some i else None
 
 -- one step of the statements, with these lines and this BIO level: the statement at PC acts with its own numbers
-abbrev pub statement_step : List Statement → Lines → Bool → State → Outcome
+abbrev pub statement_step : List Statement → Lines → Bool → State → StepResult
 statement_step statements lines bio s =
     let r = begun lines s in
     stepped bio (option_and_then (outside_b0 r.cnf r.pc) (statement_at statements r.pc)) r s.world
 
--- the world holds these statements: their places are its places, and the words there read as them
+-- the world holds these statements: an instruction of a size starts and a word is of an instruction where one of theirs does and is, and
+-- the words there read as them
 pub record IsImageOf (statements : List Statement) (w : World) : Type 0 where
-  pub starts : (address : ℕ) → w.starts address ≡ option_map size_of (statement_at statements address)
-  pub code : (address : ℕ) → w.code address ≡ is_of_statement statements address
+  pub starts : (address : ℕ) → size_at w.marks address ≡ size_at (marks_of statements) address
+  pub code : (address : ℕ) → is_code w.marks address ≡ is_code (marks_of statements) address
   pub room : (address : ℕ) (i : Insn) → statement_at statements address ≡ Some i → address + size_of i ≤ 2 ^ 16
   pub reads : (address : ℕ) (i : Insn) → statement_at statements address ≡ Some i → Reads (w.program address) (w.program ((address + 1) % 2 ^ 16)) i
 

@@ -6,6 +6,7 @@ use Rattle.std.specs.Char.{to_ascii_uppercase}
 use Rattle.std.specs.Map.{lookup}
 use Rattle.std.specs.Str.{bytes_eq}
 use Rattle.std.specs.Int.RustNames.{int_div, int_rem}
+use Rattle.c25_meaning.specs.Results.{◌>>=◌}
 use Rattle.c25_meaning.specs.Tree.{Leaf, Constant, Name, Here, Tree, Single, Group, Unary, Binary}
 use Rattle.c25_meaning.specs.declared.expression.UnaryOperator.{UnaryOperator}
 use Rattle.c25_meaning.specs.declared.expression.UnaryOperator.TheVariants as unary
@@ -16,12 +17,6 @@ use Rattle.c25_meaning.specs.declared.value.ValueFault.TheVariants.{Undefined, N
 use Rattle.c25_meaning.specs.declared.value.Base.{Base}
 use Rattle.c25_meaning.specs.declared.value.Base.TheVariants.{Absolute, Section}
 use Rattle.c25_meaning.specs.declared.value.Value.{Value}
-
--- one step after another, up to the first fault
-infixl 10 ◌>>=◌
-abbrev pub ◌>>=◌ : {A B : Type 0} → Result A ValueFault → (A → Result B ValueFault) → Result B ValueFault
-(Ok x) >>= f = f x
-(Err e) >>= f = Err e
 
 -- whether a number has 32 signed bits
 abbrev pub fits : ℤ → Bool

@@ -37,3 +37,20 @@ pub struct PlacedFault {
     pub fault: CommandFault,
     pub place: usize,
 }
+
+/// A fault, and the number of the line where it is told, counted from 1.
+#[derive(Clone, Copy, PartialEq, Eq, Debug)]
+pub struct FaultyCommand {
+    pub fault: CommandFault,
+    pub line: usize,
+}
+
+impl fmt::Display for FaultyCommand {
+    fn fmt<W: fmt::Write>(&self, f: &mut fmt::Formatter<W>) -> fmt::Result {
+        let fault = self.fault;
+        let line = self.line;
+        write!(f, "line {line}: {fault}")
+    }
+}
+
+impl Error for FaultyCommand {}

@@ -1,5 +1,8 @@
 //! Lines of files, and what expansion does with them.
 
+use std::error::Error;
+use std::fmt;
+
 /// Where a line stands.
 #[derive(Clone, Copy, PartialEq, Eq, Debug)]
 pub struct Place {
@@ -43,15 +46,37 @@ pub enum Directive {
     End,
 }
 
+/// What becomes of the lines of an open `.if` that come now.
+#[derive(Clone, Copy, PartialEq, Eq, Debug)]
+pub enum Phase {
+    /// They are skipped: no condition was true yet.
+    Seeking,
+    /// They are taken: the last condition was true.
+    Taking,
+    /// They are skipped: the lines of a true condition were taken.
+    Passing,
+    /// They are taken: they stand behind `.else`, and no condition was true.
+    ElseTaking,
+    /// They are skipped: they stand behind `.else`, and the lines of a true condition were taken.
+    ElsePassing,
+}
+
 /// An open `.if`.
 #[derive(Clone, Copy, PartialEq, Eq, Debug)]
 pub struct Branch {
-    /// The lines that come now are taken.
-    pub active: bool,
-    /// These lines, or those of a branch before them, were taken.
-    pub taken: bool,
-    /// The `.else` has come.
-    pub has_else: bool,
+    pub phase: Phase,
     /// How many `.if`s are nested in the lines that are skipped now.
     pub nested: usize,
 }
+
+/// A line would have more than 1,024 bytes, or take more than 1,024 replacements (38).
+#[derive(Clone, Copy, PartialEq, Eq, Debug)]
+pub struct LongLine;
+
+impl fmt::Display for LongLine {
+    fn fmt<W: fmt::Write>(&self, f: &mut fmt::Formatter<W>) -> fmt::Result {
+        write!(f, "LongLine")
+    }
+}
+
+impl Error for LongLine {}

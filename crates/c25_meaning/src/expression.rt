@@ -1,5 +1,8 @@
 //! Operators of expressions.
 
+use std::error::Error;
+use std::fmt;
+
 /// An operator before its operand.
 #[derive(Clone, Copy, PartialEq, Eq, Debug)]
 pub enum UnaryOperator {
@@ -37,3 +40,11 @@ pub enum ExpressionFault {
     /// Parentheses and unary operators nest more than 64 deep (21).
     TooDeep,
 }
+
+impl fmt::Display for ExpressionFault {
+    fn fmt<W: fmt::Write>(&self, f: &mut fmt::Formatter<W>) -> fmt::Result {
+        write!(f, "{self:?}")
+    }
+}
+
+impl Error for ExpressionFault {}

@@ -1,5 +1,8 @@
 //! What is wrong with a hex text.
 
+use std::error::Error;
+use std::fmt;
+
 /// Why a line, or the text, is not Intel hex of 16-bit words. The numbers are those of the
 /// fault lines.
 #[derive(Clone, Copy, Debug, PartialEq, Eq)]
@@ -26,3 +29,19 @@ pub enum HexFault {
     /// Bytes past the 65,536 of their base, or past the 131,072 of the address space (89).
     AddressRange,
 }
+
+/// The first fault of a text, and where it is.
+#[derive(Clone, Copy, Debug, PartialEq, Eq)]
+pub struct PlacedHexFault {
+    pub fault: HexFault,
+    /// The number of its line: from 1, or 0 where a text without lines has no end.
+    pub line: usize,
+}
+
+impl fmt::Display for PlacedHexFault {
+    fn fmt<W: fmt::Write>(&self, f: &mut fmt::Formatter<W>) -> fmt::Result {
+        write!(f, "line {}: {:?}", self.line, self.fault)
+    }
+}
+
+impl Error for PlacedHexFault {}

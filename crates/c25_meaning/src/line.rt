@@ -18,12 +18,7 @@ pub enum LineFault {
 
 impl fmt::Display for LineFault {
     fn fmt<W: fmt::Write>(&self, f: &mut fmt::Formatter<W>) -> fmt::Result {
-        match self {
-            LineFault::BadLabel => write!(f, "BadLabel"),
-            LineFault::BadConstant => write!(f, "BadConstant"),
-            LineFault::OpenQuote => write!(f, "OpenQuote"),
-            LineFault::StrayText => write!(f, "StrayText"),
-        }
+        write!(f, "{self:?}")
     }
 }
 

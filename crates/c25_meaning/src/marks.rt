@@ -1,7 +1,8 @@
-//! Which lists of marks are those of a program.
+//! Lists of marks: which are those of a program, and what one says of an address.
 
 ghost use Rattle.std.specs.Prelude.{◌≡◌};
 ghost use Rattle.c25_meaning.specs.Marks.{fit_from};
+ghost use Rattle.c25_meaning.specs.State.{is_code, size_at};
 
 use crate::mark::Mark;
 
@@ -19,6 +20,28 @@ pub fn marks_fit(marks: &[Mark]) -> bool
         end = after;
     }
     true
+}
+
+/// The size of the instruction that starts at an address, where one does.
+#[tactic(auto, unfolding(crate::specs::State::size_at))]
+pub fn size_at(marks: &[Mark], address: u16) -> Option<u16>
+    ensures { result ≡ size_at marks.now address }
+{
+    marks
+        .iter()
+        .find(|mark| mark.address == address)
+        .map(|mark| mark.size)
+}
+
+/// Whether a program word belongs to an instruction.
+#[tactic(auto, unfolding(crate::specs::State::is_code))]
+pub fn is_code(marks: &[Mark], address: u16) -> bool
+    ensures { result ≡ is_code marks.now address }
+{
+    marks.iter().any(|mark| {
+        mark.address <= address
+            && u32::from(address) < u32::from(mark.address) + u32::from(mark.size)
+    })
 }
 
 #[cfg(test)]

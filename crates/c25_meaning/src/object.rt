@@ -1,5 +1,6 @@
 //! The plain parts of a module of relocatable words, and what is wrong with bytes that spell none.
 
+use crate::relocation::RelocationKind;
 use std::error::Error;
 use std::fmt;
 
@@ -31,17 +32,6 @@ pub struct ModuleMark {
     pub size: u8,
 }
 
-/// Which bits of a word a relocation fills, and with what of a value.
-#[derive(Clone, Copy, PartialEq, Eq, Debug)]
-pub enum FieldKind {
-    /// All sixteen bits, with the value.
-    Word16,
-    /// The low seven bits, with the value modulo 128: a direct address.
-    Low7,
-    /// The low nine bits, with the value divided by 128: the operand of `LDPK`.
-    Page9,
-}
-
 /// What a relocation adds its addend to.
 #[derive(Clone, Copy, PartialEq, Eq, Debug)]
 pub enum RelocationBase {
@@ -57,7 +47,7 @@ pub enum RelocationBase {
 pub struct Relocation {
     pub section: u16,
     pub offset: u16,
-    pub kind: FieldKind,
+    pub kind: RelocationKind,
     pub base: RelocationBase,
     pub addend: i32,
 }

@@ -3,6 +3,8 @@
 
 use crate::insn::Change;
 use crate::mnemonic::*;
+use std::error::Error;
+use std::fmt;
 
 /// How the memory operand of an instruction is written.
 #[derive(Clone, Copy, PartialEq, Eq, Debug)]
@@ -46,17 +48,6 @@ pub enum Field {
     Word,
     /// A word of `.byte`.
     Byte,
-}
-
-/// How an address goes into a field.
-#[derive(Clone, Copy, PartialEq, Eq, Debug)]
-pub enum RelocationKind {
-    /// Its low sixteen bits.
-    Word16,
-    /// Its low seven bits.
-    Low7,
-    /// Its page of 128 words.
-    Page9,
 }
 
 /// What is wrong with a line.
@@ -113,6 +104,14 @@ pub enum FaultKind {
     /// An address in a field that takes none (55).
     NotRelocatable,
 }
+
+impl fmt::Display for FaultKind {
+    fn fmt<W: fmt::Write>(&self, f: &mut fmt::Formatter<W>) -> fmt::Result {
+        write!(f, "{self:?}")
+    }
+}
+
+impl Error for FaultKind {}
 
 /// What an operand is by its tokens.
 #[derive(Clone, Copy, PartialEq, Eq, Debug)]

@@ -18,12 +18,7 @@ pub enum ValueFault {
 
 impl fmt::Display for ValueFault {
     fn fmt<W: fmt::Write>(&self, f: &mut fmt::Formatter<W>) -> fmt::Result {
-        match self {
-            ValueFault::Undefined => write!(f, "Undefined"),
-            ValueFault::NotAbsolute => write!(f, "NotAbsolute"),
-            ValueFault::DivideByZero => write!(f, "DivideByZero"),
-            ValueFault::ValueRange => write!(f, "ValueRange"),
-        }
+        write!(f, "{self:?}")
     }
 }
 
@@ -36,7 +31,7 @@ pub enum Base {
     #[default]
     Absolute,
     /// The start of a section of this module, by the section's number.
-    Section(u8),
+    Section(u16),
     /// The address of an external symbol, by the symbol's number.
     External(u16),
 }

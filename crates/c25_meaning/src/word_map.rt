@@ -60,6 +60,7 @@ impl WordMap {
     }
 
     /// The addresses and their words, ascending.
+    #[tactic(auto, using(crate::proofs::WordMaps::listed_view))]
     pub fn iter(&self) -> Iter<'_, u16, u16>
         ensures entries { result ≡ map.entries self.now }
         ensures in_range { IsWordMap self.now }

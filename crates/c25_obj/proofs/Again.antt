@@ -16,10 +16,11 @@ use Rattle.c25_meaning.specs.declared.object.RelocationBase.{RelocationBase}
 use Rattle.c25_meaning.specs.declared.object.RelocationBase.TheVariants as base
 use Rattle.c25_meaning.specs.declared.object.SymbolKind.{SymbolKind}
 use Rattle.c25_meaning.specs.declared.object.SymbolKind.TheVariants.{Absolute, InSection, External}
-use Rattle.c25_meaning.specs.Module.{SectionBody, Uninitialised, Initialised, SectionData, SymbolData, Contents, body_words, body_size, section_fits, mark_fits, symbol_fits, relocation_fits, each_fits, lists_fit, has_sections, is_module, IsSized, has_section, begins_sections, is_section_name, is_section_byte, words_at, mark_after, last_of, place_fits, has_symbol, is_symbol_name, is_external, base_fits, relocation_after, field_is_clear}
+use Rattle.c25_meaning.specs.Module.{IsModule, SectionBody, Uninitialised, Initialised, SectionData, SymbolData, Contents, body_words, body_size, section_fits, mark_fits, symbol_fits, relocation_fits, each_fits, lists_fit, has_sections, is_module, IsSized, has_section, begins_sections, is_section_name, is_section_byte, words_at, mark_after, last_of, place_fits, has_symbol, is_symbol_name, is_external, base_fits, relocation_after, field_is_clear}
 use Rattle.c25_meaning.specs.Bytes.{begins_name, goes_on_name}
 use Rattle.c25_meaning.specs.Records.{section_payload, mark_payload, symbol_payload, relocation_payload, section_entry, mark_entry, symbol_entry, relocation_entry, entry, body_bytes, records, last_entry, spelling, kind_section, base_index}
-use Rattle.c25_meaning.specs.RecordReading.{◌>>=◌, checked, latest, is_in_order, with_section, with_mark, with_symbol, with_relocation, with_record, Record, ended, read_from, read_all, nothing_read, module_of, section_of, mark_of, symbol_of, relocation_of}
+use Rattle.c25_meaning.specs.Results.{◌>>=◌}
+use Rattle.c25_meaning.specs.RecordReading.{checked, latest, is_in_order, with_section, with_mark, with_symbol, with_relocation, with_record, Record, ended, read_from, read_all, nothing_read, module_of, section_of, mark_of, symbol_of, relocation_of}
 use Rattle.c25_obj.proofs.Texts.{both}
 use Rattle.c25_obj.proofs.Loop.{next_turn, after_record}
 use Rattle.c25_obj.proofs.Taken.{mark_again, symbol_again, relocation_again, IsSmall}
@@ -326,3 +327,8 @@ no_proper_prefix c d tail p q r s e =
     let one : cond (eqb (length tail) 0) (Ok c) (Err Trailing) ≡ Ok d = sym (module_again c tail p q) ∙ ap module_of (sym e) ∙ spelling_read d r s in
     let g = allowed (eqb (length tail) 0) Trailing (Ok c) d one in
     (nil_from_length tail (eqb-true _ _ g.0), ok_is c d g.1)
+
+-- modules of one spelling are one
+pub one_spelling : (c d : Contents) → IsModule c → IsModule d → spelling c ≡ spelling d → c ≡ d
+one_spelling c d first second same =
+    (no_proper_prefix c d [] first.sized first.lists second.sized second.lists (sym same ∙ sym (append-nil (spelling c)))).1

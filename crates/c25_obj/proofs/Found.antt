@@ -1,7 +1,7 @@
 -- What is read is spelled so.
-use Rattle.std.proofs.Common.{◌≡◌, ℕ, zero, suc, ◌<◌, ◌≤◌, ◌≢◌, Bool, true, false, not, ◌&&◌, ◌||◌, cond, ltb, leb, eqb, List, [], ◌∷◌, ◌++◌, length, drop, slice_index, Option, Some, None, Result, Ok, Err, refl, sym, ap, subst, ◌∙◌, append_assoc, arith, inl, inr, ◌⊎◌}
+use Rattle.std.proofs.Common.{◌≡◌, ℕ, zero, suc, ◌<◌, ◌≤◌, Bool, true, false, not, ◌&&◌, ◌||◌, cond, ltb, leb, eqb, List, [], ◌∷◌, ◌++◌, length, drop, slice_index, Option, Some, None, Result, Ok, Err, refl, sym, ap, subst, ◌∙◌, append_assoc, arith, inl, inr, ◌⊎◌}
 use Rattle.std.specs.List.{flat_map}
-use Rattle.std.proofs.lemmas.Bool.{lt-ltb, cases_lt, eqb-true, eqb-false}
+use Rattle.std.proofs.lemmas.Bool.{lt-ltb, cases_lt, eqb-true}
 use Rattle.std.proofs.lemmas.Bool.Decides.{nat_tests}
 use Rattle.std.proofs.lemmas.List.{append-nil, nil_from_length, length-append}
 use Rattle.std.proofs.lemmas.List.Concat.{flat_map-cons, flat_map-append}
@@ -11,7 +11,8 @@ use Rattle.c25_meaning.specs.declared.object.ModuleMark.{ModuleMark}
 use Rattle.c25_meaning.specs.declared.object.Relocation.{Relocation}
 use Rattle.c25_meaning.specs.Module.{SectionData, SymbolData, Contents, section_fits, mark_fits, symbol_fits, relocation_fits, each_fits, lists_fit, has_sections, is_module}
 use Rattle.c25_meaning.specs.Records.{section_payload, mark_payload, symbol_payload, relocation_payload, section_entry, mark_entry, symbol_entry, relocation_entry, entry, records, last_entry, head, spelling}
-use Rattle.c25_meaning.specs.RecordReading.{◌>>=◌, checked, latest, is_in_order, with_section, with_mark, with_symbol, with_relocation, with_record, record_at, ended, read_from, nothing_read, module_of, has_magic, section_of, mark_of, symbol_of, relocation_of}
+use Rattle.c25_meaning.specs.Results.{◌>>=◌}
+use Rattle.c25_meaning.specs.RecordReading.{checked, latest, is_in_order, with_section, with_mark, with_symbol, with_relocation, with_record, record_at, ended, read_from, nothing_read, module_of, has_magic, section_of, mark_of, symbol_of, relocation_of}
 use Rattle.c25_obj.proofs.Texts.{both}
 use Rattle.c25_obj.proofs.Loop.{next_turn, after_record}
 use Rattle.c25_obj.proofs.Taken.{IsBytes, IsBytes-drop, mark_takes, symbol_takes, relocation_takes, not_false, one}
@@ -118,14 +119,6 @@ at_tag c d n tag payload e a = subst (λ (t : ℕ). Adds c d t payload) e a
 begun_at : (c : Contents) (n tag : ℕ) → n ≡ tag → NotBegun c tag → NotBegun c n
 begun_at c n tag e b = subst (λ (t : ℕ). NotBegun c t) (sym e) b
 
-four_left : (c : Contents) (tag : ℕ) → is_in_order c tag ≡ true → tag ≢ 255 → tag ≢ 1 → tag ≢ 2 → tag ≢ 3 → 4 ≡ tag
-four_left c tag order last a b d =
-    let g = both (leb (latest c) tag) (leb tag 4 || eqb tag 255) order in
-    let low : 1 ≤ latest c = grind (arith, nat_tests) in
-    let le : latest c ≤ tag = grind (arith, nat_tests, g.0) in
-    let high : tag ≤ 4 = grind (arith, nat_tests, g.1) in
-    omega arith
-
 whole_last : (tag : ℕ) (payload rest : List ℕ) → tag ≡ 255 → payload ≡ [] → rest ≡ [] → entry tag payload ++ rest ≡ last_entry
 whole_last tag payload rest p q r = rw (p, q, r) refl
 
@@ -221,9 +214,9 @@ chosen : {A : Type 0} (b : Bool) (x y z : A) → cond b x y ≡ z → ((b ≡ tr
 chosen true x y z e = inl (refl, e)
 chosen false x y z e = inr (refl, e)
 
-record_adds : (c d : Contents) (tag : ℕ) (payload : List ℕ) → IsBytes payload → is_in_order c tag ≡ true → tag ≢ 255 → ListsFit c → with_record c tag payload ≡ Ok d → Adds c d tag payload
+record_adds : (c d : Contents) (tag : ℕ) (payload : List ℕ) → IsBytes payload → is_in_order c tag ≡ true → ListsFit c → with_record c tag payload ≡ Ok d → Adds c d tag payload
 unfolding with_record
-record_adds c d tag payload small order last fits e =
+record_adds c d tag payload small order fits e =
     elim (chosen (eqb tag 1) _ _ (Ok d) e) [
       | inl h ↦ at_tag c d 1 tag payload (sym (eqb-true _ _ h.0)) (section_adds c d payload small (begun_at c 1 tag (sym (eqb-true _ _ h.0)) (not_begun c tag order)) fits h.1)
       | inr h ↦
@@ -233,7 +226,9 @@ record_adds c d tag payload small order last fits e =
             | inl k ↦ at_tag c d 2 tag payload (sym (eqb-true _ _ k.0)) (mark_adds c d payload small (begun_at c 2 tag (sym (eqb-true _ _ k.0)) (not_begun c tag order)) some fits k.1)
             | inr k ↦ elim (chosen (eqb tag 3) _ _ (Ok d) k.1) [
               | inl l ↦ at_tag c d 3 tag payload (sym (eqb-true _ _ l.0)) (symbol_adds c d payload small (begun_at c 3 tag (sym (eqb-true _ _ l.0)) (not_begun c tag order)) some fits l.1)
-              | inr l ↦ at_tag c d 4 tag payload (four_left c tag order last (eqb-false _ _ h.0) (eqb-false _ _ k.0) (eqb-false _ _ l.0)) (relocation_adds c d payload small some fits l.1)
+              | inr l ↦
+                  let m = allowed (eqb tag 4) BadTag _ d l.1 in
+                  at_tag c d 4 tag payload (sym (eqb-true _ _ m.0)) (relocation_adds c d payload small some fits m.1)
             ]
           ]
     ]
@@ -263,7 +258,7 @@ read_takes (suc n) c d bytes small fits e =
           subst (λ (x : Contents). (records c ++ bytes ≡ records x ++ last_entry) × (is_module x ≡ true)) f.3 (ap (λ (t : List ℕ). records c ++ t) text, and_true (has_sections c) (lists_fit c) f.0 (lists_fit_all c fits))
       | inr h ↦
           let w = bind_ok (with_record c found.0.tag found.0.payload) (λ x. read_from n x found.1) d h.1 in
-          let adds = record_adds c w.0 found.0.tag found.0.payload t.1 order (eqb-false _ _ h.0) fits w.1 in
+          let adds = record_adds c w.0 found.0.tag found.0.payload t.1 order fits w.1 in
           let later = read_takes n w.0 d found.1 t.2 adds.fits w.2 in
           let step : records c ++ bytes ≡ records w.0 ++ found.1 =
           ap (λ (t : List ℕ). records c ++ t) t.0 ∙ sym (append_assoc (records c) (entry found.0.tag found.0.payload) found.1) ∙ ap (λ (t : List ℕ). t ++ found.1) (sym adds.parts) in

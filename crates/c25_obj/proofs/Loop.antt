@@ -2,11 +2,11 @@
 use Rattle.std.proofs.Common.{◌≡◌, ℕ, suc, ◌-◌, ◌+◌, ◌<◌, true, false, not, cond, eqb, List, Result, Ok, Err, refl, sym, ap, ◌∙◌, arith}
 use Rattle.c25_meaning.specs.declared.object.ObjectFault.{ObjectFault}
 use Rattle.c25_meaning.specs.declared.object.ObjectFault.TheVariants.{BadTag}
-use Rattle.c25_obj.specs.declared.failure.ReadError.{ReadError}
-use Rattle.c25_obj.specs.declared.failure.ReadError.TheVariants as errors
+use Rattle.c25_meaning.specs.declared.failure.Failure.{Failure}
+use Rattle.c25_meaning.specs.declared.failure.Failure.TheVariants.{NoMemory, Fault}
 use Rattle.c25_meaning.specs.Module.{Contents}
-use Rattle.c25_meaning.specs.RecordReading.{◌>>=◌, Record, record_at, is_in_order, ended, with_record, read_from}
-use Rattle.c25_obj.specs.View.{Fails}
+use Rattle.c25_meaning.specs.Results.{◌>>=◌, Fails}
+use Rattle.c25_meaning.specs.RecordReading.{Record, record_at, is_in_order, ended, with_record, read_from}
 
 -- what is done with a record
 abbrev pub after_record : ℕ → Contents → Record × List ℕ → Result Contents ObjectFault
@@ -28,9 +28,9 @@ turn n i c bytes total lt so_far =
 turn_at : (n i : ℕ) (c : Contents) (bytes : List ℕ) (found : Record × List ℕ) (total : Result Contents ObjectFault) → i < n → record_at bytes ≡ Ok found → read_from (n - i) c bytes ≡ total → after_record (n - (i + 1)) c found ≡ total
 turn_at n i c bytes found total lt h so_far = rw h at (turn n i c bytes total lt so_far)
 
-pub no_record : (e : ReadError) (n i : ℕ) (c : Contents) (bytes : List ℕ) (total : Result Contents ObjectFault) → i < n → Fails e (record_at bytes) → read_from (n - i) c bytes ≡ total → Fails e total
-no_record errors.NoMemory n i c bytes total lt h so_far = tt
-no_record (errors.Fault f) n i c bytes total lt h so_far = sym (rw h at (turn n i c bytes total lt so_far))
+pub no_record : (e : Failure ObjectFault) (n i : ℕ) (c : Contents) (bytes : List ℕ) (total : Result Contents ObjectFault) → i < n → Fails (record_at bytes) e → read_from (n - i) c bytes ≡ total → Fails total e
+no_record (NoMemory m) n i c bytes total lt h so_far = tt
+no_record (Fault f) n i c bytes total lt h so_far = sym (rw h at (turn n i c bytes total lt so_far))
 
 pub out_of_order : (n i : ℕ) (c : Contents) (bytes : List ℕ) (found : Record × List ℕ) (total : Result Contents ObjectFault) → i < n → record_at bytes ≡ Ok found → is_in_order c found.0.tag ≡ false → read_from (n - i) c bytes ≡ total → total ≡ Err BadTag
 out_of_order n i c bytes found total lt h order so_far = sym (rw order at (turn_at n i c bytes found total lt h so_far))
@@ -45,10 +45,10 @@ inner : (n i : ℕ) (c : Contents) (bytes : List ℕ) (found : Record × List �
     → (with_record c found.0.tag found.0.payload >>= λ d. read_from (n - (i + 1)) d found.1) ≡ total
 inner n i c bytes found total lt h order test so_far = rw (order, test) at (turn_at n i c bytes found total lt h so_far)
 
-pub not_added : (e : ReadError) (n i : ℕ) (c : Contents) (bytes : List ℕ) (found : Record × List ℕ) (total : Result Contents ObjectFault) → i < n → record_at bytes ≡ Ok found → is_in_order c found.0.tag ≡ true → eqb found.0.tag 255 ≡ false
-    → Fails e (with_record c found.0.tag found.0.payload) → read_from (n - i) c bytes ≡ total → Fails e total
-not_added errors.NoMemory n i c bytes found total lt h order test bad so_far = tt
-not_added (errors.Fault f) n i c bytes found total lt h order test bad so_far = sym (rw bad at (inner n i c bytes found total lt h order test so_far))
+pub not_added : (e : Failure ObjectFault) (n i : ℕ) (c : Contents) (bytes : List ℕ) (found : Record × List ℕ) (total : Result Contents ObjectFault) → i < n → record_at bytes ≡ Ok found → is_in_order c found.0.tag ≡ true → eqb found.0.tag 255 ≡ false
+    → Fails (with_record c found.0.tag found.0.payload) e → read_from (n - i) c bytes ≡ total → Fails total e
+not_added (NoMemory m) n i c bytes found total lt h order test bad so_far = tt
+not_added (Fault f) n i c bytes found total lt h order test bad so_far = sym (rw bad at (inner n i c bytes found total lt h order test so_far))
 
 pub goes_on : (n i : ℕ) (c d : Contents) (bytes : List ℕ) (found : Record × List ℕ) (total : Result Contents ObjectFault) → i < n → record_at bytes ≡ Ok found → is_in_order c found.0.tag ≡ true → eqb found.0.tag 255 ≡ false
     → with_record c found.0.tag found.0.payload ≡ Ok d → read_from (n - i) c bytes ≡ total → read_from (n - (i + 1)) d found.1 ≡ total

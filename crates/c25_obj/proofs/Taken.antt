@@ -13,8 +13,8 @@ use Rattle.c25_meaning.specs.declared.object.SymbolKind.{SymbolKind}
 use Rattle.c25_meaning.specs.declared.object.SymbolKind.TheVariants.{Absolute, InSection, External}
 use Rattle.c25_meaning.specs.declared.object.Scope.{Scope}
 use Rattle.c25_meaning.specs.declared.object.Scope.TheVariants.{Local, Global}
-use Rattle.c25_meaning.specs.declared.object.FieldKind.{FieldKind}
-use Rattle.c25_meaning.specs.declared.object.FieldKind.TheVariants.{Word16, Low7, Page9}
+use Rattle.c25_meaning.specs.declared.relocation.RelocationKind.{RelocationKind}
+use Rattle.c25_meaning.specs.declared.relocation.RelocationKind.TheVariants.{Word16, Low7, Page9}
 use Rattle.c25_meaning.specs.declared.object.RelocationBase.{RelocationBase}
 use Rattle.c25_meaning.specs.declared.object.RelocationBase.TheVariants as base
 use Rattle.c25_meaning.specs.declared.object.ModuleMark.{ModuleMark}
@@ -97,7 +97,7 @@ kind_takes code section k e = grind (arith, nat_tests)
 scope_takes : (code : ℕ) (s : Scope) → scope_of code ≡ Some s → code ≡ scope_code s
 scope_takes code s e = grind (arith, nat_tests)
 
-field_takes : (code : ℕ) (k : FieldKind) → field_of code ≡ Some k → code ≡ field_code k
+field_takes : (code : ℕ) (k : RelocationKind) → field_of code ≡ Some k → code ≡ field_code k
 field_takes code k e = grind (arith, nat_tests)
 
 base_takes : (code index : ℕ) (b : RelocationBase) → base_of code index ≡ Some b → (code ≡ base_code b) × (index ≡ base_index b)
@@ -112,7 +112,7 @@ scope_again : (s : Scope) → scope_of (scope_code s) ≡ Some s
 scope_again Local = refl
 scope_again Global = refl
 
-field_again : (k : FieldKind) → field_of (field_code k) ≡ Some k
+field_again : (k : RelocationKind) → field_of (field_code k) ≡ Some k
 field_again Word16 = refl
 field_again Low7 = refl
 field_again Page9 = refl
@@ -214,7 +214,7 @@ relocation_again r small =
     ap (λ (n : ℕ). record { section = n; offset = short_at bytes 2; kind = r.kind; base = r.base; addend = cast_signed w32 (long_at bytes 8) }) a
     ∙ ap (λ (n : ℕ). record { section = r.section; offset = n; kind = r.kind; base = r.base; addend = cast_signed w32 (long_at bytes 8) }) b
     ∙ ap (λ (n : ℤ). record { section = r.section; offset = r.offset; kind = r.kind; base = r.base; addend = n }) z in
-    ap (λ (o : Option FieldKind). option_and_then (λ kind. option_map (λ base. relocation_with bytes kind base) (base_of (base_code r.base) (short_at bytes 6))) o) (field_again r.kind)
+    ap (λ (o : Option RelocationKind). option_and_then (λ kind. option_map (λ base. relocation_with bytes kind base) (base_of (base_code r.base) (short_at bytes 6))) o) (field_again r.kind)
     ∙ ap (λ (o : Option RelocationBase). option_map (λ base. relocation_with bytes r.kind base) o) chosen
     ∙ ap (λ (x : Relocation). Some x) made
 

@@ -6,6 +6,7 @@ use Rattle.std.specs.Cmp.Lexicographic.{slice_cmp}
 use Rattle.std.specs.BTreeSet.{BTreeSet, contains}
 use Rattle.c25_meaning.specs.Module.{SymbolData, has_symbol}
 
+-- the name of a symbol, empty where there is none
 abbrev pub name_of : Option SymbolData → List ℕ
 name_of None = []
 name_of (Some y) = y.name

@@ -4,7 +4,8 @@ ghost use Rattle.std.specs.Prelude.{◌≡◌};
 ghost use Rattle.c25_meaning.specs.RecordReading as reading;
 ghost use Rattle.c25_meaning.specs.Records as bytes;
 
-use c25_meaning::object::{FieldKind, RelocationBase, Scope, SymbolKind};
+use c25_meaning::object::{RelocationBase, Scope, SymbolKind};
+use c25_meaning::relocation::RelocationKind;
 
 /// The kind of a symbol by its code and its two bytes for a section.
 pub(crate) fn kind_of(code: u8, section: u16) -> Option<SymbolKind>
@@ -30,13 +31,13 @@ pub(crate) fn scope_of(code: u8) -> Option<Scope>
 }
 
 /// The field by its code.
-pub(crate) fn field_of(code: u8) -> Option<FieldKind>
+pub(crate) fn field_of(code: u8) -> Option<RelocationKind>
     ensures { result ≡ reading.field_of code }
 {
     match code {
-        1 => Some(FieldKind::Word16),
-        2 => Some(FieldKind::Low7),
-        3 => Some(FieldKind::Page9),
+        1 => Some(RelocationKind::Word16),
+        2 => Some(RelocationKind::Low7),
+        3 => Some(RelocationKind::Page9),
         _ => None,
     }
 }
@@ -84,13 +85,13 @@ pub(crate) fn scope_code(scope: Scope) -> u8
 }
 
 /// The code of a field.
-pub(crate) fn field_code(kind: FieldKind) -> u8
+pub(crate) fn field_code(kind: RelocationKind) -> u8
     ensures { result ≡ bytes.field_code kind }
 {
     match kind {
-        FieldKind::Word16 => 1,
-        FieldKind::Low7 => 2,
-        FieldKind::Page9 => 3,
+        RelocationKind::Word16 => 1,
+        RelocationKind::Low7 => 2,
+        RelocationKind::Page9 => 3,
     }
 }
 

@@ -7,7 +7,8 @@ ghost use Rattle.c25_obj.specs.View.{body_data, section_data, symbol_data, secti
 
 use crate::names::{is_section_name, is_symbol_name};
 use crate::parts::{Body, Section, Symbol};
-use c25_meaning::object::{FieldKind, ModuleMark, Relocation, RelocationBase, Scope, SymbolKind};
+use c25_meaning::object::{ModuleMark, Relocation, RelocationBase, Scope, SymbolKind};
+use c25_meaning::relocation::RelocationKind;
 
 fn is_text(section: &Section) -> bool
     ensures { result ≡ spec.is_text (section_data section.now) }
@@ -135,13 +136,13 @@ fn base_fits(sections: &[Section], symbols: &[Symbol], base: RelocationBase) -> 
     }
 }
 
-fn field_values(kind: FieldKind) -> u32
+fn field_values(kind: RelocationKind) -> u32
     ensures { result ≡ spec.field_values kind }
 {
     match kind {
-        FieldKind::Word16 => 65_536,
-        FieldKind::Low7 => 128,
-        FieldKind::Page9 => 512,
+        RelocationKind::Word16 => 65_536,
+        RelocationKind::Low7 => 128,
+        RelocationKind::Page9 => 512,
     }
 }
 

@@ -8,7 +8,6 @@
 
 mod codes;
 mod differing;
-mod failure;
 mod fields;
 mod fits;
 pub mod laws;
@@ -19,10 +18,10 @@ mod names;
 mod parts;
 mod payloads;
 mod reading;
+mod sized;
 mod spelling;
 mod writing;
 
-pub use failure::ReadError;
 pub use made::Module;
 pub use making::module;
 pub use parts::{Body, Parts, Section, Symbol};

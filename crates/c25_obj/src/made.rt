@@ -1,24 +1,35 @@
 //! A module: lists that spell one.
 
-ghost use Rattle.std.specs.Prelude.{◌≡◌, true};
-ghost use Rattle.c25_meaning.specs.Module.{is_module};
+ghost use Rattle.std.specs.Prelude.{◌≡◌};
+ghost use Rattle.c25_meaning.specs.Module.{IsModule};
 ghost use Rattle.c25_obj.specs.View.{contents};
 
 use crate::parts::Parts;
+use std::marker::Model;
 
 /// Lists that are those of a module: [`module`](crate::module) makes one, and so does
 /// [`read_module`](crate::read_module).
 #[derive(Debug, Drop)]
 pub struct Module {
     pub(crate) parts: Parts,
-    ghost spelled: { is_module (contents parts) ≡ true },
+}
+
+impl Model for Module {
+    ghost use Rattle.c25_meaning.specs.Module.{Contents, IsModule};
+    ghost use Rattle.c25_obj.specs.View.{contents};
+
+    ghost Value = { Contents };
+
+    ghost view = { λ m. contents m.parts };
+
+    ghost invariant = { λ m. IsModule (contents m.parts) };
 }
 
 impl Module {
     /// Its lists, as they were given or read. They are those of a module.
     pub fn parts(&self) -> &Parts
-        ensures kept { result.now ≡ self.now.parts }
-        ensures spelled { is_module (contents result.now) ≡ true }
+        ensures kept { contents result.now ≡ self.now }
+        ensures spelled { IsModule self.now }
     {
         &self.parts
     }

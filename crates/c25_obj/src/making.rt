@@ -6,11 +6,13 @@ ghost use Rattle.c25_obj.specs.View.{contents};
 
 use crate::made::Module;
 use crate::parts::Parts;
+use crate::sized::sized;
 
 /// The module of these lists, which have to be those of one: [`spells`](crate::spells) is the test.
 pub fn module(parts: Parts) -> Module
     requires { is_module (contents parts) ≡ true }
-    ensures { result.parts ≡ parts }
+    ensures { result ≡ contents parts }
 {
+    sized(&parts);
     Module { parts }
 }

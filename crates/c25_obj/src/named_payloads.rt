@@ -6,15 +6,16 @@ ghost use Rattle.std.specs.Str.{IsUtf8};
 ghost use Rattle.c25_meaning.specs.Module as spec;
 ghost use Rattle.c25_meaning.specs.RecordReading as reading;
 ghost use Rattle.c25_obj.specs.Differing.{HasNames};
-ghost use Rattle.c25_obj.specs.View.{Gives, body_data, section_data, symbol_data, sections_data, symbols_data};
+ghost use Rattle.c25_meaning.specs.Results.{IsNoMemory, Meets};
+ghost use Rattle.c25_obj.specs.View.{body_data, section_data, symbol_data, sections_data, symbols_data};
 
 use crate::codes::{kind_of, scope_of};
 use crate::differing::MAX_SYMBOLS;
-use crate::failure::ReadError;
 use crate::fields::{long_at, short_at, signed_at};
 use crate::fits::{section_fits, symbol_stands};
 use crate::names::{is_section_name, is_symbol_name};
 use crate::parts::{Body, Section, Symbol};
+use c25_meaning::failure::Failure;
 use c25_meaning::object::{ObjectFault, Scope, SymbolKind};
 use std::alloc::Global;
 use std::collections::BTreeSet;
@@ -64,11 +65,11 @@ fn takes_name<'a>(
     before: &[Symbol],
     names: &mut BTreeSet<&'a str>,
     name: &'a str,
-) -> Result<bool, ReadError>
+) -> Result<bool, Failure<ObjectFault>>
     requires { HasNames (λ k. k.now) names.old (symbols_data before.now) }
     ensures answer { IfOk result (λ takes. takes ≡ (not (spec.has_symbol (symbols_data before.now) name.now) && nat_lt (length before.now) 65535)) }
     ensures named { IfOk result (λ takes. takes ≡ true → (y : spec.SymbolData) → y.name ≡ name.now → HasNames (λ k. k.now) names.new (symbols_data before.now ++ y ∷ [])) }
-    ensures error { IfErr result (λ e. e ≡ ReadError.NoMemory) }
+    ensures error { IfErr result IsNoMemory }
 {
     Ok(before.len() < MAX_SYMBOLS && names.insert(name)?)
 }
@@ -80,17 +81,17 @@ pub(crate) fn symbol_after<'a>(
     before: &[Symbol],
     names: &mut BTreeSet<&'a str>,
     bytes: &'a [u8],
-) -> Result<Symbol, ReadError>
+) -> Result<Symbol, Failure<ObjectFault>>
     requires { HasNames (λ k. k.now) names.old (symbols_data before.now) }
-    ensures given { Gives symbol_data result
-        (reading.checked (spec.symbol_fits (sections_data sections.now) (symbols_data before.now)) (reading.symbol_of bytes.now)) }
+    ensures given { Meets symbol_data
+        (reading.checked (spec.symbol_fits (sections_data sections.now) (symbols_data before.now)) (reading.symbol_of bytes.now)) result }
     ensures named { IfOk result (λ y. HasNames (λ k. k.now) names.new (symbols_data before.now ++ symbol_data y ∷ [])) }
 {
     let Some(found) = symbol_of(bytes) else {
-        return Err(ReadError::Fault(ObjectFault::BadField));
+        return Err(Failure::Fault(ObjectFault::BadField));
     };
     if !is_symbol_name(found.name) {
-        return Err(ReadError::Fault(ObjectFault::BadField));
+        return Err(Failure::Fault(ObjectFault::BadField));
     }
     let name = text_of(found.name);
     let symbol = Symbol {
@@ -100,17 +101,17 @@ pub(crate) fn symbol_after<'a>(
         name: String::from_str(alloc, name)?,
     };
     if !symbol_stands(sections, &symbol) {
-        return Err(ReadError::Fault(ObjectFault::BadField));
+        return Err(Failure::Fault(ObjectFault::BadField));
     }
     if !takes_name(before, names, name)? {
-        return Err(ReadError::Fault(ObjectFault::BadField));
+        return Err(Failure::Fault(ObjectFault::BadField));
     }
     Ok(symbol)
 }
 
 #[tactic(auto, unfolding(c25_meaning::specs::RecordReading::words_in))]
-fn words_in(alloc: Global, bytes: &[u8]) -> Result<Vec<u16>, ReadError>
-    ensures { Gives (λ words. words.items) result (reading.required (reading.words_in bytes.now)) }
+fn words_in(alloc: Global, bytes: &[u8]) -> Result<Vec<u16>, Failure<ObjectFault>>
+    ensures { Meets (λ words. words.items) (reading.required (reading.words_in bytes.now)) result }
 {
     let mut words = Vec::new(alloc);
     let mut rest = bytes;
@@ -119,16 +120,16 @@ fn words_in(alloc: Global, bytes: &[u8]) -> Result<Vec<u16>, ReadError>
         rest = after;
     }
     if !rest.is_empty() {
-        return Err(ReadError::Fault(ObjectFault::BadField));
+        return Err(Failure::Fault(ObjectFault::BadField));
     }
     Ok(words)
 }
 
-fn body_of(alloc: Global, flag: u8, bytes: &[u8]) -> Result<Body, ReadError>
-    ensures { Gives body_data result (reading.required (reading.body_of flag bytes.now)) }
+fn body_of(alloc: Global, flag: u8, bytes: &[u8]) -> Result<Body, Failure<ObjectFault>>
+    ensures { Meets body_data (reading.required (reading.body_of flag bytes.now)) result }
 {
     if bytes.len() < 4 {
-        return Err(ReadError::Fault(ObjectFault::BadField));
+        return Err(Failure::Fault(ObjectFault::BadField));
     }
     let size = long_at(bytes, 0);
     match flag {
@@ -136,11 +137,11 @@ fn body_of(alloc: Global, flag: u8, bytes: &[u8]) -> Result<Body, ReadError>
         1 => {
             let words = words_in(alloc, &bytes[4..])?;
             if words.len() != size as usize {
-                return Err(ReadError::Fault(ObjectFault::BadField));
+                return Err(Failure::Fault(ObjectFault::BadField));
             }
             Ok(Body::Initialised(words))
         }
-        _ => Err(ReadError::Fault(ObjectFault::BadField)),
+        _ => Err(Failure::Fault(ObjectFault::BadField)),
     }
 }
 
@@ -150,27 +151,27 @@ pub(crate) fn section_after(
     alloc: Global,
     before: &[Section],
     bytes: &[u8],
-) -> Result<Section, ReadError>
-    ensures { Gives section_data result
-        (reading.checked (spec.section_fits (sections_data before.now)) (reading.section_of bytes.now)) }
+) -> Result<Section, Failure<ObjectFault>>
+    ensures { Meets section_data
+        (reading.checked (spec.section_fits (sections_data before.now)) (reading.section_of bytes.now)) result }
 {
     if bytes.len() < 2 {
-        return Err(ReadError::Fault(ObjectFault::BadField));
+        return Err(Failure::Fault(ObjectFault::BadField));
     }
     let rest = &bytes[2..];
     let len = bytes[1] as usize;
     if rest.len() < len {
-        return Err(ReadError::Fault(ObjectFault::BadField));
+        return Err(Failure::Fault(ObjectFault::BadField));
     }
     let (name, rest) = rest.split_at(len);
     let body = body_of(alloc, bytes[0], rest)?;
     if !is_section_name(name) {
-        return Err(ReadError::Fault(ObjectFault::BadField));
+        return Err(Failure::Fault(ObjectFault::BadField));
     }
     let name = String::from_str(alloc, text_of(name))?;
     let section = Section { name, body };
     if !section_fits(before, &section) {
-        return Err(ReadError::Fault(ObjectFault::BadField));
+        return Err(Failure::Fault(ObjectFault::BadField));
     }
     Ok(section)
 }

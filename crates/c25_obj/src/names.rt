@@ -2,8 +2,9 @@
 
 ghost use Rattle.std.specs.Prelude.{◌≡◌};
 ghost use Rattle.std.specs.List.{list_all};
-ghost use Rattle.c25_meaning.specs.Bytes.{is_letter, begins_name, goes_on_name};
 ghost use Rattle.c25_meaning.specs.Module as spec;
+
+use c25_text::{all_go_on_name, begins_name};
 
 fn is_section_byte(byte: u8) -> bool
     ensures { result ≡ spec.is_section_byte byte }
@@ -17,38 +18,16 @@ fn all_section_bytes(name: &[u8]) -> bool
     name.iter().all(|byte| is_section_byte(*byte))
 }
 
+/// Whether these are 1 to 32 characters of a section's name.
 pub(crate) fn is_section_name(name: &[u8]) -> bool
     ensures { result ≡ spec.is_section_name name.now }
 {
     name.len() >= 1 && name.len() <= 32 && all_section_bytes(name)
 }
 
-fn is_letter(byte: u8) -> bool
-    ensures { result ≡ is_letter byte }
-{
-    (byte >= b'A' && byte <= b'Z') || (byte >= b'a' && byte <= b'z')
-}
-
-fn begins_name(byte: u8) -> bool
-    ensures { result ≡ begins_name byte }
-{
-    is_letter(byte) || byte == b'_'
-}
-
-fn goes_on_name(byte: u8) -> bool
-    ensures { result ≡ goes_on_name byte }
-{
-    is_letter(byte) || (byte >= b'0' && byte <= b'9') || byte == b'_' || byte == b'$'
-}
-
-fn all_go_on(name: &[u8]) -> bool
-    ensures { result ≡ list_all goes_on_name name.now }
-{
-    name.iter().all(|byte| goes_on_name(*byte))
-}
-
+/// Whether these are 1 to 128 characters of a symbol's name.
 pub(crate) fn is_symbol_name(name: &[u8]) -> bool
     ensures { result ≡ spec.is_symbol_name name.now }
 {
-    name.len() >= 1 && name.len() <= 128 && begins_name(name[0]) && all_go_on(name)
+    name.len() >= 1 && name.len() <= 128 && begins_name(name[0]) && all_go_on_name(name)
 }

@@ -3,13 +3,14 @@
 ghost use Rattle.std.specs.Prelude.{◌≡◌};
 ghost use Rattle.c25_meaning.specs.Module as spec;
 ghost use Rattle.c25_meaning.specs.RecordReading as reading;
-ghost use Rattle.c25_obj.specs.View.{Gives, sections_data, symbols_data};
+ghost use Rattle.c25_meaning.specs.Results.{Meets};
+ghost use Rattle.c25_obj.specs.View.{sections_data, symbols_data};
 
 use crate::codes::{base_of, field_of};
-use crate::failure::ReadError;
 use crate::fields::{short_at, signed_at};
 use crate::fits::{mark_fits, relocation_fits};
 use crate::parts::{Section, Symbol};
+use c25_meaning::failure::Failure;
 use c25_meaning::object::{ModuleMark, ObjectFault, Relocation};
 
 #[tactic(auto, unfolding(c25_meaning::specs::RecordReading::mark_of))]
@@ -31,14 +32,14 @@ pub(crate) fn mark_after(
     sections: &[Section],
     before: &[ModuleMark],
     bytes: &[u8],
-) -> Result<ModuleMark, ReadError>
-    ensures { Gives (λ m. m) result (reading.checked (spec.mark_fits (sections_data sections.now) before.now) (reading.mark_of bytes.now)) }
+) -> Result<ModuleMark, Failure<ObjectFault>>
+    ensures { Meets (λ m. m) (reading.checked (spec.mark_fits (sections_data sections.now) before.now) (reading.mark_of bytes.now)) result }
 {
     let Some(mark) = mark_of(bytes) else {
-        return Err(ReadError::Fault(ObjectFault::BadField));
+        return Err(Failure::Fault(ObjectFault::BadField));
     };
     if !mark_fits(sections, before, &mark) {
-        return Err(ReadError::Fault(ObjectFault::BadField));
+        return Err(Failure::Fault(ObjectFault::BadField));
     }
     Ok(mark)
 }
@@ -68,15 +69,15 @@ pub(crate) fn relocation_after(
     symbols: &[Symbol],
     before: &[Relocation],
     bytes: &[u8],
-) -> Result<Relocation, ReadError>
-    ensures { Gives (λ r. r) result
-        (reading.checked (spec.relocation_fits (sections_data sections.now) (symbols_data symbols.now) before.now) (reading.relocation_of bytes.now)) }
+) -> Result<Relocation, Failure<ObjectFault>>
+    ensures { Meets (λ r. r)
+        (reading.checked (spec.relocation_fits (sections_data sections.now) (symbols_data symbols.now) before.now) (reading.relocation_of bytes.now)) result }
 {
     let Some(relocation) = relocation_of(bytes) else {
-        return Err(ReadError::Fault(ObjectFault::BadField));
+        return Err(Failure::Fault(ObjectFault::BadField));
     };
     if !relocation_fits(sections, symbols, before, &relocation) {
-        return Err(ReadError::Fault(ObjectFault::BadField));
+        return Err(Failure::Fault(ObjectFault::BadField));
     }
     Ok(relocation)
 }

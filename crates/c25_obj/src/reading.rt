@@ -5,15 +5,16 @@ ghost use Rattle.c25_meaning.specs.Module.{Contents, IsSized, is_module};
 ghost use Rattle.c25_meaning.specs.Records.{spelling};
 ghost use Rattle.c25_meaning.specs.RecordReading as reading;
 ghost use Rattle.c25_obj.specs.Differing.{HasNames};
-ghost use Rattle.c25_obj.specs.View.{Gives, contents, symbols_data};
+ghost use Rattle.c25_meaning.specs.Results.{Meets};
+ghost use Rattle.c25_obj.specs.View.{contents, symbols_data};
 
-use crate::failure::ReadError;
 use crate::fields::long_at;
 use crate::made::Module;
 use crate::making::module;
 use crate::named_payloads::{section_after, symbol_after};
 use crate::parts::Parts;
 use crate::payloads::{mark_after, relocation_after};
+use c25_meaning::failure::Failure;
 use c25_meaning::object::ObjectFault;
 use std::alloc::Global;
 use std::collections::BTreeSet;
@@ -27,16 +28,16 @@ struct Record<'a> {
 }
 
 #[tactic(auto, unfolding(c25_meaning::specs::RecordReading::record_at))]
-fn record_at(bytes: &[u8]) -> Result<Record<'_>, ReadError>
-    ensures { Gives (λ x. (record { tag = x.tag; payload = x.payload.now }, x.rest.now)) result (reading.record_at bytes.now) }
+fn record_at(bytes: &[u8]) -> Result<Record<'_>, Failure<ObjectFault>>
+    ensures { Meets (λ x. (record { tag = x.tag; payload = x.payload.now }, x.rest.now)) (reading.record_at bytes.now) result }
 {
     if bytes.len() < 5 {
-        return Err(ReadError::Fault(ObjectFault::Short));
+        return Err(Failure::Fault(ObjectFault::Short));
     }
     let length = long_at(bytes, 1) as usize;
     let rest = &bytes[5..];
     if rest.len() < length {
-        return Err(ReadError::Fault(ObjectFault::Short));
+        return Err(Failure::Fault(ObjectFault::Short));
     }
     let (payload, rest) = rest.split_at(length);
     Ok(Record {
@@ -74,8 +75,8 @@ struct Reader<'a> {
 }
 
 #[tactic(auto, unfolding(c25_meaning::specs::RecordReading::with_section))]
-fn add_section(alloc: Global, parts: &mut Parts, payload: &[u8]) -> Result<(), ReadError>
-    ensures given { Gives (λ _. contents parts.new) result (reading.with_section (contents parts.old) payload.now) }
+fn add_section(alloc: Global, parts: &mut Parts, payload: &[u8]) -> Result<(), Failure<ObjectFault>>
+    ensures given { Meets (λ _. contents parts.new) (reading.with_section (contents parts.old) payload.now) result }
     ensures symbols { parts.new.symbols ≡ parts.old.symbols }
 {
     let section = section_after(alloc, &parts.sections, payload)?;
@@ -84,8 +85,8 @@ fn add_section(alloc: Global, parts: &mut Parts, payload: &[u8]) -> Result<(), R
 }
 
 #[tactic(auto, unfolding(c25_meaning::specs::RecordReading::with_mark))]
-fn add_mark(parts: &mut Parts, payload: &[u8]) -> Result<(), ReadError>
-    ensures given { Gives (λ _. contents parts.new) result (reading.with_mark (contents parts.old) payload.now) }
+fn add_mark(parts: &mut Parts, payload: &[u8]) -> Result<(), Failure<ObjectFault>>
+    ensures given { Meets (λ _. contents parts.new) (reading.with_mark (contents parts.old) payload.now) result }
     ensures symbols { parts.new.symbols ≡ parts.old.symbols }
 {
     let mark = mark_after(&parts.sections, &parts.marks, payload)?;
@@ -98,9 +99,9 @@ fn add_symbol<'a>(
     alloc: Global,
     reader: &mut Reader<'a>,
     payload: &'a [u8],
-) -> Result<(), ReadError>
+) -> Result<(), Failure<ObjectFault>>
     requires { HasNames (λ k. k.now) reader.old.names (symbols_data reader.old.parts.symbols.items) }
-    ensures given { Gives (λ _. contents reader.new.parts) result (reading.with_symbol (contents reader.old.parts) payload.now) }
+    ensures given { Meets (λ _. contents reader.new.parts) (reading.with_symbol (contents reader.old.parts) payload.now) result }
     ensures named { OnOk result (HasNames (λ k. k.now) reader.new.names (symbols_data reader.new.parts.symbols.items)) }
 {
     let parts = &mut reader.parts;
@@ -116,8 +117,8 @@ fn add_symbol<'a>(
 }
 
 #[tactic(auto, unfolding(c25_meaning::specs::RecordReading::with_relocation))]
-fn add_relocation(parts: &mut Parts, payload: &[u8]) -> Result<(), ReadError>
-    ensures given { Gives (λ _. contents parts.new) result (reading.with_relocation (contents parts.old) payload.now) }
+fn add_relocation(parts: &mut Parts, payload: &[u8]) -> Result<(), Failure<ObjectFault>>
+    ensures given { Meets (λ _. contents parts.new) (reading.with_relocation (contents parts.old) payload.now) result }
     ensures symbols { parts.new.symbols ≡ parts.old.symbols }
 {
     let relocation = relocation_after(
@@ -136,40 +137,41 @@ fn add_record<'a>(
     reader: &mut Reader<'a>,
     tag: u8,
     payload: &'a [u8],
-) -> Result<(), ReadError>
+) -> Result<(), Failure<ObjectFault>>
     requires { HasNames (λ k. k.now) reader.old.names (symbols_data reader.old.parts.symbols.items) }
-    ensures given { Gives (λ _. contents reader.new.parts) result (reading.with_record (contents reader.old.parts) tag payload.now) }
+    ensures given { Meets (λ _. contents reader.new.parts) (reading.with_record (contents reader.old.parts) tag payload.now) result }
     ensures named { OnOk result (HasNames (λ k. k.now) reader.new.names (symbols_data reader.new.parts.symbols.items)) }
 {
     if tag == 1 {
         return add_section(alloc, &mut reader.parts, payload);
     }
     if reader.parts.sections.is_empty() {
-        return Err(ReadError::Fault(ObjectFault::BadField));
+        return Err(Failure::Fault(ObjectFault::BadField));
     }
     match tag {
         2 => add_mark(&mut reader.parts, payload),
         3 => add_symbol(alloc, reader, payload),
-        _ => add_relocation(&mut reader.parts, payload),
+        4 => add_relocation(&mut reader.parts, payload),
+        _ => Err(Failure::Fault(ObjectFault::BadTag)),
     }
 }
 
 #[tactic(auto, unfolding(c25_meaning::specs::RecordReading::ended))]
-fn ended(parts: Parts, payload: &[u8], rest: &[u8]) -> Result<Parts, ReadError>
-    ensures { Gives contents result (reading.ended (contents parts) payload.now rest.now) }
+fn ended(parts: Parts, payload: &[u8], rest: &[u8]) -> Result<Parts, Failure<ObjectFault>>
+    ensures { Meets contents (reading.ended (contents parts) payload.now rest.now) result }
 {
     if parts.sections.is_empty() || !payload.is_empty() {
-        return Err(ReadError::Fault(ObjectFault::BadField));
+        return Err(Failure::Fault(ObjectFault::BadField));
     }
     if !rest.is_empty() {
-        return Err(ReadError::Fault(ObjectFault::Trailing));
+        return Err(Failure::Fault(ObjectFault::Trailing));
     }
     Ok(parts)
 }
 
 #[tactic(auto, unfolding(c25_meaning::specs::RecordReading::read_from))]
-fn read_all(alloc: Global, bytes: &[u8]) -> Result<Parts, ReadError>
-    ensures { Gives contents result (reading.read_all bytes.now) }
+fn read_all(alloc: Global, bytes: &[u8]) -> Result<Parts, Failure<ObjectFault>>
+    ensures { Meets contents (reading.read_all bytes.now) result }
 {
     let mut reader = Reader {
         parts: Parts {
@@ -184,7 +186,7 @@ fn read_all(alloc: Global, bytes: &[u8]) -> Result<Parts, ReadError>
     for _ in 0..bytes.len() {
         let record = record_at(rest)?;
         if !is_in_order(&reader.parts, record.tag) {
-            return Err(ReadError::Fault(ObjectFault::BadTag));
+            return Err(Failure::Fault(ObjectFault::BadTag));
         }
         if record.tag == 255 {
             return ended(reader.parts, record.payload, record.rest);
@@ -192,12 +194,12 @@ fn read_all(alloc: Global, bytes: &[u8]) -> Result<Parts, ReadError>
         add_record(alloc, &mut reader, record.tag, record.payload)?;
         rest = record.rest;
     }
-    Err(ReadError::Fault(ObjectFault::Short))
+    Err(Failure::Fault(ObjectFault::Short))
 }
 
 #[tactic(auto, unfolding(c25_meaning::specs::RecordReading::module_of))]
-fn parts_of(alloc: Global, bytes: &[u8]) -> Result<Parts, ReadError>
-    ensures { Gives contents result (reading.module_of bytes.now) }
+fn parts_of(alloc: Global, bytes: &[u8]) -> Result<Parts, Failure<ObjectFault>>
+    ensures { Meets contents (reading.module_of bytes.now) result }
 {
     if bytes.len() < 4
         || bytes[0] != b'C'
@@ -205,16 +207,16 @@ fn parts_of(alloc: Global, bytes: &[u8]) -> Result<Parts, ReadError>
         || bytes[2] != b'5'
         || bytes[3] != b'O'
     {
-        return Err(ReadError::Fault(ObjectFault::BadMagic));
+        return Err(Failure::Fault(ObjectFault::BadMagic));
     }
     if bytes.len() < 5 || bytes[4] != 1 {
-        return Err(ReadError::Fault(ObjectFault::BadVersion));
+        return Err(Failure::Fault(ObjectFault::BadVersion));
     }
     read_all(alloc, &bytes[5..])
 }
 
-fn made(alloc: Global, bytes: &[u8]) -> Result<Module, ReadError>
-    ensures { Gives (λ m. contents m.parts) result (reading.module_of bytes.now) }
+fn made(alloc: Global, bytes: &[u8]) -> Result<Module, Failure<ObjectFault>>
+    ensures { Meets (λ m. m) (reading.module_of bytes.now) result }
 {
     Ok(module(parts_of(alloc, bytes)?))
 }
@@ -224,15 +226,15 @@ fn made(alloc: Global, bytes: &[u8]) -> Result<Module, ReadError>
 /// that its tag is unknown or out of order, then that it has not the form of its tag or may not
 /// stand behind the records before it; and bytes after the last record. It refuses for want of
 /// memory too, and takes time near linear in the number of bytes.
-pub fn read_module(alloc: Global, bytes: &[u8]) -> Result<Module, ReadError>
+pub fn read_module(alloc: Global, bytes: &[u8]) -> Result<Module, Failure<ObjectFault>>
     // What is read is spelled so.
-    ensures found { IfOk result (λ m. bytes.now ≡ spelling (contents m.parts)) }
+    ensures found { IfOk result (λ m. bytes.now ≡ spelling m) }
 
     // What is spelled so is read, unless memory runs out.
-    ensures only { (c : Contents) → IsSized c → is_module c ≡ true → bytes.now ≡ spelling c → Gives (λ m. contents m.parts) result (Ok c) }
+    ensures only { (c : Contents) → IsSized c → is_module c ≡ true → bytes.now ≡ spelling c → Meets (λ m. m) (Ok c) result }
 
     // Which fault it is.
-    ensures exact { Gives (λ m. contents m.parts) result (reading.module_of bytes.now) }
+    ensures exact { Meets (λ m. m) (reading.module_of bytes.now) result }
 {
     made(alloc, bytes)
 }

@@ -3,9 +3,9 @@ mod cases;
 ghost use Rattle.std.specs.Prelude.{◌<◌};
 
 use super::*;
-use c25_meaning::object::{
-    FieldKind, ModuleMark, ObjectFault, Relocation, RelocationBase, Scope, SymbolKind,
-};
+use c25_meaning::failure::Failure;
+use c25_meaning::object::{ModuleMark, ObjectFault, Relocation, RelocationBase, Scope, SymbolKind};
+use c25_meaning::relocation::RelocationKind;
 use std::alloc::{AllocError, Global};
 use std::test::*;
 
@@ -17,7 +17,7 @@ const EMPTY: [u8; 26] = [
 
 fn fault_of(rt: &HostRuntime, bytes: &[u8]) -> Option<ObjectFault> {
     match read_module(rt.alloc(), bytes) {
-        Err(ReadError::Fault(fault)) => Some(fault),
+        Err(Failure::Fault(fault)) => Some(fault),
         _ => None,
     }
 }
@@ -92,11 +92,11 @@ fn a_byte_more_than_an_empty_module_is_refused(rt: HostRuntime) -> Result<(), Fa
 }
 
 /// The number of an answer, as the table of altered objects has it.
-fn number_of(read: &Result<Module, ReadError>) -> &'static str {
+fn number_of(read: &Result<Module, Failure<ObjectFault>>) -> &'static str {
     match read {
         Ok(_) => "ok",
-        Err(ReadError::NoMemory) => "9",
-        Err(ReadError::Fault(fault)) => match fault {
+        Err(Failure::NoMemory(_)) => "9",
+        Err(Failure::Fault(fault)) => match fault {
             ObjectFault::BadMagic => "40",
             ObjectFault::BadVersion => "41",
             ObjectFault::Short => "42",
@@ -150,7 +150,7 @@ fn symbol(
     })
 }
 
-fn relocation(offset: u16, kind: FieldKind, base: RelocationBase, addend: i32) -> Relocation {
+fn relocation(offset: u16, kind: RelocationKind, base: RelocationBase, addend: i32) -> Relocation {
     Relocation {
         section: 0,
         offset,
@@ -186,9 +186,9 @@ fn every_kind(alloc: Global) -> Result<Parts, AllocError> {
         marks: vec![in alloc; mark(0, 2), mark(2, 1), mark(3, 1)]?,
         symbols: vec![in alloc; room, go, x, far]?,
         relocations: vec![in alloc;
-            relocation(1, FieldKind::Word16, RelocationBase::External(3), -1),
-            relocation(2, FieldKind::Page9, RelocationBase::Section(1), 7),
-            relocation(3, FieldKind::Low7, RelocationBase::Section(1), 8),
+            relocation(1, RelocationKind::Word16, RelocationBase::External(3), -1),
+            relocation(2, RelocationKind::Page9, RelocationBase::Section(1), 7),
+            relocation(3, RelocationKind::Low7, RelocationBase::Section(1), 8),
         ]?,
     })
 }
@@ -214,7 +214,7 @@ fn every_kind_of_record_goes_both_ways(rt: HostRuntime) -> Result<(), Fail> {
     assert_eq!(rt; parts.relocations.len(), 3);
     assert_eq!(rt;
         parts.relocations[0],
-        relocation(1, FieldKind::Word16, RelocationBase::External(3), -1)
+        relocation(1, RelocationKind::Word16, RelocationBase::External(3), -1)
     );
     Ok(())
 }
@@ -233,11 +233,7 @@ fn lists_of_no_module_spell_nothing(rt: HostRuntime) -> Result<(), Fail> {
 
 #[test]
 fn refusals_print_their_names(rt: HostRuntime) -> Result<(), Fail> {
-    let text = format!(in rt.alloc();
-        "{} {}",
-        ReadError::Fault(ObjectFault::BadField),
-        ReadError::NoMemory
-    )?;
-    assert_eq!(rt; text.as_str(), "BadField NoMemory");
+    let text = format!(in rt.alloc(); "{}", Failure::Fault(ObjectFault::BadField))?;
+    assert_eq!(rt; text.as_str(), "BadField");
     Ok(())
 }

@@ -5,13 +5,14 @@ ghost use Rattle.std.specs.List.{flat_map};
 ghost use Rattle.std.specs.Int.{w16, w32, to_be_bytes};
 ghost use Rattle.c25_meaning.specs.Module.{body_size, each_fits, section_fits};
 ghost use Rattle.c25_meaning.specs.Records as bytes;
-ghost use Rattle.c25_obj.specs.View.{body_data, section_data, symbol_data, sections_data, symbols_data, contents};
+ghost use Rattle.c25_obj.specs.View.{body_data, section_data, symbol_data, sections_data, symbols_data};
 
 use crate::codes::{base_code, base_index, field_code, kind_code, kind_section, scope_code};
 use crate::made::Module;
 use crate::parts::{Body, Section, Symbol};
 use c25_meaning::no_memory::NoMemory;
-use c25_meaning::object::{FieldKind, ModuleMark, Relocation, RelocationBase};
+use c25_meaning::object::{ModuleMark, Relocation, RelocationBase};
+use c25_meaning::relocation::RelocationKind;
 use std::alloc::Global;
 
 /// What stands before a payload: its tag and its length.
@@ -130,7 +131,7 @@ fn put_symbol(out: &mut Vec<u8>, symbol: &Symbol) -> Result<(), NoMemory>
 
 fn put_kind_and_base(
     out: &mut Vec<u8>,
-    kind: FieldKind,
+    kind: RelocationKind,
     base: RelocationBase,
 ) -> Result<(), NoMemory>
     ensures { OnOk result (out.new.items ≡ out.old.items ++ (bytes.field_code kind ∷ (bytes.base_code base ∷ to_be_bytes w16 (bytes.base_index base)))) }
@@ -197,7 +198,7 @@ fn put_relocations(out: &mut Vec<u8>, relocations: &[Relocation]) -> Result<(), 
 
 /// The bytes of the module: its one spelling. It refuses for want of memory alone.
 pub fn write_module(alloc: Global, object: &Module) -> Result<Vec<u8>, NoMemory>
-    ensures { IfOk result (λ v. v.items ≡ bytes.spelling (contents object.now.parts)) }
+    ensures { IfOk result (λ v. v.items ≡ bytes.spelling object.now) }
 {
     let parts = object.parts();
     let mut out = Vec::new(alloc);

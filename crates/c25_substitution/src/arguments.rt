@@ -7,8 +7,9 @@ ghost use Rattle.c25_meaning.specs.Arguments.{argument_len, arguments, assigned_
 use crate::parameters::Arguments;
 use crate::quoting::{last_comma_len, outer_len};
 use crate::strings::unquoted;
+use c25_meaning::no_memory::NoMemory;
 use c25_text::{past_blanks, past_field};
-use std::alloc::{AllocError, Global};
+use std::alloc::Global;
 
 /// The operands of a line: what stands behind its first word, up to the comment.
 fn operand_text(line: &str) -> &str
@@ -40,7 +41,7 @@ fn split_argument(text: &str, is_last: bool) -> (&str, &str)
 }
 
 /// The arguments of the line that calls a macro of these parameters, with its names replaced.
-pub fn arguments(alloc: Global, parameters: &[String], line: &str) -> Result<Arguments, AllocError>
+pub fn arguments(alloc: Global, parameters: &[String], line: &str) -> Result<Arguments, NoMemory>
     ensures { IfOk result (λ found. found ≡ arguments (map (λ p. string_bytes p) parameters.now) line.now) }
 {
     let mut found = Arguments::new(alloc);
@@ -57,7 +58,7 @@ pub fn arguments(alloc: Global, parameters: &[String], line: &str) -> Result<Arg
 }
 
 /// The text of a line `.asg text,name`.
-pub fn assigned_text(alloc: Global, line: &str) -> Result<String, AllocError>
+pub fn assigned_text(alloc: Global, line: &str) -> Result<String, NoMemory>
     ensures { IfOk result (λ out. string_bytes out ≡ assigned_text line.now) }
 {
     let operands = operand_text(line);

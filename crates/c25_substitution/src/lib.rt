@@ -3,13 +3,11 @@
 #![tactic(auto)]
 
 pub mod arguments;
-pub mod output;
+mod fragments;
+mod output;
 pub mod parameters;
-mod pieces;
 mod quoting;
 pub mod strings;
 pub mod substitution;
-#[cfg(test)]
-mod tests;
 pub mod texts;
 pub mod visible;

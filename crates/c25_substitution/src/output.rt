@@ -1,45 +1,14 @@
 //! What is written for a line.
 
-ghost use Rattle.std.specs.Prelude.{◌≡◌, ◌≢◌, ◌++◌, ◌∷◌, [], IfOk};
+ghost use Rattle.std.specs.Prelude.{◌≡◌, ◌++◌, ◌∷◌, []};
 ghost use Rattle.std.specs.Fmt.{decimal};
 ghost use Rattle.std.specs.String.{string_bytes};
-ghost use Rattle.c25_meaning.specs.Substitution.{Written, as_is, joined};
+ghost use Rattle.c25_meaning.specs.Substitution.{as_is};
 ghost use Rattle.c25_substitution.specs.View.{written_so_far, IsWithin, Writes};
 
-use c25_meaning::no_memory::NoMemory;
-use std::alloc::{AllocError, AllocFailed, Global};
-use thiserror::Error;
-
-/// Why nothing more is written.
-#[derive(Clone, Copy, PartialEq, Eq, Debug, Error)]
-pub enum WriteError {
-    /// A growth was refused (9).
-    #[error("NoMemory")]
-    NoMemory(NoMemory),
-    /// The line would have more than 1,024 bytes, or take more than 1,024 replacements (38).
-    #[error("LongLine")]
-    LongLine,
-}
-
-impl From<AllocError> for WriteError {
-    ghost use Rattle.c25_substitution.specs.declared.output.WriteError.TheVariants.{LongLine};
-
-    ghost from_gives = { λ _ e. e ≢ LongLine };
-
-    fn from(_error: AllocError) -> Self {
-        WriteError::NoMemory(NoMemory)
-    }
-}
-
-impl<T: Drop> From<AllocFailed<T>> for WriteError {
-    ghost use Rattle.c25_substitution.specs.declared.output.WriteError.TheVariants.{LongLine};
-
-    ghost from_gives = { λ _ e. e ≢ LongLine };
-
-    fn from(_error: AllocFailed<T>) -> Self {
-        WriteError::NoMemory(NoMemory)
-    }
-}
+use c25_meaning::expansion::LongLine;
+use c25_meaning::failure::Failure;
+use std::alloc::Global;
 
 /// The bytes that a line has at most, and the replacements.
 const LIMIT: usize = 1024;
@@ -65,19 +34,19 @@ impl Output {
     }
 
     /// Writes a text as it is.
-    pub(crate) fn push(&mut self, text: &str) -> Result<(), WriteError>
+    pub(crate) fn push(&mut self, text: &str) -> Result<(), Failure<LongLine>>
         requires { IsWithin (written_so_far self.old) }
         ensures { Writes (written_so_far self.old) (as_is text.now) result (written_so_far self.new) }
     {
         if text.len() > LIMIT - self.text.len() {
-            return Err(WriteError::LongLine);
+            return Err(Failure::Fault(LongLine));
         }
         self.text.push_str(text)?;
         Ok(())
     }
 
     /// Writes a name, `_` and a number.
-    pub(crate) fn push_numbered(&mut self, name: &str, number: u32) -> Result<(), WriteError>
+    pub(crate) fn push_numbered(&mut self, name: &str, number: u32) -> Result<(), Failure<LongLine>>
         requires { IsWithin (written_so_far self.old) }
         ensures { Writes (written_so_far self.old) (as_is (name.now ++ 95 ∷ decimal number)) result (written_so_far self.new) }
     {
@@ -87,12 +56,12 @@ impl Output {
     }
 
     /// Counts a replacement.
-    pub(crate) fn count(&mut self) -> Result<(), WriteError>
+    pub(crate) fn count(&mut self) -> Result<(), Failure<LongLine>>
         requires { IsWithin (written_so_far self.old) }
         ensures { Writes (written_so_far self.old) (record { text = []; replacements = 1 }) result (written_so_far self.new) }
     {
         if self.replacements == LIMIT {
-            return Err(WriteError::LongLine);
+            return Err(Failure::Fault(LongLine));
         }
         self.replacements += 1;
         Ok(())

@@ -8,7 +8,8 @@ ghost use Rattle.std.specs.String.{string_bytes};
 ghost use Rattle.c25_meaning.specs.Texts.{with_name};
 ghost use Rattle.c25_substitution.specs.Pairs.{IsPlaceOf, pairs};
 
-use std::alloc::{AllocError, Global};
+use c25_meaning::no_memory::NoMemory;
+use std::alloc::Global;
 use std::marker::Model;
 
 /// The parameters of a macro with the texts that they stand for in an expansion, in the order of the
@@ -38,7 +39,7 @@ impl Arguments {
     }
 
     /// One parameter more.
-    pub(crate) fn push(&mut self, name: String, text: String) -> Result<(), AllocError>
+    pub(crate) fn push(&mut self, name: String, text: String) -> Result<(), NoMemory>
         ensures ok { OnOk result (self.new ≡ self.old ++ (string_bytes name, string_bytes text) ∷ []) }
         ensures err { OnErr result (self.new ≡ self.old) }
     {

@@ -2,7 +2,7 @@
 
 ghost use Rattle.std.specs.Prelude.{◌≡◌, ◌<◌, ◌≤◌, length, slice_index};
 ghost use Rattle.c25_meaning.specs.Quoting.{behind, is_outer, outer_len, last_comma_len};
-ghost use Rattle.c25_meaning.specs.Pieces.{inside};
+ghost use Rattle.c25_meaning.specs.Fragments.{inside};
 ghost use Rattle.c25_meaning.specs.declared.quoting.Quoting.TheVariants.{Outside};
 
 use c25_meaning::quoting::Quoting;

@@ -6,8 +6,9 @@ ghost use Rattle.std.specs.String.{string_bytes};
 ghost use Rattle.c25_meaning.specs.Arguments.{before_quote, folded, is_one_string, past_quote, string_text, trimmed, trimmed_end, trimmed_start, unquoted};
 ghost use Rattle.c25_meaning.specs.Bytes.{is_blank};
 
+use c25_meaning::no_memory::NoMemory;
 use c25_text::{byte_at, is_blank, past_blanks, quoted_len};
-use std::alloc::{AllocError, Global};
+use std::alloc::Global;
 
 fn trimmed_start(text: &str) -> &str
     ensures { result.now ≡ trimmed_start text.now }
@@ -78,7 +79,7 @@ fn is_second(again: bool, b: u8) -> bool
 }
 
 /// A text in which two quotes are one.
-fn folded(alloc: Global, text: &str) -> Result<String, AllocError>
+fn folded(alloc: Global, text: &str) -> Result<String, NoMemory>
     ensures { IfOk result (λ out. string_bytes out ≡ folded false text.now) }
 {
     let mut out = String::new(alloc);
@@ -98,7 +99,7 @@ fn folded(alloc: Global, text: &str) -> Result<String, AllocError>
 }
 
 /// What a string token says.
-pub fn string_text(alloc: Global, token: &str) -> Result<String, AllocError>
+pub fn string_text(alloc: Global, token: &str) -> Result<String, NoMemory>
     ensures { IfOk result (λ out. string_bytes out ≡ string_text token.now) }
 {
     folded(alloc, before_quote(past_quote(token)))
@@ -106,13 +107,13 @@ pub fn string_text(alloc: Global, token: &str) -> Result<String, AllocError>
 
 /// An argument of a macro, or the text of `.asg`: trimmed, and if it is exactly one string, what that
 /// says.
-pub(crate) fn unquoted(alloc: Global, text: &str) -> Result<String, AllocError>
+pub(crate) fn unquoted(alloc: Global, text: &str) -> Result<String, NoMemory>
     ensures { IfOk result (λ out. string_bytes out ≡ unquoted text.now) }
 {
     let text = trimmed(text);
     if is_one_string(text.as_bytes()) {
         string_text(alloc, text)
     } else {
-        String::from_str(alloc, text)
+        Ok(String::from_str(alloc, text)?)
     }
 }

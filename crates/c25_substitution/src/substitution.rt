@@ -1,13 +1,17 @@
 //! Names replaced by their texts in a line.
 
 ghost use Rattle.std.specs.Prelude.{◌≡◌, ◌-◌, ◌≤◌, ◌++◌, ◌∷◌, [], OnOk, length, map};
-ghost use Rattle.c25_meaning.specs.Substitution.{line_quoting, rewritten, substituted, substituted_before_comma, unsubstituted, written, written_by};
-ghost use Rattle.c25_substitution.specs.View.{names_of, piece_of, written_so_far, IsAll, IsLine, IsWithin, Writes};
+ghost use Rattle.std.specs.String.{string_bytes};
+ghost use Rattle.c25_meaning.specs.Results.{Meets};
+ghost use Rattle.c25_meaning.specs.Substitution.{line_quoting, rewritten, substituted, substituted_before_comma, unsubstituted, drafted, drafted_by};
+ghost use Rattle.c25_substitution.specs.View.{names_of, fragment_of, written_so_far, IsAll, IsWithin, Writes};
 
-use crate::output::{Output, WriteError};
-use crate::pieces::{Piece, first_piece};
+use crate::fragments::{Fragment, first_fragment};
+use crate::output::Output;
 use crate::quoting::{behind, last_comma_len};
 use crate::visible::Visible;
+use c25_meaning::expansion::LongLine;
+use c25_meaning::failure::Failure;
 use c25_meaning::quoting::Quoting;
 use c25_text::byte_at;
 use std::alloc::Global;
@@ -22,45 +26,45 @@ fn write<'a>(
     mut quoting: Quoting,
     text: &'a str,
     out: &mut Output,
-) -> Result<(), WriteError>
+) -> Result<(), Failure<LongLine>>
     requires within { IsWithin (written_so_far out.old) }
     requires deep { length aside.old.items ≤ out.old.replacements }
     ensures aside { OnOk result (aside.new.items ≡ aside.old.items) }
     ensures out { Writes (written_so_far out.old)
-        (written (1025 - length aside.old.items) (names_of names.now) number (map (λ s. s.now) aside.old.items) quoting text.now)
+        (drafted (1025 - length aside.old.items) (names_of names.now) number (map (λ s. s.now) aside.old.items) quoting text.now)
         result (written_so_far out.new) }
 {
     let mut rest = text;
     while !rest.is_empty() {
         let first = rest.as_bytes()[0];
-        let (piece, after) = first_piece(names, aside.as_slice(), quoting, rest);
-        write_piece(names, number, aside, piece, out)?;
+        let (fragment, after) = first_fragment(names, aside.as_slice(), quoting, rest);
+        write_fragment(names, number, aside, fragment, out)?;
         quoting = behind(first, quoting);
         rest = after;
     }
     Ok(())
 }
 
-/// Writes what a piece becomes.
+/// Writes what a fragment becomes.
 #[cycle(writing)]
-fn write_piece<'a>(
+fn write_fragment<'a>(
     names: &Visible<'a>,
     number: u32,
     aside: &mut Vec<&'a str>,
-    piece: Piece<'a>,
+    fragment: Fragment<'a>,
     out: &mut Output,
-) -> Result<(), WriteError>
+) -> Result<(), Failure<LongLine>>
     requires within { IsWithin (written_so_far out.old) }
     requires deep { length aside.old.items ≤ out.old.replacements }
     ensures aside { OnOk result (aside.new.items ≡ aside.old.items) }
     ensures out { Writes (written_so_far out.old)
-        (written_by (λ name inner begins. written (1024 - length aside.old.items) (names_of names.now) number (map (λ s. s.now) aside.old.items ++ name ∷ []) begins inner) number (piece_of piece.entry))
+        (drafted_by (λ name inner begins. drafted (1024 - length aside.old.items) (names_of names.now) number (map (λ s. s.now) aside.old.items ++ name ∷ []) begins inner) number (fragment_of fragment.entry))
         result (written_so_far out.new) }
 {
-    match piece {
-        Piece::Kept(kept) => out.push(kept),
-        Piece::Numbered(name) => out.push_numbered(name, number),
-        Piece::Replaced(name, inner, begins) => {
+    match fragment {
+        Fragment::Kept(kept) => out.push(kept),
+        Fragment::Numbered(name) => out.push_numbered(name, number),
+        Fragment::Replaced(name, inner, begins) => {
             out.count()?;
             aside.push(name)?;
             write(names, number, aside, begins, inner, out)?;
@@ -77,7 +81,7 @@ fn rewrite<'a>(
     number: u32,
     quoting: Quoting,
     text: &'a str,
-) -> Result<Output, WriteError>
+) -> Result<Output, Failure<LongLine>>
     ensures { IsAll (rewritten (names_of names.now) number quoting text.now) result }
 {
     let mut out = Output::new(alloc);
@@ -97,15 +101,15 @@ fn line_quoting(line: &str) -> Quoting
 }
 
 /// A line with its names replaced. The number is that of the innermost expansion, 0 outside of all. A
-/// comment line is left as it is. `LongLine` where it gets more than 1,024 bytes, its comment among
+/// comment line is left as it is. It is a fault where it gets more than 1,024 bytes, its comment among
 /// them, or takes more than 1,024 replacements.
 pub fn substitute<'a>(
     alloc: Global,
     names: &Visible<'a>,
     number: u32,
     line: &'a str,
-) -> Result<String, WriteError>
-    ensures { IsLine (substituted (names_of names.now) number line.now) result }
+) -> Result<String, Failure<LongLine>>
+    ensures { Meets string_bytes (substituted (names_of names.now) number line.now) result }
 {
     let out = rewrite(alloc, names, number, line_quoting(line), line)?;
     Ok(out.into_text())
@@ -118,8 +122,8 @@ pub fn substitute_before_comma<'a>(
     names: &Visible<'a>,
     number: u32,
     line: &'a str,
-) -> Result<String, WriteError>
-    ensures { IsLine (substituted_before_comma (names_of names.now) number line.now) result }
+) -> Result<String, Failure<LongLine>>
+    ensures { Meets string_bytes (substituted_before_comma (names_of names.now) number line.now) result }
 {
     let (front, behind) = line.split_at(last_comma_len(line.as_bytes()));
     let mut out = rewrite(alloc, names, number, Quoting::Outside, front)?;
@@ -128,8 +132,8 @@ pub fn substitute_before_comma<'a>(
 }
 
 /// The same for a line of `.macro`, in which nothing is replaced.
-pub fn unsubstituted(alloc: Global, line: &str) -> Result<String, WriteError>
-    ensures { IsLine (unsubstituted line.now) result }
+pub fn unsubstituted(alloc: Global, line: &str) -> Result<String, Failure<LongLine>>
+    ensures { Meets string_bytes (unsubstituted line.now) result }
 {
     let mut out = Output::new(alloc);
     out.push(line)?;

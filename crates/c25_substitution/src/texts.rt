@@ -7,8 +7,9 @@ ghost use Rattle.std.specs.Str.{bytes_eq};
 ghost use Rattle.std.specs.String.{string_bytes};
 ghost use Rattle.c25_meaning.specs.Texts.{with_name};
 
+use c25_meaning::no_memory::NoMemory;
 use indexmap::IndexMap;
-use std::alloc::{AllocError, Global};
+use std::alloc::Global;
 use std::marker::Model;
 
 /// Names and the texts that they stand for, in order of first sight.
@@ -49,7 +50,7 @@ impl Texts {
     }
 
     /// From now on a name stands for this text. A new name comes last.
-    pub fn put(&mut self, name: &str, text: String) -> Result<(), AllocError>
+    pub fn put(&mut self, name: &str, text: String) -> Result<(), NoMemory>
         ensures ok { OnOk result (self.new ≡ with_name self.old name.now (string_bytes text)) }
         ensures err { OnErr result (self.new ≡ self.old) }
     {

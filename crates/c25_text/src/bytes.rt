@@ -1,7 +1,7 @@
-//! The kinds of byte that lines are made of.
+//! The kinds of byte that texts are made of.
 
-ghost use Rattle.std.specs.Prelude.{◌≡◌};
-ghost use Rattle.c25_meaning.specs.Bytes.{is_blank, is_digit, is_letter, is_letter_or_digit, begins_name, goes_on_name, is_plain, is_field};
+ghost use Rattle.std.specs.Prelude.{◌≡◌, ◌≢◌, ◌<◌, length, slice_index};
+ghost use Rattle.c25_meaning.specs.Bytes.{is_blank, is_space, is_digit, is_letter, is_letter_or_digit, begins_name, goes_on_name, is_plain, is_field};
 ghost use Rattle.c25_meaning.specs.Bytes.{is_visible};
 
 /// Whether a byte is a blank or a tab.
@@ -11,6 +11,13 @@ pub fn is_blank(b: u8) -> bool
     b == b' ' || b == b'\t'
 }
 
+/// Whether a byte is a blank, a tab, or a character of a line's end, LF or CR.
+pub fn is_space(b: u8) -> bool
+    ensures { result ≡ is_space b }
+{
+    is_blank(b) || b == b'\n' || b == b'\r'
+}
+
 /// Whether a byte is one of `0` to `9`.
 pub fn is_digit(b: u8) -> bool
     ensures { result ≡ is_digit b }
@@ -18,7 +25,8 @@ pub fn is_digit(b: u8) -> bool
     b >= b'0' && b <= b'9'
 }
 
-fn is_letter(b: u8) -> bool
+/// Whether a byte is a letter of either case.
+pub fn is_letter(b: u8) -> bool
     ensures { result ≡ is_letter b }
 {
     b >= b'A' && b <= b'Z' || b >= b'a' && b <= b'z'
@@ -60,4 +68,12 @@ pub(crate) fn is_field(b: u8) -> bool
     ensures { result ≡ is_field b }
 {
     !(is_blank(b) || b == b';')
+}
+
+/// The byte at a place, 0 past the end.
+pub fn byte_at(text: &[u8], place: usize) -> u8
+    ensures value { result ≡ slice_index text.now place }
+    ensures within { result ≢ 0 → place < length text.now }
+{
+    text.get(place).copied().unwrap_or(0)
 }

@@ -4,7 +4,7 @@ ghost use Rattle.std.specs.Prelude.{◌≡◌, ◌<◌, ◌≤◌, length, true,
 ghost use Rattle.c25_meaning.specs.Constant.{suffix_base, numeral, is_constant, constant_value};
 ghost use Rattle.c25_meaning.specs.Lexeme.{name_of, constant_of, character_of, quoted_len, quoted_by, dotted_of, double_sign, single_sign, sign_by, lexeme};
 
-use crate::bytes::{begins_name, is_blank, is_digit, is_plain};
+use crate::bytes::{begins_name, byte_at, is_blank, is_digit, is_plain};
 use crate::digits::{all_digits, value_in};
 use crate::runs::{all_plain, constant_run, name_run};
 use c25_meaning::line::{Lexeme, LineFault, Sign, TokenKind};
@@ -68,13 +68,6 @@ fn name_of(length: usize) -> Lexeme
     } else {
         Lexeme::Fault(LineFault::BadLabel)
     }
-}
-
-/// The byte at a place, 0 past the end.
-pub fn byte_at(text: &[u8], place: usize) -> u8
-    ensures { result ≡ slice_index text.now place }
-{
-    text.get(place).copied().unwrap_or(0)
 }
 
 /// A character behind its quote, by the next three bytes.

@@ -5,8 +5,7 @@ ghost use Rattle.std.specs.Option.{option_map};
 ghost use Rattle.c25_meaning.specs.Line.{line_of, part_from, label_of, word_of, without_colon, is_name, is_comment_line, first_word, Operands, scan_from};
 ghost use Rattle.c25_text.specs.View.{parts_of, part_of, pieces_left};
 
-use crate::bytes::begins_name;
-use crate::lexemes::byte_at;
+use crate::bytes::{begins_name, byte_at};
 use crate::runs::{all_go_on_name, all_visible, past_blanks, past_field};
 use crate::tokens::{Tokens, comment_from};
 use c25_meaning::line::LineFault;

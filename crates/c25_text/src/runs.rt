@@ -2,11 +2,13 @@
 
 ghost use Rattle.std.specs.Prelude.{◌≡◌, ◌<◌, ◌≤◌, length, false, slice_index, drop};
 ghost use Rattle.std.specs.List.{prefix_len, list_all};
-ghost use Rattle.c25_meaning.specs.Bytes.{goes_on_name, is_letter_or_digit, is_blank, is_field, is_plain};
+ghost use Rattle.c25_meaning.specs.Bytes.{goes_on_name, is_letter_or_digit, is_blank, is_space, is_field, is_plain};
 ghost use Rattle.c25_meaning.specs.Bytes.{is_visible};
 ghost use Rattle.c25_meaning.specs.Line.{past_blanks, past_field};
 
-use crate::bytes::{goes_on_name, is_blank, is_field, is_letter_or_digit, is_plain, is_visible};
+use crate::bytes::{
+    goes_on_name, is_blank, is_field, is_letter_or_digit, is_plain, is_space, is_visible,
+};
 
 /// How many bytes at the front of a text go on with a name.
 pub fn name_run(text: &[u8]) -> usize
@@ -38,6 +40,20 @@ fn field_run(text: &[u8]) -> usize
     text.iter().take_while(|b| is_field(**b)).count()
 }
 
+/// Whether a text has nothing but blanks and tabs.
+pub fn all_blank(text: &[u8]) -> bool
+    ensures { result ≡ list_all is_blank text.now }
+{
+    text.iter().all(|b| is_blank(*b))
+}
+
+/// Whether a text has nothing but blanks, tabs and ends of lines.
+pub fn all_space(text: &[u8]) -> bool
+    ensures { result ≡ list_all is_space text.now }
+{
+    text.iter().all(|b| is_space(*b))
+}
+
 pub(crate) fn all_plain(text: &[u8]) -> bool
     ensures { result ≡ list_all is_plain text.now }
 {
@@ -50,7 +66,8 @@ pub(crate) fn all_visible(text: &[u8]) -> bool
     text.iter().all(|b| is_visible(*b))
 }
 
-pub(crate) fn all_go_on_name(text: &[u8]) -> bool
+/// Whether each byte of a text goes on with a name.
+pub fn all_go_on_name(text: &[u8]) -> bool
     ensures { result ≡ list_all goes_on_name text.now }
 {
     text.iter().all(|b| goes_on_name(*b))

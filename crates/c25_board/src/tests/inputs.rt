@@ -2,9 +2,10 @@
 //! the text as `spelled` reads it.
 
 use crate::ports::Feed;
-use crate::samples::{Samples, SamplesError, read_samples};
-use crate::schedule::{Schedule, ScheduleError, read_schedule};
+use crate::samples::{BadSamples, Samples, read_samples};
+use crate::schedule::{BadSchedule, Schedule, read_schedule};
 use bitflags::Flags;
+use c25_meaning::failure::Failure;
 use c25_meaning::schedule::Event;
 use std::alloc::{AllocError, Global};
 use std::test::Fail;
@@ -47,11 +48,11 @@ fn show_samples(alloc: Global, samples: &mut Samples) -> Result<String, AllocErr
     Ok(out)
 }
 
-fn samples_told(alloc: Global, text: &str) -> Result<String, AllocError> {
+fn samples_told(alloc: Global, text: &str) -> Result<String, Fail> {
     match read_samples(alloc, text) {
-        Ok(mut samples) => show_samples(alloc, &mut samples),
-        Err(SamplesError::BadSamples { line }) => format!(in alloc; "bad {line}"),
-        Err(SamplesError::NoMemory) => Err(AllocError),
+        Ok(mut samples) => Ok(show_samples(alloc, &mut samples)?),
+        Err(Failure::Fault(BadSamples { line })) => Ok(format!(in alloc; "bad {line}")?),
+        Err(Failure::NoMemory(error)) => Err(error.into()),
     }
 }
 
@@ -72,11 +73,11 @@ fn show_schedule(alloc: Global, schedule: &Schedule) -> Result<String, AllocErro
     Ok(out)
 }
 
-fn schedule_told(alloc: Global, text: &str) -> Result<String, AllocError> {
+fn schedule_told(alloc: Global, text: &str) -> Result<String, Fail> {
     match read_schedule(alloc, text) {
-        Ok(schedule) => show_schedule(alloc, &schedule),
-        Err(ScheduleError::BadSchedule { line }) => format!(in alloc; "bad {line}"),
-        Err(ScheduleError::NoMemory) => Err(AllocError),
+        Ok(schedule) => Ok(show_schedule(alloc, &schedule)?),
+        Err(Failure::Fault(BadSchedule { line })) => Ok(format!(in alloc; "bad {line}")?),
+        Err(Failure::NoMemory(error)) => Err(error.into()),
     }
 }
 
@@ -130,18 +131,16 @@ fn ports_take_in_turn(rt: HostRuntime) -> Result<(), Fail> {
 
 #[test]
 fn refusals_are_printed(rt: HostRuntime) -> Result<(), Fail> {
-    let samples = SamplesError::BadSamples { line: 3 };
+    let samples = Failure::Fault(BadSamples { line: 3 });
     assert_eq!(rt;
         format!(in rt.alloc(); "{samples}")?.as_str(),
         "line 3: BadSamples"
     );
-    let schedule = ScheduleError::BadSchedule { line: 12 };
+    let schedule = Failure::Fault(BadSchedule { line: 12 });
     assert_eq!(rt;
         format!(in rt.alloc(); "{schedule}")?.as_str(),
         "line 12: BadSchedule"
     );
-    let memory = SamplesError::NoMemory;
-    assert_eq!(rt; format!(in rt.alloc(); "{memory}")?.as_str(), "NoMemory");
     Ok(())
 }
 
@@ -169,6 +168,8 @@ bad 1|10000
 ok 1:0|^$^$ ^$1 0000
 bad 1|1 0000^
 bad 1|1 0000^^$
+bad 1|^
+bad 2|$^^$1 0000
 ok 1:0 1:1|1 0000 ^$1 0001
 bad 1|1 0000^2 0000
 bad 1|1&0000
@@ -205,6 +206,8 @@ bad 1|INT0 0
 ok 0:L1 1:L2|0 INT0^$1 INT1^$
 bad 1|0 INT0^
 bad 1|0 INT0^^$
+bad 1|^
+bad 2|^$^^$0 INT0
 ok 7:L4 8:B0|~ 7~INT2~ $$  8 BIO0
 bad 2|3 INT0$2$
 bad 2|3 INT0$x$2 INT0

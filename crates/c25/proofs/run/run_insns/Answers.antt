@@ -11,8 +11,8 @@ pub returns : goal.returns
 returns c = record {
   ends =
       ends_as c.args.insns.now c.args.n c.requires _ c.run-outcome.result _ _ _ _ _ _ c.in_ok-board.ensures.steps
-      (c.in_ok-board.ensures.state ∙ begins c.args.insns.now _ _ _ (c.deref.ensures.value ∙ c.in_ok-words.ensures.words) c.in_ok-words.ensures.marks c.new-sink.ensures)
-      c.run-outcome.ensures c.in_default.not-SinkFault refl c.steps.ensures
+      (c.in_ok-board.ensures.state ∙ begins c.args.insns.now _ _ _ (c.deref.ensures.value ∙ c.in_ok-words.ensures.words) c.in_ok-words.ensures.marks c.new-sink.ensures.words)
+      c.run-outcome.ensures (search rules) refl c.steps.ensures
       (record { outputs = search rules; regs = search rules; size = search rules; memory = λ address below. let same : c.in_ok-to_vec-2.field-0.items ≡ c.data.result.now = search rules in ap (λ ws. slice_index ws address) same ∙ ap (λ m. m address) c.data.ensures.words });
-  refused = tt;
+  texts = record { page0 = search rules; page1 = search rules; map = search rules; listings = search rules };
 }

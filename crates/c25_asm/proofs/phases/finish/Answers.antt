@@ -1,7 +1,8 @@
 use Rattle.std.proofs.Common.{◌≡◌, ℕ, suc, ◌+◌, ◌<◌, List, ◌∷◌, length, drop, map, get_or, Result, Ok, sym, ap, ◌∙◌, arith, drop-cons}
 use Rattle.std.proofs.lemmas.List.Sums.{sum_by-drop_more}
-use Rattle.c25_meaning.specs.Statement.{◌>>=◌, fold_ok}
-use Rattle.c25_meaning.specs.Source.{SourceMeaning, SourceFault, emitted}
+use Rattle.c25_meaning.specs.Results.{◌>>=◌, fold_ok}
+use Rattle.c25_meaning.specs.Source.{SourceMeaning, emitted}
+use Rattle.c25_meaning.specs.declared.source.SourceFault.{SourceFault}
 use Rattle.c25_meaning.specs.declared.value.Value.{Value}
 use Rattle.c25_asm.specs.Sizes.{item_size}
 use Rattle.c25_asm.specs.View.{item_of}

@@ -1,7 +1,7 @@
 use Rattle.std.proofs.Common.{◌≡◌, ◌+◌, drop, map}
 use Rattle.std.specs.List.{All, sum_by}
 use Rattle.c25_meaning.specs.Table.{InRange, size_of}
-use Rattle.c25_meaning.specs.Statement.{fold_ok}
+use Rattle.c25_meaning.specs.Results.{fold_ok}
 use Rattle.c25_meaning.specs.Source.{emitted, nothing}
 use Rattle.c25_asm.specs.Sizes.{item_size}
 use Rattle.c25_asm.specs.View.{item_of, meaning_of}

@@ -1,5 +1,5 @@
 use Rattle.std.proofs.Common.{◌≡◌, drop}
-use Rattle.c25_meaning.specs.Statement.{fold_ok}
+use Rattle.c25_meaning.specs.Results.{fold_ok}
 use Rattle.c25_meaning.specs.StatementLine.{with_operand, no_trees}
 use Rattle.c25_expr.specs.Pieces.{operands_view}
 use Rattle.c25_asm.specs.View.{so_far}

@@ -8,13 +8,13 @@ use Rattle.c25_cmd.specs.View.{ranges_of, tokens_of}
 use Rattle.c25_cmd.proofs.Loops.{stops, is_spent, goes_on, fails}
 use Rattle.c25_cmd.proofs.memory.ranges_at.Goals as goal
 
-pub returns-then-begins-clause-given : goal.returns-then-begins-clause-given
-returns-then-begins-clause-given c =
+pub returns-then-begins : goal.returns-then-begins
+returns-then-begins c =
     stops (want.Sign sign.CloseBrace) more_ranges (length c.args.tokens.now) c.loop.counter (c.loop.page, ranges_of c.loop.ranges.list.items) (tokens_of c.loop.rest.now)
     (repeated (want.Sign sign.CloseBrace) more_ranges (length c.args.tokens.now) (0, []) (tokens_of c.args.tokens.now)) (sym c.begins.ensures ∙ c.if-begins.true) c.loop.invariant.told
 
-pub returns-in_err-next-clause-given : goal.returns-in_err-next-clause-given
-returns-in_err-next-clause-given c =
+pub returns-in_err-next : goal.returns-in_err-next
+returns-in_err-next c =
     let p = err_from_is_err_and c.from_residual-in_err-next.result c.from_residual-in_err-next.ensures.1 in
     rw (p.1, p.2) (fails (want.Sign sign.CloseBrace) more_ranges c.in_err-next.field-0.0 (length c.args.tokens.now) c.loop.counter (c.loop.page, ranges_of c.loop.ranges.list.items) (tokens_of c.loop.rest.now)
     (repeated (want.Sign sign.CloseBrace) more_ranges (length c.args.tokens.now) (0, []) (tokens_of c.args.tokens.now)) c.loop-test.true (sym c.begins.ensures ∙ c.if-begins.false) c.in_err-next.ensures.given c.loop.invariant.told)
@@ -29,7 +29,7 @@ loop-preserved c = record {
   known = c.in_ok-next.ensures.known;
 }
 
-pub returns-clause-given : goal.returns-clause-given
-returns-clause-given c =
+pub returns : goal.returns
+returns c =
     is_spent (want.Sign sign.CloseBrace) more_ranges (length c.args.tokens.now) c.loop.counter (c.loop.page, ranges_of c.loop.ranges.list.items) (tokens_of c.loop.rest.now)
     (repeated (want.Sign sign.CloseBrace) more_ranges (length c.args.tokens.now) (0, []) (tokens_of c.args.tokens.now)) c.loop-test.false c.loop.invariant.told

@@ -4,12 +4,10 @@ use Rattle.c25_meaning.specs.declared.command_token.Want.TheVariants as want
 use Rattle.c25_meaning.specs.CommandGrammar.{repeated}
 use Rattle.c25_meaning.specs.Command.{nothing}
 use Rattle.c25_meaning.specs.CommandText.{part_in}
-use Rattle.c25_cmd.specs.View.{HasRanges, command_of, tokens_of}
+use Rattle.c25_cmd.specs.View.{command_data, tokens_of}
 use Rattle.c25_cmd.proofs.parts.parts_at.Given as goal
 
 abbrev pub invariant-loop : goal.invariant-loop
-invariant-loop l = record {
-  told : repeated want.End part_in (length l.tokens - l.counter) (command_of l.command) (tokens_of l.rest)
-      ≡ repeated want.End part_in (length l.tokens) nothing (tokens_of l.tokens);
-  ranges : HasRanges l.command;
-}
+invariant-loop l =
+    repeated want.End part_in (length l.tokens - l.counter) (command_data l.command) (tokens_of l.rest)
+    ≡ repeated want.End part_in (length l.tokens) nothing (tokens_of l.tokens)

@@ -1,7 +1,6 @@
-use Rattle.std.proofs.Common.{◌∙◌, ap, sym}
-use Rattle.c25_meaning.specs.CommandText.{command_of}
+use Rattle.c25_cmd.specs.View.{command_data, tokens_of}
+use Rattle.c25_cmd.proofs.Kept.{tokens_keep}
 use Rattle.c25_cmd.proofs.reading.read_command.Goals as goal
 
-pub returns-in-Err-Fault-clause-read : goal.returns-in-Err-Fault-clause-read
-returns-in-Err-Fault-clause-read c =
-    (c.in-Err-Fault.fault.place, ap command_of (sym c.as_bytes.ensures.value) ∙ (rw c.in-Err-Fault.field-0-is at c.in-Err-Fault.ensures.given), c.line_at.ensures)
+pub returns-in-Ok-clause-kept : goal.returns-in-Ok-clause-kept
+returns-in-Ok-clause-kept c = tokens_keep (tokens_of c.as_slice.result.now) (command_data c.in-Ok.command) c.in-Ok.ensures

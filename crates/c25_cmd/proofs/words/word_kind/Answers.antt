@@ -1,5 +1,5 @@
 use Rattle.std.proofs.Common.{◌<◌, ◌≤◌, ◌∙◌, ap, sym, subst, ℕ}
-use Rattle.c25_meaning.specs.CommandTokens.{numbered, named, keyword_of}
+use Rattle.c25_meaning.specs.CommandTokens.{number_kind, name_kind, keyword_of}
 use Rattle.c25_meaning.specs.Digits.{digit}
 use Rattle.c25_cmd.proofs.WordKinds.{number_word, other_word}
 use Rattle.c25_cmd.proofs.words.word_kind.Goals as goal
@@ -7,10 +7,10 @@ use Rattle.c25_cmd.proofs.words.word_kind.Goals as goal
 pub returns-then-digit-lt10 : goal.returns-then-digit-lt10
 returns-then-digit-lt10 c =
     let first = c.digit.ensures ∙ ap digit c.byte_at.ensures.value in
-    c.numbered.ensures ∙ ap numbered c.numeral_in.ensures ∙ sym (number_word c.args.text.now (subst (λ (n : ℕ). n < 10) first c.if-digit-lt10.true))
+    c.number_kind.ensures ∙ ap number_kind c.word_numeral.ensures ∙ sym (number_word c.args.text.now (subst (λ (n : ℕ). n < 10) first c.if-digit-lt10.true))
 
 pub returns : goal.returns
 returns c =
     let first = c.digit.ensures ∙ ap digit c.byte_at.ensures.value in
-    c.named.ensures ∙ ap named (c.keyword_of.ensures ∙ ap keyword_of (c.as_slice.ensures.value ∙ c.in_ok-lower.ensures.ok))
+    c.name_kind.ensures ∙ ap name_kind (c.keyword_of.ensures ∙ ap keyword_of (c.as_slice.ensures.value ∙ c.in_ok-lower.ensures.ok))
     ∙ sym (other_word c.args.text.now (subst (λ (n : ℕ). 10 ≤ n) first c.if-digit-lt10.false))

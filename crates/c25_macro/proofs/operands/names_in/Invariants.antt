@@ -1,5 +1,5 @@
 use Rattle.std.proofs.Common.{◌≡◌, ◌++◌, Ok, drop}
-use Rattle.c25_meaning.specs.Statement.{◌>>=◌}
+use Rattle.c25_meaning.specs.Results.{◌>>=◌}
 use Rattle.c25_meaning.specs.Acts.{names_in}
 use Rattle.c25_expr.specs.Pieces.{operands_view}
 use Rattle.c25_macro.specs.Acts.{bytes_of_names}

@@ -1,4 +1,4 @@
-use Rattle.std.proofs.Common.{ℕ, List, length, arith, rules}
+use Rattle.std.proofs.Common.{ℕ, List, length, arith}
 use Rattle.std.proofs.lemmas.List.{length-map}
 use Rattle.c25_obj.specs.Differing.{name_at}
 use Rattle.c25_obj.specs.View.{symbol_data, symbols_data}

@@ -1,4 +1,4 @@
-use Rattle.std.proofs.Common.{◌≤◌, length, sym, ◌∙◌, arith}
+use Rattle.std.proofs.Common.{sym, ◌∙◌, arith}
 use Rattle.std.proofs.lemmas.List.{length-map}
 use Rattle.c25_obj.specs.View.{symbol_data, sections_data, symbols_data}
 use Rattle.c25_obj.proofs.AllSymbols.{too_many, some_stands_not, fits_if_names_differ}

@@ -2,28 +2,28 @@ use Rattle.std.proofs.Common.{rules, ◌≡◌, ◌<◌, ℕ, List, length, get_
 use Rattle.std.specs.Borrow.{Bor}
 use Rattle.std.proofs.lemmas.Bool.Decides.{nat_tests}
 use Rattle.std.proofs.lemmas.Result.{err_from_is_err_and}
-use Rattle.c25_meaning.specs.Pieces.{without, front}
-use Rattle.c25_meaning.specs.Substitution.{Written, joined}
-use Rattle.c25_substitution.specs.View.{names_of, piece_of, written_so_far, Refuses}
+use Rattle.c25_meaning.specs.Fragments.{without, front}
+use Rattle.c25_meaning.specs.Substitution.{Draft, joined}
+use Rattle.c25_substitution.specs.View.{names_of, fragment_of, written_so_far, Refuses}
 use Rattle.c25_substitution.proofs.Writing.{goes_on, refuses, ends, part}
 use Rattle.c25_substitution.proofs.substitution.+writing.Goals as goal
 
-pub write-returns-in_err-write_piece-clause-out : goal.write-returns-in_err-write_piece-clause-out
-write-returns-in_err-write_piece-clause-out t c =
+pub write-returns-in_err-write_fragment-clause-out : goal.write-returns-in_err-write_fragment-clause-out
+write-returns-in_err-write_fragment-clause-out t c =
     let i = c.loop-rest.invariant in
     let names = names_of c.args.names.now in
     let items = c.args.aside.now.items in
     let aside : List (List ℕ) = map (λ (s : Bor (List ℕ)). s.now) items in
     let rest = c.loop-rest.rest.now in
     let quoting = c.loop-rest.quoting in
-    let piece = piece_of c.first_piece.result.0 in
+    let fragment = fragment_of c.first_fragment.result.0 in
     let more : 0 < length rest = grind (arith, nat_tests) in
     let seen : c.as_slice.result.now ≡ items = c.as_slice.ensures.value ∙ i.aside in
-    let first : piece ≡ (front (without aside names) quoting rest).piece = c.first_piece.ensures.piece ∙ ap (λ (xs : List (Bor (List ℕ))). (front (without (map (λ s. s.now) xs) names) quoting rest).piece) seen in
-    let cut : c.first_piece.result.1.now ≡ drop (front (without aside names) quoting rest).size rest = c.first_piece.ensures.rest ∙ ap (λ (xs : List (Bor (List ℕ))). drop (front (without (map (λ s. s.now) xs) names) quoting rest).size rest) seen in
+    let first : fragment ≡ (front (without aside names) quoting rest).fragment = c.first_fragment.ensures.fragment ∙ ap (λ (xs : List (Bor (List ℕ))). (front (without (map (λ s. s.now) xs) names) quoting rest).fragment) seen in
+    let cut : c.first_fragment.result.1.now ≡ drop (front (without aside names) quoting rest).size rest = c.first_fragment.ensures.rest ∙ ap (λ (xs : List (Bor (List ℕ))). drop (front (without (map (λ s. s.now) xs) names) quoting rest).size rest) seen in
     let p = err_from_is_err_and c.from_residual.result c.from_residual.ensures.1 in
-    let told = subst (λ (xs : List (Bor (List ℕ))). Refuses (joined (written_so_far c.loop-rest.out) (part names c.args.number (length xs) (map (λ s. s.now) xs) piece)) c.in_err-write_piece.field-0.0) i.aside c.in_err-write_piece.ensures.out in
-    let all = refuses names c.args.number (length items) aside quoting rest c.first_piece.result.1.now piece (get_or rest 0 0) (omega (arith, i.deep, i.within.1)) more first cut c.first_piece.ensures.shorter refl (written_so_far c.loop-rest.out) _ i.so_far c.in_err-write_piece.field-0.0 told in
+    let told = subst (λ (xs : List (Bor (List ℕ))). Refuses (joined (written_so_far c.loop-rest.out) (part names c.args.number (length xs) (map (λ s. s.now) xs) fragment)) c.in_err-write_fragment.field-0.0) i.aside c.in_err-write_fragment.ensures.out in
+    let all = refuses names c.args.number (length items) aside quoting rest c.first_fragment.result.1.now fragment (get_or rest 0 0) (omega (arith, i.deep, i.within.1)) more first cut c.first_fragment.ensures.shorter refl (written_so_far c.loop-rest.out) _ i.so_far c.in_err-write_fragment.field-0.0 told in
     rw (p.1, p.2) all
 
 pub write-loop-rest-preserved : goal.write-loop-rest-preserved
@@ -34,20 +34,20 @@ write-loop-rest-preserved t c =
     let aside : List (List ℕ) = map (λ (s : Bor (List ℕ)). s.now) items in
     let rest = c.loop-rest.rest.now in
     let quoting = c.loop-rest.quoting in
-    let piece = piece_of c.first_piece.result.0 in
+    let fragment = fragment_of c.first_fragment.result.0 in
     let more : 0 < length rest = grind (arith, nat_tests) in
     let seen : c.as_slice.result.now ≡ items = c.as_slice.ensures.value ∙ i.aside in
-    let first : piece ≡ (front (without aside names) quoting rest).piece = c.first_piece.ensures.piece ∙ ap (λ (xs : List (Bor (List ℕ))). (front (without (map (λ s. s.now) xs) names) quoting rest).piece) seen in
-    let cut : c.first_piece.result.1.now ≡ drop (front (without aside names) quoting rest).size rest = c.first_piece.ensures.rest ∙ ap (λ (xs : List (Bor (List ℕ))). drop (front (without (map (λ s. s.now) xs) names) quoting rest).size rest) seen in
-    let out = c.in_ok-write_piece.ensures.out in
-    let new : written_so_far c.write_piece.new.out ≡ joined (written_so_far c.loop-rest.out) (part names c.args.number (length items) aside piece) = out.0 ∙ ap (λ (xs : List (Bor (List ℕ))). joined (written_so_far c.loop-rest.out) (part names c.args.number (length xs) (map (λ s. s.now) xs) piece)) i.aside in
-    let joins = goes_on names c.args.number (length items) aside quoting rest c.first_piece.result.1.now piece (get_or rest 0 0) (omega (arith, i.deep, i.within.1)) more first cut c.first_piece.ensures.shorter refl (written_so_far c.loop-rest.out) _ i.so_far (written_so_far c.write_piece.new.out) new in
+    let first : fragment ≡ (front (without aside names) quoting rest).fragment = c.first_fragment.ensures.fragment ∙ ap (λ (xs : List (Bor (List ℕ))). (front (without (map (λ s. s.now) xs) names) quoting rest).fragment) seen in
+    let cut : c.first_fragment.result.1.now ≡ drop (front (without aside names) quoting rest).size rest = c.first_fragment.ensures.rest ∙ ap (λ (xs : List (Bor (List ℕ))). drop (front (without (map (λ s. s.now) xs) names) quoting rest).size rest) seen in
+    let out = c.in_ok-write_fragment.ensures.out in
+    let new : written_so_far c.write_fragment.new.out ≡ joined (written_so_far c.loop-rest.out) (part names c.args.number (length items) aside fragment) = out.0 ∙ ap (λ (xs : List (Bor (List ℕ))). joined (written_so_far c.loop-rest.out) (part names c.args.number (length xs) (map (λ s. s.now) xs) fragment)) i.aside in
+    let joins = goes_on names c.args.number (length items) aside quoting rest c.first_fragment.result.1.now fragment (get_or rest 0 0) (omega (arith, i.deep, i.within.1)) more first cut c.first_fragment.ensures.shorter refl (written_so_far c.loop-rest.out) _ i.so_far (written_so_far c.write_fragment.new.out) new in
     let byte : get_or c.as_bytes.result.now 0 0 ≡ get_or rest 0 0 = ap (λ (t : List ℕ). get_or t 0 0) c.as_bytes.ensures.value in
-    let grown = ap (λ (w : Written). w.replacements) out.0 in
+    let grown = ap (λ (w : Draft). w.replacements) out.0 in
     record {
       text = search rules;
       so_far = rw c.behind-quoting.ensures (rw byte joins);
-      aside = c.in_ok-write_piece.ensures.aside ∙ i.aside;
+      aside = c.in_ok-write_fragment.ensures.aside ∙ i.aside;
       within = out.1;
       deep = omega (arith, i.deep, grown);
     }

@@ -9,8 +9,8 @@ use Rattle.c25_substitution.proofs.substitution.+writing.Given as goal
 abbrev pub decreases-write : goal.decreases-write
 decreases-write l = 2 * (1025 - length l.aside.now.items) + 1
 
-abbrev pub decreases-write_piece : goal.decreases-write_piece
-decreases-write_piece l = 2 * (1025 - length l.aside.now.items)
+abbrev pub decreases-write_fragment : goal.decreases-write_fragment
+decreases-write_fragment l = 2 * (1025 - length l.aside.now.items)
 
 abbrev pub invariant-write-loop-rest : goal.invariant-write-loop-rest
 invariant-write-loop-rest l = record {

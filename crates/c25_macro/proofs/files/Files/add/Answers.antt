@@ -1,4 +1,4 @@
-use Rattle.std.proofs.Common.{◌∷◌, [], ◌++◌, sym, ap, ◌∙◌}
+use Rattle.std.proofs.Common.{sym, ap, ◌∙◌}
 use Rattle.std.specs.String.{string_bytes}
 use Rattle.c25_meaning.specs.Texts.{with_name}
 use Rattle.c25_macro.proofs.Entries.{views, views-insert, with_new_name, none_there, is_some_mapped}

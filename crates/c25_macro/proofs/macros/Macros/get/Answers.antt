@@ -2,7 +2,6 @@ use Rattle.std.proofs.Common.{◌≡◌, Option, Some, None, Bor, refl, ap, ◌�
 use Rattle.std.specs.Map.{lookup}
 use Rattle.std.specs.Option.{option_map, option_copied}
 use Rattle.std.specs.Str.{bytes_eq}
-use Rattle.c25_meaning.specs.Acts as acts
 use Rattle.c25_macro.specs.Acts.{macro_of}
 use Rattle.c25_macro.specs.declared.macros.Macro.{Macro}
 use Rattle.c25_macro.proofs.Entries.{lookup-views}

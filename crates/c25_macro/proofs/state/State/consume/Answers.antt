@@ -1,4 +1,3 @@
-use Rattle.std.proofs.Common.{◌≡◌}
 use Rattle.c25_macro.specs.Config.{config}
 use Rattle.c25_macro.proofs.Consuming.{refused}
 use Rattle.c25_macro.proofs.state.State.consume.Goals as goal

@@ -44,4 +44,4 @@ returns-in-Ok-Finished-clause-answer c =
 pub returns-in-Err-clause-answer : goal.returns-in-Err-clause-answer
 returns-in-Err-clause-answer c =
     let leads = c.loop-row.invariant.leads in
-    first_refusing c.args.files.now c.args.symbols.now leads.0 (config c.args.self.now) (config c.loop-row.self) c.in-Err.refusal leads.1 (rw c.in-Err.is at c.step.ensures)
+    first_refusing c.args.files.now c.args.symbols.now leads.0 (config c.args.self.now) (config c.loop-row.self) c.in-Err.failure leads.1 (rw c.in-Err.is at c.step.ensures)

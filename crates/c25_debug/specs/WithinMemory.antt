@@ -1,0 +1,15 @@
+-- Commands that show only words that there are.
+use Rattle.std.specs.Prelude.{◌+◌, ◌≤◌, List}
+use Rattle.std.specs.List.{AllByRecursion}
+use Rattle.c25_meaning.specs.declared.script.Cmd.{Cmd}
+use Rattle.c25_meaning.specs.declared.script.Cmd.TheVariants as cmd
+
+-- the words that a command shows end within the 65,536 of their memory
+abbrev pub IsWithin : Cmd → Type 0
+IsWithin (cmd.Data address count) = address + count ≤ 65536
+IsWithin (cmd.Prog address count) = address + count ≤ 65536
+IsWithin _ = Unit {0}
+
+-- all commands do so
+abbrev pub AreWithin : List Cmd → Type 0
+AreWithin commands = AllByRecursion IsWithin commands

@@ -1,0 +1,12 @@
+//! Tests of what reads the other texts: items of a line each (`c25_items`), command files (`c25_cmd`) and
+//! scripts (`c25_debug`).
+#![tactic(auto)]
+
+#[cfg(test)]
+mod command_cases;
+#[cfg(test)]
+mod commands;
+#[cfg(test)]
+mod items;
+#[cfg(test)]
+mod scripts;

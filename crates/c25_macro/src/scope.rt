@@ -1,0 +1,207 @@
+//! What is open: files, expansions, turns of loops, and the `.if`s in them.
+
+ghost use Rattle.std.specs.Prelude.{MatchOption, ◌≡◌, ◌∷◌, ◌<◌, OnOk, option_to_list, IfNone, length, ◌++◌, [], false, min, sum_by, ◌+◌};
+ghost use Rattle.std.specs.List.{list_any};
+ghost use Rattle.c25_meaning.specs.ExpansionRuns.{is_empty};
+ghost use Rattle.c25_macro.specs.Scopes.{scopes, kind_of, test_of, other_branches};
+
+use crate::rows::Rows;
+use c25_meaning::expansion::{Branch, Place};
+use c25_meaning::no_memory::NoMemory;
+use std::alloc::Global;
+use std::marker::Model;
+
+/// The open `.if`s, the innermost first.
+#[derive(Drop)]
+pub(crate) struct Branches {
+    branches: Vec<Branch>,
+}
+
+impl Model for Branches {
+    ghost use Rattle.std.specs.Prelude.{List, reverse};
+    ghost use Rattle.c25_meaning.specs.declared.expansion.Branch.{Branch};
+
+    ghost Value = { List Branch };
+
+    ghost view = { λ b. reverse b.branches.items };
+}
+
+impl Branches {
+    pub(crate) fn new(alloc: Global) -> Branches
+        ensures { result ≡ [] }
+    {
+        Branches {
+            branches: Vec::new(alloc),
+        }
+    }
+
+    pub(crate) fn len(&self) -> usize
+        ensures { result ≡ length self.now }
+    {
+        self.branches.len()
+    }
+
+    pub(crate) fn is_empty(&self) -> bool
+        ensures { result ≡ is_empty self.now }
+    {
+        self.branches.is_empty()
+    }
+
+    /// One more, inside the others.
+    pub(crate) fn push(&mut self, branch: Branch) -> Result<(), NoMemory>
+        ensures { OnOk result (self.new ≡ branch ∷ self.old) }
+    {
+        self.branches.push(branch)?;
+        Ok(())
+    }
+
+    /// The innermost.
+    pub(crate) fn innermost(&self) -> Option<Branch>
+        ensures { MatchOption result (self.now ≡ []) (λ b. self.now ≡ b ∷ other_branches self.now) }
+    {
+        self.branches.last().copied()
+    }
+
+    /// The innermost is this one from now on.
+    pub(crate) fn replace(&mut self, branch: Branch) -> Result<(), NoMemory>
+        ensures { OnOk result (self.new ≡ branch ∷ other_branches self.old) }
+    {
+        let _before = self.branches.pop();
+        self.branches.push(branch)?;
+        Ok(())
+    }
+
+    /// Takes the innermost.
+    pub(crate) fn pop(&mut self) -> Option<Branch>
+        ensures taken { self.old ≡ option_to_list result ++ self.new }
+        ensures none { IfNone result (self.old ≡ []) }
+    {
+        self.branches.pop()
+    }
+}
+
+/// What the lines of a source are.
+#[derive(Drop)]
+pub(crate) enum Kind {
+    /// The module's file, or a copied one.
+    Copied,
+    /// An expansion of a macro.
+    Expanded,
+    /// A turn of a loop with this body, and how many more are to come.
+    Turn { body: Rows, more: usize },
+}
+
+/// What may be left before its end.
+#[derive(Clone, Copy)]
+pub(crate) enum Block {
+    Expansion,
+    Turn,
+}
+
+impl Kind {
+    pub(crate) fn is(&self, block: Block) -> bool
+        ensures { result ≡ test_of block (kind_of self.now) }
+    {
+        match (block, self) {
+            (Block::Expansion, Kind::Expanded) => true,
+            (Block::Turn, Kind::Turn { .. }) => true,
+            _ => false,
+        }
+    }
+}
+
+/// A file, expansion or turn that is open.
+#[derive(Drop)]
+pub(crate) struct Scope {
+    pub(crate) kind: Kind,
+    /// Where its last line stands.
+    pub(crate) last: Place,
+    /// The `.if`s begun in it.
+    pub(crate) branches: Branches,
+}
+
+/// The lines still to come of a file, an expansion or a turn.
+#[derive(Drop)]
+pub(crate) struct Source {
+    pub(crate) rows: Rows,
+    pub(crate) scope: Scope,
+}
+
+/// The sources in which the current one stands, the innermost first.
+#[derive(Drop)]
+pub(crate) struct Stack {
+    sources: Vec<Source>,
+}
+
+impl Model for Stack {
+    ghost use Rattle.std.specs.Prelude.{List, reverse};
+    ghost use Rattle.c25_macro.specs.declared.scope.Source.{Source};
+
+    ghost Value = { List Source };
+
+    ghost view = { λ s. reverse s.sources.items };
+}
+
+impl Stack {
+    pub(crate) fn new(alloc: Global) -> Stack
+        ensures { result ≡ [] }
+    {
+        Stack {
+            sources: Vec::new(alloc),
+        }
+    }
+
+    pub(crate) fn is_empty(&self) -> bool
+        ensures { result ≡ is_empty self.now }
+    {
+        self.sources.is_empty()
+    }
+
+    /// Whether one of them is such a block.
+    pub(crate) fn has(&self, block: Block) -> bool
+        ensures { result ≡ list_any (λ f. test_of block f.kind) (scopes self.now) }
+    {
+        has(self.sources.as_slice(), block)
+    }
+
+    /// One more, inside the others.
+    pub(crate) fn push(&mut self, source: Source) -> Result<(), NoMemory>
+        ensures { OnOk result (self.new ≡ source ∷ self.old) }
+    {
+        self.sources.push(source)?;
+        Ok(())
+    }
+
+    /// How many blocks the sources are and have open, or 32 where they are more.
+    #[tactic(auto, using(crate::proofs::Lists::sum_scopes))]
+    pub(crate) fn count(&self) -> usize
+        ensures { result ≡ min 32 (sum_by (λ f. length f.branches + 1) (scopes self.now)) }
+    {
+        count(self.sources.as_slice())
+    }
+
+    /// Takes the innermost.
+    pub(crate) fn pop(&mut self) -> Option<Source>
+        ensures taken { self.old ≡ option_to_list result ++ self.new }
+        ensures none { IfNone result (self.old ≡ []) }
+    {
+        self.sources.pop()
+    }
+}
+
+fn count(sources: &[Source]) -> usize
+    ensures { result ≡ min 32 (sum_by (λ s. length s.scope.branches + 1) sources.now) }
+{
+    let mut total = 0;
+    for source in sources {
+        let open = source.scope.branches.len().min(32) + 1;
+        total = (total + open).min(32);
+    }
+    total
+}
+
+fn has(sources: &[Source], block: Block) -> bool
+    ensures { result ≡ list_any (λ s. test_of block (kind_of s.scope.kind)) sources.now }
+{
+    sources.iter().any(|source| source.scope.kind.is(block))
+}

@@ -1,0 +1,22 @@
+//! Faults of a source.
+
+use crate::statement::FaultKind;
+use std::error::Error;
+use std::fmt;
+
+/// A line of a source is wrong.
+#[derive(Clone, Copy, PartialEq, Eq, Debug)]
+pub struct SourceFault {
+    /// The line, counted from 1.
+    pub line: usize,
+    /// What is wrong with it.
+    pub kind: FaultKind,
+}
+
+impl fmt::Display for SourceFault {
+    fn fmt<W: fmt::Write>(&self, f: &mut fmt::Formatter<W>) -> fmt::Result {
+        write!(f, "line {}: {}", self.line, self.kind)
+    }
+}
+
+impl Error for SourceFault {}

@@ -1,0 +1,212 @@
+//! A text in fragments.
+
+ghost use Rattle.std.specs.Prelude.{◌≡◌, ◌+◌, ◌<◌, ◌≤◌, ◌==◌, max, length, map, slice_index, take, drop, Some, None, IfSome};
+ghost use Rattle.std.specs.List.{prefix_len, take_while, list_any};
+ghost use Rattle.std.specs.Option.{option_map};
+ghost use Rattle.std.specs.Str.{bytes_eq, IsCharBoundary};
+ghost use Rattle.c25_meaning.specs.Bytes.{goes_on_name};
+ghost use Rattle.c25_meaning.specs.Fragments.{is_beyond_ascii, between_colons, character, forced, front, kept, unforced, unit, whole_name};
+ghost use Rattle.c25_substitution.specs.View.{names_in, fragment_of};
+
+use crate::quoting::inside;
+use crate::visible::Visible;
+use c25_meaning::quoting::Quoting;
+use c25_text::{begins_name, byte_at, constant_run, is_digit, name_run};
+
+/// A fragment of a text.
+pub(crate) enum Fragment<'a> {
+    /// It is kept as it is.
+    Kept(&'a str),
+    /// `name?`.
+    Numbered(&'a str),
+    /// A name, the text that replaces it, and the quoting in which that begins.
+    Replaced(&'a str, &'a str, Quoting),
+}
+
+fn is_aside(aside: &[&str], name: &str) -> bool
+    ensures { result ≡ list_any (bytes_eq name.now) (map (λ s. s.now) aside.now) }
+{
+    for other in aside {
+        if name == *other {
+            return true;
+        }
+    }
+    false
+}
+
+/// What a name stands for that is not set aside.
+fn text_of<'a>(names: &Visible<'a>, aside: &[&str], name: &str) -> Option<&'a str>
+    ensures { option_map (λ s. s.now) result ≡ names_in names.now aside.now name.now }
+{
+    if is_aside(aside, name) {
+        None
+    } else {
+        names.get(name)
+    }
+}
+
+/// Whether a byte is part of no ASCII character.
+fn is_beyond_ascii(b: u8) -> bool
+    ensures { result ≡ is_beyond_ascii b }
+{
+    b >= 128
+}
+
+/// How many bytes beyond ASCII stand in front.
+fn beyond_run(text: &[u8]) -> usize
+    ensures value { result ≡ prefix_len is_beyond_ascii text.now }
+    ensures bound { result ≤ length text.now }
+{
+    text.iter().take_while(|b| is_beyond_ascii(**b)).count()
+}
+
+/// The front of a text as it is, and the rest.
+fn kept(text: &str, size: usize) -> (Fragment<'_>, &str)
+    requires cut { IsCharBoundary text.now size }
+    ensures fragment { fragment_of result.0 ≡ (kept size text.now).fragment }
+    ensures rest { result.1.now ≡ drop size text.now }
+{
+    let (front, rest) = text.split_at(size);
+    (Fragment::Kept(front), rest)
+}
+
+/// A character, or some beyond ASCII, and the rest.
+fn character(text: &str) -> (Fragment<'_>, &str)
+    requires { 0 < length text.now }
+    ensures fragment { fragment_of result.0 ≡ (character text.now).fragment }
+    ensures rest { result.1.now ≡ drop (character text.now).size text.now }
+    ensures shorter { length result.1.now < length text.now }
+{
+    kept(text, beyond_run(text.as_bytes()).max(1))
+}
+
+/// The name between two colons at the front of a text.
+fn between_colons(text: &str) -> Option<&str>
+    ensures value { option_map (λ s. s.now) result ≡ between_colons text.now }
+    ensures within { IfSome result (λ name. length name.now + 2 ≤ length text.now) }
+    ensures closed { IfSome result (λ name. slice_index text.now (length name.now + 1) ≡ 58) }
+{
+    let bytes = text.as_bytes();
+    if byte_at(bytes, 0) != b':' || !begins_name(byte_at(bytes, 1)) {
+        return None;
+    }
+    let end = name_run(&bytes[1..]) + 1;
+    if byte_at(bytes, end) == b':' {
+        Some(&text[1..end])
+    } else {
+        None
+    }
+}
+
+/// A whole name of this length, and the rest.
+fn whole_name<'a>(
+    names: &Visible<'a>,
+    aside: &[&str],
+    text: &'a str,
+    size: usize,
+) -> (Fragment<'a>, &'a str)
+    requires some { 0 < size }
+    requires name { size ≡ prefix_len goes_on_name text.now }
+    ensures fragment { fragment_of result.0 ≡ (whole_name (names_in names.now aside.now) (take_while goes_on_name text.now) (slice_index text.now size == 63)).fragment }
+    ensures rest { result.1.now ≡ drop (whole_name (names_in names.now aside.now) (take_while goes_on_name text.now) (slice_index text.now size == 63)).size text.now }
+    ensures shorter { length result.1.now < length text.now }
+{
+    let (name, rest) = text.split_at(size);
+    if byte_at(text.as_bytes(), size) == b'?' {
+        return (Fragment::Numbered(name), &text[size + 1..]);
+    }
+    match text_of(names, aside, name) {
+        Some(inner) => (Fragment::Replaced(name, inner, Quoting::Outside), rest),
+        None => (Fragment::Kept(name), rest),
+    }
+}
+
+/// A dot and the name behind it, and the rest.
+fn dotted_name(text: &str) -> (Fragment<'_>, &str)
+    requires { slice_index text.now 0 ≡ 46 }
+    ensures fragment { fragment_of result.0 ≡ (kept (prefix_len goes_on_name (drop 1 text.now) + 1) text.now).fragment }
+    ensures rest { result.1.now ≡ drop (prefix_len goes_on_name (drop 1 text.now) + 1) text.now }
+    ensures shorter { length result.1.now < length text.now }
+{
+    let size = name_run(&text.as_bytes()[1..]) + 1;
+    kept(text, size)
+}
+
+/// The unit at the front of a text outside quotes, and the rest.
+fn unit<'a>(names: &Visible<'a>, aside: &[&str], text: &'a str) -> (Fragment<'a>, &'a str)
+    requires { 0 < length text.now }
+    ensures fragment { fragment_of result.0 ≡ (unit (names_in names.now aside.now) text.now).fragment }
+    ensures rest { result.1.now ≡ drop (unit (names_in names.now aside.now) text.now).size text.now }
+    ensures shorter { length result.1.now < length text.now }
+{
+    let bytes = text.as_bytes();
+    let first = byte_at(bytes, 0);
+    if is_digit(first) {
+        kept(text, constant_run(bytes))
+    } else if first == b'.' && begins_name(byte_at(bytes, 1)) {
+        dotted_name(text)
+    } else if begins_name(first) {
+        whole_name(names, aside, text, name_run(bytes))
+    } else {
+        character(text)
+    }
+}
+
+/// The fragment at the front of a text that no forced substitution begins, and the rest.
+fn unforced<'a>(
+    names: &Visible<'a>,
+    aside: &[&str],
+    quoting: Quoting,
+    text: &'a str,
+) -> (Fragment<'a>, &'a str)
+    requires { 0 < length text.now }
+    ensures fragment { fragment_of result.0 ≡ (unforced (names_in names.now aside.now) quoting text.now).fragment }
+    ensures rest { result.1.now ≡ drop (unforced (names_in names.now aside.now) quoting text.now).size text.now }
+    ensures shorter { length result.1.now < length text.now }
+{
+    match quoting {
+        Quoting::Outside => unit(names, aside, text),
+        _ => character(text),
+    }
+}
+
+/// The name between two colons at the front of a text, and the text that it stands for.
+fn forced<'a>(
+    names: &Visible<'a>,
+    aside: &[&str],
+    quoting: Quoting,
+    text: &'a str,
+) -> Option<(&'a str, &'a str)>
+    ensures value { option_map (λ p. (p.0.now, p.1.now)) result ≡ forced (names_in names.now aside.now) quoting text.now }
+    ensures within { IfSome result (λ p. length p.0.now + 2 ≤ length text.now) }
+    ensures closed { IfSome result (λ p. slice_index text.now (length p.0.now + 1) ≡ 58) }
+{
+    if matches!(quoting, Quoting::Comment) {
+        return None;
+    }
+    let name = between_colons(text)?;
+    let inner = text_of(names, aside, name)?;
+    Some((name, inner))
+}
+
+/// The fragment at the front of a text, and the rest.
+#[tactic(auto, unfolding(c25_meaning::specs::Fragments::front))]
+pub(crate) fn first_fragment<'a>(
+    names: &Visible<'a>,
+    aside: &[&str],
+    quoting: Quoting,
+    text: &'a str,
+) -> (Fragment<'a>, &'a str)
+    requires { 0 < length text.now }
+    ensures fragment { fragment_of result.0 ≡ (front (names_in names.now aside.now) quoting text.now).fragment }
+    ensures rest { result.1.now ≡ drop (front (names_in names.now aside.now) quoting text.now).size text.now }
+    ensures shorter { length result.1.now < length text.now }
+{
+    match forced(names, aside, quoting, text) {
+        Some((name, inner)) => (
+            Fragment::Replaced(name, inner, inside(quoting)),
+            &text[name.len() + 2..],
+        ),
+        None => unforced(names, aside, quoting, text),
+    }
+}
