@@ -6,6 +6,7 @@ use crate::output::write_run;
 use crate::run::Chain;
 use c25_board::board::Outcome;
 use c25_macro::files::Files;
+use c25_meaning::no_memory::NoMemory;
 use c25_meaning::stop::Stop;
 use std::alloc::Global;
 use std::process::Abort;
@@ -28,6 +29,27 @@ const NONE: Inputs<'static> = Inputs {
     schedule: "",
 };
 
+/// The chain's answer for the source of this name among these files.
+fn answer_among(
+    alloc: Global,
+    files: &Files,
+    name: &str,
+    inputs: Inputs<'_>,
+    n: u32,
+) -> Result<Result<Chain, Fault>, Fail> {
+    let mut sources = Vec::new(alloc);
+    sources.push(String::from_str(alloc, name)?)?;
+    Ok(run_chain(
+        alloc,
+        files,
+        &sources,
+        inputs.command,
+        inputs.samples,
+        inputs.schedule,
+        n,
+    ))
+}
+
 /// The chain's answer for the file `a.asm`, which has this text.
 fn answer(
     alloc: Global,
@@ -37,25 +59,32 @@ fn answer(
 ) -> Result<Result<Chain, Fault>, Fail> {
     let mut files = Files::new(alloc);
     files.add("a.asm", text)?;
-    let mut sources = Vec::new(alloc);
-    sources.push(String::from_str(alloc, "a.asm")?)?;
-    Ok(run_chain(
-        alloc,
-        &files,
-        &sources,
-        inputs.command,
-        inputs.samples,
-        inputs.schedule,
-        n,
-    ))
+    answer_among(alloc, &files, "a.asm", inputs, n)
 }
 
-/// The text of n steps of a source.
-fn run_text(alloc: Global, text: &str, n: u32) -> Result<String, Fail> {
-    match answer(alloc, text, NONE, n)? {
-        Ok(chain) => Ok(write_run(alloc, &chain)?),
-        Err(_) => Err(Fail::from("it was refused")),
+/// What an answer prints: the lines of a run, which end with a line end, or a fault's line, which does not.
+fn printed(alloc: Global, answer: &Result<Chain, Fault>) -> Result<String, NoMemory> {
+    match answer {
+        Ok(chain) => write_run(alloc, chain),
+        Err(fault) => write_fault(alloc, fault),
     }
+}
+
+/// This is what an answer prints.
+fn prints(
+    rt: &(impl Abort + AllocGlobal),
+    answer: &Result<Chain, Fault>,
+    wanted: &str,
+) -> Result<(), Fail> {
+    let text = printed(rt.alloc(), answer)?;
+    assert_eq!(rt; text.as_str(), wanted);
+    Ok(())
+}
+
+/// This is what n steps of a source print.
+fn runs(rt: &(impl Abort + AllocGlobal), text: &str, n: u32, wanted: &str) -> Result<(), Fail> {
+    let found = answer(rt.alloc(), text, NONE, n)?;
+    prints(rt, &found, wanted)
 }
 
 /// A source is refused with this line.
@@ -65,14 +94,9 @@ fn is_refused(
     inputs: Inputs<'_>,
     line: &str,
 ) -> Result<(), Fail> {
-    match answer(rt.alloc(), text, inputs, 9)? {
-        Ok(_) => Err(Fail::from("it was not refused")),
-        Err(fault) => {
-            let told = write_fault(rt.alloc(), &fault)?;
-            assert_eq!(rt; told.as_str(), line);
-            Ok(())
-        }
-    }
+    let found = answer(rt.alloc(), text, inputs, 9)?;
+    assert!(rt; found.is_err());
+    prints(rt, &found, line)
 }
 
 /// A statement, so many times.
@@ -84,66 +108,81 @@ fn repeated(alloc: Global, statement: &str, count: usize) -> Result<String, Fail
     Ok(text)
 }
 
+/// Three steps put 41h out at port 1, and leave it in the accumulator and in data memory.
+fn has_put_41h(rt: &(impl Abort + AllocGlobal), chain: &Chain) {
+    assert_eq!(rt; chain.outputs.as_slice(), [(1, 0x41)].as_slice());
+    assert_eq!(rt; chain.outcome, Outcome::Ran);
+    assert_eq!(rt; chain.steps, 3);
+    assert_eq!(rt; chain.regs.pc, 3);
+    assert_eq!(rt; chain.regs.acc, 0x41);
+    assert_eq!(rt; chain.memory.len(), 65536);
+    assert_eq!(rt; chain.memory.get(0x60).copied(), Some(0x41));
+}
+
+/// The run of an answer.
+fn run_of(answer: &Result<Chain, Fault>) -> Result<&Chain, Fail> {
+    match answer {
+        Ok(chain) => Ok(chain),
+        Err(_) => Err(Fail::from("it was refused")),
+    }
+}
+
 #[test]
 fn branch_to_self_prints_41h(rt: HostRuntime) -> Result<(), Fail> {
-    match answer(rt.alloc(), WRITES_41H, NONE, 3)? {
-        Err(_) => return Err(Fail::from("it was refused")),
-        Ok(chain) => {
-            assert_eq!(rt; chain.outputs.as_slice(), [(1, 0x41)].as_slice());
-            assert_eq!(rt; chain.outcome, Outcome::Ran);
-            assert_eq!(rt; chain.steps, 3);
-            assert_eq!(rt; chain.regs.pc, 3);
-            assert_eq!(rt; chain.regs.acc, 0x41);
-            assert_eq!(rt; chain.memory.len(), 65536);
-            assert_eq!(rt; chain.memory.get(0x60).copied(), Some(0x41));
-        }
-    }
-    let text = run_text(rt.alloc(), WRITES_41H, 1000)?;
-    assert_eq!(rt; text.as_str(), "1 0041\nran 1000\n");
-    Ok(())
+    let found = answer(rt.alloc(), WRITES_41H, NONE, 3)?;
+    has_put_41h(&rt, run_of(&found)?);
+    runs(&rt, WRITES_41H, 1000, "1 0041\nran 1000\n")
 }
 
 #[test]
 fn empty_source_leaves_the_code(rt: HostRuntime) -> Result<(), Fail> {
-    let text = run_text(rt.alloc(), "", 1)?;
-    assert_eq!(rt; text.as_str(), "left 0 OutOfCode\n");
-    let text = run_text(rt.alloc(), "", 0)?;
-    assert_eq!(rt; text.as_str(), "ran 0\n");
-    match answer(rt.alloc(), "", NONE, 1)? {
-        Err(_) => Err(Fail::from("it was refused")),
-        Ok(chain) => {
-            assert_eq!(rt; chain.outcome, Outcome::Left(0, Stop::OutOfCode));
-            Ok(())
-        }
-    }
+    runs(&rt, "", 1, "left 0 OutOfCode\n")?;
+    runs(&rt, "", 0, "ran 0\n")?;
+    let found = answer(rt.alloc(), "", NONE, 1)?;
+    let chain = run_of(&found)?;
+    assert_eq!(rt; chain.outcome, Outcome::Left(0, Stop::OutOfCode));
+    Ok(())
+}
+
+/// A row for each line: how it is refused, `|`, and the line.
+const REFUSED: &str = "\
+22 Undefined| B GO
+51 OperandCount| LACK
+52 OperandForm| LACK *
+53 FieldRange| LACK 256
+53 FieldRange| SACL 65536
+53 FieldRange| OUT 0,16
+53 FieldRange| B 65536
+55 NotRelocatable|X LACK X
+20 BadExpression| B 1+
+10 BadLabel|9X NOP";
+
+/// A source of the line of a row is refused there.
+fn is_refused_there(rt: &(impl Abort + AllocGlobal), row: &str) -> Result<(), Fail> {
+    let (fault, line) = row.split_once('|').ok_or("no row")?;
+    let text = format!(in rt.alloc(); "{line}\n")?;
+    let told = format!(in rt.alloc(); "a.asm:1: {fault}")?;
+    is_refused(rt, text.as_str(), NONE, told.as_str())
 }
 
 #[test]
 fn faults_of_lines_are_told_there(rt: HostRuntime) -> Result<(), Fail> {
-    is_refused(&rt, " B GO\n", NONE, "a.asm:1: 22 Undefined")?;
+    for row in REFUSED.lines() {
+        is_refused_there(&rt, row)?;
+    }
     is_refused(&rt, "X LACK 1\n\nX LACK 2\n", NONE, "a.asm:3: 26 Defined")?;
     is_refused(
         &rt,
         " LACK 1\n FOO 1\n",
         NONE,
         "a.asm:2: 50 UnknownMnemonic",
-    )?;
-    is_refused(&rt, " LACK\n", NONE, "a.asm:1: 51 OperandCount")?;
-    is_refused(&rt, " LACK *\n", NONE, "a.asm:1: 52 OperandForm")?;
-    is_refused(&rt, " LACK 256\n", NONE, "a.asm:1: 53 FieldRange")?;
-    is_refused(&rt, " SACL 65536\n", NONE, "a.asm:1: 53 FieldRange")?;
-    is_refused(&rt, " OUT 0,16\n", NONE, "a.asm:1: 53 FieldRange")?;
-    is_refused(&rt, " B 65536\n", NONE, "a.asm:1: 53 FieldRange")?;
-    is_refused(&rt, "X LACK X\n", NONE, "a.asm:1: 55 NotRelocatable")?;
-    is_refused(&rt, " B 1+\n", NONE, "a.asm:1: 20 BadExpression")?;
-    is_refused(&rt, "9X NOP\n", NONE, "a.asm:1: 10 BadLabel")
+    )
 }
 
 #[test]
 fn too_many_words_are_told_at_the_first_one(rt: HostRuntime) -> Result<(), Fail> {
     let full = repeated(rt.alloc(), " LACK 1\n", 65536)?;
-    let text = run_text(rt.alloc(), &full, 2)?;
-    assert_eq!(rt; text.as_str(), "ran 2\n");
+    runs(&rt, &full, 2, "ran 2\n")?;
     let past = repeated(rt.alloc(), " LACK 1\n", 65537)?;
     is_refused(&rt, &past, NONE, "a.asm:65537: 54 TooLarge")
 }
@@ -194,25 +233,14 @@ fn a_return_alone_is_no_blank_line(rt: HostRuntime) -> Result<(), Fail> {
 #[test]
 fn a_missing_file_is_told_at_line_0(rt: HostRuntime) -> Result<(), Fail> {
     let files = Files::new(rt.alloc());
-    let mut sources = Vec::new(rt.alloc());
-    sources.push(String::from_str(rt.alloc(), "q")?)?;
-    match run_chain(rt.alloc(), &files, &sources, "", "", "", 1) {
-        Ok(_) => Err(Fail::from("it was not refused")),
-        Err(fault) => {
-            let told = write_fault(rt.alloc(), &fault)?;
-            assert_eq!(rt; told.as_str(), "q:0: 30 NoFile");
-            Ok(())
-        }
-    }
+    let found = answer_among(rt.alloc(), &files, "q", NONE, 1)?;
+    assert!(rt; found.is_err());
+    prints(&rt, &found, "q:0: 30 NoFile")
 }
 
 #[test]
 fn a_write_to_an_instruction_leaves_the_code(rt: HostRuntime) -> Result<(), Fail> {
-    let text = run_text(rt.alloc(), " LACK 2\n TBLW 60h\nS B S\n", 9)?;
-    assert_eq!(rt; text.as_str(), "left 1 CodeWrite\n");
-    let text = run_text(rt.alloc(), " RPTK 0\n B 0\n", 9)?;
-    assert_eq!(rt; text.as_str(), "left 1 BadRepeat\n");
-    let text = run_text(rt.alloc(), " IN 60h,PA2\n", 9)?;
-    assert_eq!(rt; text.as_str(), "left 0 PortDry\n");
-    Ok(())
+    runs(&rt, " LACK 2\n TBLW 60h\nS B S\n", 9, "left 1 CodeWrite\n")?;
+    runs(&rt, " RPTK 0\n B 0\n", 9, "left 1 BadRepeat\n")?;
+    runs(&rt, " IN 60h,PA2\n", 9, "left 0 PortDry\n")
 }

@@ -6,5 +6,3 @@ mod devices;
 pub mod ports;
 pub mod samples;
 pub mod schedule;
-#[cfg(test)]
-mod tests;

@@ -14,6 +14,3 @@ mod writing;
 
 pub use reading::read_hex;
 pub use writing::write_hex;
-
-#[cfg(test)]
-mod tests;

@@ -1,1 +1,2 @@
+pub mod AllNames
 pub mod Options

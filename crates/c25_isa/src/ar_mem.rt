@@ -102,9 +102,3 @@ pub(crate) fn show(
     text::push_place(out, addr)?;
     text::push_tail(out, addr)
 }
-
-/// All rows, for tests.
-#[cfg(test)]
-pub(crate) fn all() -> [ArMemName; 2] {
-    ar_mem_rows!(all())
-}

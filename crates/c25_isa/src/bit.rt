@@ -94,9 +94,3 @@ pub(crate) fn show(out: &mut String, name: BitName, addr: Addr, code: u16) -> Re
     write!(out, ",{code}")?;
     text::push_tail(out, addr)
 }
-
-/// All rows, for tests.
-#[cfg(test)]
-pub(crate) fn all() -> [BitName; 1] {
-    bit_rows!(all())
-}

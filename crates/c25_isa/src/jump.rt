@@ -118,9 +118,3 @@ pub(crate) fn show(
     out.push_str(text::text_of_change(change))?;
     text::push_next(out, next)
 }
-
-/// All rows, for tests.
-#[cfg(test)]
-pub(crate) fn all() -> [JumpName; 16] {
-    jump_rows!(all())
-}

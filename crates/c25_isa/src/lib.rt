@@ -118,6 +118,3 @@ pub fn size_of(mnemonic: Mnemonic) -> u16
         Mnemonic::Plain(name) => plain::size_of(name),
     }
 }
-
-#[cfg(test)]
-mod tests;

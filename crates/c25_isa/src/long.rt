@@ -108,9 +108,3 @@ pub(crate) fn show(out: &mut String, name: LongName, number: u16, high: u16) -> 
         }
     }
 }
-
-/// All rows, for tests.
-#[cfg(test)]
-pub(crate) fn all() -> [LongName; 7] {
-    long_rows!(all())
-}

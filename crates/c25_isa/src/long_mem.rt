@@ -103,9 +103,3 @@ pub(crate) fn show(
     text::push_place(out, addr)?;
     text::push_tail(out, addr)
 }
-
-/// All rows, for tests.
-#[cfg(test)]
-pub(crate) fn all() -> [LongMemName; 4] {
-    long_mem_rows!(all())
-}

@@ -133,9 +133,3 @@ pub(crate) fn show(out: &mut String, name: MemName, addr: Addr) -> Result<(), No
     text::push_place(out, addr)?;
     text::push_tail(out, addr)
 }
-
-/// All rows, for tests.
-#[cfg(test)]
-pub(crate) fn all() -> [MemName; 43] {
-    mem_rows!(all())
-}

@@ -169,9 +169,3 @@ pub(crate) fn show(out: &mut String, name: PlainName, operand: PlainOperand) -> 
         }
     }
 }
-
-/// All rows, for tests.
-#[cfg(test)]
-pub(crate) fn all() -> [PlainName; 41] {
-    plain_rows!(all())
-}

@@ -96,9 +96,3 @@ pub(crate) fn show(out: &mut String, name: PortName, addr: Addr, port: u16) -> R
     write!(out, ",PA{port}")?;
     text::push_tail(out, addr)
 }
-
-/// All rows, for tests.
-#[cfg(test)]
-pub(crate) fn all() -> [PortName; 2] {
-    port_rows!(all())
-}

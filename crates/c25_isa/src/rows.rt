@@ -65,24 +65,14 @@ macro_rules! text_of {
 
 /// The name that has a text, in either case.
 macro_rules! named {
-    ($names:ident $words:literal $name:expr; $($row:ident $text:literal $($number:literal)+,)*) => {
-        match $name {
-            $(text if text.eq_ignore_ascii_case($text) => Some($names::$row),)*
-            _ => None,
-        }
-    };
-}
-
-/// All names of a family.
-#[cfg(test)]
-macro_rules! all {
-    ($names:ident $words:literal $nothing:expr; $($row:ident $text:literal $($number:literal)+,)*) => {
+    ($names:ident $words:literal $text:expr; $($row:ident $written:literal $($number:literal)+,)*) => {
         [$($names::$row,)*]
+            .iter()
+            .find(|name| text_of(**name).eq_ignore_ascii_case($text))
+            .copied()
     };
 }
 
-#[cfg(test)]
-pub(crate) use all;
 pub(crate) use base_of;
 pub(crate) use name_at;
 pub(crate) use named;

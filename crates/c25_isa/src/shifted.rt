@@ -105,9 +105,3 @@ pub(crate) fn show(
     write!(out, ",{shift}")?;
     text::push_tail(out, addr)
 }
-
-/// All rows, for tests.
-#[cfg(test)]
-pub(crate) fn all() -> [ShiftedName; 5] {
-    shifted_rows!(all())
-}

@@ -126,9 +126,3 @@ pub(crate) fn show(
         _ => Ok(write!(out, " {number}")?),
     }
 }
-
-/// All rows, for tests.
-#[cfg(test)]
-pub(crate) fn all() -> [ShortName; 9] {
-    short_rows!(all())
-}

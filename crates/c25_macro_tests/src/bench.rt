@@ -5,33 +5,45 @@ use c25_macro::answer::{ExpLine, ExpandFault};
 use c25_macro::expander::Expander;
 use c25_macro::files::Files;
 use c25_meaning::failure::Failure;
-use std::alloc::Global;
+use c25_meaning::statement::FaultKind;
+use std::alloc::{AllocError, Global};
 use std::process::Abort;
 use std::test::Fail;
+
+/// A line that is given, as a row of the cases has it.
+fn shown_line(alloc: Global, line: usize, text: &str) -> Result<String, AllocError> {
+    let mut row = String::from_str(alloc, ">")?;
+    write!(row, "{line}|")?;
+    row.push_str(text)?;
+    Ok(row)
+}
+
+/// A fault, as a row of the cases has it.
+fn shown_fault(alloc: Global, line: usize, kind: FaultKind) -> Result<String, AllocError> {
+    format!(in alloc; "!{line} {kind}")
+}
 
 /// An answer as a row of the cases has it.
 fn shown(
     alloc: Global,
-    answer: Result<Option<ExpLine<'_>>, Failure<ExpandFault<'_>>>,
-) -> Result<String, Fail> {
-    Ok(match answer {
-        Ok(Some(ExpLine { line, text, .. })) => format!(in alloc; ">{line}|{text}")?,
-        Ok(None) => String::from_str(alloc, ".")?,
-        Err(Failure::Fault(ExpandFault { line, kind, .. })) => {
-            format!(in alloc; "!{line} {kind:?}")?
-        }
-        Err(Failure::NoMemory(_)) => String::from_str(alloc, "NoMemory")?,
-    })
+    answer: &Result<Option<ExpLine<'_>>, Failure<ExpandFault<'_>>>,
+) -> Result<String, AllocError> {
+    match answer {
+        Ok(Some(given)) => shown_line(alloc, given.line, given.text.as_str()),
+        Ok(None) => String::from_str(alloc, "."),
+        Err(Failure::Fault(fault)) => shown_fault(alloc, fault.line, fault.kind),
+        Err(Failure::NoMemory(_)) => String::from_str(alloc, "NoMemory"),
+    }
 }
 
 /// The next answer of an expansion.
-pub(crate) fn next(
+fn next(
     alloc: Global,
     expander: &mut Expander<'_>,
     symbols: &Symbols,
-) -> Result<String, Fail> {
+) -> Result<String, AllocError> {
     let answer = expander.next_line(symbols);
-    shown(alloc, answer)
+    shown(alloc, &answer)
 }
 
 /// The one file `a.asm` with this text.
@@ -51,6 +63,16 @@ pub(crate) fn agrees(
     let found = next(rt.alloc(), expander, symbols)?;
     assert_eq!(rt; found.as_str(), row);
     Ok(())
+}
+
+/// This file is missing to an expansion.
+pub(crate) fn misses(
+    rt: &(impl Abort + AllocGlobal),
+    expander: &Expander<'_>,
+    wanted: Option<&str>,
+) {
+    let name = expander.missing();
+    assert_eq!(rt; name, wanted);
 }
 
 /// The expansion of `a.asm` gives these rows, and goes on with the last of them.
@@ -80,18 +102,41 @@ pub(crate) fn gives(rt: &(impl Abort + AllocGlobal), text: &str, rows: &str) -> 
     answers(rt, &files, &symbols, rows)
 }
 
-/// The last answer of a source's expansion under no symbols, and how many lines come before it.
-pub(crate) fn end_of(alloc: Global, text: &str) -> Result<(usize, String), Fail> {
+/// Whether an answer is a line.
+fn is_line(answer: &Result<Option<ExpLine<'_>>, Failure<ExpandFault<'_>>>) -> bool {
+    matches!(answer, Ok(Some(_)))
+}
+
+/// Whether the next answer of an expansion is a line.
+fn gives_line(expander: &mut Expander<'_>, symbols: &Symbols) -> bool {
+    let answer = expander.next_line(symbols);
+    is_line(&answer)
+}
+
+/// Whether the next answers of an expansion, so many, are lines.
+fn gives_lines(expander: &mut Expander<'_>, symbols: &Symbols, count: usize) -> bool {
+    for _ in 0..count {
+        if !gives_line(expander, symbols) {
+            return false;
+        }
+    }
+    true
+}
+
+/// The source of this text, expanded under no symbols, gives so many lines and then this row.
+pub(crate) fn ends(
+    rt: &(impl Abort + AllocGlobal),
+    text: &str,
+    lines: usize,
+    row: &str,
+) -> Result<(), Fail> {
+    let alloc = rt.alloc();
     let files = source(alloc, text)?;
     let symbols = Symbols::new(alloc);
     let mut expander = Expander::new(alloc, &files, "a.asm");
-    for count in 0..200_001usize {
-        let answer = expander.next_line(&symbols);
-        if !matches!(&answer, Ok(Some(_))) {
-            return Ok((count, shown(alloc, answer)?));
-        }
-    }
-    Err(Fail::from("it does not end"))
+    let are_lines = gives_lines(&mut expander, &symbols, lines);
+    assert!(rt; are_lines);
+    agrees(rt, &mut expander, &symbols, row)
 }
 
 /// The source of a case gives its rows.

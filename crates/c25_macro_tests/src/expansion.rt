@@ -1,6 +1,6 @@
 //! Sources expanded, with answers from the assembler's rules.
 
-use crate::bench::{agree_with_the_model, agrees, answers, end_of, gives, next, source};
+use crate::bench::{agree_with_the_model, agrees, answers, ends, gives, misses, source};
 use crate::cases_conditions::CONDITIONS;
 use crate::cases_loops::LOOPS;
 use crate::cases_macros::MACROS;
@@ -56,26 +56,25 @@ fn conditions_see_what_was_defined_before_them(rt: HostRuntime) -> Result<(), Fa
 fn sees_the_new_symbol(
     rt: &(impl Abort + AllocGlobal),
     expander: &mut Expander<'_>,
-    symbols: &mut Symbols,
 ) -> Result<(), Fail> {
-    agrees(rt, expander, symbols, ">1|X .set 1")?;
-    assert_eq!(rt; expander.missing(), None);
+    let mut symbols = Symbols::new(rt.alloc());
+    agrees(rt, expander, &symbols, ">1|X .set 1")?;
+    misses(rt, expander, None);
     let one = Value {
         base: Base::Absolute,
         offset: 1,
     };
     symbols.define("X", one)?;
-    agrees(rt, expander, symbols, ">3| NOP")?;
-    agrees(rt, expander, symbols, ".")
+    agrees(rt, expander, &symbols, ">3| NOP")?;
+    agrees(rt, expander, &symbols, ".")
 }
 
 #[test]
 fn symbols_are_seen_from_the_next_call_on(rt: HostRuntime) -> Result<(), Fail> {
     let alloc = rt.alloc();
     let files = source(alloc, "X .set 1\n .if X\n NOP\n .endif\n")?;
-    let mut symbols = Symbols::new(alloc);
     let mut expander = Expander::new(alloc, &files, "a.asm");
-    sees_the_new_symbol(&rt, &mut expander, &mut symbols)
+    sees_the_new_symbol(&rt, &mut expander)
 }
 
 #[test]
@@ -91,40 +90,45 @@ fn files_are_copied_by_their_names(rt: HostRuntime) -> Result<(), Fail> {
     )
 }
 
-/// The next answer of an expansion is that the file `q` is missing.
-fn misses_q(
+/// The next answer of an expansion is this row, and this file is missing.
+fn misses_file(
     rt: &(impl Abort + AllocGlobal),
     expander: &mut Expander<'_>,
     symbols: &Symbols,
+    row: &str,
+    name: &str,
 ) -> Result<(), Fail> {
-    agrees(rt, expander, symbols, "!1 NoFile")?;
-    assert_eq!(rt; expander.missing(), Some("q"));
+    agrees(rt, expander, symbols, row)?;
+    misses(rt, expander, Some(name));
+    Ok(())
+}
+
+/// The first answers of a module's expansion are this row, and this file is missing.
+fn begins_without(
+    rt: &(impl Abort + AllocGlobal),
+    files: &Files,
+    module: &str,
+    row: &str,
+    name: &str,
+) -> Result<(), Fail> {
+    let symbols = Symbols::new(rt.alloc());
+    let mut expander = Expander::new(rt.alloc(), files, module);
+    for _ in 0..2 {
+        misses_file(rt, &mut expander, &symbols, row, name)?;
+    }
     Ok(())
 }
 
 #[test]
 fn a_file_that_is_not_there_is_named(rt: HostRuntime) -> Result<(), Fail> {
-    let alloc = rt.alloc();
-    let files = source(alloc, " .copy \"q\"\n")?;
-    let symbols = Symbols::new(alloc);
-    let mut expander = Expander::new(alloc, &files, "a.asm");
-    for _ in 0..2 {
-        misses_q(&rt, &mut expander, &symbols)?;
-    }
-    Ok(())
+    let files = source(rt.alloc(), " .copy \"q\"\n")?;
+    begins_without(&rt, &files, "a.asm", "!1 NoFile", "q")
 }
 
 #[test]
 fn a_module_that_is_not_there_is_told_at_line_0(rt: HostRuntime) -> Result<(), Fail> {
-    let alloc = rt.alloc();
-    let files = Files::new(alloc);
-    let symbols = Symbols::new(alloc);
-    let mut expander = Expander::new(alloc, &files, "m");
-    for _ in 0..2 {
-        assert_eq!(rt; next(alloc, &mut expander, &symbols)?.as_str(), "!0 NoFile");
-        assert_eq!(rt; expander.missing(), Some("m"));
-    }
-    Ok(())
+    let files = Files::new(rt.alloc());
+    begins_without(&rt, &files, "m", "!0 NoFile", "m")
 }
 
 #[test]
@@ -142,15 +146,10 @@ fn a_body_that_copies_its_own_file_is_refused(rt: HostRuntime) -> Result<(), Fai
 
 #[test]
 fn a_module_has_at_most_200_000_lines(rt: HostRuntime) -> Result<(), Fail> {
-    let alloc = rt.alloc();
-    let (count, last) = end_of(alloc, " .loop 50000\n .space 0\n .endloop\n")?;
-    assert_eq!(rt; count, 50000);
-    assert_eq!(rt; last.as_str(), ".");
+    ends(&rt, " .loop 50000\n .space 0\n .endloop\n", 50000, ".")?;
     // `.loop`, its collected line and `.endloop` are read before the turns.
-    let (count, last) = end_of(alloc, " .loop 200001\n .space 0\n .endloop\n")?;
-    assert_eq!(rt; count, 199_997);
-    assert_eq!(rt; last.as_str(), "!2 Lines");
-    Ok(())
+    let text = " .loop 200001\n .space 0\n .endloop\n";
+    ends(&rt, text, 199_997, "!2 Lines")
 }
 
 /// So many `.if` blocks, one in another.
@@ -164,12 +163,9 @@ fn nested(alloc: Global, depth: u8) -> Result<String, Fail> {
 
 #[test]
 fn at_most_32_blocks_are_open(rt: HostRuntime) -> Result<(), Fail> {
-    let alloc = rt.alloc();
     for (depth, wanted) in [(32u8, "."), (33, "!33 Depth")] {
-        let text = nested(alloc, depth)?;
-        let (count, last) = end_of(alloc, text.as_str())?;
-        assert_eq!(rt; count, 0);
-        assert_eq!(rt; last.as_str(), wanted);
+        let text = nested(rt.alloc(), depth)?;
+        ends(&rt, text.as_str(), 0, wanted)?;
     }
     Ok(())
 }
@@ -194,14 +190,21 @@ fn texts_are_expanded_as_by_the_model(rt: HostRuntime) -> Result<(), Fail> {
     agree_with_the_model(&rt, TEXTS)
 }
 
+/// The file of this name has this text.
+fn has(rt: &(impl Abort + AllocGlobal), files: &Files, name: &str, text: Option<&str>) {
+    let found = files.text(name);
+    assert_eq!(rt; found, text);
+}
+
 #[test]
 fn files_keep_the_first_text_of_a_name(rt: HostRuntime) -> Result<(), Fail> {
     let mut files = Files::new(rt.alloc());
     files.add("a", "1")?;
     files.add("b", "2")?;
-    assert_eq!(rt; files.add("a", "3"), Err(Failure::Fault(FileTwice)));
-    assert_eq!(rt; files.text("a"), Some("1"));
-    assert_eq!(rt; files.text("b"), Some("2"));
-    assert_eq!(rt; files.text("A"), None);
+    let again = files.add("a", "3");
+    assert_eq!(rt; again, Err(Failure::Fault(FileTwice)));
+    has(&rt, &files, "a", Some("1"));
+    has(&rt, &files, "b", Some("2"));
+    has(&rt, &files, "A", None);
     Ok(())
 }

@@ -3,11 +3,13 @@
 use c25_meaning::expansion::LongLine;
 use c25_meaning::failure::Failure;
 use c25_substitution::arguments::{arguments, assigned_text};
+use c25_substitution::parameters::Arguments;
 use c25_substitution::strings::string_text;
 use c25_substitution::substitution::{substitute, substitute_before_comma, unsubstituted};
 use c25_substitution::texts::Texts;
 use c25_substitution::visible::Visible;
-use std::alloc::Global;
+use std::alloc::{AllocError, Global};
+use std::process::Abort;
 use std::test::Fail;
 
 /// A row for each name: it, `|`, and its text.
@@ -47,61 +49,98 @@ const ASSIGNMENTS: &str = r#" .asg 1,k| .asg k,k
  .asg 1| .asg k
 L .asg 1;,k|L .asg k;,k"#;
 
+/// Puts the text of a row.
+fn put(texts: &mut Texts, alloc: Global, row: &str) -> Result<(), Fail> {
+    let (name, text) = row.split_once('|').ok_or("no row")?;
+    let text = String::from_str(alloc, text)?;
+    texts.put(name, text)?;
+    Ok(())
+}
+
 fn texts(alloc: Global) -> Result<Texts, Fail> {
     let mut texts = Texts::new(alloc);
     for row in TEXTS.lines() {
-        let (name, text) = row.split_once('|').ok_or("no row")?;
-        texts.put(name, String::from_str(alloc, text)?)?;
+        put(&mut texts, alloc, row)?;
     }
     Ok(texts)
 }
 
+/// The texts alone, outside macros.
+fn outside(texts: &Texts) -> Visible<'_> {
+    Visible {
+        arguments: None,
+        texts,
+    }
+}
+
+/// A line is substituted as its row says.
+fn replaces(rt: &(impl Abort + AllocGlobal), names: &Visible<'_>, row: &str) -> Result<(), Fail> {
+    let (want, line) = row.split_once('|').ok_or("no row")?;
+    let found = substitute(rt.alloc(), names, 0, line)?;
+    assert_eq!(rt; found.as_str(), want);
+    Ok(())
+}
+
 #[test]
 fn names_are_replaced(rt: HostRuntime) -> Result<(), Fail> {
-    let alloc = rt.alloc();
-    let texts = texts(alloc)?;
-    let names = Visible {
-        arguments: None,
-        texts: &texts,
-    };
+    let texts = texts(rt.alloc())?;
+    let names = outside(&texts);
     for row in LINES.lines() {
-        let (want, line) = row.split_once('|').ok_or("no row")?;
-        assert_eq!(rt; substitute(alloc, &names, 0, line)?.as_str(), want);
+        replaces(&rt, &names, row)?;
     }
-    assert_eq!(rt; unsubstituted(alloc, "k .macro k")?.as_str(), "k .macro k");
+    Ok(())
+}
+
+#[test]
+fn lines_of_macros_are_kept(rt: HostRuntime) -> Result<(), Fail> {
+    let line = unsubstituted(rt.alloc(), "k .macro k")?;
+    assert_eq!(rt; line.as_str(), "k .macro k");
+    Ok(())
+}
+
+/// A line of `.asg` or `.eval` is substituted as its row says.
+fn replaces_before_comma(
+    rt: &(impl Abort + AllocGlobal),
+    names: &Visible<'_>,
+    row: &str,
+) -> Result<(), Fail> {
+    let (want, line) = row.split_once('|').ok_or("no row")?;
+    let found = substitute_before_comma(rt.alloc(), names, 0, line)?;
+    assert_eq!(rt; found.as_str(), want);
     Ok(())
 }
 
 #[test]
 fn names_are_replaced_before_the_last_comma(rt: HostRuntime) -> Result<(), Fail> {
-    let alloc = rt.alloc();
-    let texts = texts(alloc)?;
-    let names = Visible {
-        arguments: None,
-        texts: &texts,
-    };
+    let texts = texts(rt.alloc())?;
+    let names = outside(&texts);
     for row in ASSIGNMENTS.lines() {
-        let (want, line) = row.split_once('|').ok_or("no row")?;
-        assert_eq!(rt;
-            substitute_before_comma(alloc, &names, 0, line)?.as_str(),
-            want
-        );
+        replaces_before_comma(&rt, &names, row)?;
     }
     Ok(())
 }
 
+/// The arguments `3` for x and `p` for k, of a macro of the parameters x, k and x.
+fn reset_arguments(rt: &(impl Abort + AllocGlobal)) -> Result<Arguments, Fail> {
+    let alloc = rt.alloc();
+    let names = parameters(alloc, "x k x")?;
+    let mut arguments = arguments(alloc, names.as_slice(), " P 4,p,5")?;
+    let known = arguments.set("x", String::from_str(alloc, "3")?).is_ok();
+    assert!(rt; known);
+    let unknown = arguments.set("foo", String::from_str(alloc, "3")?).is_err();
+    assert!(rt; unknown);
+    Ok(arguments)
+}
+
 #[test]
 fn arguments_are_seen_first(rt: HostRuntime) -> Result<(), Fail> {
-    let alloc = rt.alloc();
-    let texts = texts(alloc)?;
-    let mut arguments = arguments(alloc, parameters(alloc, "x k x")?.as_slice(), " P 4,p,5")?;
-    assert!(rt; arguments.set("x", String::from_str(alloc, "3")?).is_ok());
-    assert!(rt; arguments.set("foo", String::from_str(alloc, "3")?).is_err());
+    let texts = texts(rt.alloc())?;
+    let arguments = reset_arguments(&rt)?;
     let names = Visible {
         arguments: Some(&arguments),
         texts: &texts,
     };
-    let line = substitute(alloc, &names, 12, " x,k,foo x? \"x:x:\"")?;
+    let line = substitute(rt.alloc(), &names, 12, " x,k,foo x? \"x:x:\"")?;
     assert_eq!(rt; line.as_str(), " 3,p,9 x_12 \"x3\"");
     Ok(())
 }
@@ -115,22 +154,33 @@ fn repeated(alloc: Global, text: &str, count: usize) -> Result<String, Fail> {
     Ok(all)
 }
 
+/// Whether a line got too long.
+fn is_long(line: &Result<String, Failure<LongLine>>) -> bool {
+    matches!(line, Err(Failure::Fault(LongLine)))
+}
+
+/// A line is substituted by itself, with an `x` behind it it is too long.
+fn is_as_long_as_may_be(
+    rt: &(impl Abort + AllocGlobal),
+    names: &Visible<'_>,
+    line: &str,
+) -> Result<(), Fail> {
+    let alloc = rt.alloc();
+    let found = substitute(alloc, names, 0, line)?;
+    assert_eq!(rt; found.as_str(), line);
+    let longer = format!(in alloc; "{line}x")?;
+    assert!(rt; is_long(&substitute(alloc, names, 0, longer.as_str())));
+    assert!(rt; is_long(&unsubstituted(alloc, longer.as_str())));
+    Ok(())
+}
+
 #[test]
 fn a_line_has_1024_bytes(rt: HostRuntime) -> Result<(), Fail> {
-    let alloc = rt.alloc();
-    let texts = texts(alloc)?;
-    let names = Visible {
-        arguments: None,
-        texts: &texts,
-    };
-    let refused = Err(Failure::Fault(LongLine));
+    let texts = texts(rt.alloc())?;
+    let names = outside(&texts);
     for text in ["x", "é", ";", "*"] {
-        let line = repeated(alloc, text, 1024 / text.len())?;
-        let longer = format!(in alloc; "{line}x")?;
-        let (line, longer) = (line.as_str(), longer.as_str());
-        assert_eq!(rt; substitute(alloc, &names, 0, line)?.as_str(), line);
-        assert_eq!(rt; substitute(alloc, &names, 0, longer).map(|_| ()), refused);
-        assert_eq!(rt; unsubstituted(alloc, longer).map(|_| ()), refused);
+        let line = repeated(rt.alloc(), text, 1024 / text.len())?;
+        is_as_long_as_may_be(&rt, &names, line.as_str())?;
     }
     Ok(())
 }
@@ -139,22 +189,13 @@ fn a_line_has_1024_bytes(rt: HostRuntime) -> Result<(), Fail> {
 fn a_line_takes_1024_replacements(rt: HostRuntime) -> Result<(), Fail> {
     let alloc = rt.alloc();
     let texts = texts(alloc)?;
-    let names = Visible {
-        arguments: None,
-        texts: &texts,
-    };
-    let refused = Err(Failure::Fault(LongLine));
+    let names = outside(&texts);
     let full = repeated(alloc, ":e:", 1024)?;
-    assert_eq!(rt; substitute(alloc, &names, 0, full.as_str())?.as_str(), "");
+    let found = substitute(alloc, &names, 0, full.as_str())?;
+    assert_eq!(rt; found.as_str(), "");
     let more = repeated(alloc, ":e:", 1025)?;
-    assert_eq!(rt;
-        substitute(alloc, &names, 0, more.as_str()).map(|_| ()),
-        refused
-    );
-    assert_eq!(rt;
-        substitute_before_comma(alloc, &names, 0, more.as_str()).map(|_| ()),
-        refused
-    );
+    assert!(rt; is_long(&substitute(alloc, &names, 0, more.as_str())));
+    assert!(rt; is_long(&substitute_before_comma(alloc, &names, 0, more.as_str())));
     Ok(())
 }
 
@@ -166,30 +207,60 @@ const CALLS: &str = r#"1|2| P 1, 2 ,3
 ;|'|P P ";","'"
 ','|a|P P ',',"a","b""#;
 
+/// Adds a name.
+fn push_name(names: &mut Vec<String>, alloc: Global, name: &str) -> Result<(), AllocError> {
+    let name = String::from_str(alloc, name)?;
+    names.push(name)?;
+    Ok(())
+}
+
 /// Names, parted by blanks.
-fn parameters(alloc: Global, names: &str) -> Result<Vec<String>, Fail> {
+fn parameters(alloc: Global, names: &str) -> Result<Vec<String>, AllocError> {
     let mut parameters = Vec::new(alloc);
     for name in names.split(' ') {
-        parameters.push(String::from_str(alloc, name)?)?;
+        push_name(&mut parameters, alloc, name)?;
     }
     Ok(parameters)
 }
 
+/// The parameter of this name has this argument.
+fn has(
+    rt: &(impl Abort + AllocGlobal),
+    arguments: &Arguments,
+    name: &str,
+    wanted: Option<&str>,
+    line: &str,
+) {
+    let found = arguments.get(name);
+    assert_eq!(rt; found, wanted, "{line}");
+}
+
+/// A call of a macro has the arguments of its row.
+fn calls(rt: &(impl Abort + AllocGlobal), parameters: &[String], row: &str) -> Result<(), Fail> {
+    let (x, rest) = row.split_once('|').ok_or("no row")?;
+    let (y, line) = rest.split_once('|').ok_or("no row")?;
+    let found = arguments(rt.alloc(), parameters, line)?;
+    has(rt, &found, "x", Some(x), line);
+    has(rt, &found, "y", Some(y), line);
+    Ok(())
+}
+
 #[test]
 fn parameters_have_their_arguments(rt: HostRuntime) -> Result<(), Fail> {
-    let alloc = rt.alloc();
-    let three = parameters(alloc, "x y x")?;
+    let three = parameters(rt.alloc(), "x y x")?;
     for row in CALLS.lines() {
-        let (x, rest) = row.split_once('|').ok_or("no row")?;
-        let (y, line) = rest.split_once('|').ok_or("no row")?;
-        let found = arguments(alloc, three.as_slice(), line)?;
-        assert_eq!(rt; found.get("x"), Some(x), "{line}");
-        assert_eq!(rt; found.get("y"), Some(y), "{line}");
+        calls(&rt, three.as_slice(), row)?;
     }
-    let alone = parameters(alloc, "x")?;
-    let one = arguments(alloc, alone.as_slice(), "L P 1, 2 ,3 ;")?;
-    assert_eq!(rt; one.get("x"), Some("1, 2 ,3"));
-    assert_eq!(rt; one.get("y"), None);
+    Ok(())
+}
+
+#[test]
+fn the_last_parameter_has_all_that_is_left(rt: HostRuntime) -> Result<(), Fail> {
+    let alone = parameters(rt.alloc(), "x")?;
+    let line = "L P 1, 2 ,3 ;";
+    let one = arguments(rt.alloc(), alone.as_slice(), line)?;
+    has(&rt, &one, "x", Some("1, 2 ,3"), line);
+    has(&rt, &one, "y", None, line);
     Ok(())
 }
 
@@ -202,28 +273,43 @@ a"b|L .asg "a""b" ,k ; x,y
 const ARGUMENTS: &str = r#""a","b"|  "a","b"
 "string"| """string""" "#;
 
+/// The text that a line of `.asg` assigns is its row's.
+fn assigns(rt: &(impl Abort + AllocGlobal), row: &str) -> Result<(), Fail> {
+    let (want, line) = row.split_once('|').ok_or("no row")?;
+    let found = assigned_text(rt.alloc(), line)?;
+    assert_eq!(rt; found.as_str(), want);
+    Ok(())
+}
+
 #[test]
 fn assigned_texts_lose_their_quotes(rt: HostRuntime) -> Result<(), Fail> {
     for row in ASSIGNED.lines() {
-        let (want, line) = row.split_once('|').ok_or("no row")?;
-        assert_eq!(rt; assigned_text(rt.alloc(), line)?.as_str(), want);
+        assigns(&rt, row)?;
+    }
+    Ok(())
+}
+
+/// The one argument of a call is its row's.
+fn calls_alone(rt: &(impl Abort + AllocGlobal), alone: &[String], row: &str) -> Result<(), Fail> {
+    let (want, text) = row.split_once('|').ok_or("no row")?;
+    let line = format!(in rt.alloc(); " P {text}")?;
+    let found = arguments(rt.alloc(), alone, line.as_str())?;
+    has(rt, &found, "x", Some(want), text);
+    Ok(())
+}
+
+#[test]
+fn arguments_lose_their_quotes(rt: HostRuntime) -> Result<(), Fail> {
+    let alone = parameters(rt.alloc(), "x")?;
+    for row in ARGUMENTS.lines() {
+        calls_alone(&rt, alone.as_slice(), row)?;
     }
     Ok(())
 }
 
 #[test]
 fn strings_lose_their_quotes(rt: HostRuntime) -> Result<(), Fail> {
-    let alloc = rt.alloc();
-    let alone = parameters(alloc, "x")?;
-    for row in ARGUMENTS.lines() {
-        let (want, text) = row.split_once('|').ok_or("no row")?;
-        let found = arguments(
-            alloc,
-            alone.as_slice(),
-            format!(in alloc; " P {text}")?.as_str(),
-        )?;
-        assert_eq!(rt; found.get("x"), Some(want));
-    }
-    assert_eq!(rt; string_text(alloc, "\"é\"\"\"")?.as_str(), "é\"");
+    let text = string_text(rt.alloc(), "\"é\"\"\"")?;
+    assert_eq!(rt; text.as_str(), "é\"");
     Ok(())
 }

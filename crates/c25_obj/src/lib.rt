@@ -28,6 +28,3 @@ pub use parts::{Body, Parts, Section, Symbol};
 pub use reading::read_module;
 pub use spelling::spells;
 pub use writing::write_module;
-
-#[cfg(test)]
-mod tests;

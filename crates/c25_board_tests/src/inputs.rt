@@ -1,13 +1,14 @@
 //! Samples and schedules. The texts are written a case a line: what reading it answers, `|`, and
 //! the text as `spelled` reads it.
 
-use crate::ports::Feed;
-use crate::samples::{BadSamples, Samples, read_samples};
-use crate::schedule::{BadSchedule, Schedule, read_schedule};
 use bitflags::Flags;
+use c25_board::ports::Feed;
+use c25_board::samples::{BadSamples, Samples, read_samples};
+use c25_board::schedule::{BadSchedule, Schedule, read_schedule};
 use c25_meaning::failure::Failure;
 use c25_meaning::schedule::Event;
 use std::alloc::{AllocError, Global};
+use std::process::Abort;
 use std::test::Fail;
 
 /// A text that is written with `$` for LF, `^` for CR, `~` for a tab, `&` for a form feed, `@` for
@@ -81,35 +82,53 @@ fn schedule_told(alloc: Global, text: &str) -> Result<String, Fail> {
     }
 }
 
+/// The samples of a case are read as it says.
+fn reads_samples(rt: &(impl Abort + AllocGlobal), case: &str) -> Result<(), Fail> {
+    let (told, written) = case.split_once('|').ok_or("no bar")?;
+    let text = spelled(rt.alloc(), written)?;
+    let answer = samples_told(rt.alloc(), text.as_str())?;
+    assert_eq!(rt; answer.as_str(), told, "in {written:?}");
+    Ok(())
+}
+
 #[test]
 fn samples_are_read(rt: HostRuntime) -> Result<(), Fail> {
     for case in SAMPLES.lines() {
-        let (told, written) = case.split_once('|').ok_or("no bar")?;
-        let text = spelled(rt.alloc(), written)?;
-        let answer = samples_told(rt.alloc(), text.as_str())?;
-        assert_eq!(rt; answer.as_str(), told, "in {written:?}");
+        reads_samples(&rt, case)?;
     }
+    Ok(())
+}
+
+/// The schedule of a case is read as it says.
+fn reads_schedule(rt: &(impl Abort + AllocGlobal), case: &str) -> Result<(), Fail> {
+    let (told, written) = case.split_once('|').ok_or("no bar")?;
+    let text = spelled(rt.alloc(), written)?;
+    let answer = schedule_told(rt.alloc(), text.as_str())?;
+    assert_eq!(rt; answer.as_str(), told, "in {written:?}");
     Ok(())
 }
 
 #[test]
 fn schedules_are_read(rt: HostRuntime) -> Result<(), Fail> {
     for case in SCHEDULES.lines() {
-        let (told, written) = case.split_once('|').ok_or("no bar")?;
-        let text = spelled(rt.alloc(), written)?;
-        let answer = schedule_told(rt.alloc(), text.as_str())?;
-        assert_eq!(rt; answer.as_str(), told, "in {written:?}");
+        reads_schedule(&rt, case)?;
     }
+    Ok(())
+}
+
+/// A text without items is empty as samples and as a schedule.
+fn is_empty(rt: &(impl Abort + AllocGlobal), text: &str) -> Result<(), Fail> {
+    let mut samples = read_samples(rt.alloc(), text)?;
+    assert_eq!(rt; samples.take(0), None);
+    let schedule = read_schedule(rt.alloc(), text)?;
+    assert!(rt; schedule.as_slice().is_empty());
     Ok(())
 }
 
 #[test]
 fn texts_without_items_are_empty(rt: HostRuntime) -> Result<(), Fail> {
     for text in ["", "\n", " \t\r\n\n"] {
-        let mut samples = read_samples(rt.alloc(), text)?;
-        assert_eq!(rt; samples.take(0), None);
-        let schedule = read_schedule(rt.alloc(), text)?;
-        assert_eq!(rt; schedule.as_slice().is_empty(), true);
+        is_empty(&rt, text)?;
     }
     Ok(())
 }
@@ -117,15 +136,20 @@ fn texts_without_items_are_empty(rt: HostRuntime) -> Result<(), Fail> {
 #[test]
 fn ports_take_in_turn(rt: HostRuntime) -> Result<(), Fail> {
     let mut samples = read_samples(rt.alloc(), "1 000A\n2 000B\n1 000C\n2 000D\n")?;
-    assert_eq!(rt; samples.take(2), Some(0xb));
-    assert_eq!(rt; samples.take(1), Some(0xa));
-    assert_eq!(rt; samples.take(1), Some(0xc));
-    assert_eq!(rt; samples.take(1), None);
-    assert_eq!(rt; samples.take(2), Some(0xd));
-    assert_eq!(rt; samples.take(2), None);
-    assert_eq!(rt; samples.take(0), None);
-    assert_eq!(rt; samples.take(16), None);
-    assert_eq!(rt; samples.take(u16::MAX), None);
+    for (port, word) in [
+        (2, Some(0xb)),
+        (1, Some(0xa)),
+        (1, Some(0xc)),
+        (1, None),
+        (2, Some(0xd)),
+        (2, None),
+        (0, None),
+        (16, None),
+        (u16::MAX, None),
+    ] {
+        let found = samples.take(port);
+        assert_eq!(rt; found, word, "at port {port}");
+    }
     Ok(())
 }
 

@@ -2,11 +2,9 @@
 
 ghost use Rattle.std.specs.Prelude.{[]};
 
-mod inputs;
-
-use crate::board::{Board, Outcome};
-use crate::ports::{Feed, ListSink, NoSamples, Sink};
-use c25_core::SinkFailed;
+use c25_board::board::{Board, Outcome};
+use c25_board::ports::{Feed, ListSink, NoSamples, Sink};
+use c25_core::{Halt, SinkFailed};
 use c25_meaning::mark::Mark;
 use c25_meaning::stop::Stop;
 use std::alloc::{AllocError, Global};
@@ -89,5 +87,18 @@ fn ports_without_samples_are_dry(rt: HostRuntime) -> Result<(), Fail> {
     assert!(rt; sink.put(15, 0xffff).is_ok());
     assert_eq!(rt; sink.words(), [(15, 0xffff)].as_slice());
     assert_eq!(rt; sink.refused(), None);
+    Ok(())
+}
+
+#[test]
+fn halts_are_printed(rt: HostRuntime) -> Result<(), Fail> {
+    let left = Halt::Stop(Stop::PortDry).to_string(rt.alloc())?;
+    assert_eq!(rt; left.as_str(), "the code was left: PortDry");
+    for text in [
+        Halt::Sink.to_string(rt.alloc())?,
+        SinkFailed.to_string(rt.alloc())?,
+    ] {
+        assert_eq!(rt; text.as_str(), "the sink failed");
+    }
     Ok(())
 }

@@ -1,10 +1,9 @@
 //! Texts from outside: lines that were added up by hand, and the faults of lines that are wrong in
 //! one place.
 
-use super::*;
-use c25_meaning::failure::Failure;
-use c25_meaning::hex_fault::{HexFault, PlacedHexFault};
+use c25_hex::{read_hex, write_hex};
 use c25_meaning::word_map::WordMap;
+use std::alloc::{AllocError, Global};
 use std::process::Abort;
 use std::test::Fail;
 
@@ -79,36 +78,62 @@ fn lower_case_and_other_line_ends_are_read(rt: HostRuntime) -> Result<(), Fail> 
     Ok(())
 }
 
-/// The first fault of each text, and its line.
-const FAULTS: &[(&str, HexFault, usize)] = &[
-    (" :00000001FF", HexFault::BadStart, 1),
-    (":0G0", HexFault::BadDigit, 1),
-    (":00000001FF ", HexFault::BadDigit, 1),
-    (":00000001FF\r", HexFault::BadDigit, 1),
-    (":", HexFault::BadCount, 1),
-    (":00000001F", HexFault::BadCount, 1),
-    (":01000001FF", HexFault::BadCount, 1),
-    (":0100000100FE", HexFault::BadCount, 1),
-    (":02004000240594\n:00000001FF\n", HexFault::BadSum, 1),
-    (":0200400624058F", HexFault::BadKind, 1),
-    (":01004000249B\n:00000001FF\n", HexFault::OddWord, 2),
-    (":02004000240595\n:02004000240595\n", HexFault::Twice, 2),
-    (":02004000240595\n:0100410005B9\n", HexFault::Twice, 2),
-    ("", HexFault::NoEnd, 0),
-    (":02004000240595\n", HexFault::NoEnd, 1),
-    (":01004000249B\n\n", HexFault::NoEnd, 2),
-    (":00000001FF\n:00000001FF\n", HexFault::AfterEnd, 2),
-    (":02FFFF00000000", HexFault::AddressRange, 1),
-    (":020000040002F8\n:0100000000FF", HexFault::AddressRange, 2),
-];
+/// A row for each text: how its first fault is printed, `|`, and the text, with `$` for LF and `^` for CR.
+const FAULTS: &str = "\
+line 1: BadStart| :00000001FF
+line 1: BadDigit|:0G0
+line 1: BadDigit|:00000001FF 
+line 1: BadDigit|:00000001FF^
+line 1: BadCount|:
+line 1: BadCount|:00000001F
+line 1: BadCount|:01000001FF
+line 1: BadCount|:0100000100FE
+line 1: BadSum|:02004000240594$:00000001FF$
+line 1: BadKind|:0200400624058F
+line 2: OddWord|:01004000249B$:00000001FF$
+line 2: Twice|:02004000240595$:02004000240595$
+line 2: Twice|:02004000240595$:0100410005B9$
+line 0: NoEnd|
+line 1: NoEnd|:02004000240595$
+line 2: NoEnd|:01004000249B$$
+line 2: AfterEnd|:00000001FF$:00000001FF$
+line 1: AddressRange|:02FFFF00000000
+line 2: AddressRange|:020000040002F8$:0100000000FF";
+
+/// A text that is written with `$` for LF and `^` for CR.
+fn spelled(alloc: Global, written: &str) -> Result<String, AllocError> {
+    let mut text = String::new(alloc);
+    for c in written.chars() {
+        text.push(match c {
+            '$' => '\n',
+            '^' => '\r',
+            other => other,
+        })?;
+    }
+    Ok(text)
+}
+
+/// What reading a text is told as: `ok`, or the refusal as it is printed.
+fn told(alloc: Global, text: &str) -> Result<String, AllocError> {
+    match read_hex(alloc, text) {
+        Ok(_) => String::from_str(alloc, "ok"),
+        Err(failure) => failure.to_string(alloc),
+    }
+}
+
+/// The text of a row is refused as the row says.
+fn is_refused(rt: &(impl Abort + AllocGlobal), row: &str) -> Result<(), Fail> {
+    let (wanted, written) = row.split_once('|').ok_or("no bar")?;
+    let text = spelled(rt.alloc(), written)?;
+    let answer = told(rt.alloc(), text.as_str())?;
+    assert_eq!(rt; answer.as_str(), wanted, "in {written:?}");
+    Ok(())
+}
 
 #[test]
-fn the_first_fault_is_told(rt: HostRuntime) {
-    for (text, fault, line) in FAULTS {
-        let told = match read_hex(rt.alloc(), text) {
-            Err(Failure::Fault(PlacedHexFault { fault, line })) => Some((fault, line)),
-            _ => None,
-        };
-        assert_eq!(rt; told, Some((*fault, *line)), "in {text:?}");
+fn the_first_fault_is_told(rt: HostRuntime) -> Result<(), Fail> {
+    for row in FAULTS.lines() {
+        is_refused(&rt, row)?;
     }
+    Ok(())
 }

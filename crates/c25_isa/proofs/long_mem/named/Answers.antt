@@ -1,0 +1,11 @@
+use Rattle.std.proofs.Common.{rules}
+use borrow.Author.Tests.{tests}
+use Rattle.std.proofs.lemmas.Iterator.{first_from_find, YieldsList-from_slice}
+use Rattle.c25_meaning.specs.Table.{long_mem_row}
+use Rattle.c25_meaning.specs.Spellings.{long_mem_names}
+use Rattle.c25_isa.proofs.AllNames.{none_of, all_long_mem, Is, IsNot}
+use Rattle.c25_isa.proofs.long_mem.named.Goals as goal
+
+pub returns-clause-none : goal.returns-clause-none
+returns-clause-none c = none_of (λ n. (long_mem_row n).name) c.args.text.now long_mem_names all_long_mem c.find.result c.copied.result c.copied.ensures
+    (first_from_find _ _ _ (Is (λ n. (long_mem_row n).name) c.args.text.now) (IsNot (λ n. (long_mem_row n).name) c.args.text.now) c.find.ensures.ran (YieldsList-from_slice long_mem_names c.iter.ensures.rest) (λ x q k. search (rules, tests)) (λ x q k. search (rules, tests)))

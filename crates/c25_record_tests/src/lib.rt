@@ -1,0 +1,14 @@
+//! Tests of object records (`c25_obj`) and Intel hex texts (`c25_hex`), and of the words and marks that
+//! they are made of (`c25_meaning`).
+#![tactic(auto)]
+
+#[cfg(test)]
+mod hex;
+#[cfg(test)]
+mod marks;
+#[cfg(test)]
+mod object_cases;
+#[cfg(test)]
+mod objects;
+#[cfg(test)]
+mod words;
