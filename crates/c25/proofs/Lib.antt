@@ -2,4 +2,4 @@ pub mod Ends
 pub mod Loaded
 pub mod OutputLines
 pub mod RanInput
-pub mod BlankLines
+pub mod PageWords

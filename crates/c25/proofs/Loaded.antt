@@ -4,7 +4,7 @@ use Rattle.std.proofs.lemmas.List.{at_drop_more, at_drop_all}
 use Rattle.c25_meaning.specs.declared.mnemonic.Mnemonic.{Mnemonic}
 use Rattle.c25_meaning.specs.declared.insn.Insn.{Insn}
 use Rattle.c25_meaning.specs.declared.mark.Mark.{Mark}
-use Rattle.c25_meaning.specs.Memory.{memory_of}
+use Rattle.c25_meaning.specs.Memory.{Memory, memory_of}
 use Rattle.c25_meaning.specs.State.{state_of}
 use Rattle.c25_meaning.specs.Table.{size, size_of, mnemonic_of, words}
 use Rattle.c25_meaning.specs.Statements.{marks_of}
@@ -69,9 +69,12 @@ one_more is ws code ms k d address bytes row below s coded at named sized =
     so_far_more is ws ms (drop k is) (drop (k + 1) is) (get_or is k d) code m (next_of is k d below) coded here s
 
 -- the state of a board before a run of instructions
-pub begins : (is : List Insn) (ws : List ℕ) (ms : List Mark) (outputs : List (ℕ × ℕ)) → ws ≡ all_words is → ms ≡ marks_of (laid_out 0 is) → outputs ≡ []
-    → state_of reset (record (loaded ms (memory_of ws) (λ _. 0) (λ _. [])) { outputs = outputs }) ≡ first_state is
-begins is ws ms outputs same places none =
-    ap (λ w. state_of reset (record (loaded ms (memory_of w) (λ _. 0) (λ _. [])) { outputs = outputs })) same
-    ∙ ap (λ m. state_of reset (record (loaded m (memory_of (all_words is)) (λ _. 0) (λ _. [])) { outputs = outputs })) places
-    ∙ ap (λ o. state_of reset (record (loaded (marks_of (laid_out 0 is)) (memory_of (all_words is)) (λ _. 0) (λ _. [])) { outputs = o })) none
+pub begins : (is : List Insn) (ws : List ℕ) (ms : List Mark) (outputs : List (ℕ × ℕ)) (samples taken : ℕ → List ℕ) (page0 page1 : Memory)
+    → ws ≡ all_words is → ms ≡ marks_of (laid_out 0 is) → outputs ≡ [] → page0 ≡ memory_of ws → page1 ≡ (let none : Memory = λ _. 0 in none) → samples ≡ taken
+    → state_of reset (record (loaded ms page0 page1 samples) { outputs = outputs }) ≡ first_state is taken
+begins is ws ms outputs samples taken page0 page1 same places none in_program in_data given =
+    ap (λ w. state_of reset (record (loaded ms w page1 samples) { outputs = outputs })) (in_program ∙ ap memory_of same)
+    ∙ ap (λ w. state_of reset (record (loaded ms (memory_of (all_words is)) w samples) { outputs = outputs })) in_data
+    ∙ ap (λ m. state_of reset (record (loaded m (memory_of (all_words is)) (λ _. 0) samples) { outputs = outputs })) places
+    ∙ ap (λ s. state_of reset (record (loaded (marks_of (laid_out 0 is)) (memory_of (all_words is)) (λ _. 0) s) { outputs = outputs })) given
+    ∙ ap (λ o. state_of reset (record (loaded (marks_of (laid_out 0 is)) (memory_of (all_words is)) (λ _. 0) taken) { outputs = o })) none

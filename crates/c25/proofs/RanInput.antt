@@ -4,10 +4,10 @@ use Rattle.std.specs.Prelude.{Option, None, Some, Result, Ok, Err, IfOk}
 use Rattle.c25.specs.declared.run.Chain.{Chain}
 use Rattle.c25.specs.Chain.{Answers}
 use Rattle.c25.specs.Refusal.{Fault}
-use Rattle.c25.specs.Program.{RanInput, insns_of_text}
+use Rattle.c25.specs.Program.{RanInput, input_of_text}
 
-pub ran_input : (input : Option (List ℕ)) (text : List ℕ) (answer : Result Chain Fault) → IfSome input (λ bytes. text ≡ bytes) → length text ≤ 16777216 → Answers (insns_of_text text) 1000 answer → IfOk answer (RanInput input)
+pub ran_input : (input : Option (List ℕ)) (text : List ℕ) (answer : Result Chain Fault) → IfSome input (λ bytes. text ≡ bytes) → length text ≤ 16777216 → Answers (input_of_text text) 1000 answer → IfOk answer (RanInput input)
 ran_input input text (Err fault) same short ran = tt
 ran_input None text (Ok chain) same short ran = tt
 ran_input (Some bytes) text (Ok chain) same short ran =
-    (subst (λ (t : List ℕ). Answers (insns_of_text t) 1000 (Ok chain)) same ran, subst (λ (t : List ℕ). length t ≤ 16777216) same short)
+    (subst (λ (t : List ℕ). Answers (input_of_text t) 1000 (Ok chain)) same ran, subst (λ (t : List ℕ). length t ≤ 16777216) same short)

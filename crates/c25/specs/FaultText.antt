@@ -1,7 +1,6 @@
 -- The line that tells a fault: where it is, its number and its name.
 use Rattle.std.specs.Prelude.{ℕ, List, ◌++◌, codes}
-use Rattle.std.specs.Fmt.{decimal}
-use Rattle.c25_meaning.specs.Faults.{numbered_name}
+use Rattle.c25_meaning.specs.Faults.{numbered_name, placed_text}
 use Rattle.c25_meaning.specs.declared.failure.Failure.TheVariants as failure
 use Rattle.c25.specs.declared.fault.Refusal.{Refusal}
 use Rattle.c25.specs.declared.fault.Refusal.TheVariants.{Source, Command, Link, Samples, Schedule, CannotRead}
@@ -11,17 +10,13 @@ use Rattle.c25.specs.Refusal.{Fault, refusal_of}
 abbrev pub at_file : List ℕ → List ℕ → List ℕ
 at_file name fault = name ++ codes ": " ++ fault
 
--- what is wrong with a line of a text
-abbrev pub at_line : List ℕ → ℕ → List ℕ → List ℕ
-at_line name line fault = name ++ codes ":" ++ decimal line ++ codes ": " ++ fault
-
 -- the line of a refusal
 abbrev pub refusal_text : Refusal (List ℕ) → List ℕ
-refusal_text (Source file line kind) = at_line file line (numbered_name kind)
-refusal_text (Command line) = at_line (codes "command") line (codes "60 Syntax")
+refusal_text (Source file line kind) = placed_text file line (numbered_name kind)
+refusal_text (Command line) = placed_text (codes "command") line (codes "60 Syntax")
 refusal_text (Link section) = codes "link:" ++ section ++ codes ": 75 RelocRange"
-refusal_text (Samples line) = at_line (codes "samples") line (codes "91 BadSamples")
-refusal_text (Schedule line) = at_line (codes "schedule") line (codes "90 BadSchedule")
+refusal_text (Samples line) = placed_text (codes "samples") line (codes "91 BadSamples")
+refusal_text (Schedule line) = placed_text (codes "schedule") line (codes "90 BadSchedule")
 refusal_text (CannotRead file) = at_file file (codes "8 CannotRead")
 
 -- the line of a fault

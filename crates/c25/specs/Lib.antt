@@ -3,3 +3,4 @@ pub mod Refusal
 pub mod Chain
 pub mod OutcomeText
 pub mod Program
+pub mod View

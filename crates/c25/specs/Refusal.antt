@@ -4,13 +4,16 @@ use Rattle.std.specs.List.{list_all}
 use Rattle.std.specs.Option.{ok_or}
 use Rattle.std.specs.declared.alloc.Global.{Global}
 use Rattle.std.specs.String.{string_bytes}
-use Rattle.std.specs.Str.Lines.{lines}
 use Rattle.c25_meaning.specs.declared.insn.Insn.{Insn}
+use Rattle.c25_meaning.specs.declared.sample.Sample.{Sample}
+use Rattle.c25_meaning.specs.declared.schedule.Entry.{Entry}
 use Rattle.c25_meaning.specs.declared.statement.FaultKind.TheVariants.{NoFile}
-use Rattle.c25_meaning.specs.Bytes.{is_blank, is_space}
+use Rattle.c25_meaning.specs.Bytes.{is_space}
 use Rattle.c25_meaning.specs.Files.{Files, text_named}
 use Rattle.c25_meaning.specs.declared.failure.Failure.{Failure}
 use Rattle.c25_meaning.specs.Results.{◌>>=◌, told}
+use Rattle.c25_meaning.specs.Samples.{samples_of}
+use Rattle.c25_meaning.specs.Schedule.{schedule_of}
 use Rattle.c25_meaning.specs.Source.{SourceMeaning, source_of}
 use Rattle.c25.specs.declared.fault.Refusal.{Refusal}
 use Rattle.c25.specs.declared.fault.Refusal.TheVariants.{Source, Command, Link, Samples, Schedule, CannotRead}
@@ -28,6 +31,12 @@ refusal_of (Samples line) = Samples line
 refusal_of (Schedule line) = Schedule line
 refusal_of (CannotRead file) = CannotRead (string_bytes file)
 
+-- what a run is made of
+pub record Input : Type 0 where
+  pub insns : List Insn
+  pub samples : List Sample
+  pub entries : List Entry
+
 -- ---- the first refusal, in the order in which the chain works
 
 -- the text of a source
@@ -38,10 +47,6 @@ source_text files name = ok_or (text_named files name) (Source name 0 NoFile)
 abbrev pub is_blank_command : List ℕ → Bool
 is_blank_command text = list_all is_space text
 
--- samples and a schedule are blank where each line is; a line ends in LF or CR LF, so a CR alone is no blank
-abbrev pub has_blank_lines : List ℕ → Bool
-has_blank_lines text = list_all (λ line. list_all is_blank line) (lines text)
-
 -- a refusal unless something holds
 abbrev pub unless_so : Bool → Refusal (List ℕ) → Result (Unit {0}) (Refusal (List ℕ))
 unless_so so refusal = if so then Ok tt else Err refusal
@@ -50,15 +55,15 @@ unless_so so refusal = if so then Ok tt else Err refusal
 unfoldable pub source_in : Files → List ℕ → Result SourceMeaning (Refusal (List ℕ))
 source_in files name = source_text files name >>= λ text. told (λ f. Source name f.line f.kind) (source_of text)
 
--- the instructions of a source that the chain runs, or its first refusal
-unfoldable pub chain_insns : Files → (name command samples schedule : List ℕ) → Result (List Insn) (Refusal (List ℕ))
-chain_insns files name command samples schedule =
+-- what the chain runs: the instructions of a source under a schedule and samples, or its first refusal
+unfoldable pub chain_input : Files → (name command samples schedule : List ℕ) → Result Input (Refusal (List ℕ))
+chain_input files name command samples schedule =
     source_in files name >>= λ source.
     unless_so (is_blank_command command) (Command 1) >>= λ _.
     unless_so source.in_range (Link (codes ".text")) >>= λ _.
-    unless_so (has_blank_lines samples) (Samples 1) >>= λ _.
-    unless_so (has_blank_lines schedule) (Schedule 1) >>= λ _.
-    Ok source.insns
+    told Samples (samples_of samples) >>= λ taken.
+    told Schedule (schedule_of schedule) >>= λ entries.
+    Ok (record { insns = source.insns; samples = taken; entries = entries })
 
 -- the first of some names
 abbrev pub first_name : List (String Global) → List ℕ

@@ -1,8 +1,8 @@
 //! Why the chain refuses, and the line that says so.
 
 ghost use Rattle.std.specs.Prelude.{◌≡◌, ◌++◌, IfOk, string_bytes};
-ghost use Rattle.c25_meaning.specs.Faults.{numbered_name};
-ghost use Rattle.c25.specs.FaultText.{at_file, at_line, fault_text, refusal_text};
+ghost use Rattle.c25_meaning.specs.Faults.{fault_number, numbered_name, placed_text};
+ghost use Rattle.c25.specs.FaultText.{at_file, fault_text, refusal_text};
 ghost use Rattle.c25.specs.Refusal.{refusal_of};
 
 use c25_meaning::failure::Failure;
@@ -45,42 +45,55 @@ pub enum Refusal<Name> {
 /// Why the chain does not answer.
 pub type Fault = Failure<Refusal<String>>;
 
-/// The number and the name of a fault of a source.
-fn numbered_name(kind: FaultKind) -> &'static str
-    ensures { result.now ≡ numbered_name kind }
+/// The number of a fault of a source.
+fn fault_number(kind: FaultKind) -> u8
+    ensures { result ≡ fault_number kind }
 {
     match kind {
-        FaultKind::BadLabel => "10 BadLabel",
-        FaultKind::BadConstant => "11 BadConstant",
-        FaultKind::OpenQuote => "12 OpenQuote",
-        FaultKind::StrayText => "13 StrayText",
-        FaultKind::BadExpression => "20 BadExpression",
-        FaultKind::TooDeep => "21 TooDeep",
-        FaultKind::Undefined => "22 Undefined",
-        FaultKind::NotAbsolute => "23 NotAbsolute",
-        FaultKind::DivideByZero => "24 DivideByZero",
-        FaultKind::ValueRange => "25 ValueRange",
-        FaultKind::Defined => "26 Defined",
-        FaultKind::NoFile => "30 NoFile",
-        FaultKind::OpenBlock => "31 OpenBlock",
-        FaultKind::StrayEnd => "32 StrayEnd",
-        FaultKind::Depth => "33 Depth",
-        FaultKind::Lines => "34 Lines",
-        FaultKind::TooManyParameters => "35 TooManyParameters",
-        FaultKind::Redefined => "36 Redefined",
-        FaultKind::LongLine => "38 LongLine",
-        FaultKind::UnknownMnemonic => "50 UnknownMnemonic",
-        FaultKind::OperandCount => "51 OperandCount",
-        FaultKind::OperandForm => "52 OperandForm",
-        FaultKind::FieldRange => "53 FieldRange",
-        FaultKind::TooLarge => "54 TooLarge",
-        FaultKind::NotRelocatable => "55 NotRelocatable",
+        FaultKind::BadLabel => 10,
+        FaultKind::BadConstant => 11,
+        FaultKind::OpenQuote => 12,
+        FaultKind::StrayText => 13,
+        FaultKind::BadExpression => 20,
+        FaultKind::TooDeep => 21,
+        FaultKind::Undefined => 22,
+        FaultKind::NotAbsolute => 23,
+        FaultKind::DivideByZero => 24,
+        FaultKind::ValueRange => 25,
+        FaultKind::Defined => 26,
+        FaultKind::NoFile => 30,
+        FaultKind::OpenBlock => 31,
+        FaultKind::StrayEnd => 32,
+        FaultKind::Depth => 33,
+        FaultKind::Lines => 34,
+        FaultKind::TooManyParameters => 35,
+        FaultKind::Redefined => 36,
+        FaultKind::LongLine => 38,
+        FaultKind::UnknownMnemonic => 50,
+        FaultKind::OperandCount => 51,
+        FaultKind::OperandForm => 52,
+        FaultKind::FieldRange => 53,
+        FaultKind::TooLarge => 54,
+        FaultKind::NotRelocatable => 55,
     }
+}
+
+/// What is wrong with a line of a source.
+fn at_source_line(
+    alloc: Global,
+    name: &str,
+    line: usize,
+    kind: FaultKind,
+) -> Result<String, NoMemory>
+    ensures { IfOk result (λ text. string_bytes text ≡ placed_text name.now line (numbered_name kind)) }
+{
+    let number = fault_number(kind);
+    Ok(format!(in alloc; "{name}:{line}: {number} {kind}")?)
 }
 
 /// What is wrong with a line of a text.
 fn at_line(alloc: Global, name: &str, line: usize, fault: &str) -> Result<String, NoMemory>
-    ensures { IfOk result (λ text. string_bytes text ≡ at_line name.now line fault.now) }
+    ensures { IfOk result (λ text. string_bytes text ≡ placed_text name.now line fault.now) }
 {
     Ok(format!(in alloc; "{name}:{line}: {fault}")?)
 }
@@ -98,7 +111,7 @@ fn write_refusal(alloc: Global, refusal: &Refusal<String>) -> Result<String, NoM
 {
     match refusal {
         Refusal::Source { file, line, kind } => {
-            at_line(alloc, file.as_str(), *line, numbered_name(*kind))
+            at_source_line(alloc, file.as_str(), *line, *kind)
         }
         Refusal::Command { line } => at_line(alloc, "command", *line, "60 Syntax"),
         Refusal::Link { section } => Ok(format!(in alloc; "link:{section}: 75 RelocRange")?),

@@ -14,6 +14,8 @@ mod tests;
 mod tests_names;
 #[cfg(test)]
 mod tests_program;
+#[cfg(test)]
+mod tests_runs;
 
 use crate::program::run_program;
 use std::process::ExitCode;

@@ -2,13 +2,12 @@
 
 ghost use Rattle.std.specs.Prelude.{◌≡◌, ◌++◌, OnOk, IfOk, string_bytes};
 ghost use Rattle.c25_meaning.specs.Show.{four_digits};
-ghost use Rattle.c25_meaning.specs.RunText.{output_line, outputs_text, stop_name};
+ghost use Rattle.c25_meaning.specs.RunText.{output_line, outputs_text};
 ghost use Rattle.c25.specs.OutcomeText.{outcome_text, run_text};
 
 use crate::run::Chain;
 use c25_board::board::Outcome;
 use c25_meaning::no_memory::NoMemory;
-use c25_meaning::stop::Stop;
 use std::alloc::Global;
 
 /// Appends a word as four hexadecimal digits.
@@ -41,17 +40,6 @@ fn push_outputs(out: &mut String, outputs: &[(u16, u16)]) -> Result<(), NoMemory
     Ok(())
 }
 
-fn name_of(stop: Stop) -> &'static str
-    ensures { result.now ≡ stop_name stop }
-{
-    match stop {
-        Stop::OutOfCode => "OutOfCode",
-        Stop::CodeWrite => "CodeWrite",
-        Stop::BadRepeat => "BadRepeat",
-        Stop::PortDry => "PortDry",
-    }
-}
-
 fn push_outcome(out: &mut String, outcome: Outcome, steps: u32) -> Result<(), NoMemory>
     ensures { OnOk result (string_bytes out.new ≡ string_bytes out.old ++ outcome_text outcome steps) }
 {
@@ -61,8 +49,7 @@ fn push_outcome(out: &mut String, outcome: Outcome, steps: u32) -> Result<(), No
             Ok(())
         }
         Outcome::Left(_, stop) => {
-            let name = name_of(stop);
-            write!(out, "left {steps} {name}\n")?;
+            write!(out, "left {steps} {stop}\n")?;
             Ok(())
         }
         Outcome::SinkFault(_) => {

@@ -1,10 +1,10 @@
 //! What the program does: it reads a source, runs it, and prints the run or why it is refused.
 
-ghost use Rattle.std.specs.Prelude.{◌≡◌, ◌≢◌, IfOk};
+ghost use Rattle.std.specs.Prelude.{◌≡◌, ◌≢◌, ◌++◌, IfOk, OnOk, codes};
 ghost use Rattle.std.specs.Io.KnownBytes.{Appends};
 ghost use Rattle.std.specs.Process.{exit_status};
 ghost use Rattle.c25.specs.Chain.{Answers};
-ghost use Rattle.c25.specs.Program.{RanInput, Runs, Tells, insns_of_text, status_of};
+ghost use Rattle.c25.specs.Program.{RanInput, Runs, Tells, input_of_text, status_of};
 
 use crate::chain::run_chain;
 use crate::fault::{Fault, Refusal, write_fault};
@@ -16,6 +16,7 @@ use c25_macro::files::{FileTwice, Files};
 use c25_meaning::failure::Failure;
 use std::alloc::Global;
 use std::env::FillError;
+use std::io;
 use std::io::{Read, Write};
 use std::process::ExitCode;
 use std::rt::Env;
@@ -31,7 +32,7 @@ const NO_MEMORY: &str = "memory: 9 NoMemory";
 
 /// Runs a text as the one source of the chain.
 fn run_text(alloc: Global, text: &str) -> Result<Chain, Fault>
-    ensures { Answers (insns_of_text text.now) 1000 result }
+    ensures { Answers (input_of_text text.now) 1000 result }
 {
     let mut files = Files::new(alloc);
     match files.add(STANDARD_INPUT, text) {
@@ -75,15 +76,15 @@ fn print_run<O: Write>(text: &str, outcome: Outcome, out: &mut O) -> ExitCode
     }
 }
 
-/// Prints a fault's line; the status is 1.
-fn refuse<E: Write>(line: &str, err: &mut E) -> ExitCode
-    ensures { exit_status result ≡ 1 }
+/// Prints a fault's line.
+fn print_line<E: Write>(line: &str, err: &mut E) -> io::Result<()>
+    ensures { OnOk result (Appends (E.contents err.old) (E.contents err.new) (line.now ++ codes "\n")) }
 {
-    let _ = writeln!(err, "{line}");
-    ExitCode::FAILURE
+    writeln!(err, "{line}")
 }
 
-/// Prints an answer: a run on the one writer, a fault's line on the other.
+/// Prints an answer: a run on the one writer, a fault's line on the other. The status of a fault is
+/// 1, whether or not its line can be printed.
 fn report<O: Write, E: Write>(
     alloc: Global,
     answer: &Result<Chain, Fault>,
@@ -95,11 +96,20 @@ fn report<O: Write, E: Write>(
     match answer {
         Ok(chain) => match write_run(alloc, chain) {
             Ok(text) => print_run(text.as_str(), chain.outcome, out),
-            Err(_) => refuse(NO_MEMORY, err),
+            Err(_) => {
+                let _ = print_line(NO_MEMORY, err);
+                ExitCode::FAILURE
+            }
         },
         Err(fault) => match write_fault(alloc, fault) {
-            Ok(line) => refuse(line.as_str(), err),
-            Err(_) => refuse(NO_MEMORY, err),
+            Ok(line) => {
+                let _ = print_line(line.as_str(), err);
+                ExitCode::FAILURE
+            }
+            Err(_) => {
+                let _ = print_line(NO_MEMORY, err);
+                ExitCode::FAILURE
+            }
         },
     }
 }

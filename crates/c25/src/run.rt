@@ -1,16 +1,19 @@
 //! A run of instructions on a board.
 
-ghost use Rattle.std.specs.Prelude.{◌≡◌, ◌<◌, ◌^◌, IfOk};
+ghost use Rattle.std.specs.Prelude.{◌≡◌, ◌≤◌, IfOk, length};
+ghost use Rattle.c25_meaning.specs.FirstState.{memory_of_map};
 ghost use Rattle.c25_meaning.specs.Fits.{FitsMemory};
-ghost use Rattle.c25_meaning.specs.Placing.{run_of_insns};
-ghost use Rattle.c25.specs.Chain.{EndsAs, HasNoTexts};
+ghost use Rattle.c25_meaning.specs.Memory.{memory_of};
+ghost use Rattle.c25.specs.Chain.{EndsAs, HasNoTexts, run_of_input};
+ghost use Rattle.c25.specs.View.{input_of};
 
+use crate::chain::Input;
 use crate::image::{Image, image_of};
 use c25_board::board::{Board, Outcome};
-use c25_board::ports::{ListSink, NoSamples};
-use c25_meaning::insn::Insn;
+use c25_board::ports::ListSink;
 use c25_meaning::no_memory::NoMemory;
 use c25_meaning::registers::Regs;
+use c25_meaning::word_map::WordMap;
 use std::alloc::Global;
 
 /// What the chain answers.
@@ -37,15 +40,34 @@ pub struct Chain {
     pub steps: u32,
 }
 
+/// The words from address 0 on as a page.
+fn page_of(alloc: Global, words: &[u16]) -> Result<WordMap, NoMemory>
+    requires { length words.now ≤ 65536 }
+    ensures { IfOk result (λ page. memory_of_map page ≡ memory_of words.now) }
+{
+    let mut page = WordMap::new(alloc);
+    for address in 0..words.len() {
+        page.insert(address as u16, words[address])?;
+    }
+    Ok(page)
+}
+
 /// Runs n steps of instructions that stand one behind another from program address 0.
-pub(crate) fn run_insns(alloc: Global, insns: &[Insn], n: u32) -> Result<Chain, NoMemory>
-    requires { FitsMemory insns.now }
-    ensures ends { IfOk result (EndsAs n (run_of_insns insns.now n)) }
+pub(crate) fn run_input(alloc: Global, input: Input, n: u32) -> Result<Chain, NoMemory>
+    requires { FitsMemory input.insns.items }
+    ensures ends { IfOk result (EndsAs n (run_of_input (input_of input) n)) }
     ensures texts { IfOk result HasNoTexts }
 {
-    let Image { words, marks } = image_of(alloc, insns)?;
+    let Input {
+        insns,
+        samples,
+        schedule,
+    } = input;
+    let Image { words, marks } = image_of(alloc, &insns)?;
+    let page0 = page_of(alloc, &words)?;
+    let page1 = WordMap::new(alloc);
     let sink = ListSink::new(alloc);
-    let mut board = Board::new(alloc, &words, marks, NoSamples, sink)?;
+    let mut board = Board::new(alloc, &page0, &page1, &marks, schedule, samples, sink)?;
     let outcome = board.run(n);
     if let Some(refused) = board.sink().refused() {
         return Err(refused);

@@ -191,8 +191,8 @@ fn too_many_words_are_told_at_the_first_one(rt: HostRuntime) -> Result<(), Fail>
 fn other_inputs_are_refused_in_their_order(rt: HostRuntime) -> Result<(), Fail> {
     let all = Inputs {
         command: "-e GO",
-        samples: "2 00FF",
-        schedule: "7 INT0",
+        samples: "2 00FF\n16 0000",
+        schedule: "5 INT0\n4 INT1",
     };
     is_refused(&rt, " LACK 256\n", all, "a.asm:1: 53 FieldRange")?;
     is_refused(&rt, "S B S+70000\n", all, "command:1: 60 Syntax")?;
@@ -206,12 +206,12 @@ fn other_inputs_are_refused_in_their_order(rt: HostRuntime) -> Result<(), Fail> 
         no_command,
         "link:.text: 75 RelocRange",
     )?;
-    is_refused(&rt, WRITES_41H, no_command, "samples:1: 91 BadSamples")?;
+    is_refused(&rt, WRITES_41H, no_command, "samples:2: 91 BadSamples")?;
     let schedule = Inputs {
-        samples: "\n",
+        samples: "2 00FF",
         ..no_command
     };
-    is_refused(&rt, WRITES_41H, schedule, "schedule:1: 90 BadSchedule")
+    is_refused(&rt, WRITES_41H, schedule, "schedule:2: 90 BadSchedule")
 }
 
 #[test]

@@ -1,5 +1,11 @@
-pub mod Memory
+pub mod Begins
+pub mod Behind
+pub mod Kept
+pub mod PlaceMarks
 pub mod Rising
 pub mod Runs
 pub mod SamplePorts
 pub mod SamplesTaken
+pub mod Timing
+pub mod Zeros
+mod Lent

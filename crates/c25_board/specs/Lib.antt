@@ -1,5 +1,9 @@
 pub mod Outputs
+pub mod Places
+pub mod Prepared
+pub mod Timed
 pub mod Board
 pub mod Run
 pub mod SamplesLeft
 pub mod ScheduleRises
+pub mod Lends

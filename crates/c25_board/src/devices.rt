@@ -1,36 +1,41 @@
 //! The memories and ports of a board.
 
-ghost use Rattle.std.specs.Prelude.{◌≡◌, ◌++◌, ◌-◌, ◌≤◌, vec_len, length, replicate, IfOk};
+ghost use Rattle.std.specs.Prelude.{◌≡◌, [], true, vec_len, IfOk};
+ghost use Rattle.c25_meaning.specs.FirstState.{memory_of_map};
+ghost use Rattle.c25_meaning.specs.Memory.{memory_of};
+ghost use Rattle.c25_board.specs.Places.{are_whole};
 
+use crate::places::{Place, WORDS, place_at};
 use crate::ports::{Feed, Sink};
 use c25_core::{Bus, SinkFailed};
-use c25_meaning::mark::Mark;
-use c25_meaning::marks::{is_code, size_at};
 use c25_meaning::no_memory::NoMemory;
-use std::alloc::Global;
+use c25_meaning::word_map::WordMap;
 
 /// What lies around the processor. Each memory has 65,536 words; those of data memory hold block
-/// B0's at 200h to 2FFh, wherever B0 is seen.
+/// B0's at 200h to 2FFh, wherever B0 is seen. Beside program memory stands what each of its words is
+/// for the instructions there.
 #[derive(Drop)]
 pub(crate) struct Devices<F: Feed + Drop, S: Sink + Drop> {
     pub(crate) words: Vec<u16>,
     pub(crate) program: Vec<u16>,
-    pub(crate) marks: Vec<Mark>,
+    pub(crate) places: Vec<Place>,
     pub(crate) feed: F,
     pub(crate) sink: S,
     ghost words_full: { vec_len words ≡ 65536 },
     ghost program_full: { vec_len program ≡ 65536 },
+    ghost places_full: { vec_len places ≡ 65536 },
+    ghost places_whole: { are_whole places.items ≡ true },
 }
 
-/// These words from address 0 on, and 0 behind them, 65,536 in all.
-pub(crate) fn filled(alloc: Global, words: &[u16]) -> Result<Vec<u16>, NoMemory>
-    requires { length words.now ≤ 65536 }
+/// The words of a page, and 0 at all other addresses, in a list that is empty yet.
+pub(crate) fn words_of_page(mut memory: Vec<u16>, page: &WordMap) -> Result<Vec<u16>, NoMemory>
+    requires { memory.items ≡ [] }
     ensures full { IfOk result (λ memory. vec_len memory ≡ 65536) }
-    ensures items { IfOk result (λ memory. memory.items ≡ words.now ++ replicate (65536 - length words.now) 0) }
+    ensures words { IfOk result (λ memory. memory_of memory.items ≡ memory_of_map page.now) }
 {
-    let mut memory = Vec::with_capacity(alloc, 65536)?;
-    memory.extend_from_slice(words)?;
-    memory.resize(65536, 0)?;
+    for address in 0..WORDS {
+        memory.push(page.get(address as u16).unwrap_or(0))?;
+    }
     Ok(memory)
 }
 
@@ -60,11 +65,11 @@ impl<F: Feed + Drop, S: Sink + Drop> Bus for Devices<F, S> {
     }
 
     fn size_at(&self, address: u16) -> Option<u16> {
-        size_at(&self.marks, address)
+        place_at(self.places.as_slice(), address).size()
     }
 
     fn is_code(&self, address: u16) -> bool {
-        is_code(&self.marks, address)
+        place_at(self.places.as_slice(), address).is_code()
     }
 
     fn input(&mut self, port: u16) -> Option<u16> {

@@ -2,7 +2,11 @@
 #![tactic(auto)]
 
 pub mod board;
+mod clock;
 mod devices;
+pub mod fixed_sink;
+mod places;
 pub mod ports;
+mod prepared;
 pub mod samples;
 pub mod schedule;

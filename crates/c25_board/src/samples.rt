@@ -9,15 +9,28 @@ use c25_items::{LineFormat, decimal_of, hexadecimal_of, read_items};
 use c25_meaning::failure::Failure;
 use c25_meaning::sample::Sample;
 use std::alloc::Global;
+use std::error::Error;
+use std::fmt;
 use std::marker::Model;
-use thiserror::Error;
 
 /// The first line of a text, counted from 1, whose words are no sample (91).
-#[derive(Clone, Copy, Debug, PartialEq, Eq, Error)]
-#[error("line {line}: BadSamples")]
+#[derive(Clone, Copy, Debug, PartialEq, Eq)]
 pub struct BadSamples {
     pub line: usize,
 }
+
+impl fmt::Display for BadSamples {
+    ghost use Rattle.std.specs.Prelude.{Some, codes};
+    ghost use Rattle.c25_meaning.specs.Faults.{line_text};
+
+    ghost output = { λ bad. Some (line_text bad.line (codes "BadSamples")) };
+
+    fn fmt<W: fmt::Write>(&self, f: &mut fmt::Formatter<W>) -> fmt::Result {
+        write!(f, "line {}: BadSamples", self.line)
+    }
+}
+
+impl Error for BadSamples {}
 
 /// How many input ports there are.
 const PORTS: usize = 16;

@@ -1,7 +1,7 @@
 //! Schedules: a step and an event a line.
 
 ghost use Rattle.std.specs.Prelude.{◌≡◌};
-ghost use Rattle.c25_meaning.specs.Schedule.{event_of, last_step, timed, schedule_of};
+ghost use Rattle.c25_meaning.specs.Schedule.{event_of, last_step, schedule_of};
 ghost use Rattle.c25_meaning.specs.Results.{MeetsBy};
 
 use c25_items::{LineFormat, decimal_of, is_word, read_items};
@@ -9,16 +9,29 @@ use c25_meaning::failure::Failure;
 use c25_meaning::lines::Lines;
 use c25_meaning::schedule::{Entry, Event};
 use std::alloc::Global;
+use std::error::Error;
+use std::fmt;
 use std::marker::Model;
-use thiserror::Error;
 
 /// The first line of a text, counted from 1, whose words are no entry, or whose step is less than the
 /// one before (90).
-#[derive(Clone, Copy, Debug, PartialEq, Eq, Error)]
-#[error("line {line}: BadSchedule")]
+#[derive(Clone, Copy, Debug, PartialEq, Eq)]
 pub struct BadSchedule {
     pub line: usize,
 }
+
+impl fmt::Display for BadSchedule {
+    ghost use Rattle.std.specs.Prelude.{Some, codes};
+    ghost use Rattle.c25_meaning.specs.Faults.{line_text};
+
+    ghost output = { λ bad. Some (line_text bad.line (codes "BadSchedule")) };
+
+    fn fmt<W: fmt::Write>(&self, f: &mut fmt::Formatter<W>) -> fmt::Result {
+        write!(f, "line {}: BadSchedule", self.line)
+    }
+}
+
+impl Error for BadSchedule {}
 
 /// Events by steps that do not fall. Contracts see it as the list of its entries.
 #[derive(Drop, Debug)]

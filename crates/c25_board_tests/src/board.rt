@@ -1,29 +1,60 @@
 //! A board with a program of four instructions.
 
-ghost use Rattle.std.specs.Prelude.{[]};
+ghost use Rattle.std.specs.Prelude.{◌≡◌, [], IfOk};
+ghost use Rattle.c25_board.specs.Board.{steps};
 
 use c25_board::board::{Board, Outcome};
 use c25_board::ports::{Feed, ListSink, NoSamples, Sink};
+use c25_board::schedule::read_schedule;
 use c25_core::{Halt, SinkFailed};
 use c25_meaning::mark::Mark;
+use c25_meaning::marks::marks_fit;
 use c25_meaning::stop::Stop;
-use std::alloc::{AllocError, Global};
+use c25_meaning::word_map::WordMap;
+use std::alloc::Global;
 use std::test::Fail;
 
 /// `LACK 65`, `SACL 60h`, `OUT 60h,PA1` and a branch to itself (SPRU014, the instructions' pages).
 const PROGRAM: [u16; 5] = [0xca41, 0x6060, 0xe160, 0xff80, 0x0003];
 
 /// The places of its instructions.
-fn marks(alloc: Global) -> Result<Vec<Mark>, AllocError> {
-    let mut marks = Vec::new(alloc);
-    for address in 0..3 {
-        marks.push(Mark { address, size: 1 })?;
-    }
-    marks.push(Mark {
+const MARKS: [Mark; 4] = [
+    Mark {
+        address: 0,
+        size: 1,
+    },
+    Mark {
+        address: 1,
+        size: 1,
+    },
+    Mark {
+        address: 2,
+        size: 1,
+    },
+    Mark {
         address: 3,
         size: 2,
-    })?;
-    Ok(marks)
+    },
+];
+
+/// A board with the program, instructions at these places, no schedule and no samples.
+fn board_with<S: Sink + Drop>(
+    alloc: Global,
+    marks: &[Mark],
+    sink: S,
+) -> Result<Board<NoSamples, S>, Fail>
+    ensures { IfOk result (λ board. steps board ≡ 0) }
+{
+    let mut page0 = WordMap::new(alloc);
+    for (address, word) in PROGRAM.iter().enumerate() {
+        page0.insert(address as u16, *word)?;
+    }
+    let page1 = WordMap::new(alloc);
+    let schedule = read_schedule(alloc, "")?;
+    if !marks_fit(marks) {
+        return Err(Fail::from("these are no places of instructions"));
+    }
+    Ok(Board::new(alloc, &page0, &page1, marks, schedule, NoSamples, sink)?)
 }
 
 /// A sink that takes no word.
@@ -46,7 +77,7 @@ impl Sink for Closed {
 #[test]
 fn runs_are_one_run(rt: HostRuntime) -> Result<(), Fail> {
     let sink = ListSink::new(rt.alloc());
-    let mut board = Board::new(rt.alloc(), &PROGRAM, marks(rt.alloc())?, NoSamples, sink)?;
+    let mut board = board_with(rt.alloc(), &MARKS, sink)?;
     assert_eq!(rt; board.run(2), Outcome::Ran);
     assert_eq!(rt; board.sink().words().len(), 0);
     assert_eq!(rt; board.run(7), Outcome::Ran);
@@ -61,7 +92,7 @@ fn runs_are_one_run(rt: HostRuntime) -> Result<(), Fail> {
 #[test]
 fn refused_outputs_are_tried_again(rt: HostRuntime) -> Result<(), Fail> {
     let sink = Closed { failures: 0 };
-    let mut board = Board::new(rt.alloc(), &PROGRAM, marks(rt.alloc())?, NoSamples, sink)?;
+    let mut board = board_with(rt.alloc(), &MARKS, sink)?;
     assert_eq!(rt; board.run(9), Outcome::SinkFault(2));
     assert_eq!(rt; board.run(9), Outcome::SinkFault(2));
     assert_eq!(rt; board.steps(), 2);
@@ -72,9 +103,8 @@ fn refused_outputs_are_tried_again(rt: HostRuntime) -> Result<(), Fail> {
 
 #[test]
 fn words_that_are_no_instruction_are_not_run(rt: HostRuntime) -> Result<(), Fail> {
-    let marks = Vec::new(rt.alloc());
     let sink = ListSink::new(rt.alloc());
-    let mut board = Board::new(rt.alloc(), &PROGRAM, marks, NoSamples, sink)?;
+    let mut board = board_with(rt.alloc(), &[], sink)?;
     assert_eq!(rt; board.run(1), Outcome::Left(0, Stop::OutOfCode));
     assert_eq!(rt; board.run(0), Outcome::Ran);
     Ok(())

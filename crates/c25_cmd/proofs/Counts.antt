@@ -1,6 +1,6 @@
 -- Parts, ranges and sections take a token each, so there are no more of them than tokens.
 use Rattle.std.proofs.Common.{◌≡◌, ℕ, zero, suc, ◌+◌, ◌<◌, ◌≤◌, ◌==◌, ◌||◌, not, arith, Bool, true, false, List, [], ◌∷◌, length, drop, Option, Some, None, is_some, Result, Ok, Err, refl, sym, ◌∙◌, length-drop, nat_lt, if◌then◌else◌}
-use Rattle.std.specs.Prelude.{IfOk, codes}
+use Rattle.std.specs.Prelude.{IfOk, codes, ok_or}
 use Rattle.std.specs.List.{list_any}
 use Rattle.std.specs.Str.{bytes_eq}
 use Rattle.c25_meaning.specs.declared.command_token.Sign.TheVariants as sign
@@ -12,7 +12,7 @@ use Rattle.c25_meaning.specs.declared.command_fault.CommandFault.TheVariants.{Sy
 use Rattle.c25_meaning.specs.declared.command_fault.PlacedFault.{PlacedFault}
 use Rattle.c25_meaning.specs.Command.{RangeData, PlacingData, CommandData}
 use Rattle.c25_meaning.specs.CommandTokens.{Token}
-use Rattle.c25_meaning.specs.CommandGrammar.{Reading, fault_at, fault_if, passes, begins, wanted, past, repeated, up_to, CountIsEnough, number_of_kind, number_before, number_at, page_number_at, setting_at}
+use Rattle.c25_meaning.specs.CommandGrammar.{Reading, fault_at, fault_if, passes, begins, wanted, past, repeated, up_to, CountIsEnough, number_of_kind, number_at, page_number_at, setting_at}
 use Rattle.c25_meaning.specs.CommandMemory.{page_at, attributes_at, is_range, overlaps, extent_at, range_at, Ranges, more_ranges, memory_at}
 use Rattle.c25_meaning.specs.CommandSections.{input_at, contents_at, place_at, target_at, section_page_at, placing_at, is_placing, more_placings, sections_at}
 use Rattle.c25_meaning.specs.CommandText.{entry_in, memory_in, sections_in, part_in}
@@ -48,7 +48,7 @@ dropped false ts = omega arith
 past_leaves : (w : Want) (ts : List Token) → length (past w ts) ≤ length ts
 past_leaves w ts = dropped (begins w ts) ts
 
-number_found : (n : Option ℕ) (t : Token) (ts : List Token) → Takes (length (t ∷ ts)) (number_before n (t ∷ ts) ts)
+number_found : (n : Option ℕ) (t : Token) (ts : List Token) → Takes (length (t ∷ ts)) (ok_or n (fault_at Syntax (t ∷ ts)) >>= λ k. Ok (k, ts))
 number_found None t ts = tt
 number_found (Some n) t ts = omega arith
 

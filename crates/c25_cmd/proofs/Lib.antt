@@ -5,6 +5,6 @@ pub mod Loops
 pub mod Names
 pub mod Scans
 pub mod Steps
-pub mod Taken
+pub mod TakenWords
 pub mod Texts
 pub mod WordKinds

@@ -1,12 +1,13 @@
 -- Words are ASCII, and so are texts.
 use Rattle.std.proofs.Common.{◌≡◌, ℕ, suc, ◌<◌, ◌+◌, Bool, true, false, cond, eqb, ◌&&◌, drop, List, [], ◌∷◌, take, get_or, Option, Some, None, refl, sym, ap, subst, arith}
 use Rattle.std.specs.List.{prefix_len}
+use Rattle.std.specs.Option.{option_map_or}
 use Rattle.std.specs.Str.{IsAscii, IsUtf8}
 use Rattle.std.proofs.lemmas.Str.{IsUtf8-from_ascii}
 use Rattle.std.proofs.lemmas.Str.Ascii.{IsAscii-nil, IsAscii-cons}
 use Rattle.std.proofs.lemmas.Bool.Decides.{nat_tests}
 use Rattle.c25_meaning.specs.Bytes.{is_space}
-use Rattle.c25_meaning.specs.CommandTokens.{is_word, sign_of, lexeme, comment_len, comment_piece, sign_piece}
+use Rattle.c25_meaning.specs.CommandTokens.{is_word, sign_of, lexeme, comment_len}
 use Rattle.c25_meaning.specs.declared.command_token.Sign.{Sign}
 use Rattle.c25_meaning.specs.declared.command_token.Lexeme.TheVariants as piece
 
@@ -32,7 +33,7 @@ IsAscii-prefix (b ∷ text) = by_first (is_word b) refl (IsAscii-prefix text) wh
 
 -- a word is what passes from the front on
 chosen : (a b c : Bool) (m n : ℕ) (o : Option ℕ) (s : Option Sign)
-    → (cond a piece.Blank (cond b (piece.Word m) (cond c (comment_piece o) (sign_piece s)))) ≡ piece.Word n → n ≡ m
+    → (cond a piece.Blank (cond b (piece.Word m) (cond c (option_map_or (λ k. piece.Comment (k + 2)) o piece.OpenComment) (option_map_or piece.Sign s piece.Stray)))) ≡ piece.Word n → n ≡ m
 chosen true b c m n o s e = absurd cc
 chosen false true c m n o s e = cc
 chosen false false true m n None s e = absurd cc

@@ -1,8 +1,9 @@
 //! The kinds of byte, and what stands at the front of a text.
 
-ghost use Rattle.std.specs.Prelude.{◌≡◌, ◌≤◌, ◌<◌, ◌-◌, ◌^◌, length, IfSome, drop, take};
+ghost use Rattle.std.specs.Prelude.{◌≡◌, ◌≤◌, ◌<◌, ◌-◌, ◌+◌, ◌^◌, length, IfSome, drop, take};
 ghost use Rattle.std.specs.List.{prefix_len};
-ghost use Rattle.c25_meaning.specs.CommandTokens.{sign_of, is_word, comment_len, lexeme, comment_piece, sign_piece, covered};
+ghost use Rattle.std.specs.Option.{option_map_or};
+ghost use Rattle.c25_meaning.specs.CommandTokens.{sign_of, is_word, comment_len, lexeme, covered};
 
 use c25_meaning::command_token::{Lexeme, Sign};
 use c25_text::{byte_at, is_space};
@@ -74,7 +75,7 @@ fn comment_len(text: &[u8]) -> Option<usize>
 
 fn comment_piece(length: Option<usize>) -> Lexeme
     requires { IfSome length (λ n. n ≤ 2 ^ 63) }
-    ensures { result ≡ comment_piece length }
+    ensures { result ≡ option_map_or (λ n. Lexeme.Comment (n + 2)) length Lexeme.OpenComment }
 {
     match length {
         None => Lexeme::OpenComment,
@@ -83,7 +84,7 @@ fn comment_piece(length: Option<usize>) -> Lexeme
 }
 
 fn sign_piece(sign: Option<Sign>) -> Lexeme
-    ensures { result ≡ sign_piece sign }
+    ensures { result ≡ option_map_or Lexeme.Sign sign Lexeme.Stray }
 {
     match sign {
         None => Lexeme::Stray,

@@ -14,6 +14,7 @@ mod parts;
 mod ranges;
 mod reading;
 mod sections;
+pub mod taken;
 mod token;
 mod words;
 

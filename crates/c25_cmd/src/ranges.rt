@@ -1,7 +1,7 @@
 //! The ranges so far, and what finds a name or a word that comes twice in time that does not grow
 //! with their number: a set of the names, and for each word of both pages whether it is in a range.
 
-ghost use Rattle.std.specs.Prelude.{◌≡◌, ◌+◌, ◌*◌, ◌<◌, ◌≤◌, ◌&&◌, ◌||◌, ℕ, [], ◌∷◌, ◌++◌, true, false, not, nat_lt, nat_le, length, slice_index_or, IfOk, replicate};
+ghost use Rattle.std.specs.Prelude.{◌≡◌, ◌+◌, ◌*◌, ◌<◌, ◌≤◌, [], ◌∷◌, ◌++◌, true, not, IfOk};
 ghost use Rattle.std.specs.List.{list_any};
 ghost use Rattle.c25_meaning.specs.Command.{RangeData};
 ghost use Rattle.c25_meaning.specs.CommandMemory.{is_range, overlaps};
@@ -9,6 +9,7 @@ ghost use Rattle.c25_cmd.specs.Known.{HasRangeNames, KnowsWords};
 ghost use Rattle.c25_cmd.specs.View.{ranges_of};
 
 use crate::command::MemoryRange;
+use crate::taken::{any_taken, free_words, take};
 use std::alloc::{AllocError, Global};
 use std::collections::BTreeSet;
 
@@ -23,13 +24,6 @@ pub(crate) struct Ranges<'a> {
     pub names: BTreeSet<(u8, &'a str)>,
     /// For each word of page 0, and behind them of page 1, whether a range has it.
     pub taken: Vec<bool>,
-}
-
-/// So many words that no range has.
-fn free_words(alloc: Global, count: usize) -> Result<Vec<bool>, AllocError>
-    ensures { IfOk result (λ v. v.items ≡ replicate count false) }
-{
-    vec![in alloc; false; count]
 }
 
 /// No ranges.
@@ -59,32 +53,6 @@ pub(crate) fn take_name<'a>(
     ensures taken { ranges.new.taken ≡ ranges.old.taken }
 {
     Ok(ranges.names.insert((page, name))?)
-}
-
-/// Whether one of the words from `start` up to `end` is taken.
-fn any_taken(taken: &[bool], start: usize, end: usize) -> bool
-    requires { end ≤ length taken.now }
-    ensures found { result ≡ true → (k : ℕ) × (start ≤ k) × (k < end) × (slice_index_or taken.now k false ≡ true) }
-    ensures none { result ≡ false → (k : ℕ) → start ≤ k → k < end → slice_index_or taken.now k false ≡ false }
-{
-    for k in start..end {
-        if taken[k] {
-            return true;
-        }
-    }
-    false
-}
-
-/// Takes the words from `start` up to `end`.
-fn take(taken: &mut [bool], start: usize, end: usize)
-    requires ordered { start ≤ end }
-    requires within { end ≤ length taken.old }
-    ensures sized { length taken.new ≡ length taken.old }
-    ensures taken { (k : ℕ) → slice_index_or taken.new k false ≡ (slice_index_or taken.old k false || (nat_le start k && nat_lt k end)) }
-{
-    for k in start..end {
-        taken[k] = true;
-    }
 }
 
 /// The number of a word among those of both pages.

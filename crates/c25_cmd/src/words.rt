@@ -1,7 +1,8 @@
 //! What words are: reserved words, numbers or names.
 
 ghost use Rattle.std.specs.Prelude.{◌≡◌, IfOk};
-ghost use Rattle.c25_meaning.specs.CommandTokens.{word_numeral, is_numeral, keyword_of, number_kind, name_kind, word_kind};
+ghost use Rattle.std.specs.Option.{option_map_or};
+ghost use Rattle.c25_meaning.specs.CommandTokens.{word_numeral, is_numeral, keyword_of, number_kind, word_kind};
 ghost use Rattle.c25_cmd.specs.View.{numeral_of};
 
 use crate::bytes::{behind, front};
@@ -91,7 +92,7 @@ fn keyword_of(lower: &[u8]) -> Option<Keyword>
 }
 
 fn name_kind(keyword: Option<Keyword>) -> Kind
-    ensures { result ≡ name_kind keyword }
+    ensures { result ≡ option_map_or Kind.Keyword keyword Kind.Name }
 {
     match keyword {
         None => Kind::Name,

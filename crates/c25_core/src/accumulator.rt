@@ -1,12 +1,12 @@
 //! The accumulator and the product, as the instructions use them.
 
-ghost use Rattle.std.specs.Prelude.{◌≡◌, ◌<◌, ◌^◌, ◌/◌, ◌-◌, ◌%◌, ◌+◌, ◌==◌, pos};
+ghost use Rattle.std.specs.Prelude.{◌≡◌, ◌<◌, ◌^◌, ◌/◌, ◌-◌, ◌%◌, ◌==◌, pos};
 ghost use Rattle.c25_bits.specs.Cut.{cut, signed};
 ghost use Rattle.c25_meaning.specs.Arithmetic.{scaled};
 ghost use Rattle.c25_meaning.specs.Effect.{become, minus, minus_high, minus_product, plus, plus_high, plus_product, product_word, word_product};
 
 use c25_alu::{add, product, scaled, shifted_product, subtract};
-use c25_meaning::registers::Registers;
+use c25_meaning::registers::{Acc, Registers};
 
 /// A word with its sign.
 pub fn signed_word(word: u16) -> i16
@@ -22,6 +22,28 @@ pub fn word_product(first: u16, second: u16) -> u32
     product(signed_word(first), signed_word(second))
 }
 
+/// The accumulator, read field by field: one that was just written alone is then not read as a part
+/// of a wider word, for which a processor has to wait.
+fn acc_of(registers: &Registers) -> Acc
+    ensures { result ≡ registers.now.acc }
+{
+    Acc {
+        value: registers.acc.value,
+        ov: registers.acc.ov,
+        c: registers.acc.c,
+    }
+}
+
+/// Writes the accumulator, field by field.
+fn set_acc(registers: &mut Registers, acc: Acc)
+    ensures { registers.new ≡ record registers.old { acc = acc } }
+{
+    let Acc { value, ov, c } = acc;
+    registers.acc.value = value;
+    registers.acc.ov = ov;
+    registers.acc.c = c;
+}
+
 /// P as PM hands it on.
 pub fn product_word(registers: &Registers) -> u32
     ensures { result ≡ product_word registers.now }
@@ -30,20 +52,25 @@ pub fn product_word(registers: &Registers) -> u32
 }
 
 /// A += v, where v is the signed number of these bits.
+#[inline(always)]
 pub fn plus(registers: &mut Registers, addend: u32)
     ensures { registers.new ≡ plus (signed addend 32) registers.old }
 {
-    registers.acc = add(registers.acc, addend, registers.ovm);
+    let acc = add(acc_of(registers), addend, registers.ovm);
+    set_acc(registers, acc);
 }
 
 /// A -= v, where v is the signed number of these bits.
+#[inline(always)]
 pub fn minus(registers: &mut Registers, amount: u32)
     ensures { registers.new ≡ minus (signed amount 32) registers.old }
 {
-    registers.acc = subtract(registers.acc, amount, registers.ovm);
+    let acc = subtract(acc_of(registers), amount, registers.ovm);
+    set_acc(registers, acc);
 }
 
 /// A += a number below 2^31.
+#[inline(always)]
 pub fn plus_natural(registers: &mut Registers, number: u32)
     requires { number < 2 ^ 31 }
     ensures { registers.new ≡ plus (pos number) registers.old }
@@ -52,6 +79,7 @@ pub fn plus_natural(registers: &mut Registers, number: u32)
 }
 
 /// A -= a number below 2^31.
+#[inline(always)]
 pub fn minus_natural(registers: &mut Registers, number: u32)
     requires { number < 2 ^ 31 }
     ensures { registers.new ≡ minus (pos number) registers.old }
@@ -60,6 +88,7 @@ pub fn minus_natural(registers: &mut Registers, number: u32)
 }
 
 /// A = a word times 2^`shift`.
+#[inline(always)]
 pub fn become_scaled(registers: &mut Registers, word: u16, shift: u16)
     requires { shift < 16 }
     ensures { registers.new
@@ -69,6 +98,7 @@ pub fn become_scaled(registers: &mut Registers, word: u16, shift: u16)
 }
 
 /// A += a word times 2^`shift`.
+#[inline(always)]
 pub fn plus_scaled(registers: &mut Registers, word: u16, shift: u16)
     requires { shift < 16 }
     ensures { registers.new ≡ plus (scaled registers.old.sxm word shift) registers.old }
@@ -77,6 +107,7 @@ pub fn plus_scaled(registers: &mut Registers, word: u16, shift: u16)
 }
 
 /// A -= a word times 2^`shift`.
+#[inline(always)]
 pub fn minus_scaled(registers: &mut Registers, word: u16, shift: u16)
     requires { shift < 16 }
     ensures { registers.new ≡ minus (scaled registers.old.sxm word shift) registers.old }

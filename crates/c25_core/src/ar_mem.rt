@@ -14,6 +14,7 @@ use c25_meaning::registers::Registers;
 
 /// Either of the instructions, with the change of its operand: that comes before the load, so that
 /// `LAR` of the current register ends with the loaded word.
+#[inline(always)]
 pub fn ar_mem<B: Bus>(
     registers: &mut Registers,
     bus: &mut B,

@@ -29,7 +29,7 @@ fn enter(registers: &mut Registers, line: Lines, vector: u16)
 }
 
 /// Whether a line waits and the mask has its bit.
-fn asks(registers: &Registers, mask: u16, line: Lines) -> bool
+pub fn asks(registers: &Registers, mask: u16, line: Lines) -> bool
     ensures { result ≡ (has registers.now.latched.0 line.0 && has mask line.0) }
 {
     registers.latched.contains(line) && mask & u16::from(line.bits()) == u16::from(line.bits())

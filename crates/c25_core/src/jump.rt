@@ -2,9 +2,12 @@
 
 ghost use Rattle.std.specs.Prelude.{◌≡◌, true};
 ghost use Rattle.c25_meaning.specs.Effect.{branch, jump_effect};
+ghost use Rattle.c25_meaning.specs.Operand.{with_change, with_next};
+ghost use Rattle.c25_meaning.specs.Table.{NextInRange};
 
-use crate::operand::current;
+use crate::operand::{change_indirect, current};
 use crate::stack::call;
+use c25_meaning::insn::Change;
 use c25_meaning::mnemonic::JumpName;
 use c25_meaning::registers::Registers;
 
@@ -39,7 +42,8 @@ fn branch_without_overflow(registers: &mut Registers, target: u16)
 }
 
 /// Any of the jumps, before the change of its operand; PC already stands behind it.
-pub fn jump(registers: &mut Registers, name: JumpName, target: u16, bio: bool)
+#[inline(always)]
+fn jump(registers: &mut Registers, name: JumpName, target: u16, bio: bool)
     ensures { registers.new ≡ jump_effect name target bio registers.old }
 {
     let acc = registers.acc.value;
@@ -62,4 +66,23 @@ pub fn jump(registers: &mut Registers, name: JumpName, target: u16, bio: bool)
         JumpName::Call => call(registers, target),
         JumpName::B => registers.pc = target,
     }
+}
+
+/// Any of the jumps, and the change of its operand; PC already stands behind it.
+#[inline(always)]
+pub fn jump_and_change(
+    registers: &mut Registers,
+    name: JumpName,
+    target: u16,
+    change: Change,
+    next: Option<u16>,
+    bio: bool,
+)
+    requires { NextInRange next }
+    ensures { registers.new ≡ with_next next registers.old.arp
+        (with_change change registers.old.arp (jump_effect name target bio registers.old)) }
+{
+    let arp = registers.arp;
+    jump(registers, name, target, bio);
+    change_indirect(registers, change, next, arp);
 }

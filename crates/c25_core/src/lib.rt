@@ -2,6 +2,7 @@
 #![tactic(auto)]
 
 mod accumulator;
+mod advance;
 mod ar_mem;
 mod bit;
 mod bus;
@@ -17,6 +18,7 @@ mod operand;
 mod plain;
 mod port;
 mod processor;
+mod quick;
 mod shifted;
 mod short;
 mod stack;

@@ -1,11 +1,12 @@
-//! The instructions with one word and an operand in memory.
+//! The instructions with one word and an operand in memory. Those that are run most often come first.
 
 ghost use Rattle.std.specs.Prelude.{◌≡◌, ◌%◌, ◌^◌, ◌+◌, ◌-◌, ℕ, pos};
 ghost use Rattle.c25_meaning.specs.Arithmetic.{bit};
-ghost use Rattle.c25_meaning.specs.Effect.{mem_address, mem_effect, mem_operand, minus, repeat, settle, to, word_product};
+ghost use Rattle.c25_meaning.specs.Effect.{become, mem_address, mem_effect, mem_operand, minus, minus_product, operand_word, plus_product, product_word, repeat, settle, to, word_product};
+ghost use Rattle.c25_meaning.specs.Operand.{address_of};
 ghost use Rattle.c25_meaning.specs.State.{World, data_at};
 ghost use Rattle.c25_meaning.specs.Table.{AddrInRange};
-ghost use Rattle.c25_core.specs.Groups.{KeepsMemory, LoadsFactor};
+ghost use Rattle.c25_core.specs.Groups.{IsRarer, IsRarerLoad, KeepsProgram};
 ghost use Rattle.c25_core.specs.Met.{IsMet};
 
 use crate::accumulator::{
@@ -13,7 +14,7 @@ use crate::accumulator::{
     minus_scaled, plus_high, plus_natural, plus_product, plus_scaled, product_word, word_product,
 };
 use crate::bus::{Bus, Halt};
-use crate::memory::{read_data, read_program, store, store_program};
+use crate::memory::{read_data, read_program, store_program, write_data};
 use crate::operand::{address_of, settle, without_next};
 use crate::stack::{pop, push};
 use crate::status::{load_st0, load_st1, st0, st1};
@@ -47,46 +48,65 @@ fn multiply(registers: &mut Registers, word: u16)
     registers.p = word_product(registers.t, word);
 }
 
-/// The instructions that load T or P; `word` is the memory word.
-fn load_factor(registers: &mut Registers, name: MemName, word: u16)
-    requires { LoadsFactor name }
-    ensures { (address k : ℕ) (w : World)
-        → mem_effect name word address k registers.old w ≡ to registers.new w }
+/// A += p and T = m.
+fn add_and_load(registers: &mut Registers, word: u16)
+    ensures { registers.new ≡ record (plus_product registers.old) { t = word } }
 {
-    match name {
-        MemName::Lt => registers.t = word,
-        MemName::Lta => {
-            plus_product(registers);
-            registers.t = word;
-        }
-        MemName::Ltp => {
-            registers.acc.value = product_word(registers);
-            registers.t = word;
-        }
-        MemName::Lts => {
-            minus_product(registers);
-            registers.t = word;
-        }
-        MemName::Lph => registers.p = u32::from(word) * 0x1_0000 + registers.p % 0x1_0000,
-        MemName::Mpyu => registers.p = u32::from(registers.t) * u32::from(word),
-        MemName::Mpya => {
-            plus_product(registers);
-            multiply(registers, word);
-        }
-        MemName::Mpys => {
-            minus_product(registers);
-            multiply(registers, word);
-        }
-        MemName::Sqra => {
-            plus_product(registers);
-            square(registers, word);
-        }
-        MemName::Sqrs => {
-            minus_product(registers);
-            square(registers, word);
-        }
-        _ => multiply(registers, word),
-    }
+    plus_product(registers);
+    registers.t = word;
+}
+
+/// A = p and T = m.
+fn take_and_load(registers: &mut Registers, word: u16)
+    ensures { registers.new
+        ≡ record (become (product_word registers.old) registers.old) { t = word } }
+{
+    registers.acc.value = product_word(registers);
+    registers.t = word;
+}
+
+/// A -= p and T = m.
+fn subtract_and_load(registers: &mut Registers, word: u16)
+    ensures { registers.new ≡ record (minus_product registers.old) { t = word } }
+{
+    minus_product(registers);
+    registers.t = word;
+}
+
+/// A += p and P = T times m.
+fn add_and_multiply(registers: &mut Registers, word: u16)
+    ensures { registers.new
+        ≡ record (plus_product registers.old) { p = word_product registers.old.t word } }
+{
+    plus_product(registers);
+    multiply(registers, word);
+}
+
+/// A -= p and P = T times m.
+fn subtract_and_multiply(registers: &mut Registers, word: u16)
+    ensures { registers.new
+        ≡ record (minus_product registers.old) { p = word_product registers.old.t word } }
+{
+    minus_product(registers);
+    multiply(registers, word);
+}
+
+/// A += p, T = m and P = m times m.
+fn add_and_square(registers: &mut Registers, word: u16)
+    ensures { registers.new
+        ≡ record (plus_product registers.old) { t = word; p = word_product word word } }
+{
+    plus_product(registers);
+    square(registers, word);
+}
+
+/// A -= p, T = m and P = m times m.
+fn subtract_and_square(registers: &mut Registers, word: u16)
+    ensures { registers.new
+        ≡ record (minus_product registers.old) { t = word; p = word_product word word } }
+{
+    minus_product(registers);
+    square(registers, word);
 }
 
 /// A -= m, and 1 more where C is 0, the borrow.
@@ -97,39 +117,33 @@ fn minus_with_borrow(registers: &mut Registers, word: u16)
     minus_natural(registers, u32::from(word) + borrow)
 }
 
-/// The instructions that leave memory as it is; `word` is the memory word.
-fn load(registers: &mut Registers, name: MemName, word: u16)
-    requires { KeepsMemory name }
+/// Those of the rarer instructions that leave memory as it is; `word` is the memory word.
+fn load_rarely(registers: &mut Registers, name: MemName, word: u16)
+    requires { IsRarerLoad name }
     ensures { (address k : ℕ) (w : World)
         → mem_effect name word address k registers.old w ≡ to registers.new w }
 {
     let value = u32::from(word);
     let shift = registers.t % 16;
     match name {
-        MemName::Zalh => registers.acc.value = value * 0x1_0000,
-        MemName::Zals => registers.acc.value = value,
-        MemName::Zalr => registers.acc.value = value * 0x1_0000 + 0x8000,
         MemName::Lact => become_scaled(registers, word, shift),
         MemName::Addc => plus_natural(registers, value + u32::from(registers.acc.c)),
-        MemName::Addh => plus_high(registers, word),
-        MemName::Adds => plus_natural(registers, value),
         MemName::Addt => plus_scaled(registers, word, shift),
         MemName::Subb => minus_with_borrow(registers, word),
         MemName::Subc => registers.acc = subc(registers.acc, scaled(registers.sxm, word, 15)),
-        MemName::Subh => minus_high(registers, word),
-        MemName::Subs => minus_natural(registers, value),
         MemName::Subt => minus_scaled(registers, word, shift),
-        MemName::Xor => registers.acc.value ^= value,
-        MemName::Or => registers.acc.value |= value,
-        MemName::And => registers.acc.value &= value,
+        MemName::Zalr => registers.acc.value = value * 0x1_0000 + 0x8000,
+        MemName::Lts => subtract_and_load(registers, word),
+        MemName::Lph => registers.p = value * 0x1_0000 + registers.p % 0x1_0000,
+        MemName::Mpys => subtract_and_multiply(registers, word),
+        MemName::Mpyu => registers.p = u32::from(registers.t) * value,
+        MemName::Sqra => add_and_square(registers, word),
+        MemName::Sqrs => subtract_and_square(registers, word),
         MemName::Lst => load_st0(registers, word),
         MemName::Lst1 => load_st1(registers, word),
-        MemName::Ldp => registers.dp = DataPage::new(word % 512),
         MemName::Bitt => registers.tc = bit_of(word, registers.t),
         MemName::Rpt => repeat(registers, (word % 256) as u8),
-        MemName::Pshd => push(registers, word),
-        MemName::Mar => {}
-        _ => load_factor(registers, name, word),
+        _ => push(registers, word),
     }
 }
 
@@ -162,68 +176,119 @@ fn mem_operand(name: MemName, operand: &Addr) -> Addr
     }
 }
 
-/// Any of the instructions, with its operand at this address, before the operand's change.
-fn act<B: Bus>(
+/// The rarer instructions, with their operand at this address and the word there.
+#[inline(never)]
+fn act_rarely<B: Bus>(
     registers: &mut Registers,
     bus: &mut B,
     name: MemName,
+    word: u16,
     address: u16,
     repeated: u16,
-) -> Result<(), Halt>
-    ensures { IsMet
-        (mem_effect name (data_at registers.old.cnf (B.world bus.old) address) address repeated
-        registers.old (B.world bus.old))
-        result registers.new (B.world bus.old) (B.world bus.new)
-        (B.failures bus.old) (B.failures bus.new) }
+)
+    requires { IsRarer name }
+    ensures after { mem_effect name word address repeated registers.old (B.world bus.old)
+        ≡ to registers.new (B.world bus.new) }
+    ensures failures { B.failures bus.new ≡ B.failures bus.old }
 {
-    let word = read_data(bus, registers.cnf, address);
+    let cnf = registers.cnf;
     match name {
-        MemName::Ltd => {
-            plus_product(registers);
-            registers.t = word;
-            store(registers, bus, address.wrapping_add(1), word)
-        }
-        MemName::Dmov => store(registers, bus, address.wrapping_add(1), word),
         MemName::Tblr => {
-            let moved = read_program(bus, registers.cnf, table_address(registers, repeated));
-            store(registers, bus, address, moved)
+            let moved = read_program(bus, cnf, table_address(registers, repeated));
+            write_data(bus, cnf, address, moved)
         }
-        MemName::Tblw => store_program(registers, bus, table_address(registers, repeated), word),
-        MemName::Sst => store(registers, bus, address, st0(registers)),
-        MemName::Sst1 => store(registers, bus, address, st1(registers)),
+        MemName::Sst => write_data(bus, cnf, address, st0(registers)),
+        MemName::Sst1 => write_data(bus, cnf, address, st1(registers)),
         MemName::Popd => {
             let top = pop(registers);
-            store(registers, bus, address, top)
+            write_data(bus, cnf, address, top)
         }
-        MemName::Spl => store(registers, bus, address, low_half(product_word(registers))),
-        MemName::Sph => store(registers, bus, address, high_half(product_word(registers))),
-        _ => {
-            load(registers, name, word);
-            Ok(())
-        }
+        MemName::Spl => write_data(bus, cnf, address, low_half(product_word(registers))),
+        MemName::Sph => write_data(bus, cnf, address, high_half(product_word(registers))),
+        _ => load_rarely(registers, name, word),
     }
 }
 
-/// Any of the instructions, with its operand; `repeated` repetitions of it are done.
-#[tactic(auto, using(crate::proofs::Settle::IsMet_settle))]
+/// Any of the instructions but `TBLW`, with its operand at this address, before the operand's change.
+#[inline(always)]
+fn act<B: Bus>(registers: &mut Registers, bus: &mut B, name: MemName, address: u16, repeated: u16)
+    requires { KeepsProgram name }
+    ensures after { mem_effect name (data_at registers.old.cnf (B.world bus.old) address) address
+        repeated registers.old (B.world bus.old)
+        ≡ to registers.new (B.world bus.new) }
+    ensures failures { B.failures bus.new ≡ B.failures bus.old }
+{
+    let cnf = registers.cnf;
+    let word = read_data(bus, cnf, address);
+    match name {
+        MemName::Zalh => registers.acc.value = u32::from(word) * 0x1_0000,
+        MemName::Zals => registers.acc.value = u32::from(word),
+        MemName::Addh => plus_high(registers, word),
+        MemName::Adds => plus_natural(registers, u32::from(word)),
+        MemName::Subh => minus_high(registers, word),
+        MemName::Subs => minus_natural(registers, u32::from(word)),
+        MemName::Xor => registers.acc.value ^= u32::from(word),
+        MemName::Or => registers.acc.value |= u32::from(word),
+        MemName::And => registers.acc.value &= u32::from(word),
+        MemName::Ldp => registers.dp = DataPage::new(word % 512),
+        MemName::Lt => registers.t = word,
+        MemName::Lta => add_and_load(registers, word),
+        MemName::Ltp => take_and_load(registers, word),
+        MemName::Ltd => {
+            add_and_load(registers, word);
+            write_data(bus, cnf, address.wrapping_add(1), word)
+        }
+        MemName::Mpy => multiply(registers, word),
+        MemName::Mpya => add_and_multiply(registers, word),
+        MemName::Dmov => write_data(bus, cnf, address.wrapping_add(1), word),
+        MemName::Mar => {}
+        _ => act_rarely(registers, bus, name, word, address, repeated),
+    }
+}
+
+/// Any of the instructions but `TBLW`, with its operand; `repeated` repetitions of it are done.
+#[inline(always)]
 pub fn mem<B: Bus>(
     registers: &mut Registers,
     bus: &mut B,
     name: MemName,
     operand: &Addr,
     repeated: u16,
+)
+    requires name { KeepsProgram name }
+    requires operand { AddrInRange operand.now }
+    ensures after { let address = mem_address name operand.now registers.old in
+        let word = data_at registers.old.cnf (B.world bus.old) address in
+        settle (mem_operand name operand.now) registers.old.arp
+        (mem_effect name word address repeated registers.old (B.world bus.old))
+        ≡ to registers.new (B.world bus.new) }
+    ensures failures { B.failures bus.new ≡ B.failures bus.old }
+{
+    let arp = registers.arp;
+    let address = mem_address(name, operand, registers);
+    act(registers, bus, name, address, repeated);
+    settle(registers, &mem_operand(name, operand), arp);
+}
+
+/// `TBLW`, with its operand; `repeated` repetitions of it are done.
+#[tactic(auto, using(crate::proofs::Settle::IsMet_settle))]
+pub fn write_table<B: Bus>(
+    registers: &mut Registers,
+    bus: &mut B,
+    operand: &Addr,
+    repeated: u16,
 ) -> Result<(), Halt>
     requires { AddrInRange operand.now }
-    ensures { let address = mem_address name operand.now registers.old in
-        let word = data_at registers.old.cnf (B.world bus.old) address in
-        IsMet (settle (mem_operand name operand.now) registers.old.arp
-        (mem_effect name word address repeated registers.old (B.world bus.old)))
+    ensures { let word = operand_word operand.now registers.old (B.world bus.old) in
+        let address = address_of operand.now registers.old in
+        IsMet (settle operand.now registers.old.arp
+        (mem_effect MemName.Tblw word address repeated registers.old (B.world bus.old)))
         result registers.new (B.world bus.old) (B.world bus.new)
         (B.failures bus.old) (B.failures bus.new) }
 {
     let arp = registers.arp;
-    let address = mem_address(name, operand, registers);
-    act(registers, bus, name, address, repeated)?;
-    settle(registers, &mem_operand(name, operand), arp);
+    let word = read_data(bus, registers.cnf, address_of(operand, registers));
+    store_program(registers, bus, table_address(registers, repeated), word)?;
+    settle(registers, operand, arp);
     Ok(())
 }

@@ -1,8 +1,8 @@
 //! Memory as the processor reads and writes it, with block B0 (SPRU014, "Memory Maps").
 
 ghost use Rattle.std.specs.Prelude.{◌≡◌};
-ghost use Rattle.c25_meaning.specs.State.{data_at, with_data, program_at, with_program, in_b0, in_program_b0, b0_word};
-ghost use Rattle.c25_meaning.specs.Effect.{store, store_program};
+ghost use Rattle.c25_meaning.specs.State.{data_at, with_data, program_at, with_program, in_b0, in_program_b0};
+ghost use Rattle.c25_meaning.specs.Effect.{store_program};
 ghost use Rattle.c25_core.specs.Met.{IsMet};
 
 use crate::bus::{Bus, Halt};
@@ -67,21 +67,6 @@ fn write_program<B: Bus>(bus: &mut B, cnf: bool, address: u16, word: u16)
         return bus.set_data(address - 0xFF00 + 0x200, word);
     }
     bus.set_program(address, word)
-}
-
-/// Writes a data word, as the last act of an instruction.
-pub fn store<B: Bus>(
-    registers: &Registers,
-    bus: &mut B,
-    address: u16,
-    word: u16,
-) -> Result<(), Halt>
-    ensures { IsMet (store address word registers.now (B.world bus.old))
-        result registers.now (B.world bus.old) (B.world bus.new)
-        (B.failures bus.old) (B.failures bus.new) }
-{
-    write_data(bus, registers.cnf, address, word);
-    Ok(())
 }
 
 /// Writes a program word that belongs to no instruction.

@@ -61,6 +61,7 @@ fn load_next(registers: &mut Registers, next: Option<u16>, arp: ArNumber)
 }
 
 /// Makes the change of an indirect operand, after an instruction that began with this ARP.
+#[inline(always)]
 pub fn change_indirect(registers: &mut Registers, change: Change, next: Option<u16>, arp: ArNumber)
     requires { NextInRange next }
     ensures { registers.new ≡ with_next next arp (with_change change arp registers.old) }
@@ -70,6 +71,7 @@ pub fn change_indirect(registers: &mut Registers, change: Change, next: Option<u
 }
 
 /// Makes the change of an operand, after an instruction that began with this ARP.
+#[inline(always)]
 pub fn settle(registers: &mut Registers, operand: &Addr, arp: ArNumber)
     requires { AddrInRange operand.now }
     ensures { registers.new ≡ after_operand operand.now arp registers.old }

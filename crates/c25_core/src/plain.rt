@@ -90,6 +90,7 @@ fn sleep(registers: &mut Registers)
 
 /// Any of the instructions; PC already stands behind it. Of two that name one bit, the second sets
 /// it and the first clears it.
+#[inline(always)]
 pub fn plain(registers: &mut Registers, name: PlainName, operand: &PlainOperand)
     ensures { registers.new ≡ plain_effect name operand.now registers.old }
 {

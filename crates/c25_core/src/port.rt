@@ -1,6 +1,5 @@
 //! The instructions with a port.
 
-ghost use Rattle.std.specs.Prelude.{◌≡◌};
 ghost use Rattle.c25_meaning.specs.Effect.{operand_word, port_effect, settle};
 ghost use Rattle.c25_meaning.specs.Operand.{address_of};
 ghost use Rattle.c25_meaning.specs.State.{data_at};

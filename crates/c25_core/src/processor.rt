@@ -1,7 +1,7 @@
 //! The processor.
 
 ghost use Rattle.std.specs.Prelude.{◌≡◌, ◌↔◌, ◌&&◌, not, true, OnErr, IfOk};
-ghost use Rattle.c25_meaning.specs.State.{StepResult, state_of};
+ghost use Rattle.c25_meaning.specs.State.{StepResult, data_at, program_at, state_of};
 ghost use Rattle.c25_meaning.specs.Reset.{reset};
 ghost use Rattle.c25_meaning.specs.Status.{regs_of};
 ghost use Rattle.c25_meaning.specs.Step.{begun};
@@ -11,6 +11,7 @@ ghost use Rattle.c25_core.specs.Met.{IsMet};
 use crate::bus::{Bus, Halt, Tick};
 use crate::fetch::fetch;
 use crate::interrupt::begin;
+use crate::memory::{read_data, read_program};
 use crate::status::regs_of;
 use crate::step::turn;
 use bitflags::Flags;
@@ -21,7 +22,7 @@ use std::marker::Model;
 /// The processor: all that it holds between two steps. Memories and ports are the bus's.
 #[derive(Clone, Copy)]
 pub struct Core {
-    registers: Registers,
+    pub(crate) registers: Registers,
 }
 
 impl Model for Core {
@@ -89,6 +90,20 @@ impl Core {
         ensures { result ≡ (not self.now.repeating && not self.now.asleep) }
     {
         !self.registers.repeating && !self.registers.asleep
+    }
+
+    /// A data word as the processor reads it: under CNF 1 a word of block B0 reads 0.
+    pub fn data_at<B: Bus>(&self, address: u16, bus: &B) -> u16
+        ensures { result ≡ data_at self.now.cnf (B.world bus.now) address }
+    {
+        read_data(bus, self.registers.cnf, address)
+    }
+
+    /// A program word as the processor reads it: under CNF 1 the highest 256 are those of block B0.
+    pub fn program_at<B: Bus>(&self, address: u16, bus: &B) -> u16
+        ensures { result ≡ program_at self.now.cnf (B.world bus.now) address }
+    {
+        read_program(bus, self.registers.cnf, address)
     }
 
     /// One step: latches the interrupt lines of the step, takes an interrupt where one may be

@@ -16,6 +16,7 @@ use c25_meaning::mnemonic::ShiftedName;
 use c25_meaning::registers::Registers;
 
 /// Any of the instructions, with its operand at this address, before the operand's change.
+#[inline(always)]
 fn act<B: Bus>(registers: &mut Registers, bus: &mut B, name: ShiftedName, address: u16, shift: u16)
     requires { shift < shift_limit name }
     ensures after { shifted_effect name (data_at registers.old.cnf (B.world bus.old) address)
@@ -25,17 +26,18 @@ fn act<B: Bus>(registers: &mut Registers, bus: &mut B, name: ShiftedName, addres
 {
     let cnf = registers.cnf;
     let word = read_data(bus, cnf, address);
-    let stored = shift_left(registers.acc.value, shift);
+    let value = registers.acc.value;
     match name {
         ShiftedName::Add => plus_scaled(registers, word, shift),
         ShiftedName::Sub => minus_scaled(registers, word, shift),
         ShiftedName::Lac => become_scaled(registers, word, shift),
-        ShiftedName::Sacl => write_data(bus, cnf, address, low_half(stored)),
-        ShiftedName::Sach => write_data(bus, cnf, address, high_half(stored)),
+        ShiftedName::Sacl => write_data(bus, cnf, address, low_half(shift_left(value, shift))),
+        ShiftedName::Sach => write_data(bus, cnf, address, high_half(shift_left(value, shift))),
     }
 }
 
 /// Any of the instructions, with its operand.
+#[inline(always)]
 pub fn shifted<B: Bus>(
     registers: &mut Registers,
     bus: &mut B,

@@ -19,6 +19,7 @@ fn natural(number: i16) -> u16
 }
 
 /// Any of the instructions; `register` is that of `LARK`.
+#[inline(always)]
 pub fn short(registers: &mut Registers, name: ShortName, register: u16, number: i16)
     requires { ShortInRange name register number }
     ensures { registers.new ≡ short_effect name register number registers.old }

@@ -1,6 +1,6 @@
 //! The status words (SPRU014, "Status Registers").
 
-ghost use Rattle.std.specs.Prelude.{◌≡◌, ◌*◌, ◌/◌, ◌%◌, ◌^◌, ◌==◌, ◌<◌, ◌≤◌};
+ghost use Rattle.std.specs.Prelude.{◌≡◌, ◌*◌, ◌/◌, ◌%◌, ◌==◌, ◌<◌, ◌≤◌};
 ghost use Rattle.c25_meaning.specs.Arithmetic.{bit, shift_number, shift_of_number};
 ghost use Rattle.c25_meaning.specs.Status.{is_set, regs_of, st0, st1, with_st0, with_st1};
 

@@ -1,21 +1,20 @@
 //! One step, once its lines are latched and its instruction is fetched.
 
-ghost use Rattle.std.specs.Prelude.{◌≡◌, ◌↔◌, ◌<◌, true, IfOk};
+ghost use Rattle.std.specs.Prelude.{◌≡◌, ◌↔◌, true, IfOk};
 ghost use Rattle.std.specs.Option.{ForSome};
-ghost use Rattle.c25_meaning.specs.Step.{advanced, executed, is_unrepeatable, stepped};
-ghost use Rattle.c25_meaning.specs.Table.{InRange, size_of};
+ghost use Rattle.c25_meaning.specs.Step.{is_unrepeatable, stepped};
+ghost use Rattle.c25_meaning.specs.Table.{InRange};
 ghost use Rattle.c25_core.specs.Met.{IsMet};
 
 use crate::bus::{Bus, Halt, Tick};
 use crate::execute::execute;
-use c25_isa::size_of;
 use c25_meaning::insn::Insn;
 use c25_meaning::mnemonic::{MemName, PlainName, ShortName};
 use c25_meaning::registers::Registers;
 use c25_meaning::stop::Stop;
 
 /// Whether an instruction may not be repeated.
-fn is_unrepeatable(insn: &Insn) -> bool
+pub fn is_unrepeatable(insn: &Insn) -> bool
     ensures { result ≡ is_unrepeatable insn.now }
 {
     match insn {
@@ -28,22 +27,6 @@ fn is_unrepeatable(insn: &Insn) -> bool
         ),
         _ => false,
     }
-}
-
-/// Moves PC behind an instruction of this size, or in a repeat counts the repetition and leaves PC
-/// until the last one; the shadow of `EINT` ends.
-fn advance(registers: &mut Registers, size: u16)
-    ensures { registers.new ≡ advanced size registers.old }
-{
-    registers.shadowed = false;
-    if registers.repeating && 0 < registers.rptc {
-        registers.rptc -= 1;
-        registers.repeated = registers.repeated.wrapping_add(1);
-        return;
-    }
-    registers.pc = registers.pc.wrapping_add(size);
-    registers.repeating = false;
-    registers.repeated = 0;
 }
 
 /// Runs the instruction, or stops where there is none, unless the processor sleeps.
@@ -69,9 +52,7 @@ pub fn turn<B: Bus>(
             if registers.repeating && is_unrepeatable(insn) {
                 return Err(Halt::Stop(Stop::BadRepeat));
             }
-            let repeated = registers.repeated;
-            advance(registers, size_of(insn.mnemonic()));
-            execute(registers, bus, insn, repeated, bio)?;
+            execute(registers, bus, insn, bio)?;
             Ok(Tick::Ran)
         }
     }

@@ -8,15 +8,28 @@ use c25_items::{LineFormat, decimal_of, hexadecimal_of, is_word, read_items};
 use c25_meaning::failure::Failure;
 use c25_meaning::script::Cmd;
 use std::alloc::Global;
+use std::error::Error;
+use std::fmt;
 use std::marker::Model;
-use thiserror::Error;
 
 /// The first line of a text, counted from 1, whose words are no command (95).
-#[derive(Clone, Copy, Debug, PartialEq, Eq, Error)]
-#[error("line {line}: BadCommand")]
+#[derive(Clone, Copy, Debug, PartialEq, Eq)]
 pub struct BadCommand {
     pub line: usize,
 }
+
+impl fmt::Display for BadCommand {
+    ghost use Rattle.std.specs.Prelude.{Some, codes};
+    ghost use Rattle.c25_meaning.specs.Faults.{line_text};
+
+    ghost output = { λ bad. Some (line_text bad.line (codes "BadCommand")) };
+
+    fn fmt<W: fmt::Write>(&self, f: &mut fmt::Formatter<W>) -> fmt::Result {
+        write!(f, "line {}: BadCommand", self.line)
+    }
+}
+
+impl Error for BadCommand {}
 
 /// The commands of a script, in order; no `data` and no `prog` goes on past the memory. Contracts see
 /// it as their list.

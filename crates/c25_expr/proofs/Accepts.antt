@@ -1,11 +1,11 @@
 -- Whether tokens complete an expression shows without its tree.
 use Rattle.std.proofs.Common.{◌≡◌, ℕ, suc, ◌+◌, Bool, true, false, cond, nat_le, List, [], ◌∷◌, Option, Some, None, is_some, refl, sym, ap, subst, ◌∙◌, arith}
-use Rattle.std.specs.Option.{is_none}
+use Rattle.std.specs.Option.{is_none, option_and_then}
 use Rattle.std.proofs.lemmas.Bool.{ne_eqb, cond_both, le-leb}
 use Rattle.c25_meaning.specs.declared.expression.BinaryOperator.{BinaryOperator}
 use Rattle.c25_meaning.specs.declared.expression.UnaryOperator.{UnaryOperator}
 use Rattle.c25_meaning.specs.Tree.{Tree, Single, Group, Unary, Binary, Mark, Operand, Signed, Stray, level_of}
-use Rattle.c25_meaning.specs.Reading.{Item, Push, Wrap, Apply, Combine, Frame, Open, Pending, After, State, settle, reduced, loosest, step, step_by, opened, waiting_by, closed, followed, finished_by, whole, run, run_on, unary_of, binary_of, is_open, is_close}
+use Rattle.c25_meaning.specs.Reading.{Item, Push, Wrap, Apply, Combine, Frame, Open, Pending, After, State, settle, reduced, loosest, step, step_by, opened, waiting_by, closed, followed, finished_by, whole, run, unary_of, binary_of, is_open, is_close}
 use Rattle.c25_expr.specs.Completes.{opens, completes, completes_on, behind_open, behind_close, behind_follow}
 use Rattle.c25_expr.proofs.Sound.{level_loosest}
 
@@ -65,7 +65,7 @@ answers_settled ms more fs e is h =
     let s = settles fs e is h in
     more (settle fs e is) (s.shaped, s.settled) ∙ ap (λ b. completes ms b (opens (settle fs e is).frames)) s.some ∙ ap (completes ms false) s.same
 
-answers_opened : (ms : List Mark) → Answers ms → (fs : List Frame) (is : List Item) (o : Option UnaryOperator) (b : Bool) → IsShaped fs → is_some (run_on (run ms) (opened fs is o b)) ≡ completes_on (completes ms) (behind_open (opens fs) (is_some o) b)
+answers_opened : (ms : List Mark) → Answers ms → (fs : List Frame) (is : List Item) (o : Option UnaryOperator) (b : Bool) → IsShaped fs → is_some (option_and_then (run ms) (opened fs is o b)) ≡ completes_on (completes ms) (behind_open (opens fs) (is_some o) b)
 answers_opened ms more fs is (Some op) b h = more (record { frames = Pending op ∷ fs; current = None; items = is }) (h, tt)
 answers_opened ms more fs is None true h = more (record { frames = Open ∷ fs; current = None; items = is }) (h, tt)
 answers_opened ms more fs is None false h = refl
@@ -81,23 +81,23 @@ answers_waiting ms more op n fs (Some e) is s = more (record { frames = After e 
 loose : (op : BinaryOperator) (l e : Tree) (fs : List Frame) (is : List Item) → reduced loosest (After l op ∷ fs) e is ≡ reduced loosest fs (Binary op l e) (Combine op ∷ is)
 loose op l e fs is = ap (λ b. cond b (reduced loosest fs (Binary op l e) (Combine op ∷ is)) (record { frames = After l op ∷ fs; current = Some e; items = is })) (le-leb (level_of op) 8 (level_loosest op))
 
-answers_closed : (ms : List Mark) → Answers ms → (fs : List Frame) (e : Tree) (is : List Item) → IsShaped fs → IsSettled fs → is_some (run_on (run ms) (closed (reduced loosest fs e is))) ≡ completes_on (completes ms) (behind_close (opens fs))
+answers_closed : (ms : List Mark) → Answers ms → (fs : List Frame) (e : Tree) (is : List Item) → IsShaped fs → IsSettled fs → is_some (option_and_then (run ms) (closed (reduced loosest fs e is))) ≡ completes_on (completes ms) (behind_close (opens fs))
 answers_closed ms more [] e is h g = refl
 answers_closed ms more (Open ∷ fs) e is h g =
     let next : opens fs + 1 ≡ suc (opens fs) = omega arith in
     answers_settled ms more fs (Group e) (Wrap ∷ is) h ∙ sym (ap (λ n. completes_on (completes ms) (behind_close n)) next)
 answers_closed ms more (Pending op ∷ fs) e is h g = absurd g
 answers_closed ms more (After l op ∷ fs) e is h g =
-    ap (λ (s : State). is_some (run_on (run ms) (closed s))) (loose op l e fs is) ∙ answers_closed ms more fs (Binary op l e) (Combine op ∷ is) h.1 h.0
+    ap (λ (s : State). is_some (option_and_then (run ms) (closed s))) (loose op l e fs is) ∙ answers_closed ms more fs (Binary op l e) (Combine op ∷ is) h.1 h.0
 
-answers_followed : (ms : List Mark) → Answers ms → (fs : List Frame) (e : Tree) (is : List Item) (o : Option BinaryOperator) (b : Bool) → IsShaped fs → IsSettled fs → is_some (run_on (run ms) (followed fs e is o b)) ≡ completes_on (completes ms) (behind_follow (opens fs) (is_some o) b)
+answers_followed : (ms : List Mark) → Answers ms → (fs : List Frame) (e : Tree) (is : List Item) (o : Option BinaryOperator) (b : Bool) → IsShaped fs → IsSettled fs → is_some (option_and_then (run ms) (followed fs e is o b)) ≡ completes_on (completes ms) (behind_follow (opens fs) (is_some o) b)
 answers_followed ms more fs e is (Some op) b h g =
     let t : State = reduced (level_of op) fs e is in
     answers_waiting ms more op (opens fs) t.frames t.current t.items (reduces (level_of op) fs e is h g)
 answers_followed ms more fs e is None true h g = answers_closed ms more fs e is h g
 answers_followed ms more fs e is None false h g = refl
 
-answers_step : (ms : List Mark) → Answers ms → (fs : List Frame) (c : Option Tree) (is : List Item) (m : Mark) → IsShaped fs → SettledBehind fs c → is_some (run_on (run ms) (step_by fs c is m)) ≡ completes (m ∷ ms) (is_none c) (opens fs)
+answers_step : (ms : List Mark) → Answers ms → (fs : List Frame) (c : Option Tree) (is : List Item) (m : Mark) → IsShaped fs → SettledBehind fs c → is_some (option_and_then (run ms) (step_by fs c is m)) ≡ completes (m ∷ ms) (is_none c) (opens fs)
 answers_step ms more fs None is (Operand l) h g = answers_settled ms more fs (Single l) (Push l ∷ is) h
 answers_step ms more fs None is (Signed s) h g = answers_opened ms more fs is (unary_of s) (is_open s) h
 answers_step ms more fs None is Stray h g = refl

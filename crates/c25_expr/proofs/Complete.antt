@@ -1,5 +1,6 @@
 -- Each grouped tree is read, so its tokens have no other.
 use Rattle.std.proofs.Common.{◌≡◌, ℕ, ◌<◌, ◌≤◌, true, cond, nat_le, List, [], ◌∷◌, ◌++◌, Option, Some, None, refl, sym, ap, ◌∙◌, arith, append_assoc}
+use Rattle.std.specs.Option.{option_and_then}
 use Rattle.std.proofs.lemmas.List.{append-nil}
 use Rattle.std.proofs.lemmas.Bool.{le-leb, lt-leb}
 use Rattle.c25_meaning.specs.declared.line.Sign.TheVariants as sign
@@ -8,7 +9,7 @@ use Rattle.c25_meaning.specs.declared.expression.BinaryOperator.TheVariants as b
 use Rattle.c25_meaning.specs.declared.expression.UnaryOperator.{UnaryOperator}
 use Rattle.c25_meaning.specs.declared.expression.UnaryOperator.TheVariants as unary
 use Rattle.c25_meaning.specs.Tree.{Tree, Single, Group, Unary, Binary, Mark, Signed, level_of, level, spelling, binary_sign, unary_sign, IsGrouped, IsTreeOf}
-use Rattle.c25_meaning.specs.Reading.{Item, Push, Wrap, Apply, Combine, Frame, Open, Pending, After, State, Found, start, settle, reduced, loosest, opened, waiting, closed, followed, step_by, finished_by, whole, run, run_on, unary_of, binary_of, is_open, is_close}
+use Rattle.c25_meaning.specs.Reading.{Item, Push, Wrap, Apply, Combine, Frame, Open, Pending, After, State, Found, start, settle, reduced, loosest, opened, waiting, closed, followed, step_by, finished_by, whole, run, unary_of, binary_of, is_open, is_close}
 use Rattle.c25_expr.proofs.Sound.{IsReady, level_positive, level_loosest, run_sound}
 
 -- a tree in postfix order, the last item first
@@ -147,9 +148,9 @@ reads (Group e) fs is rest g f =
     let s : State = spread (Open ∷ fs) e is in
     ap (λ (ms : List Mark). run ms (reading (Open ∷ fs) is)) (append_assoc (spelling e) (Signed sign.CloseParenthesis ∷ []) rest)
     ∙ reads e (Open ∷ fs) is (Signed sign.CloseParenthesis ∷ rest) g tt
-    ∙ ap (run_on (run rest)) (after_close s.frames s.current s.items fs e (postfix e ++ is) (spread_reduce loosest (Open ∷ fs) e is tt g (level_most e)))
+    ∙ ap (option_and_then (run rest)) (after_close s.frames s.current s.items fs e (postfix e ++ is) (spread_reduce loosest (Open ∷ fs) e is tt g (level_most e)))
 reads (Unary op e) fs is rest g f =
-    ap (λ (o : Option UnaryOperator). run_on (run (spelling e ++ rest)) (opened fs is o (is_open (unary_sign op)))) (unary_sign-of op)
+    ap (λ (o : Option UnaryOperator). option_and_then (run (spelling e ++ rest)) (opened fs is o (is_open (unary_sign op)))) (unary_sign-of op)
     ∙ reads e (Pending op ∷ fs) is rest g.1 g.0
     ∙ ap (run rest) (pending_spread op fs e is g.0)
 reads (Binary op l r) fs is rest g f =
@@ -157,7 +158,7 @@ reads (Binary op l r) fs is rest g f =
     let ready = fits_ready fs op l r f in
     ap (λ (ms : List Mark). run ms (reading fs is)) (append_assoc (spelling l) (Signed (binary_sign op) ∷ spelling r) rest)
     ∙ reads l fs is (Signed (binary_sign op) ∷ (spelling r ++ rest)) g.2 (fits_left fs op l r f g.0)
-    ∙ ap (run_on (run (spelling r ++ rest))) (after_operator op s.frames s.current s.items fs l (postfix l ++ is)
+    ∙ ap (option_and_then (run (spelling r ++ rest))) (after_operator op s.frames s.current s.items fs l (postfix l ++ is)
     (spread_reduce (level_of op) fs l is (ready_settled fs (level_of op) ready) g.2 g.0 ∙ reduced_none (level_of op) fs l (postfix l ++ is) ready))
     ∙ reads r (After l op ∷ fs) (postfix l ++ is) rest g.3 g.1
 

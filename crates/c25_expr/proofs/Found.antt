@@ -1,11 +1,11 @@
 -- From what is found to what the grammar says.
 use Rattle.std.proofs.Common.{◌≡◌, ℕ, ◌+◌, ◌<◌, ◌≤◌, true, false, List, length, get_or, drop, reverse, Option, Some, None, Result, Ok, Err, is_some, refl, sym, ap, subst, ◌∙◌, arith}
-use Rattle.std.specs.Option.{is_none, ok_or, option_map}
+use Rattle.std.specs.Option.{is_none, ok_or, option_map, option_and_then}
 use Rattle.std.specs.Result.{IfOk, IsErrOf}
 use Rattle.std.proofs.lemmas.List.{at_drop_more, drop_all}
 use Rattle.std.proofs.lemmas.Bool.{false≢true}
 use Rattle.c25_meaning.specs.Tree.{Tree, Mark, mark_of, IsTreeOf, depth}
-use Rattle.c25_meaning.specs.Reading.{State, Found, start, step, finished, run, run_on}
+use Rattle.c25_meaning.specs.Reading.{State, Found, start, step, finished, run}
 use Rattle.c25_meaning.specs.Results.{Fails, Meets}
 use Rattle.c25_meaning.specs.declared.expression.ExpressionFault.{ExpressionFault}
 use Rattle.c25_meaning.specs.declared.expression.ExpressionFault.TheVariants.{BadExpression, TooDeep}
@@ -22,10 +22,10 @@ use Rattle.c25_expr.proofs.Accepts.{HasShape, HasShape-step, is_some-run}
 use Rattle.c25_expr.proofs.Rooms.{runs_postfix}
 
 -- one token more
-pub run_more : (ts : List Token) (i : ℕ) (d : Token) (s : State) (o : Option State) → i < length ts → step s (mark_of (piece_of (get_or ts i d))) ≡ o → run (marks_of (drop i ts)) s ≡ run_on (run (marks_of (drop (i + 1) ts))) o
+pub run_more : (ts : List Token) (i : ℕ) (d : Token) (s : State) (o : Option State) → i < length ts → step s (mark_of (piece_of (get_or ts i d))) ≡ o → run (marks_of (drop i ts)) s ≡ option_and_then (run (marks_of (drop (i + 1) ts))) o
 run_more ts i d s o l e =
     at_drop_more (λ us. run (marks_of us) s) ts i d l
-    ∙ ap (run_on (run (marks_of (drop (i + 1) ts)))) e
+    ∙ ap (option_and_then (run (marks_of (drop (i + 1) ts)))) e
 
 -- what is answered is there
 pub some_of : {A : Type 0} (o : Option A) (x : A) → ok_or o BadExpression ≡ Ok x → o ≡ Some x

@@ -1,10 +1,11 @@
 -- How deep a tree gets.
 use Rattle.std.proofs.Common.{◌≡◌, ℕ, ◌+◌, ◌≤◌, max, Bool, true, false, nat_le, List, [], ◌∷◌, Option, Some, None, refl, ap, sym, subst, ◌∙◌, arith}
+use Rattle.std.specs.Option.{option_and_then}
 use Rattle.std.proofs.lemmas.Bool.{cond_both}
 use Rattle.c25_meaning.specs.declared.expression.BinaryOperator.{BinaryOperator}
 use Rattle.c25_meaning.specs.declared.expression.UnaryOperator.{UnaryOperator}
 use Rattle.c25_meaning.specs.Tree.{Tree, Single, Group, Unary, Binary, Mark, Operand, Signed, Stray, depth, level_of}
-use Rattle.c25_meaning.specs.Reading.{Item, Push, Wrap, Apply, Combine, Frame, Open, Pending, After, State, Found, settle, reduced, loosest, step, step_by, opened, waiting_by, closed_by, followed, finished_by, whole_by, run, run_on}
+use Rattle.c25_meaning.specs.Reading.{Item, Push, Wrap, Apply, Combine, Frame, Open, Pending, After, State, Found, settle, reduced, loosest, step, step_by, opened, waiting_by, closed_by, followed, finished_by, whole_by, run}
 use Rattle.c25_expr.specs.Completes.{nesting}
 
 -- how deep the frames, and the trees in them, nest
@@ -112,7 +113,7 @@ depth_ended fs (Some e) is f h =
     let t : State = reduced loosest fs e is in
     sym (reach-reduced loosest fs e is) ∙ depth_whole t.frames t.current t.items f h
 
-depth_behind : (ms : List Mark) (n : ℕ) (o : Option State) (f : Found) → ((t : State) → run ms t ≡ Some f → reach t ≤ depth f.tree) → Deepens n o → run_on (run ms) o ≡ Some f → n ≤ depth f.tree
+depth_behind : (ms : List Mark) (n : ℕ) (o : Option State) (f : Found) → ((t : State) → run ms t ≡ Some f → reach t ≤ depth f.tree) → Deepens n o → option_and_then (run ms) o ≡ Some f → n ≤ depth f.tree
 depth_behind ms n None f more d h = cc
 depth_behind ms n (Some t) f more d h = omega (arith, more t h, d.least)
 

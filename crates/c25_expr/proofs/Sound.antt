@@ -1,5 +1,6 @@
 -- What is read is spelled so, and grouped.
 use Rattle.std.proofs.Common.{◌≡◌, ℕ, ◌<◌, ◌≤◌, Bool, true, false, nat_le, List, [], ◌∷◌, ◌++◌, Option, Some, None, refl, sym, ap, subst, ◌∙◌, arith, lit<, append_assoc}
+use Rattle.std.specs.Option.{option_and_then}
 use Rattle.std.proofs.lemmas.List.{append-nil}
 use Rattle.std.proofs.lemmas.Bool.{false≢true, cond_both, leb-true, leb-false}
 use Rattle.c25_meaning.specs.declared.line.Sign.{Sign}
@@ -9,7 +10,7 @@ use Rattle.c25_meaning.specs.declared.expression.BinaryOperator.TheVariants as b
 use Rattle.c25_meaning.specs.declared.expression.UnaryOperator.{UnaryOperator}
 use Rattle.c25_meaning.specs.declared.expression.UnaryOperator.TheVariants as unary
 use Rattle.c25_meaning.specs.Tree.{Tree, Single, Group, Unary, Binary, Mark, Operand, Signed, Stray, level_of, level, spelling, binary_sign, unary_sign, IsGrouped}
-use Rattle.c25_meaning.specs.Reading.{Item, Push, Wrap, Apply, Combine, Frame, Open, Pending, After, State, Found, settle, reduced, loosest, step, step_by, opened, waiting_by, closed_by, followed, finished_by, whole_by, run, run_on, unary_of, binary_of, is_open, is_close}
+use Rattle.c25_meaning.specs.Reading.{Item, Push, Wrap, Apply, Combine, Frame, Open, Pending, After, State, Found, settle, reduced, loosest, step, step_by, opened, waiting_by, closed_by, followed, finished_by, whole_by, run, unary_of, binary_of, is_open, is_close}
 
 -- the tokens of what is open
 abbrev pub before : List Frame → List Mark
@@ -224,7 +225,7 @@ ended fs (Some e) is f g i h =
     (r.0 ∙ sym (append-nil (before fs ++ spelling e)), r.1)
 
 -- behind the first token, by what is read of the others
-behind : (ms : List Mark) (s : State) (m : Mark) (o : Option State) (f : Found) → ((t : State) → IsSound t → run ms t ≡ Some f → (spelling f.tree ≡ so_far t ++ ms) × IsGrouped f.tree) → Steps s m o → run_on (run ms) o ≡ Some f → (spelling f.tree ≡ so_far s ++ m ∷ ms) × IsGrouped f.tree
+behind : (ms : List Mark) (s : State) (m : Mark) (o : Option State) (f : Found) → ((t : State) → IsSound t → run ms t ≡ Some f → (spelling f.tree ≡ so_far t ++ ms) × IsGrouped f.tree) → Steps s m o → option_and_then (run ms) o ≡ Some f → (spelling f.tree ≡ so_far s ++ m ∷ ms) × IsGrouped f.tree
 behind ms s m None f more g h = cc
 behind ms s m (Some t) f more g h =
     let r = more t g.sound h in

@@ -1,19 +1,32 @@
 //! The symbols of a module, in order of definition.
 
-ghost use Rattle.std.specs.Prelude.{◌≡◌, ◌↔◌, [], ◌∷◌, ◌++◌, IsSome, IsErrOf, OnOk, OnErr};
+ghost use Rattle.std.specs.Prelude.{◌≡◌, ◌↔◌, [], ◌∷◌, ◌++◌, length, slice_get, is_some, IsSome, IsErrOf, OnOk, OnErr};
+ghost use Rattle.std.specs.Option.{option_map};
 ghost use Rattle.c25_meaning.specs.Value.{predefined};
 
 use c25_meaning::failure::Failure;
 use c25_meaning::value::{Base, Value};
 use indexmap::IndexMap;
 use std::alloc::Global;
+use std::error::Error;
+use std::fmt;
 use std::marker::Model;
-use thiserror::Error;
 
 /// A name stands for something already (26).
-#[derive(Clone, Copy, PartialEq, Eq, Debug, Error)]
-#[error("Defined")]
+#[derive(Clone, Copy, PartialEq, Eq, Debug)]
 pub struct Defined;
+
+impl fmt::Display for Defined {
+    ghost use Rattle.std.specs.Prelude.{Some, codes};
+
+    ghost output = { λ _. Some (codes "Defined") };
+
+    fn fmt<W: fmt::Write>(&self, f: &mut fmt::Formatter<W>) -> fmt::Result {
+        f.write_str("Defined")
+    }
+}
+
+impl Error for Defined {}
 
 /// What names stand for, in order of definition, and the current place. The names `AR0` to `AR7` and
 /// `PA0` to `PA15` stand for their numbers and are not among those that were defined.
@@ -64,6 +77,23 @@ impl Symbols {
         }
     }
 
+    /// How many names were defined.
+    pub fn len(&self) -> usize
+        ensures { result ≡ length self.now.entries }
+    {
+        self.entries.len()
+    }
+
+    /// The name and the value of a number, from 0 in order of definition.
+    pub fn entry(&self, number: usize) -> Option<(&str, Value)>
+        ensures { option_map (λ e. (e.0.now, e.1)) result ≡ slice_get self.now.entries number }
+    {
+        match self.entries.get_index(number) {
+            Some((name, value)) => Some((name.as_str(), *value)),
+            None => None,
+        }
+    }
+
     /// The current place.
     pub(crate) fn here(&self) -> Value
         ensures { result ≡ self.now.here }
@@ -93,6 +123,13 @@ impl Symbols {
         self.entries.insert(name, value)?;
         Ok(())
     }
+}
+
+/// Whether a name is one of the AR and PA names, in either case.
+pub fn is_predefined(name: &str) -> bool
+    ensures { result ≡ is_some (predefined name.now) }
+{
+    predefined(name.as_bytes()).is_some()
 }
 
 /// The number of a predefined name.

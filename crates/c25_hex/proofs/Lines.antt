@@ -8,8 +8,8 @@ use Rattle.hex.specs.Hex.{IsBytes, decode_of, is_hex_digit, encode_with, encode_
 use Rattle.hex.proofs.HexLemmas.{IsDigits-upper_digits, decode_of-encode_upper}
 use Rattle.c25_meaning.specs.declared.hex_fault.HexFault.{HexFault}
 use Rattle.c25_meaning.specs.declared.hex_fault.HexFault.TheVariants.{AfterEnd, BadDigit, BadCount}
-use Rattle.c25_meaning.specs.Hex.{HexState, bytes_of, decoded, checked_line, count_fits, after_bytes, after_line}
-use Rattle.c25_meaning.specs.Results.{◌>>=◌}
+use Rattle.c25_meaning.specs.Hex.{HexState, bytes_of, checked_line, count_fits, after_bytes, after_line}
+use Rattle.c25_meaning.specs.Results.{◌>>=◌, told}
 use Rattle.c25_meaning.specs.HexText.{line_body, with_sum, hex_line}
 
 -- ---- digits
@@ -23,13 +23,13 @@ digits_pass (b ∷ xs) h =
     let low : is_hex_digit (get_or upper_digits (b % 16) 0) ≡ true = ap (λ (o : Option ℕ). is_some o) (IsDigits-upper_digits (b % 16) (omega arith)) in
     and_from _ _ high (and_from _ _ low (digits_pass xs (λ k. h (suc k))))
 
-begun : (digits : List ℕ) → bytes_of (58 ∷ digits) ≡ cond (not (list_all is_hex_digit digits)) (Err BadDigit) (decoded (decode_of digits))
+begun : (digits : List ℕ) → bytes_of (58 ∷ digits) ≡ cond (not (list_all is_hex_digit digits)) (Err BadDigit) (told (λ e. BadCount) (decode_of digits))
 unfolding bytes_of
 begun digits = let long : ltb 0 (length (58 ∷ digits)) ≡ true = lt-ltb 0 (length (58 ∷ digits)) (omega arith) in rw long refl
 
 -- the digits of bytes are these bytes
 bytes_back : (xs : List ℕ) → IsBytes xs → bytes_of (58 ∷ encode_upper xs) ≡ Ok xs
-bytes_back xs h = begun (encode_upper xs) ∙ (let all = digits_pass xs h in rw all (ap decoded (decode_of-encode_upper xs h)))
+bytes_back xs h = begun (encode_upper xs) ∙ (let all = digits_pass xs h in rw all (ap (told (λ e. BadCount)) (decode_of-encode_upper xs h)))
 
 -- ---- a whole line
 
@@ -145,7 +145,7 @@ bytes_in all xs ys e h = bytes_first xs ys (let P : List ℕ → Type 0 = λ t. 
 
 odd_refused : (digits : List ℕ) → length digits % 2 ≡ 1 → (e : HexFault) × (bytes_of (58 ∷ digits) ≡ Err e)
 odd_refused digits odd =
-    let bad : decoded (decode_of digits) ≡ Err BadCount = (let h : eqb (length digits % 2) 1 ≡ true = eq-eqb _ _ odd in rw h refl) in
+    let bad : told (λ e. BadCount) (decode_of digits) ≡ Err BadCount = (let h : eqb (length digits % 2) 1 ≡ true = eq-eqb _ _ odd in rw h refl) in
     elim (cases_Bool (list_all is_hex_digit digits)) [
       | inl all ↦ (BadCount, begun digits ∙ (rw (all, bad) refl))
       | inr some ↦ (BadDigit, begun digits ∙ (rw some refl))

@@ -1,2 +1,2 @@
-pub mod AllNames
+pub mod InOrder
 pub mod Options

@@ -1,8 +1,8 @@
 //! Instructions with an auxiliary register and a memory operand: one word, the register in the high
 //! byte.
 
-ghost use Rattle.std.specs.Prelude.{◌≡◌, ℕ, pos, ◌+◌, ◌*◌, ◌%◌, ◌++◌, ◌<◌, ◌≤◌, ◌^◌, Some, IfNone, IfSome, OnOk, string_bytes};
-ghost use Rattle.c25_meaning.specs.Table.{ar_mem_row, SameLetters, size, placed, opcode_word, Reads, AddrInRange};
+ghost use Rattle.std.specs.Prelude.{◌≡◌, ℕ, pos, ◌+◌, ◌*◌, ◌%◌, ◌++◌, ◌<◌, ◌≤◌, ◌^◌, Some, IfSome, OnOk, string_bytes};
+ghost use Rattle.c25_meaning.specs.Table.{ar_mem_row, size, placed, opcode_word, Reads, AddrInRange};
 ghost use Rattle.c25_meaning.specs.Show.{show};
 ghost use Rattle.c25_meaning.specs.declared.mnemonic.ArMemName.{ArMemName};
 ghost use Rattle.c25_meaning.specs.declared.mnemonic.Mnemonic.TheVariants as family;
@@ -48,15 +48,6 @@ pub(crate) fn text_of(name: ArMemName) -> &'static str
     ensures { result.now ≡ (ar_mem_row name).name }
 {
     ar_mem_rows!(text_of name)
-}
-
-/// The row that a text names, in either case.
-pub(crate) fn named(text: &str) -> Option<ArMemName>
-    ensures found { IfSome result (λ name. SameLetters text.now (ar_mem_row name).name) }
-    ensures none { IfNone result
-        ((name : ArMemName) → SameLetters text.now (ar_mem_row name).name → ⊥) }
-{
-    ar_mem_rows!(named text)
 }
 
 /// How many words an instruction of a row has.

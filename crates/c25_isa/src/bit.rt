@@ -1,7 +1,7 @@
 //! The test of a bit of a memory operand: one word, the bit code in the high byte.
 
-ghost use Rattle.std.specs.Prelude.{◌≡◌, ℕ, pos, ◌+◌, ◌*◌, ◌%◌, ◌++◌, ◌<◌, ◌≤◌, ◌^◌, Some, IfNone, IfSome, OnOk, string_bytes};
-ghost use Rattle.c25_meaning.specs.Table.{bit_row, SameLetters, size, placed, opcode_word, Reads, AddrInRange};
+ghost use Rattle.std.specs.Prelude.{◌≡◌, ℕ, pos, ◌+◌, ◌*◌, ◌%◌, ◌++◌, ◌<◌, ◌≤◌, ◌^◌, Some, IfSome, OnOk, string_bytes};
+ghost use Rattle.c25_meaning.specs.Table.{bit_row, size, placed, opcode_word, Reads, AddrInRange};
 ghost use Rattle.c25_meaning.specs.Show.{show};
 ghost use Rattle.c25_meaning.specs.declared.mnemonic.BitName.{BitName};
 ghost use Rattle.c25_meaning.specs.declared.mnemonic.Mnemonic.TheVariants as family;
@@ -45,14 +45,6 @@ pub(crate) fn text_of(name: BitName) -> &'static str
     ensures { result.now ≡ (bit_row name).name }
 {
     bit_rows!(text_of name)
-}
-
-/// The row that a text names, in either case.
-pub(crate) fn named(text: &str) -> Option<BitName>
-    ensures found { IfSome result (λ name. SameLetters text.now (bit_row name).name) }
-    ensures none { IfNone result ((name : BitName) → SameLetters text.now (bit_row name).name → ⊥) }
-{
-    bit_rows!(named text)
 }
 
 /// How many words an instruction of a row has.

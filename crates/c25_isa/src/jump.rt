@@ -1,7 +1,7 @@
 //! Jumps: two words, the first with an indirect operand byte below a high byte of the row's own.
 
-ghost use Rattle.std.specs.Prelude.{◌≡◌, ℕ, Option, ◌+◌, ◌*◌, ◌++◌, ◌≤◌, ◌^◌, Some, IfNone, IfSome, OnOk, string_bytes};
-ghost use Rattle.c25_meaning.specs.Table.{jump_row, SameLetters, size, opcode_word, Reads, NextInRange};
+ghost use Rattle.std.specs.Prelude.{◌≡◌, ℕ, Option, ◌+◌, ◌*◌, ◌++◌, ◌≤◌, ◌^◌, Some, IfSome, OnOk, string_bytes};
+ghost use Rattle.c25_meaning.specs.Table.{jump_row, size, opcode_word, Reads, NextInRange};
 ghost use Rattle.c25_meaning.specs.Show.{show};
 ghost use Rattle.c25_meaning.specs.declared.mnemonic.JumpName.{JumpName};
 ghost use Rattle.c25_meaning.specs.declared.mnemonic.Mnemonic.TheVariants as family;
@@ -58,15 +58,6 @@ pub(crate) fn text_of(name: JumpName) -> &'static str
     ensures { result.now ≡ (jump_row name).name }
 {
     jump_rows!(text_of name)
-}
-
-/// The row that a text names, in either case.
-pub(crate) fn named(text: &str) -> Option<JumpName>
-    ensures found { IfSome result (λ name. SameLetters text.now (jump_row name).name) }
-    ensures none { IfNone result
-        ((name : JumpName) → SameLetters text.now (jump_row name).name → ⊥) }
-{
-    jump_rows!(named text)
 }
 
 /// How many words an instruction of a row has.

@@ -12,6 +12,7 @@ ghost use Rattle.c25_meaning.specs.declared.insn.Insn.{Insn};
 mod addr;
 mod ar_mem;
 mod bit;
+mod in_order;
 mod jump;
 mod long;
 mod long_mem;

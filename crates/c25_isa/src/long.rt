@@ -1,8 +1,8 @@
 //! Instructions with a long number: two words, the first with a register or a shift in its high
 //! byte.
 
-ghost use Rattle.std.specs.Prelude.{◌≡◌, ℕ, ◌+◌, ◌*◌, ◌++◌, ◌<◌, ◌^◌, Some, IfNone, IfSome, OnOk, string_bytes};
-ghost use Rattle.c25_meaning.specs.Table.{long_row, SameLetters, size, high_limit, opcode_word, Reads};
+ghost use Rattle.std.specs.Prelude.{◌≡◌, ℕ, ◌+◌, ◌*◌, ◌++◌, ◌<◌, ◌^◌, Some, IfSome, OnOk, string_bytes};
+ghost use Rattle.c25_meaning.specs.Table.{long_row, size, high_limit, opcode_word, Reads};
 ghost use Rattle.c25_meaning.specs.Show.{show};
 ghost use Rattle.c25_meaning.specs.declared.mnemonic.LongName.{LongName};
 ghost use Rattle.c25_meaning.specs.declared.mnemonic.Mnemonic.TheVariants as family;
@@ -49,15 +49,6 @@ pub(crate) fn text_of(name: LongName) -> &'static str
     ensures { result.now ≡ (long_row name).name }
 {
     long_rows!(text_of name)
-}
-
-/// The row that a text names, in either case.
-pub(crate) fn named(text: &str) -> Option<LongName>
-    ensures found { IfSome result (λ name. SameLetters text.now (long_row name).name) }
-    ensures none { IfNone result
-        ((name : LongName) → SameLetters text.now (long_row name).name → ⊥) }
-{
-    long_rows!(named text)
 }
 
 /// How many words an instruction of a row has.

@@ -1,8 +1,8 @@
 //! Instructions with a long address and a memory operand: two words, the first like those with a
 //! memory operand alone.
 
-ghost use Rattle.std.specs.Prelude.{◌≡◌, ℕ, ◌+◌, ◌*◌, ◌++◌, ◌≤◌, ◌^◌, Some, IfNone, IfSome, OnOk, string_bytes};
-ghost use Rattle.c25_meaning.specs.Table.{long_mem_row, SameLetters, size, opcode_word, Reads, AddrInRange};
+ghost use Rattle.std.specs.Prelude.{◌≡◌, ℕ, ◌+◌, ◌*◌, ◌++◌, ◌≤◌, ◌^◌, Some, IfSome, OnOk, string_bytes};
+ghost use Rattle.c25_meaning.specs.Table.{long_mem_row, size, opcode_word, Reads, AddrInRange};
 ghost use Rattle.c25_meaning.specs.Show.{show};
 ghost use Rattle.c25_meaning.specs.declared.mnemonic.LongMemName.{LongMemName};
 ghost use Rattle.c25_meaning.specs.declared.mnemonic.Mnemonic.TheVariants as family;
@@ -48,15 +48,6 @@ pub(crate) fn text_of(name: LongMemName) -> &'static str
     ensures { result.now ≡ (long_mem_row name).name }
 {
     long_mem_rows!(text_of name)
-}
-
-/// The row that a text names, in either case.
-pub(crate) fn named(text: &str) -> Option<LongMemName>
-    ensures found { IfSome result (λ name. SameLetters text.now (long_mem_row name).name) }
-    ensures none { IfNone result
-        ((name : LongMemName) → SameLetters text.now (long_mem_row name).name → ⊥) }
-{
-    long_mem_rows!(named text)
 }
 
 /// How many words an instruction of a row has.

@@ -1,8 +1,8 @@
 //! Instructions with one memory operand: one word, a high byte of the row's own above the operand
 //! byte.
 
-ghost use Rattle.std.specs.Prelude.{◌≡◌, ℕ, ◌+◌, ◌*◌, ◌++◌, ◌≤◌, ◌^◌, Some, IfNone, IfSome, OnOk, string_bytes};
-ghost use Rattle.c25_meaning.specs.Table.{mem_row, SameLetters, size, opcode_word, Reads, AddrInRange};
+ghost use Rattle.std.specs.Prelude.{◌≡◌, ℕ, ◌+◌, ◌*◌, ◌++◌, ◌≤◌, ◌^◌, Some, IfSome, OnOk, string_bytes};
+ghost use Rattle.c25_meaning.specs.Table.{mem_row, size, opcode_word, Reads, AddrInRange};
 ghost use Rattle.c25_meaning.specs.Show.{show};
 ghost use Rattle.c25_meaning.specs.declared.mnemonic.MemName.{MemName};
 ghost use Rattle.c25_meaning.specs.declared.mnemonic.Mnemonic.TheVariants as family;
@@ -86,14 +86,6 @@ pub(crate) fn text_of(name: MemName) -> &'static str
     ensures { result.now ≡ (mem_row name).name }
 {
     mem_rows!(text_of name)
-}
-
-/// The row that a text names, in either case.
-pub(crate) fn named(text: &str) -> Option<MemName>
-    ensures found { IfSome result (λ name. SameLetters text.now (mem_row name).name) }
-    ensures none { IfNone result ((name : MemName) → SameLetters text.now (mem_row name).name → ⊥) }
-{
-    mem_rows!(named text)
 }
 
 /// How many words an instruction of a row has.

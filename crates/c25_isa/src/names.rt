@@ -1,49 +1,53 @@
 //! The names of instructions (SPRU014, "Instruction Set Summary").
 
-ghost use Rattle.std.specs.Prelude.{◌≡◌, Some, IfSome, IfNone};
+ghost use Rattle.std.specs.Prelude.{◌≡◌, Some, IfSome};
+ghost use Rattle.std.specs.Ordering.{nat_cmp};
+ghost use Rattle.std.specs.Cmp.Lexicographic.{slice_cmp};
+ghost use Rattle.std.specs.Str.{str_to_ascii_lowercase};
 ghost use Rattle.c25_meaning.specs.Table.{SameLetters, row_of, spelling_text};
-ghost use Rattle.c25_meaning.specs.declared.mnemonic.Mnemonic.{Mnemonic};
 ghost use Rattle.c25_meaning.specs.declared.mnemonic.Spelling.{Spelling};
 
+use crate::in_order::spellings;
 use crate::{ar_mem, bit, jump, long, long_mem, mem, plain, port, shifted, short};
 use c25_meaning::mnemonic::{Mnemonic, Spelling};
+use std::cmp::Ordering;
 
-/// The row of the table that a text names, in either case.
-fn row_named(text: &str) -> Option<Mnemonic>
-    ensures found { IfSome result (λ row. SameLetters text.now (row_of row).name) }
-    ensures none { IfNone result ((row : Mnemonic) → SameLetters text.now (row_of row).name → ⊥) }
+/// A row's mnemonic.
+fn text_of_row(row: Mnemonic) -> &'static str
+    ensures { result.now ≡ (row_of row).name }
 {
-    if let Some(name) = mem::named(text) {
-        return Some(Mnemonic::Mem(name));
+    match row {
+        Mnemonic::Mem(name) => mem::text_of(name),
+        Mnemonic::Shifted(name) => shifted::text_of(name),
+        Mnemonic::ArMem(name) => ar_mem::text_of(name),
+        Mnemonic::Port(name) => port::text_of(name),
+        Mnemonic::Bit(name) => bit::text_of(name),
+        Mnemonic::Short(name) => short::text_of(name),
+        Mnemonic::Long(name) => long::text_of(name),
+        Mnemonic::LongMem(name) => long_mem::text_of(name),
+        Mnemonic::Jump(name) => jump::text_of(name),
+        Mnemonic::Plain(name) => plain::text_of(name),
     }
-    if let Some(name) = shifted::named(text) {
-        return Some(Mnemonic::Shifted(name));
+}
+
+/// A spelling's mnemonic.
+fn text_of(spelling: Spelling) -> &'static str
+    ensures { result.now ≡ spelling_text spelling }
+{
+    match spelling {
+        Spelling::Row(row) => text_of_row(row),
+        Spelling::Zac => "ZAC",
+        Spelling::Nop => "NOP",
+        Spelling::Larp => "LARP",
     }
-    if let Some(name) = ar_mem::named(text) {
-        return Some(Mnemonic::ArMem(name));
-    }
-    if let Some(name) = port::named(text) {
-        return Some(Mnemonic::Port(name));
-    }
-    if let Some(name) = bit::named(text) {
-        return Some(Mnemonic::Bit(name));
-    }
-    if let Some(name) = short::named(text) {
-        return Some(Mnemonic::Short(name));
-    }
-    if let Some(name) = long::named(text) {
-        return Some(Mnemonic::Long(name));
-    }
-    if let Some(name) = long_mem::named(text) {
-        return Some(Mnemonic::LongMem(name));
-    }
-    if let Some(name) = jump::named(text) {
-        return Some(Mnemonic::Jump(name));
-    }
-    if let Some(name) = plain::named(text) {
-        return Some(Mnemonic::Plain(name));
-    }
-    None
+}
+
+/// The order of two texts, letters in either case being the same.
+fn order_of(a: &str, b: &str) -> Ordering
+    ensures { result ≡ slice_cmp nat_cmp (str_to_ascii_lowercase a.now) (str_to_ascii_lowercase b.now) }
+{
+    let small = a.bytes().map(|byte| byte.to_ascii_lowercase());
+    small.cmp(b.bytes().map(|byte| byte.to_ascii_lowercase()))
 }
 
 /// What a mnemonic stands for: one of the 130 rows, or `ZAC`, `NOP` or `LARP`, its letters in
@@ -54,13 +58,9 @@ pub fn mnemonic(text: &str) -> Option<Spelling>
     ensures all { (spelling : Spelling) → SameLetters text.now (spelling_text spelling)
         → result ≡ Some spelling }
 {
-    if let Some(row) = row_named(text) {
-        return Some(Spelling::Row(row));
-    }
-    match text {
-        _ if text.eq_ignore_ascii_case("ZAC") => Some(Spelling::Zac),
-        _ if text.eq_ignore_ascii_case("NOP") => Some(Spelling::Nop),
-        _ if text.eq_ignore_ascii_case("LARP") => Some(Spelling::Larp),
-        _ => None,
-    }
+    let spellings = spellings();
+    let place = spellings
+        .binary_search_by(|spelling| order_of(text_of(*spelling), text))
+        .ok()?;
+    Some(spellings[place])
 }

@@ -1,9 +1,9 @@
 //! Instructions without a memory operand: one word, some with a number or a change of the auxiliary
 //! register in it.
 
-ghost use Rattle.std.specs.Prelude.{◌≡◌, ℕ, ◌+◌, ◌++◌, ◌≤◌, ◌<◌, ◌^◌, Some, IfNone, IfSome, OnOk, string_bytes};
+ghost use Rattle.std.specs.Prelude.{◌≡◌, ℕ, ◌+◌, ◌++◌, ◌≤◌, ◌<◌, ◌^◌, Some, IfSome, OnOk, string_bytes};
 ghost use Rattle.c25_isa.specs.Extent.{plain_extent};
-ghost use Rattle.c25_meaning.specs.Table.{plain_row, SameLetters, size, plain_number, PlainInRange, opcode_word, Reads};
+ghost use Rattle.c25_meaning.specs.Table.{plain_row, size, plain_number, PlainInRange, opcode_word, Reads};
 ghost use Rattle.c25_meaning.specs.Show.{show};
 ghost use Rattle.c25_meaning.specs.declared.mnemonic.PlainName.{PlainName};
 ghost use Rattle.c25_meaning.specs.declared.insn.PlainOperand.{PlainOperand};
@@ -69,15 +69,6 @@ fn base_of(name: PlainName) -> u16
     ensures room { result + 256 ≤ 2 ^ 16 }
 {
     plain_rows!(word_of name)
-}
-
-/// The row that a text names, in either case.
-pub(crate) fn named(text: &str) -> Option<PlainName>
-    ensures found { IfSome result (λ name. SameLetters text.now (plain_row name).name) }
-    ensures none { IfNone result
-        ((name : PlainName) → SameLetters text.now (plain_row name).name → ⊥) }
-{
-    plain_rows!(named text)
 }
 
 /// A row's mnemonic.

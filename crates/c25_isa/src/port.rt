@@ -1,7 +1,7 @@
 //! Instructions with a memory operand and a port: one word, the port in the high byte.
 
-ghost use Rattle.std.specs.Prelude.{◌≡◌, ℕ, pos, ◌+◌, ◌*◌, ◌%◌, ◌++◌, ◌<◌, ◌≤◌, ◌^◌, Some, IfNone, IfSome, OnOk, string_bytes};
-ghost use Rattle.c25_meaning.specs.Table.{port_row, SameLetters, size, placed, opcode_word, Reads, AddrInRange};
+ghost use Rattle.std.specs.Prelude.{◌≡◌, ℕ, pos, ◌+◌, ◌*◌, ◌%◌, ◌++◌, ◌<◌, ◌≤◌, ◌^◌, Some, IfSome, OnOk, string_bytes};
+ghost use Rattle.c25_meaning.specs.Table.{port_row, size, placed, opcode_word, Reads, AddrInRange};
 ghost use Rattle.c25_meaning.specs.Show.{show};
 ghost use Rattle.c25_meaning.specs.declared.mnemonic.PortName.{PortName};
 ghost use Rattle.c25_meaning.specs.declared.mnemonic.Mnemonic.TheVariants as family;
@@ -46,15 +46,6 @@ pub(crate) fn text_of(name: PortName) -> &'static str
     ensures { result.now ≡ (port_row name).name }
 {
     port_rows!(text_of name)
-}
-
-/// The row that a text names, in either case.
-pub(crate) fn named(text: &str) -> Option<PortName>
-    ensures found { IfSome result (λ name. SameLetters text.now (port_row name).name) }
-    ensures none { IfNone result
-        ((name : PortName) → SameLetters text.now (port_row name).name → ⊥) }
-{
-    port_rows!(named text)
 }
 
 /// How many words an instruction of a row has.

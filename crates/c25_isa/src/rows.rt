@@ -63,19 +63,8 @@ macro_rules! text_of {
     };
 }
 
-/// The name that has a text, in either case.
-macro_rules! named {
-    ($names:ident $words:literal $text:expr; $($row:ident $written:literal $($number:literal)+,)*) => {
-        [$($names::$row,)*]
-            .iter()
-            .find(|name| text_of(**name).eq_ignore_ascii_case($text))
-            .copied()
-    };
-}
-
 pub(crate) use base_of;
 pub(crate) use name_at;
-pub(crate) use named;
 pub(crate) use numbered_at;
 pub(crate) use text_of;
 pub(crate) use word_of;

@@ -1,7 +1,7 @@
 //! Instructions with a memory operand and a shift: one word, the shift in the high byte.
 
-ghost use Rattle.std.specs.Prelude.{◌≡◌, ℕ, pos, ◌+◌, ◌*◌, ◌%◌, ◌++◌, ◌<◌, ◌≤◌, ◌^◌, Some, IfNone, IfSome, OnOk, string_bytes};
-ghost use Rattle.c25_meaning.specs.Table.{shifted_row, SameLetters, size, placed, opcode_word, Reads, AddrInRange, shift_limit};
+ghost use Rattle.std.specs.Prelude.{◌≡◌, ℕ, pos, ◌+◌, ◌*◌, ◌%◌, ◌++◌, ◌<◌, ◌≤◌, ◌^◌, Some, IfSome, OnOk, string_bytes};
+ghost use Rattle.c25_meaning.specs.Table.{shifted_row, size, placed, opcode_word, Reads, AddrInRange, shift_limit};
 ghost use Rattle.c25_meaning.specs.Show.{show};
 ghost use Rattle.c25_meaning.specs.declared.mnemonic.ShiftedName.{ShiftedName};
 ghost use Rattle.c25_meaning.specs.declared.mnemonic.Mnemonic.TheVariants as family;
@@ -50,15 +50,6 @@ pub(crate) fn text_of(name: ShiftedName) -> &'static str
     ensures { result.now ≡ (shifted_row name).name }
 {
     shifted_rows!(text_of name)
-}
-
-/// The row that a text names, in either case.
-pub(crate) fn named(text: &str) -> Option<ShiftedName>
-    ensures found { IfSome result (λ name. SameLetters text.now (shifted_row name).name) }
-    ensures none { IfNone result
-        ((name : ShiftedName) → SameLetters text.now (shifted_row name).name → ⊥) }
-{
-    shifted_rows!(named text)
 }
 
 /// How many words an instruction of a row has.

@@ -1,9 +1,9 @@
 //! Instructions with a short number: one word, whose low 8, 9 or 13 bits hold the number.
 
-ghost use Rattle.std.specs.Prelude.{◌≡◌, ℕ, ℤ, ◌+◌, ◌*◌, ◌++◌, ◌<◌, ◌≤◌, ◌^◌, Some, IfNone, IfSome, OnOk, string_bytes};
+ghost use Rattle.std.specs.Prelude.{◌≡◌, ℕ, ℤ, ◌+◌, ◌*◌, ◌++◌, ◌<◌, ◌≤◌, ◌^◌, Some, IfSome, OnOk, string_bytes};
 ghost use Rattle.c25_bits.specs.Cut.{cut};
 ghost use Rattle.c25_isa.specs.Extent.{extent};
-ghost use Rattle.c25_meaning.specs.Table.{short_row, SameLetters, size, short_width, ShortInRange, opcode_word, Reads};
+ghost use Rattle.c25_meaning.specs.Table.{short_row, size, short_width, ShortInRange, opcode_word, Reads};
 ghost use Rattle.c25_meaning.specs.Show.{show};
 ghost use Rattle.c25_meaning.specs.declared.mnemonic.ShortName.{ShortName};
 ghost use Rattle.c25_meaning.specs.declared.mnemonic.Mnemonic.TheVariants as family;
@@ -54,15 +54,6 @@ pub(crate) fn text_of(name: ShortName) -> &'static str
     ensures { result.now ≡ (short_row name).name }
 {
     short_rows!(text_of name)
-}
-
-/// The row that a text names, in either case.
-pub(crate) fn named(text: &str) -> Option<ShortName>
-    ensures found { IfSome result (λ name. SameLetters text.now (short_row name).name) }
-    ensures none { IfNone result
-        ((name : ShortName) → SameLetters text.now (short_row name).name → ⊥) }
-{
-    short_rows!(named text)
 }
 
 /// How many words an instruction of a row has.

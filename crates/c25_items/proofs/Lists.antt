@@ -1,7 +1,9 @@
 -- The items of the lines, a line at a time.
 use Rattle.std.proofs.Common.{◌≡◌, ℕ, zero, suc, map, arith, ◌+◌, ◌<◌, ◌≤◌, List, [], ◌∷◌, length, get_or, drop, Option, Some, None, Ok, Err, refl, ap, sym, ◌∙◌}
+use Rattle.std.specs.Option.{ok_or}
 use Rattle.std.proofs.lemmas.List.{at_drop_more, drop_all}
-use Rattle.c25_meaning.specs.Items.{items, or_fault, with_line, line_words}
+use Rattle.c25_meaning.specs.Items.{items, with_line, line_words}
+use Rattle.c25_meaning.specs.Results.{◌>>=◌}
 
 map_len : {X Y : Type 0} (f : X → Y) (xs : List X) → length (map f xs) ≡ length xs
 map_len f [] = refl
@@ -17,12 +19,12 @@ module _ {A : Type 0} (item : List A → List (List ℕ) → Option A) where
   more : (before now : List A) (number : ℕ) (line : List ℕ) (rest : List (List ℕ)) → with_line item before (line_words line) ≡ Some now
       → items item before number (line ∷ rest) ≡ items item now (number + 1) rest
   unfolding items
-  more before now number line rest h = ap (λ o. or_fault number o (λ found. items item found (number + 1) rest)) h
+  more before now number line rest h = ap (λ (o : Option (List A)). ok_or o number >>= λ found. items item found (number + 1) rest) h
 
   faulty : (before : List A) (number : ℕ) (line : List ℕ) (rest : List (List ℕ)) → with_line item before (line_words line) ≡ None
       → items item before number (line ∷ rest) ≡ Err number
   unfolding items
-  faulty before number line rest h = ap (λ o. or_fault number o (λ found. items item found (number + 1) rest)) h
+  faulty before number line rest h = ap (λ (o : Option (List A)). ok_or o number >>= λ found. items item found (number + 1) rest) h
 
   -- the lines from an index on, where these are seen by a view and the first is this line
   module _ {X : Type 0} (view : X → List ℕ) (xs : List X) (index : ℕ) (d : X) (line : List ℕ) (here : index < length xs) (is : line ≡ view (get_or xs index d)) (before : List A) (number : ℕ) where

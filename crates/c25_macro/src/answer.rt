@@ -1,7 +1,8 @@
 //! What an expander answers.
 
 use c25_meaning::statement::FaultKind;
-use thiserror::Error;
+use std::error::Error;
+use std::fmt;
 
 /// A line of an expansion.
 #[derive(Debug, Drop)]
@@ -16,10 +17,22 @@ pub struct ExpLine<'a> {
 
 /// The line of this number in this file is wrong, or a file that it asks for is not there (10 to 13,
 /// 20 to 25, 30 to 36, 38, 51, 52); line 0 where the module itself is not there (30).
-#[derive(Clone, Copy, PartialEq, Eq, Debug, Error)]
-#[error("{file}:{line}: {kind:?}")]
+#[derive(Clone, Copy, PartialEq, Eq, Debug)]
 pub struct ExpandFault<'a> {
     pub file: &'a str,
     pub line: usize,
     pub kind: FaultKind,
 }
+
+impl fmt::Display for ExpandFault<'_> {
+    ghost use Rattle.std.specs.Prelude.{Some};
+    ghost use Rattle.c25_meaning.specs.Faults.{fault_name, placed_text};
+
+    ghost output = { λ fault. Some (placed_text fault.file.now fault.line (fault_name fault.kind)) };
+
+    fn fmt<W: fmt::Write>(&self, f: &mut fmt::Formatter<W>) -> fmt::Result {
+        write!(f, "{}:{}: {}", self.file, self.line, self.kind)
+    }
+}
+
+impl Error for ExpandFault<'_> {}

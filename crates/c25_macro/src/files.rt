@@ -8,13 +8,25 @@ ghost use Rattle.c25_meaning.specs.Rows.{file_number};
 use c25_meaning::failure::Failure;
 use indexmap::IndexMap;
 use std::alloc::Global;
+use std::error::Error;
+use std::fmt;
 use std::marker::Model;
-use thiserror::Error;
 
 /// The name is there already (37).
-#[derive(Clone, Copy, PartialEq, Eq, Debug, Error)]
-#[error("FileTwice")]
+#[derive(Clone, Copy, PartialEq, Eq, Debug)]
 pub struct FileTwice;
+
+impl fmt::Display for FileTwice {
+    ghost use Rattle.std.specs.Prelude.{Some, codes};
+
+    ghost output = { λ _. Some (codes "FileTwice") };
+
+    fn fmt<W: fmt::Write>(&self, f: &mut fmt::Formatter<W>) -> fmt::Result {
+        f.write_str("FileTwice")
+    }
+}
+
+impl Error for FileTwice {}
 
 /// Texts by their names, in the order in which they were added. Names are compared byte by byte.
 #[derive(Drop)]

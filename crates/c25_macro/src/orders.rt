@@ -11,13 +11,14 @@ ghost use Rattle.c25_macro.specs.Acts as view;
 
 use crate::act::{Act, Order};
 use crate::macros::Macro;
-use crate::operands::{condition_in, expression_in, name_in, names_in, option_in, string_in};
+use crate::operands::{condition_in, name_in, names_in, option_in};
 use c25_expr::failure::line_fault;
 use c25_expr::operands::{operands_of, tokens_of, written_of};
 use c25_meaning::expansion::Directive;
 use c25_meaning::failure::Failure;
 use c25_meaning::no_memory::NoMemory;
 use c25_meaning::statement::{FaultKind, Written};
+use c25_operands::{expression_in, string_in};
 use c25_substitution::arguments::{arguments, assigned_text};
 use c25_text::line::{Line, split_line};
 use c25_text::tokens::Token;

@@ -1,6 +1,8 @@
 -- What holds before the first item of a text, and stays true with each further one, holds of all its items.
 use Rattle.std.proofs.Common.{◌≡◌, ℕ, ◌+◌, ◌==◌, Bool, true, false, List, [], ◌∷◌, ◌++◌, length, Option, Some, None, Result, Ok, option_map, if◌then◌else◌, subst, refl}
-use Rattle.c25_meaning.specs.Items.{ItemOf, with_line, or_fault, items, line_words}
+use Rattle.std.specs.Option.{ok_or}
+use Rattle.c25_meaning.specs.Results.{◌>>=◌}
+use Rattle.c25_meaning.specs.Items.{ItemOf, with_line, items, line_words}
 
 module _ {A : Type 0} (Holds : List A → Type 0) (item : ItemOf A) (stays : (before : List A) (words : List (List ℕ)) (a : A) → Holds before → item before words ≡ Some a → Holds (before ++ a ∷ [])) where
   added : (before now : List A) (found : Option A) → ((a : A) → found ≡ Some a → Holds (before ++ a ∷ [])) → option_map (λ a. before ++ a ∷ []) found ≡ Some now → Holds now
@@ -11,7 +13,7 @@ module _ {A : Type 0} (Holds : List A → Type 0) (item : ItemOf A) (stays : (be
   with_one true before now words holds h = subst Holds (cc) holds
   with_one false before now words holds h = added before now (item before words) (λ a e. stays before words a holds e) h
 
-  onward : (found : Option (List A)) (number : ℕ) (next : List A → Result (List A) ℕ) (now : List A) → ((between : List A) → found ≡ Some between → next between ≡ Ok now → Holds now) → or_fault number found next ≡ Ok now → Holds now
+  onward : (found : Option (List A)) (number : ℕ) (next : List A → Result (List A) ℕ) (now : List A) → ((between : List A) → found ≡ Some between → next between ≡ Ok now → Holds now) → (ok_or found number >>= next) ≡ Ok now → Holds now
   onward None number next now more h = absurd (cc)
   onward (Some between) number next now more h = more between refl h
 

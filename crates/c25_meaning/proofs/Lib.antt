@@ -1,3 +1,4 @@
+pub mod Apart
 pub mod ExpansionActs
 pub mod ExpansionBounded
 pub mod ExpansionFalls
@@ -11,12 +12,16 @@ pub mod Keeps
 pub mod Keys
 pub mod Memories
 pub mod Numbers
+pub mod OneMap
 pub mod OneRun
 pub mod OperandBytes
+pub mod Parts
+pub mod PlaceNames
 pub mod Placing
 pub mod PlainLines
 pub mod PlainTexts
 pub mod Readings
+pub mod RelocatedFields
 pub mod RowBases
 pub mod Spelled
 pub mod Spellings

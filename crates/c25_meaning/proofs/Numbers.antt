@@ -2,7 +2,8 @@
 use Rattle.std.proofs.Common.{◌≡◌, ℕ, zero, suc, ◌+◌, ◌-◌, ◌/◌, ◌<◌, ◌≤◌, ◌^◌, ℤ, pos, negsuc, ◌≤ℤ◌, ◌<ℤ◌, Result, Ok, Err, Bool, true, false, cond, not, ◌||◌, int_lt, List, [], ◌∷◌, ◌++◌, length, slice_get, slice_index, Option, Some, None, IfSome, subst, arith, rules, refl}
 use Rattle.std.specs.Int.{w16, cast_signed}
 use Rattle.c25_bits.specs.Cut.{cut}
-use Rattle.c25_meaning.specs.Statement.{within, below, number_in, relocation_of, address_number, address_fits, Entry, address_entry, entry_by, entry_of, Sheet, blank_sheet, with_entry, entered, valued, sheet_of, form_row}
+use Rattle.c25_meaning.specs.Fields.{field_number, takes}
+use Rattle.c25_meaning.specs.Statement.{within, below, number_in, relocation_of, Entry, address_entry, entry_by, entry_of, Sheet, blank_sheet, with_entry, entered, valued, sheet_of, form_row}
 use Rattle.c25_meaning.specs.Results.{◌>>=◌, fold_ok}
 use Rattle.std.proofs.lemmas.Int.{ints}
 use Rattle.std.proofs.lemmas.Bool.{not-false}
@@ -129,7 +130,7 @@ pow_positive : (n : ℕ) → 0 < 2 ^ n
 pow_positive zero = omega arith
 pow_positive (suc n) = let h = pow_positive n in omega (arith, h)
 
-cut_below : (z : ℤ) (width : ℕ) → cut z width < 2 ^ width
+pub cut_below : (z : ℤ) (width : ℕ) → cut z width < 2 ^ width
 cut_below (pos n) width = omega (arith, pow_positive width)
 cut_below (negsuc n) width = omega (arith, pow_positive width)
 
@@ -159,7 +160,7 @@ quarter : (n : ℕ) → n < 65536 → n / 128 < 512
 quarter n h = omega arith
 
 -- a field holds the number of an address
-holds_address : (f : Field) (kind : RelocationKind) (z : ℤ) → relocation_of f ≡ Some kind → Holds f (address_number kind z)
+holds_address : (f : Field) (kind : RelocationKind) (z : ℤ) → relocation_of f ≡ Some kind → Holds f (field_number kind z)
 holds_address field.Low7 relocation.Low7 z h = cut_below z 7
 holds_address field.Low7 relocation.Word16 z h = absurd (cc)
 holds_address field.Low7 relocation.Page9 z h = absurd (cc)
@@ -184,9 +185,9 @@ holds_entry f v e h = by_base v.base h
     by_number (Ok n) holds h = let q : record { number = n; in_range = true } ≡ e = cc in subst (λ (x : Entry). Holds f x.number) q (holds n refl)
     by_number (Err g) holds h = absurd (cc)
 
-    by_kind : (o : Option RelocationKind) → ((kind : RelocationKind) → o ≡ Some kind → Holds f (address_number kind v.offset)) → address_entry o v.offset ≡ Ok e → Holds f e.number
+    by_kind : (o : Option RelocationKind) → ((kind : RelocationKind) → o ≡ Some kind → Holds f (field_number kind v.offset)) → address_entry o v.offset ≡ Ok e → Holds f e.number
     by_kind None holds h = absurd (cc)
-    by_kind (Some kind) holds h = let q : record { number = address_number kind v.offset; in_range = address_fits kind v.offset } ≡ e = cc in subst (λ (x : Entry). Holds f x.number) q (holds kind refl)
+    by_kind (Some kind) holds h = let q : record { number = field_number kind v.offset; in_range = takes kind v.offset } ≡ e = cc in subst (λ (x : Entry). Holds f x.number) q (holds kind refl)
 
     by_base : (b : Base) → entry_by b f v.offset ≡ Ok e → Holds f e.number
     by_base base.Absolute h = by_number (number_in f v.offset) (λ n e. holds_number f v.offset n e) h

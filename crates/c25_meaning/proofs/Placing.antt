@@ -103,8 +103,8 @@ stands at (h ∷ is) a i all e = go (at == a) refl e (λ later. further at h is 
     go true q found later = let same : h ≡ i = cc in here same (grind (arith, nat_tests))
     go false q found later = later found
 
-pub loaded_is_image : (is : List Insn) → FitsMemory is → IsImageOf (laid_out 0 is) (first_state is).world
-loaded_is_image is held =
+pub loaded_is_image : (is : List Insn) (samples : ℕ → List ℕ) → FitsMemory is → IsImageOf (laid_out 0 is) (first_state is samples).world
+loaded_is_image is samples held =
     let all = held.in_range in
     let fits : total_size is ≤ 2 ^ 16 = omega (arith, held.room, total_of_sum is) in
     record {

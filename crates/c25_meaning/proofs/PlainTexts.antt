@@ -1,6 +1,6 @@
 -- A text without `?` in which no name stands for a text is kept as it is.
 use Rattle.std.proofs.Common.{◌≡◌, ℕ, zero, suc, ◌+◌, ◌-◌, ◌<◌, ◌≤◌, ◌==◌, max, Bool, true, false, ◌&&◌, if◌then◌else◌, List, [], ◌∷◌, ◌++◌, length, take, drop, Option, Some, None, Ok, Err, nat_le, refl, sym, ap, subst, ◌∙◌, arith}
-use Rattle.std.specs.Prelude.{slice_index}
+use Rattle.std.specs.Prelude.{slice_index, option_map, option_and_then}
 use Rattle.std.specs.List.{prefix_len, take_while}
 use Rattle.std.proofs.lemmas.Bool.Decides.{nat_tests}
 use Rattle.std.proofs.lemmas.List.{take-append-drop}
@@ -8,7 +8,7 @@ use Rattle.std.proofs.lemmas.List.Folds.{length-prefix_len}
 use Rattle.c25_meaning.specs.Bytes.{is_digit, is_letter_or_digit, begins_name, goes_on_name}
 use Rattle.c25_meaning.specs.ExpansionLaws.{StandsForNothing, HasNoMark}
 use Rattle.c25_meaning.specs.Quoting.{behind}
-use Rattle.c25_meaning.specs.Fragments.{Names, without, Kept, Replaced, Front, kept, character, text_of, whole_name, unit, unforced, forced, forced_or, front, fragments, is_beyond_ascii}
+use Rattle.c25_meaning.specs.Fragments.{Names, without, Kept, Replaced, Front, kept, character, whole_name, unit, unforced, forced, forced_or, front, fragments, is_beyond_ascii}
 use Rattle.c25_meaning.specs.Substitution.{Draft, as_is, joined, all_joined, drafted_by, drafted, measured, too_long, line_quoting, substituted, unsubstituted}
 use Rattle.c25_meaning.specs.declared.quoting.Quoting.{Quoting}
 use Rattle.c25_meaning.specs.declared.quoting.Quoting.TheVariants.{Outside, Within, Throughout, Comment}
@@ -66,7 +66,7 @@ keeps_unforced names (Within quote) b rest none unmarked = keeps_character (b �
 keeps_unforced names Throughout b rest none unmarked = keeps_character (b ∷ rest)
 keeps_unforced names Comment b rest none unmarked = keeps_character (b ∷ rest)
 
-no_text : (names : Names) (name : List ℕ) (b : Bool) → names name ≡ None → text_of names (if b then Some name else None) ≡ None
+no_text : (names : Names) (name : List ℕ) (b : Bool) → names name ≡ None → option_and_then {U = List ℕ × List ℕ} (λ n. option_map (λ inner. (n, inner)) (names n)) (if b then Some name else None) ≡ None
 no_text names name true h = rw h refl
 no_text names name false h = refl
 

@@ -1,6 +1,7 @@
 -- What a line asks of expansion by its directive and operands, or its first fault of 10 to 13, 51, 52, 20, 21 (SPRU018,
 -- assembler directives and macro language).
-use Rattle.std.specs.Prelude.{ℕ, Bool, true, false, List, [], ◌∷◌, map, length, nat_lt, slice_index, if◌then◌else◌, codes, Option, Some, None, Result, Ok, Err}
+use Rattle.std.specs.Prelude.{ℕ, Bool, true, false, List, [], ◌∷◌, map, length, nat_lt, slice_index, if◌then◌else◌, codes, Option, Some, None, unwrap_or, Result, Ok, Err}
+use Rattle.std.specs.Map.{lookup}
 use Rattle.std.specs.Option.{ok_or}
 use Rattle.std.specs.Str.{str_eq_ignore_ascii_case}
 use Rattle.c25_meaning.specs.Bytes.{is_blank}
@@ -18,8 +19,6 @@ use Rattle.c25_meaning.specs.declared.line.TokenKind.{TokenKind}
 use Rattle.c25_meaning.specs.declared.line.TokenKind.TheVariants as kind
 use Rattle.c25_meaning.specs.declared.expansion.Directive.{Directive}
 use Rattle.c25_meaning.specs.declared.expansion.Directive.TheVariants as directive
-use Rattle.c25_meaning.specs.declared.statement.Written.{Written}
-use Rattle.c25_meaning.specs.declared.statement.Written.TheVariants as written
 use Rattle.c25_meaning.specs.declared.statement.FaultKind.{FaultKind}
 use Rattle.c25_meaning.specs.declared.statement.FaultKind.TheVariants as fault
 
@@ -64,25 +63,16 @@ directives =
     ∷ (codes ".endloop", directive.EndLoop) ∷ (codes ".asg", directive.Assign) ∷ (codes ".eval", directive.Evaluate)
     ∷ (codes ".copy", directive.Copy) ∷ (codes ".include", directive.Copy) ∷ (codes ".end", directive.End) ∷ []
 
--- the first of these of a name, in either case
-abbrev pub directive_among : List ℕ → List (List ℕ × Directive) → Option Directive
-directive_among word [] = None
-directive_among word (d ∷ ds) = if str_eq_ignore_ascii_case word d.0 then Some d.1 else directive_among word ds
-
--- the directive that a word is, if it is one that expansion takes
+-- the directive that a word is in either case, if it is one that expansion takes
 unfoldable pub directive_of : List ℕ → Option Directive
-directive_of word = directive_among word directives
+directive_of word = lookup (str_eq_ignore_ascii_case word) directives
 
 -- ---- operands
 
--- the operand's tree, where it is written as an expression
-abbrev pub tree_by : Written → List Piece → Result Tree FaultKind
-tree_by written.Expression operand = told expression_fault (tree_in (map mark_of operand))
-tree_by _ operand = Err fault.OperandForm
-
--- an operand that is an expression
+-- an operand that is an expression: its tree
 abbrev pub expression_in : List Piece → Result Tree FaultKind
-expression_in operand = tree_by (written_of operand) operand
+expression_in operand =
+    if is_expression (written_of operand) then told expression_fault (tree_in (map mark_of operand)) else Err fault.OperandForm
 
 -- whether a token is a name
 abbrev pub is_name : TokenKind → Bool
@@ -122,16 +112,11 @@ with_option act _ = Err fault.OperandCount
 
 -- ---- the directives with other operands
 
--- the text of a label
-abbrev pub label_text : Option (List ℕ) → List ℕ
-label_text None = []
-label_text (Some name) = name
-
 -- `.macro`: parameters, at most 32
 abbrev pub definition_in : Parts → List (List Piece) → Result Act FaultKind
 definition_in parts operands =
     names_in operands >>= λ names.
-    if nat_lt 32 (length names) then Err fault.TooManyParameters else Ok (Define (label_text parts.label) names)
+    if nat_lt 32 (length names) then Err fault.TooManyParameters else Ok (Define (unwrap_or parts.label []) names)
 
 -- the last of some operands, if there are two or more
 abbrev pub last_of_two : List (List Piece) → Option (List Piece)

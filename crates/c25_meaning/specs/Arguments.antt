@@ -1,7 +1,8 @@
 -- The arguments of macro calls and the texts of `.asg` (SPRU018, macro language: macro parameters, passing commas and
 -- semicolons; .asg). Which quotes are taken off is this project's own.
-use Rattle.std.specs.Prelude.{ℕ, ◌+◌, ◌-◌, ◌==◌, Bool, true, false, ◌&&◌, if◌then◌else◌, List, [], ◌∷◌, length, take, drop, slice_index, Option, Some, None}
+use Rattle.std.specs.Prelude.{ℕ, ◌+◌, ◌-◌, ◌==◌, Bool, true, false, ◌&&◌, if◌then◌else◌, List, [], ◌∷◌, length, take, drop, slice_index}
 use Rattle.std.specs.List.{prefix_len, suffix_len}
+use Rattle.std.specs.Option.{option_map_or}
 use Rattle.c25_meaning.specs.Bytes.{is_blank}
 use Rattle.c25_meaning.specs.Lexeme.{quoted_len}
 use Rattle.c25_meaning.specs.Line.{word_end}
@@ -37,14 +38,9 @@ before_quote text = if slice_index text (length text - 1) == 34 then take (lengt
 abbrev pub string_text : List ℕ → List ℕ
 string_text token = folded false (before_quote (past_quote token))
 
--- whether this many bytes behind the first quote are all there is
-abbrev pub ends_there : Option ℕ → ℕ → Bool
-ends_there None len = false
-ends_there (Some n) len = n == len
-
--- whether a text is exactly one string
+-- whether a text is exactly one string: behind its first quote it goes on to the end
 abbrev pub is_one_string : List ℕ → Bool
-is_one_string text = slice_index text 0 == 34 && ends_there (quoted_len true (drop 1 text)) (length text - 1)
+is_one_string text = slice_index text 0 == 34 && option_map_or (λ n. n == length text - 1) (quoted_len true (drop 1 text)) false
 
 -- an argument or the text of `.asg`: trimmed, and if it is exactly one string, what that says
 abbrev pub unquoted : List ℕ → List ℕ

@@ -1,7 +1,7 @@
 -- How command files are read from the front: a reader answers what it reads and the tokens behind it, or the first
 -- fault. Here are the readers of single tokens (own: the grammar of SPRU018, linker description, is in the files
 -- that use these).
-use Rattle.std.specs.Prelude.{◌≡◌, ℕ, zero, suc, ◌==◌, ◌≤◌, Bool, true, false, List, [], ◌∷◌, length, drop, Option, Some, None, Result, Ok, Err, nat_lt, if◌then◌else◌}
+use Rattle.std.specs.Prelude.{◌≡◌, ℕ, zero, suc, ◌==◌, ◌≤◌, Bool, true, false, List, [], ◌∷◌, length, drop, Option, Some, None, ok_or, Result, Ok, Err, nat_lt, if◌then◌else◌}
 use Rattle.c25_meaning.specs.declared.command_token.Sign.{Sign}
 use Rattle.c25_meaning.specs.declared.command_token.Sign.TheVariants as sign
 use Rattle.c25_meaning.specs.declared.command_token.Keyword.{Keyword}
@@ -106,15 +106,10 @@ abbrev pub number_of_kind : Kind → Option ℕ
 number_of_kind (kind.Number n) = Some n
 number_of_kind _ = None
 
--- a number in front of the tokens behind it, which must be there
-abbrev pub number_before : Option ℕ → List Token → List Token → Reading ℕ
-number_before None ts rest = Err (fault_at Syntax ts)
-number_before (Some n) ts rest = Ok (n, rest)
-
 -- a number that must stand here
 unfoldable pub number_at : List Token → Reading ℕ
 number_at [] = Err (fault_at Syntax [])
-number_at (t ∷ ts) = number_before (number_of_kind t.kind) (t ∷ ts) ts
+number_at (t ∷ ts) = ok_or (number_of_kind t.kind) (fault_at Syntax (t ∷ ts)) >>= λ n. Ok (n, ts)
 
 -- the number of a page: 0 or 1
 unfoldable pub page_number_at : List Token → Reading ℕ

@@ -3,6 +3,7 @@
 -- case are this project's own).
 use Rattle.std.specs.Prelude.{ℕ, zero, suc, ◌+◌, ◌-◌, ◌^◌, ◌==◌, ◌||◌, ◌&&◌, not, min, Bool, List, [], ◌∷◌, length, take, drop, slice_index, map, codes, count_by, Option, Some, None, is_some, option_map, nat_lt, nat_le, if◌then◌else◌}
 use Rattle.std.specs.List.{prefix_len}
+use Rattle.std.specs.Option.{option_map_or}
 use Rattle.std.specs.Str.{bytes_eq}
 use Rattle.std.specs.Str.Lines.{lines}
 use Rattle.std.specs.Char.{to_ascii_lowercase}
@@ -44,23 +45,14 @@ abbrev pub comment_len : List ℕ → Option ℕ
 comment_len [] = None
 comment_len (b ∷ rest) = if b == 42 && slice_index rest 0 == 47 then Some 2 else option_map (λ n. n + 1) (comment_len rest)
 
--- a comment with so many bytes behind its `/*`
-abbrev pub comment_piece : Option ℕ → Lexeme
-comment_piece None = piece.OpenComment
-comment_piece (Some n) = piece.Comment (n + 2)
-
--- a sign, or a character that can stand nowhere
-abbrev pub sign_piece : Option Sign → Lexeme
-sign_piece None = piece.Stray
-sign_piece (Some s) = piece.Sign s
-
--- what stands at the front of a text that is not empty
+-- what stands at the front of a text that is not empty; a character that is none of these can stand nowhere
 unfoldable pub lexeme : List ℕ → Lexeme
 lexeme text =
     if is_space (slice_index text 0) then piece.Blank
     else (if is_word (slice_index text 0) then piece.Word (prefix_len is_word text)
-    else (if slice_index text 0 == 47 && slice_index text 1 == 42 then comment_piece (comment_len (drop 2 text))
-    else sign_piece (sign_of (slice_index text 0))))
+    else (if slice_index text 0 == 47 && slice_index text 1 == 42
+    then option_map_or (λ n. piece.Comment (n + 2)) (comment_len (drop 2 text)) piece.OpenComment
+    else option_map_or piece.Sign (sign_of (slice_index text 0)) piece.Stray))
 
 -- ---- words
 
@@ -77,13 +69,9 @@ abbrev pub is_numeral : Numeral → Bool
 is_numeral n = are_digits n.base n.digits && nat_lt (length n.digits) 20
     && not (n.base == 10 && slice_index n.digits 0 == 48 && nat_lt 1 (length n.digits))
 
--- the value, or 4,294,967,295 where it is larger
-abbrev pub capped_value : Numeral → ℕ
-capped_value n = min (value_in n.base n.digits) (2 ^ 32 - 1)
-
--- a number, or a word that only begins as one
+-- a number, 4,294,967,295 where it is larger, or a word that only begins as one
 abbrev pub number_kind : Numeral → Kind
-number_kind n = if is_numeral n then kind.Number (capped_value n) else kind.Malformed
+number_kind n = if is_numeral n then kind.Number (min (value_in n.base n.digits) (2 ^ 32 - 1)) else kind.Malformed
 
 -- the reserved word of a spelling in lower case
 abbrev pub keyword_of : List ℕ → Option Keyword
@@ -97,14 +85,11 @@ keyword_of lower =
     else (if bytes_eq lower (codes "run") then Some keyword.Run
     else None))))))
 
--- a reserved word, or else a name
-abbrev pub name_kind : Option Keyword → Kind
-name_kind None = kind.Name
-name_kind (Some k) = kind.Keyword k
-
--- a word that begins with a digit is a number; reserved words are read in either case
+-- a word that begins with a digit is a number, any other a reserved word, read in either case, or else a name
 unfoldable pub word_kind : List ℕ → Kind
-word_kind text = if nat_lt (digit (slice_index text 0)) 10 then number_kind (word_numeral text) else name_kind (keyword_of (map to_ascii_lowercase text))
+word_kind text =
+    if nat_lt (digit (slice_index text 0)) 10 then number_kind (word_numeral text)
+    else option_map_or kind.Keyword (keyword_of (map to_ascii_lowercase text)) kind.Name
 
 -- ---- tokens
 

@@ -1,6 +1,6 @@
 -- What expansion works on: one flat list of lines still to come, rewritten at its front (SPRU018, macro language and
 -- assembler directives; the limits and the numbering of expansions are this project's own).
-use Rattle.std.specs.Prelude.{ℕ, ◌+◌, List, [], ◌∷◌, ◌++◌, Bool, true, false, ◌||◌, Option, Some, None, nat_le, if◌then◌else◌, length, map, sum_by, is_some}
+use Rattle.std.specs.Prelude.{ℕ, ◌+◌, List, [], ◌∷◌, ◌++◌, Bool, true, false, ◌||◌, Option, Some, None, nat_le, if◌then◌else◌, length, drop, map, sum_by, is_some}
 use Rattle.std.specs.List.{list_any}
 use Rattle.std.specs.Map.{lookup}
 use Rattle.std.specs.Str.{bytes_eq}
@@ -101,14 +101,9 @@ after_close [] = []
 after_close (Close ∷ items) = items
 after_close (Read row ∷ items) = after_close items
 
--- the expansions without the innermost
-abbrev pub but_innermost : List Expansion → List Expansion
-but_innermost [] = []
-but_innermost (e ∷ es) = es
-
--- the open expansions after a file, expansion or turn has ended
+-- the open expansions after a file, expansion or turn has ended: an expansion that ends is the innermost
 abbrev pub without_ended : Kind → Dictionary → Dictionary
-without_ended Expanded names = record names { expansions = but_innermost names.expansions }
+without_ended Expanded names = record names { expansions = drop 1 names.expansions }
 without_ended Copied names = names
 without_ended (Turn body more) names = names
 

@@ -3,7 +3,7 @@
 --
 -- The tests of a line in their order: the first that fails is told, and none behind it is made.
 --
---   34        it is the 200,001st line that is read                           `reads` of ExpansionRuns
+--   34        it is the 200,001st line that is read                           `front` of ExpansionRuns
 --             into a body that is collected it goes with no further test      `in_macro`, `in_loop`
 --   32        it begins with `.elseif` or `.else`, behind an `.else`          `reads_elseif`, `skips_outer`
 --             if it is skipped, no further test is made                       `skips_outer`, `skips_nested`
@@ -19,11 +19,12 @@
 --   36        the name is a macro's or a mnemonic's                           `begins_macro`
 --
 -- 31, a block that is left open, is told at the end of the file or body in which it began (`closes` of ExpansionRuns).
-use Rattle.std.specs.Prelude.{ℕ, ◌+◌, ◌-◌, ◌==◌, List, [], ◌∷◌, ◌++◌, Bool, true, false, not, ◌||◌, Option, Some, None, Result, Ok, Err, ℤ, pos, negsuc, if◌then◌else◌, is_some}
+use Rattle.std.specs.Prelude.{ℕ, ◌+◌, ◌-◌, ◌==◌, List, [], ◌∷◌, ◌++◌, Bool, true, false, not, ◌||◌, Option, Some, None, option_and_then, Result, Ok, Err, ℤ, pos, negsuc, if◌then◌else◌, is_some}
 use Rattle.std.specs.Fmt.{signed_decimal}
 use Rattle.c25_meaning.specs.Line.{first_word}
 use Rattle.c25_meaning.specs.Tree.{Tree}
 use Rattle.c25_meaning.specs.Value.{Table, is_zero}
+use Rattle.c25_meaning.specs.Results.{◌>>=◌}
 use Rattle.c25_meaning.specs.Statement.{valued}
 use Rattle.c25_meaning.specs.Spellings.{spelling_of}
 use Rattle.c25_meaning.specs.Files.{Files, text_named}
@@ -54,8 +55,7 @@ number_by _ number = Err fault.NotAbsolute
 
 -- an absolute number, or the fault
 abbrev pub absolute : Result Value FaultKind → Result ℤ FaultKind
-absolute (Ok v) = number_by v.base v.offset
-absolute (Err kind) = Err kind
+absolute value = value >>= λ v. number_by v.base v.offset
 
 -- what follows a number, or the fault
 abbrev pub with_number : Place → Result ℤ FaultKind → (ℤ → Rewriting) → Rewriting
@@ -108,13 +108,9 @@ unfoldable pub begins_if : Table → Place → Tree → Config → Rewriting
 begins_if s place e c = needed s place e (λ number.
     unless (is_full c) fault.Depth place (Goes (with_branches (record { phase = phase_of number; nested = 0 } ∷ c.scope.branches) c)))
 
--- the innermost `.if` of a file, expansion or turn goes on so
-abbrev pub innermost : Branch → List Branch → Config → Rewriting
-innermost branch branches c = Goes (with_branches (branch ∷ branches) c)
-
--- it goes on in this phase
+-- the innermost `.if` of a file, expansion or turn goes on in this phase
 abbrev pub enters : Branch → List Branch → Config → Phase → Rewriting
-enters b bs c phase = innermost (record b { phase = phase }) bs c
+enters b bs c phase = Goes (with_branches (record b { phase = phase } ∷ bs) c)
 
 -- `.elseif`
 abbrev pub elseif_by : Table → Place → Tree → List Branch → Config → Rewriting
@@ -223,8 +219,7 @@ consumed files s place (Ok order) c = labelled files s place order.label order.a
 
 -- the macro that a word names
 abbrev pub macro_of : Option (List ℕ) → Dictionary → Option Macro
-macro_of None names = None
-macro_of (Some word) names = macro_named names word
+macro_of word names = option_and_then (macro_named names) word
 
 -- a line whose first word is no directive of expansion: a macro is called, or else the line is given
 abbrev pub calls : Files → Table → Row → Option Macro → Config → Rewriting
@@ -238,8 +233,7 @@ uses files s row None c = calls files s row (macro_of (first_word row.text) c.na
 
 -- the directive that a word is
 abbrev pub directive_in : Option (List ℕ) → Option Directive
-directive_in None = None
-directive_in (Some word) = directive_of word
+directive_in word = option_and_then directive_of word
 
 -- a line substituted, as its first word before that asks for
 abbrev pub substituted_as : Option Directive → Dictionary → List ℕ → Result (List ℕ) LongLine
@@ -267,7 +261,7 @@ resumes files s row d c = unless_long row.place (substituted_as (Some d) c.names
 
 -- the innermost `.if` has so many more nested in its skipped lines
 abbrev pub nests : ℕ → Branch → List Branch → Config → Rewriting
-nests nested b bs c = innermost (record b { nested = nested }) bs c
+nests nested b bs c = Goes (with_branches (record b { nested = nested } ∷ bs) c)
 
 -- a line whose first word is `.elseif` before substitution: only where a condition is still sought it is looked at any further
 abbrev pub reads_elseif : Files → Table → Row → Branch → List Branch → Config → Rewriting

@@ -1,5 +1,5 @@
 -- Rewriting the lines still to come up to the next line that is given, the end, or the first fault.
-use Rattle.std.specs.Prelude.{◌≡◌, ℕ, zero, suc, ◌+◌, ◌*◌, ◌-◌, ◌==◌, List, [], ◌∷◌, ◌++◌, Bool, true, false, not, ◌&&◌, Option, Some, None, nat_lt, if◌then◌else◌, length, map}
+use Rattle.std.specs.Prelude.{◌≡◌, ℕ, zero, suc, ◌+◌, ◌*◌, ◌-◌, ◌==◌, List, [], ◌∷◌, ◌++◌, Bool, true, false, not, ◌&&◌, Option, option_map, nat_lt, if◌then◌else◌, length, map}
 use Rattle.c25_meaning.specs.Line.{first_word}
 use Rattle.c25_meaning.specs.Value.{Table}
 use Rattle.c25_meaning.specs.Files.{Files, text_named}
@@ -15,11 +15,6 @@ abbrev pub read_by : Files → Table → Row → Mode → Config → Rewriting
 read_by files s row (InMacro name parameters body nested) c = in_macro row (directive_in (first_word row.text)) name parameters body nested c
 read_by files s row (InLoop turns body nested) c = in_loop row (directive_in (first_word row.text)) turns body nested c
 read_by files s row _ c = reads_by files s row (directive_in (first_word row.text)) c.scope.branches c
-
--- the next line is read: 200,000 at most
-abbrev pub reads : Files → Table → Row → List Item → Config → Rewriting
-reads files s row rest c =
-    unless (c.left == 0) fault.Lines row.place (read_by files s row c.mode (record c { lines = rest; mode = Reading; left = c.left - 1 }))
 
 -- whether lines are collected
 abbrev pub is_reading : Mode → Bool
@@ -55,9 +50,10 @@ ended Expanded rest c = back rest c.outer c
 abbrev pub closes : Rewriting → Config → Rewriting
 closes next c = if is_closed c then next else Faults c.scope.last fault.OpenBlock
 
--- one rewriting of the front
+-- one rewriting of the front: a line is read, 200,000 at most, or an end is passed
 abbrev pub front : Files → Table → List Item → Config → Rewriting
-front files s (Read row ∷ rest) c = reads files s row rest c
+front files s (Read row ∷ rest) c =
+    unless (c.left == 0) fault.Lines row.place (read_by files s row c.mode (record c { lines = rest; mode = Reading; left = c.left - 1 }))
 front files s (Close ∷ rest) c = closes (ended c.scope.kind rest c) c
 front files s [] c = closes (Finishes c) c
 
@@ -127,11 +123,6 @@ start file text = record {
   left = 200000;
 }
 
--- the start of the module of a name, where there is such a file
-abbrev pub start_by : Option (List ℕ) → ℕ → Option Config
-start_by None file = None
-start_by (Some text) file = Some (start file text)
-
--- the same by its name
+-- the same by the file's name, where there is such a file
 abbrev pub start_of : Files → List ℕ → Option Config
-start_of files name = start_by (text_named files name) (file_number files name)
+start_of files name = option_map (start (file_number files name)) (text_named files name)

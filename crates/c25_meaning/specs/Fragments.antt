@@ -1,8 +1,9 @@
 -- What names stand for, and the fragments of a text (SPRU018, macro language: substitution symbols, forced substitution
 -- `:name:`, unique labels `name?`; what is a unit outside quotes is this project's own).
-use Rattle.std.specs.Prelude.{ℕ, zero, suc, ◌+◌, ◌-◌, max, nat_le, ◌==◌, Bool, true, false, ◌&&◌, if◌then◌else◌, List, [], ◌∷◌, length, take, drop, slice_index, Option, Some, None}
+use Rattle.std.specs.Prelude.{ℕ, zero, suc, ◌+◌, ◌-◌, max, nat_le, ◌==◌, Bool, true, false, ◌&&◌, if◌then◌else◌, List, [], ◌∷◌, length, take, drop, slice_index, Option, Some, None, option_map, option_and_then}
 use Rattle.std.specs.List.{prefix_len, take_while, list_any}
 use Rattle.std.specs.Map.{lookup}
+use Rattle.std.specs.Option.{option_or}
 use Rattle.std.specs.Str.{bytes_eq}
 use Rattle.c25_meaning.specs.Bytes.{is_digit, is_letter_or_digit, begins_name, goes_on_name}
 use Rattle.c25_meaning.specs.Quoting.{behind}
@@ -15,14 +16,9 @@ use Rattle.c25_meaning.specs.declared.quoting.Quoting.TheVariants.{Outside, With
 abbrev pub Names : Type 0
 Names = List ℕ → Option (List ℕ)
 
--- the first of two that is there
-abbrev pub or_else : Option (List ℕ) → Option (List ℕ) → Option (List ℕ)
-or_else None other = other
-or_else (Some text) other = Some text
-
 -- what is seen inside an expansion: its arguments first, then the names of `.asg` and `.eval`
 abbrev pub visible : List (List ℕ × List ℕ) → List (List ℕ × List ℕ) → Names
-visible arguments texts name = or_else (lookup (bytes_eq name) arguments) (lookup (bytes_eq name) texts)
+visible arguments texts name = option_or (lookup (bytes_eq name) arguments) (lookup (bytes_eq name) texts)
 
 -- names set aside stand for nothing
 abbrev pub without : List (List ℕ) → Names → Names
@@ -59,11 +55,6 @@ between_colons text =
     if slice_index text 0 == 58 && (begins_name (slice_index text 1) && slice_index text (prefix_len goes_on_name (drop 1 text) + 1) == 58)
     then Some (take_while goes_on_name (drop 1 text)) else None
 
--- a name's text, unless there is none
-abbrev pub text_of : Names → Option (List ℕ) → Option (List ℕ × List ℕ)
-text_of names None = None
-text_of names (Some name) = elim (names name) [ None ↦ None | Some text ↦ Some (name, text) ]
-
 -- where a text begins that replaces a name here: one inside quotes is quoted throughout
 abbrev pub inside : Quoting → Quoting
 inside Outside = Outside
@@ -92,10 +83,10 @@ abbrev pub unforced : Names → Quoting → List ℕ → Front
 unforced names Outside text = unit names text
 unforced names _ text = character text
 
--- forced substitution: a name between colons that stands for a text; a comment has none
+-- forced substitution: a name between colons that stands for a text, with that text; a comment has none
 abbrev pub forced : Names → Quoting → List ℕ → Option (List ℕ × List ℕ)
 forced names Comment text = None
-forced names _ text = text_of names (between_colons text)
+forced names _ text = option_and_then (λ name. option_map (λ inner. (name, inner)) (names name)) (between_colons text)
 
 -- it takes its colons along
 abbrev pub forced_or : Option (List ℕ × List ℕ) → Quoting → Front → Front

@@ -9,7 +9,6 @@ use Rattle.std.specs.FinMap as map
 use Rattle.c25_meaning.specs.Bytes.{is_blank}
 use Rattle.c25_meaning.specs.Results.{◌>>=◌, told}
 use Rattle.hex.specs.Hex.{decode_of, is_hex_digit}
-use Rattle.hex.specs.declared.error.FromHexError.{FromHexError}
 use Rattle.c25_meaning.specs.declared.hex_fault.HexFault.{HexFault}
 use Rattle.c25_meaning.specs.declared.hex_fault.PlacedHexFault.{PlacedHexFault}
 use Rattle.c25_meaning.specs.declared.hex_fault.HexFault.TheVariants.{BadStart, BadDigit, BadCount, BadSum, BadKind, OddWord, Twice, NoEnd, AfterEnd, AddressRange}
@@ -22,17 +21,12 @@ pub record HexState : Type 0 where
 
 -- ---- one line
 
--- pairs of digits are bytes, and an odd number of digits is no count of bytes
-abbrev pub decoded : Result (List ℕ) FromHexError → Result (List ℕ) HexFault
-decoded (Ok bytes) = Ok bytes
-decoded (Err e) = Err BadCount
-
--- the bytes of a line: `:` and pairs of digits
+-- the bytes of a line: `:` and pairs of digits; an odd number of digits is no count of bytes
 unfoldable pub bytes_of : List ℕ → Result (List ℕ) HexFault
 bytes_of line =
     if not (nat_lt 0 (length line) && slice_index line 0 == 58) then Err BadStart
     else (if not (list_all is_hex_digit (drop 1 line)) then Err BadDigit
-    else decoded (decode_of (drop 1 line)))
+    else told (λ e. BadCount) (decode_of (drop 1 line)))
 
 -- whether a kind may have a count: any for data (0), none for the end (1), two bytes for a base (2, 4), four for a start address (3, 5)
 abbrev pub count_fits : ℕ → ℕ → Bool

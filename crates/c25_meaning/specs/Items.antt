@@ -1,9 +1,10 @@
 -- Texts of one item a line: a line is its words, and lines without words are passed over (own). Lines end in LF or
 -- CR LF, which is std's `lines`; a lone CR ends no line and is no blank, so it is or goes on with a word.
-use Rattle.std.specs.Prelude.{ℕ, ◌+◌, ◌==◌, not, List, [], ◌∷◌, ◌++◌, length, filter, Option, Some, None, option_map, Result, Ok, Err, if◌then◌else◌}
+use Rattle.std.specs.Prelude.{ℕ, ◌+◌, ◌==◌, not, List, [], ◌∷◌, ◌++◌, length, filter, Option, Some, option_map, ok_or, Result, Ok, if◌then◌else◌}
 use Rattle.std.specs.List.{slice_split}
 use Rattle.std.specs.Str.Lines.{lines}
 use Rattle.c25_meaning.specs.Bytes.{is_blank}
+use Rattle.c25_meaning.specs.Results.{◌>>=◌}
 
 -- the words of a line: what blanks and tabs part
 abbrev pub line_words : List ℕ → List (List ℕ)
@@ -17,15 +18,10 @@ ItemOf A = List A → List (List ℕ) → Option A
 abbrev pub with_line : {A : Type 0} → ItemOf A → List A → List (List ℕ) → Option (List A)
 with_line item before words = if length words == 0 then Some before else option_map (λ a. before ++ a ∷ []) (item before words)
 
--- what is read on behind a line, unless its number is that of the fault
-abbrev pub or_fault : {A : Type 0} → ℕ → Option (List A) → (List A → Result (List A) ℕ) → Result (List A) ℕ
-or_fault number None next = Err number
-or_fault number (Some now) next = next now
-
 -- the items before with those of the lines from a number on, or the number of the first line that is faulty
 unfoldable pub items : {A : Type 0} → ItemOf A → List A → ℕ → List (List ℕ) → Result (List A) ℕ
 items item before number [] = Ok before
-items item before number (line ∷ rest) = or_fault number (with_line item before (line_words line)) (λ now. items item now (number + 1) rest)
+items item before number (line ∷ rest) = ok_or (with_line item before (line_words line)) number >>= λ now. items item now (number + 1) rest
 
 -- the items of a text, or its first faulty line, counted from 1
 abbrev pub items_of : {A : Type 0} → ItemOf A → List ℕ → Result (List A) ℕ

@@ -23,11 +23,6 @@ pub record Piece : Type 0 where
   pub start : ℕ
   pub text : List ℕ
 
--- the fault, if there is one
-abbrev pub unless : {A : Type 0} → Option LineFault → A → Result A LineFault
-unless None x = Ok x
-unless (Some f) x = Err f
-
 -- the tokens of a text, the first fault, and where the comment or the end is
 pub record Scan : Type 0 where
   pub pieces : List Piece
@@ -60,7 +55,7 @@ scan_from at text = scan 0 at (drop at text)
 
 -- where the comment or the end is, or the first fault
 abbrev pub stop_of : Scan → Result ℕ LineFault
-stop_of s = unless s.fault s.stop
+stop_of s = elim s.fault [ None ↦ Ok s.stop | Some f ↦ Err f ]
 
 -- the parts of a line: its label without the colon, its first word, the tokens of its operands, its comment
 pub record Parts : Type 0 where

@@ -93,14 +93,9 @@ section_fits before s =
 
 -- ---- marks
 
--- the words of a section, if there is one
-abbrev pub section_words : Option SectionData → List ℕ
-section_words None = []
-section_words (Some s) = body_words s.body
-
 -- the words of a section by its number: none where it is uninitialised, or where there is no such section
 abbrev pub words_at : List SectionData → ℕ → List ℕ
-words_at sections number = section_words (slice_get sections number)
+words_at sections number = elim (slice_get sections number) [ None ↦ [] | Some s ↦ body_words s.body ]
 
 -- a place at or behind another
 abbrev pub is_from : ℕ → ℕ → ℕ → ℕ → Bool

@@ -8,7 +8,7 @@ use Rattle.c25_meaning.specs.State.{World, State, state_of}
 use Rattle.c25_meaning.specs.Table.{size_of, words}
 use Rattle.c25_meaning.specs.Reset.{reset}
 use Rattle.c25_meaning.specs.Statements.{Statement, marks_of, statement_step}
-use Rattle.c25_meaning.specs.Run.{Ending, run_of, quiet}
+use Rattle.c25_meaning.specs.Run.{Signals, Ending, run_of}
 
 -- the statements of instructions that stand one behind another from an address on
 abbrev pub laid_out : ℕ → List Insn → List Statement
@@ -26,10 +26,10 @@ abbrev pub loaded : List Mark → Memory → Memory → (ℕ → List ℕ) → W
 loaded marks program words samples = record { words = words; program = program; marks = marks; samples = samples; outputs = [] }
 
 -- the state in which their run begins: the processor is reset, and their words are loaded from program address 0 on, with 0 in all other
--- words of both memories and no samples
-abbrev pub first_state : List Insn → State
-first_state is = state_of reset (loaded (marks_of (laid_out 0 is)) (memory_of (all_words is)) (λ _. 0) (λ _. []))
+-- words of both memories; the ports have these samples
+abbrev pub first_state : List Insn → (ℕ → List ℕ) → State
+first_state is samples = state_of reset (loaded (marks_of (laid_out 0 is)) (memory_of (all_words is)) (λ _. 0) samples)
 
--- how n steps of them end, where no interrupt line is set and the BIO level is 1
-abbrev pub run_of_insns : List Insn → ℕ → Ending
-run_of_insns is n = run_of (statement_step (laid_out 0 is)) quiet 0 n (first_state is)
+-- how n steps of them end, under these samples, interrupt lines and BIO levels
+abbrev pub run_of_insns : List Insn → (ℕ → List ℕ) → Signals → ℕ → Ending
+run_of_insns is samples signals n = run_of (statement_step (laid_out 0 is)) signals 0 n (first_state is samples)

@@ -1,6 +1,6 @@
 -- Which bytes of a line stand outside quotes and comment (own; quotes as in SPRU018, assembler description, character
 -- strings and constants): here a quote is closed by the next such quote or by the end of the text, so any text will do.
-use Rattle.std.specs.Prelude.{ℕ, ◌+◌, Bool, true, false, ◌||◌, ◌==◌, if◌then◌else◌, List, [], ◌∷◌, length, Option, Some, None}
+use Rattle.std.specs.Prelude.{ℕ, ◌+◌, Bool, true, false, ◌||◌, ◌==◌, if◌then◌else◌, List, [], ◌∷◌, length, Option, Some, None, option_map}
 use Rattle.c25_meaning.specs.declared.quoting.Quoting.{Quoting}
 use Rattle.c25_meaning.specs.declared.quoting.Quoting.TheVariants.{Outside, Within, Throughout, Comment}
 
@@ -21,11 +21,6 @@ unfoldable pub outer_len : ℕ → Quoting → List ℕ → ℕ
 outer_len sought quoting [] = 0
 outer_len sought quoting (b ∷ rest) = if is_outer sought b quoting then 0 else 1 + outer_len sought (behind b quoting) rest
 
--- a place further on
-abbrev pub one_further : Option ℕ → Option ℕ
-one_further None = None
-one_further (Some n) = Some (n + 1)
-
 -- the later of two places, if there is one
 abbrev pub or_before : Option ℕ → Bool → Option ℕ
 or_before (Some n) here = Some n
@@ -35,7 +30,7 @@ or_before None false = None
 -- the place of the last comma outside quotes and comment
 unfoldable pub last_comma : Quoting → List ℕ → Option ℕ
 last_comma quoting [] = None
-last_comma quoting (b ∷ rest) = or_before (one_further (last_comma (behind b quoting) rest)) (is_outer 44 b quoting)
+last_comma quoting (b ∷ rest) = or_before (option_map (λ n. n + 1) (last_comma (behind b quoting) rest)) (is_outer 44 b quoting)
 
 -- how many bytes stand before that comma; all where there is none
 abbrev pub last_comma_len : List ℕ → ℕ

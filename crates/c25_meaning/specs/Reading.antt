@@ -1,7 +1,7 @@
 -- The tree of tokens as a function, token by token with one stack (own: C's order; the language tools' guide,
 -- SPRU018, assembler description, expressions). That it gives the trees of `Tree.IsTreeOf` and no others is a law of the crate that reads
 -- expressions.
-use Rattle.std.specs.Prelude.{ℕ, Bool, true, false, nat_le, if◌then◌else◌, List, [], ◌∷◌, Option, Some, None, Result, Ok, Err}
+use Rattle.std.specs.Prelude.{ℕ, Bool, true, false, nat_le, if◌then◌else◌, List, [], ◌∷◌, Option, Some, None, option_and_then, Result, Ok, Err}
 use Rattle.c25_meaning.specs.declared.line.Sign.{Sign}
 use Rattle.c25_meaning.specs.declared.line.Sign.TheVariants as sign
 use Rattle.c25_meaning.specs.declared.expression.UnaryOperator.{UnaryOperator}
@@ -160,15 +160,10 @@ finished_by fs (Some e) is = whole (reduced loosest fs e is)
 abbrev pub finished : State → Option Found
 finished s = finished_by s.frames s.current s.items
 
--- go on from a state, if there is one
-abbrev pub run_on : (State → Option Found) → Option State → Option Found
-run_on f None = None
-run_on f (Some s) = f s
-
 -- the tree behind all tokens
 abbrev pub run : List Mark → State → Option Found
 run [] s = finished s
-run (m ∷ ms) s = run_on (run ms) (step s m)
+run (m ∷ ms) s = option_and_then (run ms) (step s m)
 
 -- how deep parentheses and unary operators may nest
 abbrev pub most_nested : ℕ

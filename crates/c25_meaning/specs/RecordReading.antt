@@ -105,11 +105,6 @@ section_of bytes =
 
 -- ---- a record after others
 
--- what there is, or else the payload is bad
-abbrev pub required : {A : Type 0} → Option A → Result A ObjectFault
-required None = Err BadField
-required (Some x) = Ok x
-
 -- an item that may follow, or else the payload is bad
 abbrev pub checked : {A : Type 0} → (A → Bool) → Option A → Result A ObjectFault
 checked fits None = Err BadField

@@ -1,8 +1,9 @@
 -- Instruction statements as syntax (SPRU014, instruction set; SPRU018, source statement format): which field each
 -- operand fills, the number that a value or an address gives it, and the instruction of the numbers.
-use Rattle.std.specs.Prelude.{ℕ, zero, suc, ◌/◌, ◌||◌, ◌&&◌, not, Bool, true, List, [], ◌∷◌, ◌++◌, length, Option, Some, None, Result, Ok, Err, ℤ, pos, negsuc, int_lt, if◌then◌else◌, slice_get, slice_index}
+use Rattle.std.specs.Prelude.{ℕ, zero, suc, ◌||◌, ◌&&◌, not, Bool, true, List, [], ◌∷◌, ◌++◌, length, Option, Some, None, Result, Ok, Err, ℤ, pos, negsuc, int_lt, if◌then◌else◌, slice_get, slice_index}
 use Rattle.std.specs.Int.{w16, cast_signed}
 use Rattle.c25_bits.specs.Cut.{cut}
+use Rattle.c25_meaning.specs.Fields.{field_number, takes}
 use Rattle.c25_meaning.specs.Results.{◌>>=◌, fold_ok, told}
 use Rattle.c25_meaning.specs.Table.{shift_limit}
 use Rattle.c25_meaning.specs.Tree.{Tree}
@@ -174,22 +175,6 @@ relocation_of field.Word16 = Some relocation.Word16
 relocation_of field.Word = Some relocation.Word16
 relocation_of _ = None
 
--- the number of an address
-abbrev pub address_number : RelocationKind → ℤ → ℕ
-address_number relocation.Word16 z = cut z 16
-address_number relocation.Low7 z = cut z 7
-address_number relocation.Page9 z = cut z 16 / 128
-
--- from low to high
-abbrev pub is_within : ℤ → ℤ → ℤ → Bool
-is_within low high z = not (int_lt z low || int_lt high z)
-
--- whether an address is in the range of its field
-abbrev pub address_fits : RelocationKind → ℤ → Bool
-address_fits relocation.Word16 z = is_within (negsuc 32767) (pos 65535) z
-address_fits relocation.Low7 z = is_within (pos 0) (pos 65535) z
-address_fits relocation.Page9 z = is_within (pos 0) (pos 65535) z
-
 -- ---- the operands of a statement, one after another
 
 -- the number of a field, and whether an address is in the field's range
@@ -200,7 +185,7 @@ pub record Entry : Type 0 where
 -- the entry of an address
 abbrev pub address_entry : Option RelocationKind → ℤ → Result Entry FaultKind
 address_entry None z = Err fault.NotRelocatable
-address_entry (Some kind) z = Ok (record { number = address_number kind z; in_range = address_fits kind z })
+address_entry (Some kind) z = Ok (record { number = field_number kind z; in_range = takes kind z })
 
 -- the entry of an absolute number
 abbrev pub number_entry : Field → ℤ → Result Entry FaultKind

@@ -1,11 +1,12 @@
 -- The value of an expression (SPRU018, assembler description, expressions; own: C's order, 32 signed bits, and which
 -- kinds an operator takes).
-use Rattle.std.specs.Prelude.{ℕ, ◌^◌, Bool, true, false, ◌==◌, nat_lt, nat_le, if◌then◌else◌, List, Option, Some, None, Result, Ok, Err, ℤ, pos, negsuc, ◌+ℤ◌, ◌-ℤ◌, ◌*ℤ◌, neg_ℤ, int_lt, ◌&&◌, ◌-◌, [], ◌∷◌}
+use Rattle.std.specs.Prelude.{ℕ, ◌^◌, Bool, false, not, ◌==◌, nat_lt, nat_le, if◌then◌else◌, List, Option, Some, None, ok_or, Result, Ok, Err, ℤ, pos, negsuc, ◌+ℤ◌, ◌-ℤ◌, ◌*ℤ◌, neg_ℤ, int_lt, ◌&&◌, ◌-◌, [], ◌∷◌}
 use Rattle.std.specs.Int.{w32, int_bit_and, int_bit_or, int_bit_xor, int_shr}
 use Rattle.std.specs.Char.{to_ascii_uppercase}
 use Rattle.std.specs.Map.{lookup}
 use Rattle.std.specs.Str.{bytes_eq}
 use Rattle.std.specs.Int.RustNames.{int_div, int_rem}
+use Rattle.c25_meaning.specs.Arithmetic.{fits32}
 use Rattle.c25_meaning.specs.Results.{◌>>=◌}
 use Rattle.c25_meaning.specs.Tree.{Leaf, Constant, Name, Here, Tree, Single, Group, Unary, Binary}
 use Rattle.c25_meaning.specs.declared.expression.UnaryOperator.{UnaryOperator}
@@ -18,14 +19,9 @@ use Rattle.c25_meaning.specs.declared.value.Base.{Base}
 use Rattle.c25_meaning.specs.declared.value.Base.TheVariants.{Absolute, Section}
 use Rattle.c25_meaning.specs.declared.value.Value.{Value}
 
--- whether a number has 32 signed bits
-abbrev pub fits : ℤ → Bool
-fits (pos n) = nat_lt n (2 ^ 31)
-fits (negsuc n) = nat_lt n (2 ^ 31)
-
 -- a number, if it has 32 signed bits
 abbrev pub in_range : ℤ → Result ℤ ValueFault
-in_range z = if fits z then Ok z else Err ValueRange
+in_range z = if fits32 z then Ok z else Err ValueRange
 
 -- whether a number is zero
 abbrev pub is_zero : ℤ → Bool
@@ -41,15 +37,6 @@ count_of (negsuc n) = None
 abbrev pub truth : Bool → ℤ
 truth b = if b then pos 1 else pos 0
 
--- a shifted number, if the count is one and the result has 32 bits
-abbrev pub with_count : Option ℕ → (ℕ → ℤ) → Result ℤ ValueFault
-with_count None f = Err ValueRange
-with_count (Some n) f = in_range (f n)
-
--- whether a number is not below another
-abbrev pub not_lt : ℤ → ℤ → Bool
-not_lt x y = if int_lt x y then false else true
-
 -- an operator on numbers
 abbrev pub number_of : BinaryOperator → ℤ → ℤ → Result ℤ ValueFault
 number_of binary.Multiply x y = in_range (x *ℤ y)
@@ -57,14 +44,14 @@ number_of binary.Divide x y = if is_zero y then Err DivideByZero else in_range (
 number_of binary.Remainder x y = if is_zero y then Err DivideByZero else in_range (int_rem x y)
 number_of binary.Add x y = in_range (x +ℤ y)
 number_of binary.Subtract x y = in_range (x -ℤ y)
-number_of binary.ShiftLeft x y = with_count (count_of y) (λ n. x *ℤ pos (2 ^ n))
-number_of binary.ShiftRight x y = with_count (count_of y) (λ n. int_shr x n)
+number_of binary.ShiftLeft x y = ok_or (count_of y) ValueRange >>= λ n. in_range (x *ℤ pos (2 ^ n))
+number_of binary.ShiftRight x y = ok_or (count_of y) ValueRange >>= λ n. in_range (int_shr x n)
 number_of binary.Less x y = Ok (truth (int_lt x y))
-number_of binary.LessOrEqual x y = Ok (truth (not_lt y x))
+number_of binary.LessOrEqual x y = Ok (truth (not (int_lt y x)))
 number_of binary.Greater x y = Ok (truth (int_lt y x))
-number_of binary.GreaterOrEqual x y = Ok (truth (not_lt x y))
+number_of binary.GreaterOrEqual x y = Ok (truth (not (int_lt x y)))
 number_of binary.Equal x y = Ok (truth (is_zero (x -ℤ y)))
-number_of binary.NotEqual x y = Ok (truth (if is_zero (x -ℤ y) then false else true))
+number_of binary.NotEqual x y = Ok (truth (not (is_zero (x -ℤ y))))
 number_of binary.And x y = Ok (int_bit_and w32 x y)
 number_of binary.ExclusiveOr x y = Ok (int_bit_xor w32 x y)
 number_of binary.Or x y = Ok (int_bit_or w32 x y)
@@ -101,11 +88,6 @@ unary_value unary.Complement x = do
   base ← absolute x.base
   Ok (record { base = base; offset = neg_ℤ x.offset -ℤ pos 1 })
 
--- what a name stands for, if it stands for something
-abbrev pub named : Option Value → Result Value ValueFault
-named None = Err Undefined
-named (Some v) = Ok v
-
 -- a constant
 abbrev pub plain_value : ℕ → Result Value ValueFault
 plain_value n = in_range (pos n) >>= λ z. Ok (record { base = Absolute; offset = z })
@@ -113,7 +95,7 @@ plain_value n = in_range (pos n) >>= λ z. Ok (record { base = Absolute; offset 
 -- what stands for itself, under what names stand for and the current place
 abbrev pub leaf_value : (List ℕ → Option Value) → Value → Leaf → Result Value ValueFault
 leaf_value names here (Constant n) = plain_value n
-leaf_value names here (Name text) = named (names text)
+leaf_value names here (Name text) = ok_or (names text) Undefined
 leaf_value names here Here = Ok here
 
 -- the value of an expression: the left operand, the right operand, the operator

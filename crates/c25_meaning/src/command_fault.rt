@@ -18,14 +18,18 @@ pub enum CommandFault {
 }
 
 impl fmt::Display for CommandFault {
+    ghost use Rattle.std.specs.Prelude.{Some};
+    ghost use Rattle.c25_meaning.specs.Faults.{command_name};
+
+    ghost output = { λ fault. Some (command_name fault) };
+
     fn fmt<W: fmt::Write>(&self, f: &mut fmt::Formatter<W>) -> fmt::Result {
-        let name = match self {
-            CommandFault::Syntax => "Syntax",
-            CommandFault::RangeOverlap => "RangeOverlap",
-            CommandFault::RangeSize => "RangeSize",
-            CommandFault::Twice => "Twice",
-        };
-        write!(f, "{name}")
+        match self {
+            CommandFault::Syntax => f.write_str("Syntax"),
+            CommandFault::RangeOverlap => f.write_str("RangeOverlap"),
+            CommandFault::RangeSize => f.write_str("RangeSize"),
+            CommandFault::Twice => f.write_str("Twice"),
+        }
     }
 }
 
@@ -46,6 +50,11 @@ pub struct FaultyCommand {
 }
 
 impl fmt::Display for FaultyCommand {
+    ghost use Rattle.std.specs.Prelude.{Some};
+    ghost use Rattle.c25_meaning.specs.Faults.{command_name, line_text};
+
+    ghost output = { λ faulty. Some (line_text faulty.line (command_name faulty.fault)) };
+
     fn fmt<W: fmt::Write>(&self, f: &mut fmt::Formatter<W>) -> fmt::Result {
         let fault = self.fault;
         let line = self.line;

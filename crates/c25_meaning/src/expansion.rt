@@ -74,6 +74,10 @@ pub struct Branch {
 pub struct LongLine;
 
 impl fmt::Display for LongLine {
+    ghost use Rattle.std.specs.Prelude.{Some, codes};
+
+    ghost output = { λ _. Some (codes "LongLine") };
+
     fn fmt<W: fmt::Write>(&self, f: &mut fmt::Formatter<W>) -> fmt::Result {
         write!(f, "LongLine")
     }

@@ -42,8 +42,17 @@ pub enum ExpressionFault {
 }
 
 impl fmt::Display for ExpressionFault {
+    ghost use Rattle.std.specs.Prelude.{Some};
+    ghost use Rattle.c25_meaning.specs.Faults.{fault_name};
+    ghost use Rattle.c25_meaning.specs.Statement.{expression_fault};
+
+    ghost output = { λ fault. Some (fault_name (expression_fault fault)) };
+
     fn fmt<W: fmt::Write>(&self, f: &mut fmt::Formatter<W>) -> fmt::Result {
-        write!(f, "{self:?}")
+        match self {
+            ExpressionFault::BadExpression => f.write_str("BadExpression"),
+            ExpressionFault::TooDeep => f.write_str("TooDeep"),
+        }
     }
 }
 

@@ -18,6 +18,10 @@ pub enum Failure<F> {
 }
 
 impl<F: fmt::Display> fmt::Display for Failure<F> {
+    ghost use Rattle.c25_meaning.specs.Faults.{failure_text};
+
+    ghost output = { λ failure. failure_text F.output failure };
+
     fn fmt<W: fmt::Write>(&self, f: &mut fmt::Formatter<W>) -> fmt::Result {
         match self {
             Failure::NoMemory(error) => write!(f, "{error}"),

@@ -30,6 +30,30 @@ pub enum HexFault {
     AddressRange,
 }
 
+impl fmt::Display for HexFault {
+    ghost use Rattle.std.specs.Prelude.{Some};
+    ghost use Rattle.c25_meaning.specs.Faults.{hex_name};
+
+    ghost output = { λ fault. Some (hex_name fault) };
+
+    fn fmt<W: fmt::Write>(&self, f: &mut fmt::Formatter<W>) -> fmt::Result {
+        match self {
+            HexFault::BadStart => f.write_str("BadStart"),
+            HexFault::BadDigit => f.write_str("BadDigit"),
+            HexFault::BadCount => f.write_str("BadCount"),
+            HexFault::BadSum => f.write_str("BadSum"),
+            HexFault::BadKind => f.write_str("BadKind"),
+            HexFault::OddWord => f.write_str("OddWord"),
+            HexFault::Twice => f.write_str("Twice"),
+            HexFault::NoEnd => f.write_str("NoEnd"),
+            HexFault::AfterEnd => f.write_str("AfterEnd"),
+            HexFault::AddressRange => f.write_str("AddressRange"),
+        }
+    }
+}
+
+impl Error for HexFault {}
+
 /// The first fault of a text, and where it is.
 #[derive(Clone, Copy, Debug, PartialEq, Eq)]
 pub struct PlacedHexFault {
@@ -39,8 +63,13 @@ pub struct PlacedHexFault {
 }
 
 impl fmt::Display for PlacedHexFault {
+    ghost use Rattle.std.specs.Prelude.{Some};
+    ghost use Rattle.c25_meaning.specs.Faults.{hex_name, line_text};
+
+    ghost output = { λ placed. Some (line_text placed.line (hex_name placed.fault)) };
+
     fn fmt<W: fmt::Write>(&self, f: &mut fmt::Formatter<W>) -> fmt::Result {
-        write!(f, "line {}: {:?}", self.line, self.fault)
+        write!(f, "line {}: {}", self.line, self.fault)
     }
 }
 

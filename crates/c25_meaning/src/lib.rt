@@ -1,6 +1,7 @@
 //! The definitions that the other crates' contracts cite, and the plain types that they share.
 #![tactic(auto)]
 
+pub mod assembly;
 pub mod command_fault;
 pub mod command_token;
 pub mod expansion;
@@ -11,6 +12,8 @@ pub mod insn;
 pub mod laws;
 pub mod line;
 pub mod lines;
+pub mod link_fault;
+pub mod link_laws;
 pub mod mark;
 pub mod marks;
 pub mod mnemonic;

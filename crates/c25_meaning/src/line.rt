@@ -17,8 +17,19 @@ pub enum LineFault {
 }
 
 impl fmt::Display for LineFault {
+    ghost use Rattle.std.specs.Prelude.{Some};
+    ghost use Rattle.c25_meaning.specs.Faults.{fault_name};
+    ghost use Rattle.c25_meaning.specs.Operands.{line_fault};
+
+    ghost output = { λ fault. Some (fault_name (line_fault fault)) };
+
     fn fmt<W: fmt::Write>(&self, f: &mut fmt::Formatter<W>) -> fmt::Result {
-        write!(f, "{self:?}")
+        match self {
+            LineFault::BadLabel => f.write_str("BadLabel"),
+            LineFault::BadConstant => f.write_str("BadConstant"),
+            LineFault::OpenQuote => f.write_str("OpenQuote"),
+            LineFault::StrayText => f.write_str("StrayText"),
+        }
     }
 }
 

@@ -70,16 +70,20 @@ pub enum ObjectFault {
 }
 
 impl fmt::Display for ObjectFault {
+    ghost use Rattle.std.specs.Prelude.{Some};
+    ghost use Rattle.c25_meaning.specs.Faults.{object_name};
+
+    ghost output = { λ fault. Some (object_name fault) };
+
     fn fmt<W: fmt::Write>(&self, f: &mut fmt::Formatter<W>) -> fmt::Result {
-        let name = match self {
-            ObjectFault::BadMagic => "BadMagic",
-            ObjectFault::BadVersion => "BadVersion",
-            ObjectFault::Short => "Short",
-            ObjectFault::BadTag => "BadTag",
-            ObjectFault::BadField => "BadField",
-            ObjectFault::Trailing => "Trailing",
-        };
-        write!(f, "{name}")
+        match self {
+            ObjectFault::BadMagic => f.write_str("BadMagic"),
+            ObjectFault::BadVersion => f.write_str("BadVersion"),
+            ObjectFault::Short => f.write_str("Short"),
+            ObjectFault::BadTag => f.write_str("BadTag"),
+            ObjectFault::BadField => f.write_str("BadField"),
+            ObjectFault::Trailing => f.write_str("Trailing"),
+        }
     }
 }
 

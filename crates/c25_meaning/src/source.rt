@@ -14,6 +14,11 @@ pub struct SourceFault {
 }
 
 impl fmt::Display for SourceFault {
+    ghost use Rattle.std.specs.Prelude.{Some};
+    ghost use Rattle.c25_meaning.specs.Faults.{fault_name, line_text};
+
+    ghost output = { λ fault. Some (line_text fault.line (fault_name fault.kind)) };
+
     fn fmt<W: fmt::Write>(&self, f: &mut fmt::Formatter<W>) -> fmt::Result {
         write!(f, "line {}: {}", self.line, self.kind)
     }

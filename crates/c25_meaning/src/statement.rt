@@ -106,8 +106,39 @@ pub enum FaultKind {
 }
 
 impl fmt::Display for FaultKind {
+    ghost use Rattle.std.specs.Prelude.{Some};
+    ghost use Rattle.c25_meaning.specs.Faults.{fault_name};
+
+    ghost output = { λ kind. Some (fault_name kind) };
+
     fn fmt<W: fmt::Write>(&self, f: &mut fmt::Formatter<W>) -> fmt::Result {
-        write!(f, "{self:?}")
+        match self {
+            FaultKind::BadLabel => f.write_str("BadLabel"),
+            FaultKind::BadConstant => f.write_str("BadConstant"),
+            FaultKind::OpenQuote => f.write_str("OpenQuote"),
+            FaultKind::StrayText => f.write_str("StrayText"),
+            FaultKind::BadExpression => f.write_str("BadExpression"),
+            FaultKind::TooDeep => f.write_str("TooDeep"),
+            FaultKind::Undefined => f.write_str("Undefined"),
+            FaultKind::NotAbsolute => f.write_str("NotAbsolute"),
+            FaultKind::DivideByZero => f.write_str("DivideByZero"),
+            FaultKind::ValueRange => f.write_str("ValueRange"),
+            FaultKind::Defined => f.write_str("Defined"),
+            FaultKind::NoFile => f.write_str("NoFile"),
+            FaultKind::OpenBlock => f.write_str("OpenBlock"),
+            FaultKind::StrayEnd => f.write_str("StrayEnd"),
+            FaultKind::Depth => f.write_str("Depth"),
+            FaultKind::Lines => f.write_str("Lines"),
+            FaultKind::TooManyParameters => f.write_str("TooManyParameters"),
+            FaultKind::Redefined => f.write_str("Redefined"),
+            FaultKind::LongLine => f.write_str("LongLine"),
+            FaultKind::UnknownMnemonic => f.write_str("UnknownMnemonic"),
+            FaultKind::OperandCount => f.write_str("OperandCount"),
+            FaultKind::OperandForm => f.write_str("OperandForm"),
+            FaultKind::FieldRange => f.write_str("FieldRange"),
+            FaultKind::TooLarge => f.write_str("TooLarge"),
+            FaultKind::NotRelocatable => f.write_str("NotRelocatable"),
+        }
     }
 }
 

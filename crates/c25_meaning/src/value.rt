@@ -17,8 +17,19 @@ pub enum ValueFault {
 }
 
 impl fmt::Display for ValueFault {
+    ghost use Rattle.std.specs.Prelude.{Some};
+    ghost use Rattle.c25_meaning.specs.Faults.{fault_name};
+    ghost use Rattle.c25_meaning.specs.Statement.{value_fault};
+
+    ghost output = { λ fault. Some (fault_name (value_fault fault)) };
+
     fn fmt<W: fmt::Write>(&self, f: &mut fmt::Formatter<W>) -> fmt::Result {
-        write!(f, "{self:?}")
+        match self {
+            ValueFault::Undefined => f.write_str("Undefined"),
+            ValueFault::NotAbsolute => f.write_str("NotAbsolute"),
+            ValueFault::DivideByZero => f.write_str("DivideByZero"),
+            ValueFault::ValueRange => f.write_str("ValueRange"),
+        }
     }
 }
 

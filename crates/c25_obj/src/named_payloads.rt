@@ -1,7 +1,7 @@
 //! What the payloads of sections and symbols say, each behind the items before it.
 
 ghost use Rattle.std.specs.Prelude.{◌≡◌, ◌&&◌, not, nat_lt, true, length, ◌++◌, [], ◌∷◌, IfOk, IfErr};
-ghost use Rattle.std.specs.Option.{option_map};
+ghost use Rattle.std.specs.Option.{ok_or, option_map};
 ghost use Rattle.std.specs.Str.{IsUtf8};
 ghost use Rattle.c25_meaning.specs.Module as spec;
 ghost use Rattle.c25_meaning.specs.RecordReading as reading;
@@ -111,7 +111,7 @@ pub(crate) fn symbol_after<'a>(
 
 #[tactic(auto, unfolding(c25_meaning::specs::RecordReading::words_in))]
 fn words_in(alloc: Global, bytes: &[u8]) -> Result<Vec<u16>, Failure<ObjectFault>>
-    ensures { Meets (λ words. words.items) (reading.required (reading.words_in bytes.now)) result }
+    ensures { Meets (λ words. words.items) (ok_or (reading.words_in bytes.now) ObjectFault.BadField) result }
 {
     let mut words = Vec::new(alloc);
     let mut rest = bytes;
@@ -126,7 +126,7 @@ fn words_in(alloc: Global, bytes: &[u8]) -> Result<Vec<u16>, Failure<ObjectFault
 }
 
 fn body_of(alloc: Global, flag: u8, bytes: &[u8]) -> Result<Body, Failure<ObjectFault>>
-    ensures { Meets body_data (reading.required (reading.body_of flag bytes.now)) result }
+    ensures { Meets body_data (ok_or (reading.body_of flag bytes.now) ObjectFault.BadField) result }
 {
     if bytes.len() < 4 {
         return Err(Failure::Fault(ObjectFault::BadField));

@@ -18,8 +18,8 @@ fn all_section_bytes(name: &[u8]) -> bool
     name.iter().all(|byte| is_section_byte(*byte))
 }
 
-/// Whether these are 1 to 32 characters of a section's name.
-pub(crate) fn is_section_name(name: &[u8]) -> bool
+/// Whether these are 1 to 32 characters of a section's name: 21h to 7Eh without the quote.
+pub fn is_section_name(name: &[u8]) -> bool
     ensures { result ≡ spec.is_section_name name.now }
 {
     name.len() >= 1 && name.len() <= 32 && all_section_bytes(name)

@@ -1,4 +1,4 @@
-//! Tests of what reads a source: its lines (`c25_text`), expressions (`c25_expr`) and statements (`c25_asm`).
+//! Tests of what reads a source: its lines (`c25_text`), expressions (`c25_expr`) and statements (`c25_source`).
 #![tactic(auto)]
 
 #[cfg(test)]

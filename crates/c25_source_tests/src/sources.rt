@@ -1,10 +1,10 @@
 //! Sources against words and faults from outside.
 
-use c25_asm::source::{Source, read_source};
 use c25_isa::decode;
 use c25_meaning::failure::Failure;
 use c25_meaning::source::SourceFault;
 use c25_meaning::statement::FaultKind;
+use c25_source::source::{Source, read_source};
 use std::alloc::Global;
 use std::process::Abort;
 use std::test::Fail;

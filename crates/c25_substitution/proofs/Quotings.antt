@@ -1,7 +1,7 @@
 -- One byte further in a text.
-use Rattle.std.proofs.Common.{◌≡◌, ℕ, suc, ◌+◌, ◌<◌, ◌≤◌, Bool, true, false, cond, List, ◌∷◌, length, get_or, drop, Option, Some, None, refl, ap, sym, ◌∙◌, arith, drop-cons}
+use Rattle.std.proofs.Common.{◌≡◌, ℕ, suc, ◌+◌, ◌<◌, ◌≤◌, Bool, true, false, cond, List, ◌∷◌, length, get_or, drop, Option, Some, None, option_map, refl, ap, sym, ◌∙◌, arith, drop-cons}
 use Rattle.std.proofs.lemmas.List.{drop_all}
-use Rattle.c25_meaning.specs.Quoting.{behind, is_outer, outer_len, last_comma, one_further, or_before}
+use Rattle.c25_meaning.specs.Quoting.{behind, is_outer, outer_len, last_comma, or_before}
 use Rattle.c25_meaning.specs.declared.quoting.Quoting.{Quoting}
 
 -- the byte at a place, and what follows
@@ -33,15 +33,15 @@ abbrev pub comma_from : ℕ → ℕ → Option ℕ → ℕ
 comma_from found i None = found
 comma_from found i (Some n) = i + n
 
-comma_step : (q : Quoting) (b : ℕ) (rest : List ℕ) → last_comma q (b ∷ rest) ≡ or_before (one_further (last_comma (behind b q) rest)) (is_outer 44 b q)
+comma_step : (q : Quoting) (b : ℕ) (rest : List ℕ) → last_comma q (b ∷ rest) ≡ or_before (option_map (λ n. n + 1) (last_comma (behind b q) rest)) (is_outer 44 b q)
 unfolding last_comma
 comma_step q b rest = refl
 
-comma_here : (found i : ℕ) (o : Option ℕ) → comma_from found i (or_before (one_further o) true) ≡ comma_from i (i + 1) o
+comma_here : (found i : ℕ) (o : Option ℕ) → comma_from found i (or_before (option_map (λ n. n + 1) o) true) ≡ comma_from i (i + 1) o
 comma_here found i None = omega arith
 comma_here found i (Some n) = omega arith
 
-comma_further : (found i : ℕ) (o : Option ℕ) → comma_from found i (or_before (one_further o) false) ≡ comma_from found (i + 1) o
+comma_further : (found i : ℕ) (o : Option ℕ) → comma_from found i (or_before (option_map (λ n. n + 1) o) false) ≡ comma_from found (i + 1) o
 comma_further found i None = refl
 comma_further found i (Some n) = omega arith
 
@@ -49,14 +49,14 @@ pub last_comma-here : (q : Quoting) (text : List ℕ) (i found : ℕ) → i < le
     comma_from i (i + 1) (last_comma (behind (get_or text i 0) q) (drop (i + 1) text)) ≡ comma_from found i (last_comma q (drop i text))
 last_comma-here q text i found h comma =
     sym (ap (λ t. comma_from found i (last_comma q t)) (cut_at text i h)
-    ∙ ap (comma_from found i) (comma_step q (get_or text i 0) (drop (i + 1) text) ∙ ap (or_before (one_further (last_comma (behind (get_or text i 0) q) (drop (i + 1) text)))) comma)
+    ∙ ap (comma_from found i) (comma_step q (get_or text i 0) (drop (i + 1) text) ∙ ap (or_before (option_map (λ n. n + 1) (last_comma (behind (get_or text i 0) q) (drop (i + 1) text)))) comma)
     ∙ comma_here found i (last_comma (behind (get_or text i 0) q) (drop (i + 1) text)))
 
 pub last_comma-further : (q : Quoting) (text : List ℕ) (i found : ℕ) → i < length text → is_outer 44 (get_or text i 0) q ≡ false →
     comma_from found (i + 1) (last_comma (behind (get_or text i 0) q) (drop (i + 1) text)) ≡ comma_from found i (last_comma q (drop i text))
 last_comma-further q text i found h none =
     sym (ap (λ t. comma_from found i (last_comma q t)) (cut_at text i h)
-    ∙ ap (comma_from found i) (comma_step q (get_or text i 0) (drop (i + 1) text) ∙ ap (or_before (one_further (last_comma (behind (get_or text i 0) q) (drop (i + 1) text)))) none)
+    ∙ ap (comma_from found i) (comma_step q (get_or text i 0) (drop (i + 1) text) ∙ ap (or_before (option_map (λ n. n + 1) (last_comma (behind (get_or text i 0) q) (drop (i + 1) text)))) none)
     ∙ comma_further found i (last_comma (behind (get_or text i 0) q) (drop (i + 1) text)))
 
 pub last_comma-end : (q : Quoting) (text : List ℕ) (i found : ℕ) → length text ≤ i → comma_from found i (last_comma q (drop i text)) ≡ found

@@ -24,7 +24,8 @@ fn blank_tail(text: &[u8]) -> usize
     text.iter().rev().take_while(|b| is_blank(**b)).count()
 }
 
-fn trimmed_end(text: &str) -> &str
+/// A text without the blanks and tabs at its end.
+pub fn trimmed_end(text: &str) -> &str
     ensures { result.now ≡ trimmed_end text.now }
 {
     &text[..text.len() - blank_tail(text.as_bytes())]

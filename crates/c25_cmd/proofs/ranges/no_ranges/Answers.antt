@@ -1,5 +1,5 @@
 use Rattle.c25_cmd.proofs.Names.{HasRangeNames-none}
-use Rattle.c25_cmd.proofs.Taken.{KnowsWords-none}
+use Rattle.c25_cmd.proofs.TakenWords.{KnowsWords-none}
 use Rattle.c25_cmd.proofs.ranges.no_ranges.Goals as goal
 
 pub returns-clause-named : goal.returns-clause-named

@@ -1,5 +1,5 @@
 use Rattle.c25_cmd.specs.View.{ranges_of}
-use Rattle.c25_cmd.proofs.Taken.{found_if_overlap}
+use Rattle.c25_cmd.proofs.TakenWords.{found_if_overlap}
 use Rattle.c25_cmd.proofs.ranges.shares_word.Goals as goal
 
 pub returns : goal.returns

@@ -1,5 +1,8 @@
-use Rattle.std.proofs.Common.{◌<◌, ◌≤◌, ◌∙◌, ap, sym, subst, ℕ}
-use Rattle.c25_meaning.specs.CommandTokens.{number_kind, name_kind, keyword_of}
+use Rattle.std.proofs.Common.{◌<◌, ◌≤◌, ◌∙◌, ap, sym, subst, ℕ, Option}
+use Rattle.std.specs.Option.{option_map_or}
+use Rattle.c25_meaning.specs.declared.command_token.Keyword.{Keyword}
+use Rattle.c25_meaning.specs.declared.command_token.Kind.TheVariants as kind
+use Rattle.c25_meaning.specs.CommandTokens.{number_kind, keyword_of}
 use Rattle.c25_meaning.specs.Digits.{digit}
 use Rattle.c25_cmd.proofs.WordKinds.{number_word, other_word}
 use Rattle.c25_cmd.proofs.words.word_kind.Goals as goal
@@ -12,5 +15,5 @@ returns-then-digit-lt10 c =
 pub returns : goal.returns
 returns c =
     let first = c.digit.ensures ∙ ap digit c.byte_at.ensures.value in
-    c.name_kind.ensures ∙ ap name_kind (c.keyword_of.ensures ∙ ap keyword_of (c.as_slice.ensures.value ∙ c.in_ok-lower.ensures.ok))
+    c.name_kind.ensures ∙ ap (λ (k : Option Keyword). option_map_or kind.Keyword k kind.Name) (c.keyword_of.ensures ∙ ap keyword_of (c.as_slice.ensures.value ∙ c.in_ok-lower.ensures.ok))
     ∙ sym (other_word c.args.text.now (subst (λ (n : ℕ). 10 ≤ n) first c.if-digit-lt10.false))

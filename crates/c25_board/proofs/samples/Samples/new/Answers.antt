@@ -1,6 +1,6 @@
 use Rattle.std.proofs.Common.{ℕ}
 use Rattle.std.specs.Prelude.{replicate}
-use Rattle.c25_board.proofs.Memory.{zeros_at}
+use Rattle.c25_board.proofs.Zeros.{zeros_at}
 use Rattle.c25_board.proofs.SamplesTaken.{all_left}
 use Rattle.c25_board.proofs.samples.Samples.new.Goals as goal
 

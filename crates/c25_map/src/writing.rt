@@ -1,0 +1,214 @@
+//! The text of a map.
+
+ghost use Rattle.std.specs.Prelude.{◌≡◌, ◌<◌, ◌≤◌, ◌++◌, OnOk, IfOk, All, map, ◌∷◌, [], string_bytes};
+ghost use Rattle.std.specs.List.{flat_map};
+ghost use Rattle.std.specs.Option.{option_map};
+ghost use Rattle.c25_meaning.specs.MapText.{address_text, decimal_digit, five_digits, eight_digits, part_text, place_text, section_text, value_text, symbol_text, entry_text, entry_lines, map_text, HasDigits};
+ghost use Rattle.c25_meaning.specs.Show.{hex_digit, two_digits, four_digits};
+ghost use Rattle.c25_map.specs.View.{part_data, section_data, symbol_data, map_data};
+
+use crate::map::{GlobalSymbol, Map, OutputSection, Part};
+use c25_meaning::no_memory::NoMemory;
+use std::alloc::Global;
+
+/// A hexadecimal digit in upper case.
+fn hex_digit(number: u8) -> u8
+    requires { number < 16 }
+    ensures { result ≡ hex_digit number }
+{
+    if number < 10 {
+        b'0' + number
+    } else {
+        b'A' + (number - 10)
+    }
+}
+
+/// Appends an ASCII character.
+fn push_byte(out: &mut String, byte: u8) -> Result<(), NoMemory>
+    requires { byte < 128 }
+    ensures { OnOk result (string_bytes out.new ≡ string_bytes out.old ++ byte ∷ []) }
+{
+    out.push(char::from(byte))?;
+    Ok(())
+}
+
+/// Appends the two digits of a byte.
+fn push_two(out: &mut String, number: u8) -> Result<(), NoMemory>
+    ensures { OnOk result (string_bytes out.new ≡ string_bytes out.old ++ two_digits number) }
+{
+    push_byte(out, hex_digit(number / 16))?;
+    push_byte(out, hex_digit(number % 16))
+}
+
+/// Appends the four digits of a word.
+fn push_four(out: &mut String, number: u16) -> Result<(), NoMemory>
+    ensures { OnOk result (string_bytes out.new ≡ string_bytes out.old ++ four_digits number) }
+{
+    push_two(out, (number / 256) as u8)?;
+    push_two(out, (number % 256) as u8)
+}
+
+/// Appends an address.
+fn push_address(out: &mut String, address: u32) -> Result<(), NoMemory>
+    requires { address ≤ 65536 }
+    ensures { OnOk result (string_bytes out.new ≡ string_bytes out.old ++ address_text address) }
+{
+    if address == 65_536 {
+        Ok(out.push_str("10000")?)
+    } else {
+        push_four(out, address as u16)
+    }
+}
+
+/// Appends a decimal digit.
+fn push_digit(out: &mut String, number: u32) -> Result<(), NoMemory>
+    ensures { OnOk result (string_bytes out.new ≡ string_bytes out.old ++ decimal_digit number ∷ []) }
+{
+    push_byte(out, b'0' + (number % 10) as u8)
+}
+
+/// Appends five decimal digits.
+fn push_five(out: &mut String, number: u32) -> Result<(), NoMemory>
+    ensures { OnOk result (string_bytes out.new ≡ string_bytes out.old ++ five_digits number) }
+{
+    push_digit(out, number / 10_000)?;
+    push_digit(out, number / 1_000)?;
+    push_digit(out, number / 100)?;
+    push_digit(out, number / 10)?;
+    push_digit(out, number)
+}
+
+/// Appends eight hexadecimal digits.
+#[tactic(auto, unfolding(c25_meaning::specs::MapText::eight_digits))]
+fn push_eight(out: &mut String, number: u32) -> Result<(), NoMemory>
+    ensures { OnOk result (string_bytes out.new ≡ string_bytes out.old ++ eight_digits number) }
+{
+    push_four(out, (number / 65_536) as u16)?;
+    push_four(out, (number % 65_536) as u16)
+}
+
+/// Appends the line of a part.
+#[tactic(auto, unfolding(c25_meaning::specs::MapText::part_text))]
+fn push_part(out: &mut String, part: &Part) -> Result<(), NoMemory>
+    requires { part.now.base ≤ 65536 }
+    ensures { OnOk result (string_bytes out.new ≡ string_bytes out.old ++ part_text (part_data part.now)) }
+{
+    out.push_str("PART ")?;
+    out.push_str(&part.number)?;
+    out.push_str(" ")?;
+    push_address(out, part.base)?;
+    out.push_str(" ")?;
+    push_five(out, part.size)?;
+    Ok(out.push_str("\n")?)
+}
+
+/// Appends the line of a section.
+#[tactic(auto, unfolding(c25_meaning::specs::MapText::place_text))]
+fn push_place(out: &mut String, section: &OutputSection) -> Result<(), NoMemory>
+    requires { section.now.base < 65536 }
+    ensures { OnOk result (string_bytes out.new ≡ string_bytes out.old ++ place_text (section_data section.now).place) }
+{
+    let page = section.page;
+    write!(out, "SECTION {page} ")?;
+    push_four(out, section.base as u16)?;
+    out.push_str(" ")?;
+    push_five(out, section.size)?;
+    out.push_str(" ")?;
+    out.push_str(&section.name)?;
+    Ok(out.push_str("\n")?)
+}
+
+/// Appends the lines of parts.
+fn push_parts(out: &mut String, parts: &[Part]) -> Result<(), NoMemory>
+    requires { All (λ p. p.base ≤ 65536) parts.now }
+    ensures { OnOk result (string_bytes out.new ≡ string_bytes out.old ++ flat_map part_text (map part_data parts.now)) }
+{
+    for part in parts {
+        push_part(out, part)?;
+    }
+    Ok(())
+}
+
+/// Appends the lines of a section and of its parts.
+fn push_section(out: &mut String, section: &OutputSection) -> Result<(), NoMemory>
+    requires { HasDigits (section_data section.now) }
+    ensures { OnOk result (string_bytes out.new ≡ string_bytes out.old ++ section_text (section_data section.now)) }
+{
+    push_place(out, section)?;
+    push_parts(out, &section.parts)
+}
+
+/// Appends a value and its name.
+#[tactic(auto, unfolding(c25_meaning::specs::MapText::value_text))]
+fn push_value(out: &mut String, symbol: &GlobalSymbol) -> Result<(), NoMemory>
+    ensures { OnOk result (string_bytes out.new ≡ string_bytes out.old ++ value_text (symbol_data symbol.now)) }
+{
+    push_eight(out, symbol.value)?;
+    out.push_str(" ")?;
+    out.push_str(&symbol.name)?;
+    Ok(out.push_str("\n")?)
+}
+
+/// Appends the line of a symbol.
+fn push_symbol(out: &mut String, symbol: &GlobalSymbol) -> Result<(), NoMemory>
+    ensures { OnOk result (string_bytes out.new ≡ string_bytes out.old ++ symbol_text (symbol_data symbol.now)) }
+{
+    out.push_str("SYMBOL ")?;
+    push_value(out, symbol)
+}
+
+/// Appends the line of the entry.
+fn push_entry(out: &mut String, symbol: &GlobalSymbol) -> Result<(), NoMemory>
+    ensures { OnOk result (string_bytes out.new ≡ string_bytes out.old ++ entry_text (symbol_data symbol.now)) }
+{
+    out.push_str("ENTRY ")?;
+    push_value(out, symbol)
+}
+
+/// Appends the lines of sections.
+fn push_sections(out: &mut String, sections: &[OutputSection]) -> Result<(), NoMemory>
+    requires { All (λ s. HasDigits (section_data s)) sections.now }
+    ensures { OnOk result (string_bytes out.new ≡ string_bytes out.old ++ flat_map section_text (map section_data sections.now)) }
+{
+    for section in sections {
+        push_section(out, section)?;
+    }
+    Ok(())
+}
+
+/// Appends the lines of symbols.
+fn push_symbols(out: &mut String, symbols: &[GlobalSymbol]) -> Result<(), NoMemory>
+    ensures { OnOk result (string_bytes out.new ≡ string_bytes out.old ++ flat_map symbol_text (map symbol_data symbols.now)) }
+{
+    for symbol in symbols {
+        push_symbol(out, symbol)?;
+    }
+    Ok(())
+}
+
+/// Appends the line of the entry, if there is one.
+fn push_entry_lines(out: &mut String, entry: &Option<GlobalSymbol>) -> Result<(), NoMemory>
+    ensures { OnOk result (string_bytes out.new ≡ string_bytes out.old ++ entry_lines (option_map symbol_data entry.now)) }
+{
+    match entry {
+        Some(symbol) => push_entry(out, symbol),
+        None => Ok(()),
+    }
+}
+
+/// The text of a map whose sections lie within their pages: a line for each section, behind it one for each of
+/// its parts, a line for each global symbol, one for the entry if there is one, between a first line
+/// `C25 MAP 1` and a last line `END`. Addresses and values are hexadecimal in upper case, sizes
+/// decimal in five digits. It refuses for want of memory alone.
+pub fn write_map(alloc: Global, map: &Map) -> Result<String, NoMemory>
+    requires { All HasDigits (map_data map.now).sections }
+    ensures { IfOk result (λ text. string_bytes text ≡ map_text (map_data map.now)) }
+{
+    let mut out = String::new(alloc);
+    out.push_str("C25 MAP 1\n")?;
+    push_sections(&mut out, &map.sections)?;
+    push_symbols(&mut out, &map.symbols)?;
+    push_entry_lines(&mut out, &map.entry)?;
+    out.push_str("END\n")?;
+    Ok(out)
+}

@@ -1,0 +1,51 @@
+//! Laws of the definitions of linking, each the contract of a function that does nothing.
+
+ghost use Rattle.std.specs.Prelude.{◌≡◌, ◌<◌, ◌+◌, ◌/◌, List, ℕ, ℤ, Some, true};
+ghost use Rattle.std.specs.List.{slice_get};
+ghost use Rattle.c25_meaning.specs.Command.{CommandData};
+ghost use Rattle.c25_meaning.specs.Fields.{field_number, read_field, filled};
+ghost use Rattle.c25_meaning.specs.GoodMap.{IsGoodMap};
+ghost use Rattle.c25_meaning.specs.Module.{SectionData, Contents, field_values, is_module};
+ghost use Rattle.c25_meaning.specs.Place.{Place, IsPart, LiesIn};
+ghost use Rattle.c25_meaning.specs.RelocatedInsn.{HasField, with_field};
+ghost use Rattle.c25_meaning.specs.Table.{Reads};
+ghost use Rattle.c25_meaning.specs.declared.insn.Insn.{Insn};
+ghost use Rattle.c25_meaning.specs.declared.relocation.RelocationKind.{RelocationKind};
+ghost use Rattle.c25_meaning.specs.declared.relocation.RelocationKind.TheVariants as kind;
+
+/// Modules under a command have one good map at most.
+pub fn one_good_map()
+    ensures { (modules : List Contents) (command : CommandData) (places others : List Place) →
+        IsGoodMap modules command places → IsGoodMap modules command others → places ≡ others }
+{}
+
+/// In a good map two parts have no word in common: an address of a page lies in one section of one
+/// module at most.
+pub fn two_parts_share_no_word()
+    ensures { (modules : List Contents) (command : CommandData) (places : List Place) (number other index another page address : ℕ)
+        (owner owner_2 : Contents) (section section_2 : SectionData)
+        → ((m : Contents) (n : ℕ) → slice_get modules n ≡ Some m → is_module m ≡ true) → IsGoodMap modules command places
+        → IsPart modules number index owner section → IsPart modules other another owner_2 section_2
+        → LiesIn modules places number section page address → LiesIn modules places other section_2 page address
+        → (number ≡ other) × (index ≡ another) }
+{}
+
+/// A field has room for the number of any value. The number that is put into it is read there, all
+/// other bits stay, and where the field was 0 the number is added to the word.
+pub fn fields_keep_their_number()
+    ensures fits { (kind : RelocationKind) (value : ℤ) → field_number kind value < field_values kind }
+    ensures read { (kind : RelocationKind) (number word : ℕ) → number < field_values kind → read_field kind (filled kind number word) ≡ number }
+    ensures others { (kind : RelocationKind) (number word : ℕ) → number < field_values kind → filled kind number word / field_values kind ≡ word / field_values kind }
+    ensures zero { (kind : RelocationKind) (number word : ℕ) → read_field kind word ≡ 0 → filled kind number word ≡ word + number }
+{}
+
+/// Where the field of an instruction holds 0, the words that linking leaves read as the instruction
+/// with the number of the field's value.
+pub fn filled_words_read_back()
+    ensures low { (first second : ℕ) (value : ℤ) (insn : Insn) → Reads first second insn → HasField kind.Low7 insn → read_field kind.Low7 first ≡ 0
+        → Reads (filled kind.Low7 (field_number kind.Low7 value) first) second (with_field kind.Low7 (field_number kind.Low7 value) insn) }
+    ensures page { (first second : ℕ) (value : ℤ) (insn : Insn) → Reads first second insn → HasField kind.Page9 insn → read_field kind.Page9 first ≡ 0
+        → Reads (filled kind.Page9 (field_number kind.Page9 value) first) second (with_field kind.Page9 (field_number kind.Page9 value) insn) }
+    ensures word { (first second : ℕ) (value : ℤ) (insn : Insn) → Reads first second insn → HasField kind.Word16 insn → read_field kind.Word16 second ≡ 0
+        → Reads first (filled kind.Word16 (field_number kind.Word16 value) second) (with_field kind.Word16 (field_number kind.Word16 value) insn) }
+{}

@@ -1,0 +1,10 @@
+pub mod Asked
+pub mod Bounded
+pub mod Commanded
+pub mod Fits
+pub mod Kept
+pub mod Listed
+pub mod Placing
+pub mod Pushed
+pub mod Ranged
+pub mod Sized

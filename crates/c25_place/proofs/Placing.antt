@@ -1,0 +1,51 @@
+-- Sections placed one behind the other.
+use Rattle.std.proofs.Common.{◌≡◌, ℕ, List, [], ◌∷◌, ◌++◌, Result, Err, reverse, filter, refl, sym, ap, subst, String}
+use Rattle.std.specs.declared.alloc.Global.{Global}
+use Rattle.std.proofs.lemmas.List.{reverse-append, reverse-reverse}
+use Rattle.c25_meaning.specs.Command.{RangeData}
+use Rattle.c25_meaning.specs.GoodMap.{Request, Stands, Stand, ArePlaced, IsBase, IsBaseOf, is_usable, page_for}
+use Rattle.c25_meaning.specs.Place.{Place}
+use Rattle.c25_meaning.specs.declared.link_fault.LinkFault.{LinkFault}
+use Rattle.c25_meaning.specs.declared.failure.Failure.{Failure}
+use Rattle.c25_meaning.specs.declared.failure.Failure.TheVariants.{NoMemory, Fault}
+use Rattle.c25_meaning.specs.declared.link_fault.FaultyLink.{FaultyLink}
+use Rattle.c25_place.specs.Placement.{IsPlacedNext, IsPlacedOrRefused, ArePlacedOrRefused, IsRefused}
+
+-- one section more
+pub placed_next : (ranges : List RangeData) (requests : List Request) (before after : List Place) (r : Request)
+    → ArePlaced ranges requests before → IsPlacedNext ranges before after r → ArePlaced ranges (requests ++ r ∷ []) after
+placed_next ranges requests before after r placed next =
+    subst (λ ps. Stand ranges (reverse (requests ++ r ∷ [])) (reverse ps)) (sym next.after_is)
+    (subst (λ rs. Stand ranges rs (reverse (before ++ next.place ∷ []))) (sym (reverse-append requests (r ∷ [])))
+    (subst (λ ps. Stand ranges (r ∷ reverse requests) ps) (sym (reverse-append before (next.place ∷ []))) (first, placed)))
+  where
+    first : Stands ranges (reverse (reverse before)) r next.place
+    first = subst (λ ps. Stands ranges ps r next.place) (sym (reverse-reverse before)) next.stands
+
+-- the first that cannot be placed
+pub refused : (ranges : List RangeData) (requests rest : List Request) (before after : List Place) (r : Request) (e : Failure (FaultyLink (String Global)))
+    → ArePlaced ranges requests before → IsPlacedOrRefused ranges before after r (Err e) → ArePlacedOrRefused ranges (requests ++ r ∷ rest) (Err e)
+refused ranges requests rest before after r (NoMemory n) placed h = tt
+refused ranges requests rest before after r (Fault f) placed h = record {
+  before = requests;
+  refused = r;
+  after = rest;
+  places = before;
+  requests_are = refl;
+  placed = placed;
+  fault_is = h.fault_is;
+  name_is = h.name_is;
+}
+
+-- the base among the ranges that the section may stand in
+pub base_of_is : (ranges usable : List RangeData) (places : List Place) (r : Request) (page : ℕ) (answer : Result ℕ LinkFault)
+    → page ≡ page_for ranges r → usable ≡ filter (is_usable r.target page) ranges → IsBase r.target page r.size usable places answer → IsBaseOf ranges places r answer
+base_of_is ranges usable places r page answer is are base =
+    subst (λ n. IsBase r.target n r.size (filter (is_usable r.target n) ranges) places answer) is (subst (λ rs. IsBase r.target page r.size rs places answer) are base)
+
+-- a refusal with its fault and its name
+pub refused_is : (ranges : List RangeData) (before : List Place) (r : Request) (f : FaultyLink (List ℕ)) (fault : LinkFault) → f ≡ record { fault = fault; name = r.name } → IsBaseOf ranges before r (Err fault) → IsRefused ranges before r f
+refused_is ranges before r f fault e h = record {
+  fault_is = subst (λ (x : LinkFault). IsBaseOf ranges before r (Err x)) (sym (ap (λ (g : FaultyLink (List ℕ)). g.fault) e)) h;
+  name_is = ap (λ (g : FaultyLink (List ℕ)). g.name) e;
+}

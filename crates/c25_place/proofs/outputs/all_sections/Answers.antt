@@ -1,0 +1,12 @@
+use Rattle.std.proofs.Common.{sym, ap, subst, List, All, ◌≤◌}
+use Rattle.c25_meaning.specs.Module.{body_size}
+use Rattle.c25_obj.specs.View.{body_data}
+use Rattle.c25_obj.specs.declared.parts.Section.{Section}
+use Rattle.c25_meaning.specs.Module.{Contents}
+use Rattle.c25_place.proofs.Listed.{small_sections}
+use Rattle.c25_place.proofs.outputs.all_sections.Goals as goal
+
+pub push_sections-requires-clause-own : goal.push_sections-requires-clause-own
+push_sections-requires-clause-own c =
+    subst (λ (ss : List Section). All (λ s. body_size (body_data s.body) ≤ 65536) ss) (sym c.deref.ensures.value)
+    (small_sections c.module-item.result c.parts.result.now.sections.items c.parts.ensures.spelled (ap (λ (m : Contents). m.sections) c.parts.ensures.kept))

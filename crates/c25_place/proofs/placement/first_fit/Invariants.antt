@@ -1,0 +1,10 @@
+-- it fits in no range so far
+use Rattle.std.proofs.Common.{ℕ, List, All, take}
+use Rattle.c25_meaning.specs.GoodMap.{NoneFits}
+use Rattle.c25_meaning.specs.Place as place
+use Rattle.c25_place.specs.Room.{KnowsTaken}
+use Rattle.c25_place.specs.View.{ranges_view}
+use Rattle.c25_place.proofs.placement.first_fit.Given as goal
+
+abbrev pub invariant-loop-range : goal.invariant-loop-range
+invariant-loop-range l = (page : ℕ) (places : List place.Place) → KnowsTaken l.taken page places → All (NoneFits page l.size places) (ranges_view (take l.range-index l.ranges))

@@ -1,0 +1,6 @@
+pub mod Outputs
+pub mod Placement
+pub mod Ranges
+pub mod Requests
+pub mod Room
+pub mod View

@@ -1,0 +1,32 @@
+-- What the modules' sections of one name come to.
+use Rattle.std.specs.Prelude.{◌≡◌, ◌≤◌, ℕ, Bool, ◌&&◌, List, All, Option, Some, None, if◌then◌else◌}
+use Rattle.std.specs.List.{list_any, sum_by}
+use Rattle.c25_meaning.specs.Module.{SectionData, body_size, has_words}
+use Rattle.c25_meaning.specs.Place.{is_section_named, size_for}
+use Rattle.std.specs.Borrow.{Bor}
+use Rattle.c25_obj.specs.declared.parts.Section.{Section}
+use Rattle.c25_obj.specs.View.{body_data}
+use Rattle.c25_place.specs.View.{named}
+use Rattle.c25_place.specs.declared.outputs.Output.{Output}
+use Rattle.c25_place.specs.declared.outputs.Outputs.{Outputs}
+
+-- how many words sections add to the section of a name
+abbrev pub size_of_sections : List ℕ → List SectionData → ℕ
+size_of_sections name sections = sum_by (size_for name) sections
+
+-- whether one of that name is initialised
+abbrev pub any_words : List ℕ → List SectionData → Bool
+any_words name sections = list_any (λ s. is_section_named name s && has_words s.body) sections
+
+-- what sections of a name come to, if there are any
+abbrev pub output_of : List ℕ → List SectionData → Option Output
+output_of name sections =
+    if list_any (is_section_named name) sections then Some (record { size = size_of_sections name sections; initialised = any_words name sections }) else None
+
+-- no section has more words than a page
+abbrev pub AreSmall : List (Bor Section) → Type 0
+AreSmall sections = All (λ s. body_size (body_data s.now.body) ≤ 65536) sections
+
+-- each name has what the sections of that name come to
+abbrev pub KnowsOutputs : Outputs → List SectionData → Type 0
+KnowsOutputs outputs sections = (name : List ℕ) → named outputs.found name ≡ output_of name sections

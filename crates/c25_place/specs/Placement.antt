@@ -1,0 +1,46 @@
+-- Sections placed one after the other, as the code places them.
+use Rattle.std.specs.Prelude.{◌≡◌, ℕ, ◌+◌, ◌<◌, ◌≤◌, List, [], ◌∷◌, ◌++◌, Result, Ok, Err, String}
+use Rattle.std.specs.declared.alloc.Global.{Global}
+use Rattle.std.specs.declared.vec.Vec.{Vec}
+use Rattle.c25_meaning.specs.Command.{RangeData}
+use Rattle.c25_meaning.specs.GoodMap.{Request, Stands, ArePlaced, IsUnplaced, IsBaseOf}
+use Rattle.c25_meaning.specs.Place as place
+use Rattle.c25_meaning.specs.declared.failure.Failure.{Failure}
+use Rattle.c25_meaning.specs.declared.failure.Failure.TheVariants.{NoMemory, Fault}
+use Rattle.c25_meaning.specs.declared.link_fault.FaultyLink.{FaultyLink}
+use Rattle.c25_place.specs.View.{refusal_of, places_view}
+use Rattle.c25_place.specs.declared.placement.Place.{Place}
+
+-- a place begins and ends within its page, which is 0 or 1
+pub record IsWithin (p : Place) : Type 0 where
+  pub page : p.page ≤ 1
+  pub base : p.base < 65536
+  pub end : p.base + p.size ≤ 65536
+
+-- so many words from there on are within a page
+pub record AreWords (size base : ℕ) : Type 0 where
+  pub first : base < 65536
+  pub last : base + size ≤ 65536
+
+-- a place more, behind those before it
+pub record IsPlacedNext (ranges : List RangeData) (before after : List place.Place) (r : Request) : Type 0 where
+  pub place : place.Place
+  pub stands : Stands ranges before r place
+  pub after_is : after ≡ before ++ place ∷ []
+
+-- why a section cannot be placed
+pub record IsRefused (ranges : List RangeData) (before : List place.Place) (r : Request) (refusal : FaultyLink (List ℕ)) : Type 0 where
+  pub fault_is : IsBaseOf ranges before r (Err refusal.fault)
+  pub name_is : refusal.name ≡ r.name
+
+-- a section is placed behind those before it, or refused
+abbrev pub IsPlacedOrRefused : List RangeData → List place.Place → List place.Place → Request → Result (Unit {0}) (Failure (FaultyLink (String Global))) → Type 0
+IsPlacedOrRefused ranges before after r (Ok done) = IsPlacedNext ranges before after r
+IsPlacedOrRefused ranges before after r (Err (NoMemory n)) = Unit {0}
+IsPlacedOrRefused ranges before after r (Err (Fault f)) = IsRefused ranges before r (refusal_of f)
+
+-- all sections are placed, or the first is told that cannot be
+abbrev pub ArePlacedOrRefused : List RangeData → List Request → Result (Vec Place Global) (Failure (FaultyLink (String Global))) → Type 0
+ArePlacedOrRefused ranges requests (Ok places) = ArePlaced ranges requests (places_view places.items)
+ArePlacedOrRefused ranges requests (Err (NoMemory n)) = Unit {0}
+ArePlacedOrRefused ranges requests (Err (Fault f)) = IsUnplaced ranges requests (refusal_of f)

@@ -1,0 +1,61 @@
+-- How this crate's types stand for the definitions' data.
+use Rattle.std.specs.Prelude.{ℕ, List, map, String, string_bytes, Option}
+use Rattle.std.specs.Borrow.{Bor}
+use Rattle.std.specs.HashMap.{HashMap, get_by}
+use Rattle.std.specs.Str.{bytes_eq}
+use Rattle.std.specs.declared.alloc.Global.{Global}
+use Rattle.c25_meaning.specs.Command.{RangeData, TargetData}
+use Rattle.c25_meaning.specs.Command as command
+use Rattle.c25_meaning.specs.GoodMap as good
+use Rattle.c25_meaning.specs.Place as place
+use Rattle.c25_meaning.specs.Module.{SectionData}
+use Rattle.c25_meaning.specs.declared.link_fault.FaultyLink.{FaultyLink}
+use Rattle.c25_obj.specs.declared.parts.Section.{Section}
+use Rattle.c25_obj.specs.View.{section_data}
+use Rattle.c25_place.specs.declared.placement.Place.{Place}
+use Rattle.c25_place.specs.declared.ranges.Range.{Range}
+use Rattle.c25_place.specs.declared.requests.Request.{Request}
+use Rattle.c25_place.specs.declared.requests.Wanted.{Wanted}
+use Rattle.c25_place.specs.declared.requests.Wanted.TheVariants as wanted
+
+-- a refusal with the bytes of its name
+abbrev pub refusal_of : FaultyLink (String Global) → FaultyLink (List ℕ)
+refusal_of f = record { fault = f.fault; name = string_bytes f.name }
+
+-- what a map from names has for a name
+abbrev pub named : {V S : Type 0} → HashMap (Bor (List ℕ)) V S → List ℕ → Option V
+named m name = get_by (λ k. bytes_eq name k.now) m
+
+-- sections
+abbrev pub sections_view : List (Bor Section) → List SectionData
+sections_view sections = map (λ s. section_data s.now) sections
+
+-- a range
+abbrev pub range_view : Range → RangeData
+range_view r = record { page = r.page; name = r.name.now; origin = r.origin; size = r.size }
+
+-- ranges
+abbrev pub ranges_view : List Range → List RangeData
+ranges_view ranges = map range_view ranges
+
+-- where a section is to stand
+abbrev pub wanted_view : Wanted → TargetData
+wanted_view wanted.Anywhere = command.Anywhere
+wanted_view (wanted.InRange name) = command.InRange name.now
+wanted_view (wanted.At address) = command.At address
+
+-- a section that is to be placed
+abbrev pub request_view : Request → good.Request
+request_view r = record { name = r.name.now; size = r.size; initialised = r.initialised; target = wanted_view r.wanted; page = r.page }
+
+-- sections that are to be placed
+abbrev pub requests_view : List Request → List good.Request
+requests_view requests = map request_view requests
+
+-- a place
+abbrev pub place_view : Place → place.Place
+place_view p = record { name = p.name.now; page = p.page; base = p.base; size = p.size }
+
+-- places
+abbrev pub places_view : List Place → List place.Place
+places_view places = map place_view places

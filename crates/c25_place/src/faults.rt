@@ -1,0 +1,20 @@
+//! Refusals with their names.
+
+ghost use Rattle.std.specs.Prelude.{◌≡◌, IfOk};
+ghost use Rattle.c25_place.specs.View.{refusal_of};
+
+use c25_meaning::failure::Failure;
+use c25_meaning::link_fault::{FaultyLink, LinkFault};
+use c25_meaning::no_memory::NoMemory;
+use std::alloc::Global;
+
+/// Why modules are not linked: a fault with a name, or want of memory.
+pub type Refused = Failure<FaultyLink<String>>;
+
+/// A fault with a copy of its name.
+pub fn refusal(alloc: Global, fault: LinkFault, name: &str) -> Result<FaultyLink<String>, NoMemory>
+    ensures { IfOk result (λ r. refusal_of r ≡ record { fault = fault; name = name.now }) }
+{
+    let name = String::from_str(alloc, name)?;
+    Ok(FaultyLink { fault, name })
+}

@@ -1,0 +1,16 @@
+//! Where the sections of a program stand: the modules' sections of one name, placed as one.
+#![tactic(auto)]
+
+mod faults;
+mod names;
+mod outputs;
+mod placement;
+mod places;
+mod ranges;
+mod requests;
+mod room;
+
+pub use faults::{Refused, refusal};
+pub use outputs::body_size;
+pub use placement::Place;
+pub use places::good_places;

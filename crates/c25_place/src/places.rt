@@ -1,0 +1,44 @@
+//! The sections of modules, placed under a command.
+
+ghost use Rattle.std.specs.Prelude.{◌≡◌, IfOk, All};
+ghost use Rattle.c25_cmd.specs.View.{command_data, placings_of};
+ghost use Rattle.c25_meaning.specs.Command.{IsCommand};
+ghost use Rattle.c25_meaning.specs.GoodMap.{placings_for, ranges_for, requests};
+ghost use Rattle.c25_place.specs.Placement.{ArePlacedOrRefused, IsWithin};
+
+use crate::faults::Refused;
+use crate::outputs::{Outputs, all_sections};
+use crate::placement::{Place, place_all};
+use crate::ranges::Ranges;
+use crate::requests::requests;
+use c25_cmd::{Command, Placing};
+use c25_obj::Module;
+use std::alloc::Global;
+
+/// The sections that a command lists.
+fn placings_of(command: &Command) -> &[Placing]
+    ensures { placings_of result.now ≡ placings_for (command_data command.now) }
+{
+    match &command.sections {
+        Some(placings) => placings,
+        None => &[],
+    }
+}
+
+/// Where the sections of the program stand, or the first that cannot be placed.
+#[tactic(auto, using(crate::proofs::Commanded::pages_are))]
+pub fn good_places<'a>(
+    alloc: Global,
+    modules: &'a [Module],
+    command: &'a Command,
+) -> Result<Vec<Place<'a>>, Refused>
+    requires { IsCommand (command_data command.now) }
+    ensures placed { ArePlacedOrRefused (ranges_for (command_data command.now)) (requests modules.now (placings_for (command_data command.now))) result }
+    ensures within { IfOk result (λ v. All IsWithin v.items) }
+{
+    let sections = all_sections(alloc, modules)?;
+    let outputs = Outputs::new(alloc, &sections)?;
+    let list = requests(alloc, &outputs, &sections, placings_of(command))?;
+    let ranges = Ranges::new(alloc, command)?;
+    place_all(alloc, &ranges, &list)
+}

@@ -1,0 +1,189 @@
+//! The ranges of both pages.
+
+ghost use Rattle.std.specs.Prelude.{◌≡◌, ◌≤◌, ℕ, List, filter, take, drop, IfOk, IfSome};
+ghost use Rattle.c25_cmd.specs.View.{command_data, ranges_of};
+ghost use Rattle.c25_meaning.specs.Command.{RangeData, AreApart, Pairwise, IsCommand};
+ghost use Rattle.c25_meaning.specs.GoodMap.{default_ranges, ranges_for, default_page, page_for, is_named_on, is_usable};
+ghost use Rattle.c25_place.specs.Ranges.{KnowsPage, KnowsRanges, HasRanges};
+ghost use Rattle.c25_place.specs.View.{ranges_view, request_view, wanted_view};
+
+use crate::requests::{Request, Wanted};
+use c25_cmd::{Command, MemoryRange};
+use std::alloc::{AllocError, Global};
+use std::collections::HashMap;
+
+/// A range of a page.
+#[derive(Clone, Copy)]
+pub(crate) struct Range<'a> {
+    pub page: u8,
+    pub name: &'a str,
+    pub origin: u32,
+    pub size: u32,
+}
+
+/// The ranges of one page, and where each name stands among them.
+#[derive(Drop)]
+pub(crate) struct PageRanges<'a> {
+    list: Vec<Range<'a>>,
+    found: HashMap<&'a str, usize>,
+}
+
+/// The ranges of both pages.
+#[derive(Drop)]
+pub(crate) struct Ranges<'a> {
+    program: PageRanges<'a>,
+    store: PageRanges<'a>,
+}
+
+/// The ranges without `MEMORY`: all words of page 0, and those of page 1 from 300h on.
+fn default_ranges<'a>() -> [Range<'a>; 2]
+    ensures { ranges_view result ≡ default_ranges }
+{
+    [
+        Range {
+            page: 0,
+            name: "PROG",
+            origin: 0,
+            size: 65_536,
+        },
+        Range {
+            page: 1,
+            name: "DATA",
+            origin: 768,
+            size: 64_768,
+        },
+    ]
+}
+
+/// The ranges of a command file.
+fn named_ranges<'a>(alloc: Global, memory: &'a [MemoryRange]) -> Result<Vec<Range<'a>>, AllocError>
+    ensures { IfOk result (λ v. ranges_view v.items ≡ ranges_of memory.now) }
+{
+    let mut list = Vec::new(alloc);
+    for range in memory {
+        list.push(Range {
+            page: range.page,
+            name: range.name.as_str(),
+            origin: range.origin,
+            size: range.length,
+        })?;
+    }
+    Ok(list)
+}
+
+/// The ranges of a command.
+fn ranges_for<'a>(alloc: Global, command: &'a Command) -> Result<Vec<Range<'a>>, AllocError>
+    ensures { IfOk result (λ v. ranges_view v.items ≡ ranges_for (command_data command.now)) }
+{
+    match &command.memory {
+        Some(memory) => named_ranges(alloc, memory),
+        None => Vec::from_slice(alloc, &default_ranges()),
+    }
+}
+
+/// The ranges of a page.
+#[tactic(auto, using(crate::proofs::Ranged::place_more, crate::proofs::Ranged::names_before))]
+fn page_ranges<'a>(alloc: Global, page: u8, all: &[Range<'a>]) -> Result<PageRanges<'a>, AllocError>
+    requires { Pairwise AreApart (ranges_view all.now) }
+    ensures { IfOk result (λ p. KnowsPage p page (ranges_view all.now)) }
+{
+    let mut list = Vec::new(alloc);
+    let mut found = HashMap::new(alloc);
+    for range in all {
+        if range.page == page {
+            found.insert(range.name, list.len())?;
+            list.push(*range)?;
+        }
+    }
+    Ok(PageRanges { list, found })
+}
+
+/// The range of a number alone, if there is one.
+fn range_at<'a, 'b>(list: &'b [Range<'a>], number: usize) -> &'b [Range<'a>]
+    ensures { result.now ≡ take 1 (drop number list.now) }
+{
+    if number < list.len() {
+        &list[number..number + 1]
+    } else {
+        &[]
+    }
+}
+
+/// The range of a name, if there is one.
+#[tactic(auto, using(crate::proofs::Ranged::one_range, crate::proofs::Ranged::no_range))]
+fn one_range<'a, 'b>(ranges: &'b PageRanges<'a>, name: &str) -> &'b [Range<'a>]
+    ensures { (page : ℕ) (all : List RangeData) → KnowsPage ranges.now page all → Pairwise AreApart all → ranges_view result.now ≡ filter (is_named_on name.now page) all }
+{
+    let number = ranges.found.get(name).copied();
+    range_at(&ranges.list, number.unwrap_or(ranges.list.len()))
+}
+
+impl<'a> Ranges<'a> {
+    /// The ranges of a command.
+    #[tactic(auto, using(crate::proofs::Commanded::ranges_are, crate::proofs::Commanded::ranges_are_apart))]
+    pub(crate) fn new(alloc: Global, command: &'a Command) -> Result<Self, AllocError>
+        requires { IsCommand (command_data command.now) }
+        ensures known { IfOk result (λ r. KnowsRanges r (ranges_for (command_data command.now))) }
+        ensures has { IfOk result HasRanges }
+    {
+        let all = ranges_for(alloc, command)?;
+        let program = page_ranges(alloc, 0, &all)?;
+        let store = page_ranges(alloc, 1, &all)?;
+        Ok(Ranges { program, store })
+    }
+
+    /// Those of page 0 or of page 1.
+    fn on_page(&self, page: u8) -> &PageRanges<'a>
+        requires { page ≤ 1 }
+        ensures { (all : List RangeData) → KnowsRanges self.now all → KnowsPage result.now page all }
+    {
+        if page == 0 {
+            &self.program
+        } else {
+            &self.store
+        }
+    }
+
+    /// The page of a section for which none is named.
+    #[tactic(auto, using(crate::proofs::Ranged::has_range))]
+    fn default_page(&self, wanted: Wanted<'_>, initialised: bool) -> u8
+        ensures page { (all : List RangeData) → KnowsRanges self.now all → result ≡ default_page all (wanted_view wanted.entry) initialised }
+        ensures known { result ≤ 1 }
+    {
+        match wanted {
+            Wanted::Anywhere => { if initialised { 0 } else { 1 } }
+            Wanted::InRange(name) => {
+                if self.program.found.get(name).is_some() {
+                    0
+                } else {
+                    1
+                }
+            }
+            Wanted::At(_) => 0,
+        }
+    }
+
+    /// The page of a section.
+    pub(crate) fn page_for(&self, request: &Request<'_>) -> u8
+        requires { IfSome request.now.page (λ page. page ≤ 1) }
+        ensures page { (all : List RangeData) → KnowsRanges self.now all → result ≡ page_for all (request_view request.now) }
+        ensures known { result ≤ 1 }
+    {
+        match request.page {
+            Some(page) => page,
+            None => self.default_page(request.wanted, request.initialised),
+        }
+    }
+
+    /// The ranges of a page that a section may stand in.
+    pub(crate) fn usable(&self, wanted: Wanted<'_>, page: u8) -> &[Range<'a>]
+        requires { page ≤ 1 }
+        ensures { (all : List RangeData) → KnowsRanges self.now all → ranges_view result.now ≡ filter (is_usable (wanted_view wanted.entry) page) all }
+    {
+        let ranges = self.on_page(page);
+        match wanted {
+            Wanted::InRange(name) => one_range(ranges, name),
+            _ => &ranges.list,
+        }
+    }
+}

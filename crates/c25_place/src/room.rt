@@ -1,0 +1,83 @@
+//! Which words of both pages are taken.
+
+ghost use Rattle.std.specs.Prelude.{◌≡◌, ◌<◌, ◌≤◌, ◌+◌, ◌-◌, ◌&&◌, ◌||◌, ℕ, List, [], ◌∷◌, ◌++◌, true, false, length, slice_index_or, nat_le, nat_lt, replicate, IfOk, MatchOption};
+ghost use Rattle.c25_meaning.specs.Place as place;
+ghost use Rattle.c25_place.specs.Room.{KnowsTaken, KnowsRoom, AreFree, IsFirstFree};
+
+use c25_cmd::taken::{free_words, take};
+use std::alloc::{AllocError, Global};
+
+/// How many words a page has.
+pub(crate) const PAGE_WORDS: u32 = 65_536;
+
+/// For each word of page 0 and of page 1 whether a section has it.
+#[derive(Drop)]
+pub(crate) struct Room {
+    program: Vec<bool>,
+    store: Vec<bool>,
+}
+
+/// The first of the words from `start` up to `end` from which on so many are free.
+#[tactic(auto, using(crate::proofs::Fits::run_none, crate::proofs::Fits::run_taken, crate::proofs::Fits::run_free, crate::proofs::Fits::run_found, crate::proofs::Fits::run_ended))]
+pub(crate) fn first_free(taken: &[bool], start: usize, end: usize, size: usize) -> Option<usize>
+    requires within { end ≤ length taken.now }
+    requires ordered { start ≤ end }
+    requires some { 0 < size }
+    ensures { MatchOption result ((base : ℕ) → start ≤ base → base + size ≤ end → ¬ AreFree taken.now base size) (IsFirstFree taken.now start end size) }
+{
+    let mut free = 0;
+    for k in start..end {
+        if taken[k] {
+            free = 0;
+        } else {
+            free += 1;
+            if free == size {
+                return Some(k + 1 - size);
+            }
+        }
+    }
+    None
+}
+
+impl Room {
+    /// Both pages free.
+    #[tactic(auto, using(crate::proofs::Fits::taken_none))]
+    pub(crate) fn new(alloc: Global) -> Result<Self, AllocError>
+        ensures { IfOk result (λ r. KnowsRoom r []) }
+    {
+        Ok(Room {
+            program: free_words(alloc, 65_536)?,
+            store: free_words(alloc, 65_536)?,
+        })
+    }
+
+    /// The words of page 0 or of page 1.
+    pub(crate) fn on_page(&self, page: u8) -> &[bool]
+        requires { page ≤ 1 }
+        ensures { (places : List place.Place) → KnowsRoom self.now places → KnowsTaken result.now page places }
+    {
+        if page == 0 {
+            &self.program
+        } else {
+            &self.store
+        }
+    }
+
+    /// Takes words of page 0 or of page 1.
+    #[tactic(auto, using(crate::proofs::Fits::taken_more, crate::proofs::Fits::taken_same))]
+    pub(crate) fn take(&mut self, page: u8, base: u32, size: u32)
+        requires page { page ≤ 1 }
+        requires within { base + size ≤ 65536 }
+        requires sized { (length self.old.program.items ≡ 65536) × (length self.old.store.items ≡ 65536) }
+        ensures { (places : List place.Place) (p : place.Place) → KnowsRoom self.old places → p.page ≡ page → p.base ≡ base → p.size ≡ size
+            → KnowsRoom self.new (places ++ p ∷ []) }
+    {
+        let start = base as usize;
+        let end = start + size as usize;
+        if page == 0 {
+            take(&mut self.program, start, end);
+        } else {
+            take(&mut self.store, start, end);
+        }
+    }
+}

@@ -1,0 +1,25 @@
+-- Parts of the rules of lines that functions of their own follow.
+use Rattle.std.specs.Prelude.{ℕ, List, codes, Result, Ok}
+use Rattle.c25_meaning.specs.Acts.{name_in}
+use Rattle.c25_meaning.specs.AssemblyLine.{Act, Put, Reserve, expressions_in, later_in, section_in}
+use Rattle.c25_meaning.specs.Line.{Piece}
+use Rattle.c25_meaning.specs.Results.{◌>>=◌}
+use Rattle.c25_meaning.specs.StatementLine.{Operation, operation_of, spelled}
+use Rattle.c25_meaning.specs.declared.assembly.Target.{Target}
+use Rattle.c25_meaning.specs.declared.statement.FaultKind.{FaultKind}
+
+-- the instruction of a line's first word and operands
+abbrev pub operation_with : List ℕ → List (List Piece) → Result Operation FaultKind
+operation_with word operands = spelled word >>= λ s. operation_of s operands
+
+-- `.bss` with two operands
+abbrev pub reserving_pair : List Piece → List Piece → Result Act FaultKind
+reserving_pair o p = name_in o >>= λ name. later_in p >>= λ count. Ok (Reserve (codes ".bss") name count)
+
+-- `.usect` with two operands
+abbrev pub reserving_pair_in : List ℕ → List Piece → List Piece → Result Act FaultKind
+reserving_pair_in label o p = section_in o >>= λ section. later_in p >>= λ count. Ok (Reserve section label count)
+
+-- values that make words
+abbrev pub putting : Target → List (List Piece) → Result Act FaultKind
+putting target operands = expressions_in operands >>= λ es. Ok (Put target es)

@@ -1,0 +1,190 @@
+//! What directives do.
+
+ghost use Rattle.c25_meaning.specs.AssemblyLine as says;
+ghost use Rattle.c25_meaning.specs.Results.{Meets};
+ghost use Rattle.c25_statements.specs.Steps as steps;
+ghost use Rattle.c25_expr.specs.Pieces.{pieces_of, operands_view};
+ghost use Rattle.c25_statements.specs.View.{act_of};
+
+use crate::operands::{expressions_in, later_in, some, some_names};
+use crate::sections::section_in;
+use crate::statement::Act;
+use crate::strings::strings_in;
+use c25_meaning::assembly::{Directive, Target};
+use c25_meaning::failure::Failure;
+use c25_meaning::statement::FaultKind;
+use c25_operands::{expression_in, name_in};
+use c25_text::tokens::Token;
+use std::alloc::Global;
+
+/// A directive that takes no operand.
+fn without<'a>(act: Act<'a>, operands: &[&[Token<'_>]]) -> Result<Act<'a>, Failure<FaultKind>>
+    ensures { Meets act_of (says.without (act_of act.entry) (operands_view operands.now)) result }
+{
+    match operands {
+        [] => Ok(act),
+        _ => Err(Failure::Fault(FaultKind::OperandCount)),
+    }
+}
+
+/// `.text`, `.data`
+fn entering_named<'a>(
+    alloc: Global,
+    section: &str,
+    operands: &[&[Token<'_>]],
+) -> Result<Act<'a>, Failure<FaultKind>>
+    ensures { Meets act_of (says.without (says.Enter section.now) (operands_view operands.now)) result }
+{
+    let section = String::from_str(alloc, section)?;
+    without(Act::Enter(section), operands)
+}
+
+/// `.sect`
+fn entering<'a>(alloc: Global, operands: &[&[Token<'_>]]) -> Result<Act<'a>, Failure<FaultKind>>
+    ensures { Meets act_of (says.entering (operands_view operands.now)) result }
+{
+    match operands {
+        [operand] => Ok(Act::Enter(section_in(alloc, operand)?)),
+        _ => Err(Failure::Fault(FaultKind::OperandCount)),
+    }
+}
+
+/// `.bss` of a name and a count
+fn reserving_pair<'a>(
+    alloc: Global,
+    name: &[Token<'a>],
+    count: &[Token<'_>],
+) -> Result<Act<'a>, Failure<FaultKind>>
+    ensures { Meets act_of (steps.reserving_pair (pieces_of name.now) (pieces_of count.now)) result }
+{
+    match name_in(name) {
+        Ok(name) => {
+            let count = later_in(alloc, count)?;
+            let section = String::from_str(alloc, ".bss")?;
+            Ok(Act::Reserve {
+                section,
+                name,
+                count,
+            })
+        }
+        Err(fault) => Err(Failure::Fault(fault)),
+    }
+}
+
+/// `.bss`
+fn reserving<'a>(alloc: Global, operands: &[&[Token<'a>]]) -> Result<Act<'a>, Failure<FaultKind>>
+    ensures { Meets act_of (says.reserving (operands_view operands.now)) result }
+{
+    match operands {
+        [name, count] => reserving_pair(alloc, name, count),
+        _ => Err(Failure::Fault(FaultKind::OperandCount)),
+    }
+}
+
+/// `.usect` of a section and a count
+fn reserving_pair_in<'a>(
+    alloc: Global,
+    name: &'a str,
+    section: &[Token<'_>],
+    count: &[Token<'_>],
+) -> Result<Act<'a>, Failure<FaultKind>>
+    ensures { Meets act_of (steps.reserving_pair_in name.now (pieces_of section.now) (pieces_of count.now)) result }
+{
+    let section = section_in(alloc, section)?;
+    let count = later_in(alloc, count)?;
+    Ok(Act::Reserve {
+        section,
+        name,
+        count,
+    })
+}
+
+/// `.usect`
+fn reserving_in<'a>(
+    alloc: Global,
+    name: &'a str,
+    operands: &[&[Token<'_>]],
+) -> Result<Act<'a>, Failure<FaultKind>>
+    ensures { Meets act_of (says.reserving_in name.now (operands_view operands.now)) result }
+{
+    match operands {
+        [section, count] => reserving_pair_in(alloc, name, section, count),
+        _ => Err(Failure::Fault(FaultKind::OperandCount)),
+    }
+}
+
+/// `.space`
+fn spacing<'a>(alloc: Global, operands: &[&[Token<'_>]]) -> Result<Act<'a>, Failure<FaultKind>>
+    ensures { Meets act_of (says.with_expression says.Space (operands_view operands.now)) result }
+{
+    match operands {
+        [operand] => Ok(Act::Space(expression_in(alloc, operand)?)),
+        _ => Err(Failure::Fault(FaultKind::OperandCount)),
+    }
+}
+
+/// `.set`, `.equ`
+fn equating<'a>(
+    alloc: Global,
+    name: &'a str,
+    operands: &[&[Token<'_>]],
+) -> Result<Act<'a>, Failure<FaultKind>>
+    ensures { Meets act_of (says.with_expression (says.Equate name.now) (operands_view operands.now)) result }
+{
+    match operands {
+        [operand] => {
+            let value = expression_in(alloc, operand)?;
+            Ok(Act::Equate { name, value })
+        }
+        _ => Err(Failure::Fault(FaultKind::OperandCount)),
+    }
+}
+
+/// `.string`
+fn loading<'a>(alloc: Global, operands: &[&[Token<'_>]]) -> Result<Act<'a>, Failure<FaultKind>>
+    ensures { Meets act_of (says.loading (operands_view operands.now)) result }
+{
+    match some(operands) {
+        Ok(()) => Ok(Act::Load(strings_in(alloc, operands)?)),
+        Err(fault) => Err(Failure::Fault(fault)),
+    }
+}
+
+/// `.word`, `.int`, `.byte`
+fn putting<'a>(
+    alloc: Global,
+    target: Target,
+    operands: &[&[Token<'_>]],
+) -> Result<Act<'a>, Failure<FaultKind>>
+    ensures { Meets act_of (steps.putting target (operands_view operands.now)) result }
+{
+    Ok(Act::Put(target, expressions_in(alloc, operands)?))
+}
+
+/// What a directive does on a line with this label and these operands.
+#[tactic(auto, unfolding(c25_meaning::specs::AssemblyLine::act_of))]
+pub(crate) fn act_of<'a>(
+    alloc: Global,
+    directive: Directive,
+    label: &'a str,
+    operands: &[&[Token<'a>]],
+) -> Result<Act<'a>, Failure<FaultKind>>
+    ensures { Meets act_of (says.act_of directive label.now (operands_view operands.now)) result }
+{
+    match directive {
+        Directive::Text => entering_named(alloc, ".text", operands),
+        Directive::Data => entering_named(alloc, ".data", operands),
+        Directive::Sect => entering(alloc, operands),
+        Directive::Bss => reserving(alloc, operands),
+        Directive::Usect => reserving_in(alloc, label, operands),
+        Directive::Word => putting(alloc, Target::Words, operands),
+        Directive::Byte => putting(alloc, Target::Bytes, operands),
+        Directive::Characters => loading(alloc, operands),
+        Directive::Space => spacing(alloc, operands),
+        Directive::Set => equating(alloc, label, operands),
+        Directive::Global => Ok(Act::Declare(some_names(alloc, operands)?)),
+        Directive::Def => Ok(Act::Export(some_names(alloc, operands)?)),
+        Directive::Registers => without(Act::Registers, operands),
+        Directive::Ignored => Ok(Act::Nothing),
+    }
+}

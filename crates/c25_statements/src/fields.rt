@@ -1,0 +1,166 @@
+//! What the operands of an instruction fill, and the number that a value gives a field.
+
+ghost use Rattle.std.specs.Prelude.{◌≡◌, pos, negsuc};
+ghost use Rattle.c25_bits.specs.Cut.{cut};
+ghost use Rattle.c25_meaning.specs.Table.{shift_limit};
+ghost use Rattle.c25_meaning.specs.Statement.{form_field, with_number, field_of_short, short_field, field_of_long, plain_field, addr_field, number_in, within, below, relocation_of};
+
+use c25_meaning::mnemonic::{LongName, PlainName, ShiftedName, ShortName};
+use c25_meaning::relocation::RelocationKind;
+use c25_meaning::statement::{AddrForm, FaultKind, Field, Form};
+
+fn addr_field(addr: AddrForm) -> Field
+    ensures { result ≡ addr_field addr }
+{
+    match addr {
+        AddrForm::Direct => Field::Low7,
+        AddrForm::Indirect(_) => Field::Number(8),
+    }
+}
+
+fn with_number(addr: AddrForm, limit: u16, index: usize) -> Field
+    ensures { result ≡ with_number addr limit index }
+{
+    match (addr, index) {
+        (AddrForm::Direct, 0) => Field::Low7,
+        (AddrForm::Direct, _) => Field::Number(limit),
+        (AddrForm::Indirect(_), 0) => Field::Number(limit),
+        (AddrForm::Indirect(_), _) => Field::Number(8),
+    }
+}
+
+fn shift_limit(name: ShiftedName) -> u16
+    ensures { result ≡ shift_limit name }
+{
+    match name {
+        ShiftedName::Sacl | ShiftedName::Sach => 8,
+        _ => 16,
+    }
+}
+
+fn short_field(name: ShortName) -> Field
+    ensures { result ≡ short_field name }
+{
+    match name {
+        ShortName::Ldpk => Field::Page9,
+        ShortName::Mpyk => Field::Signed13,
+        _ => Field::Number(256),
+    }
+}
+
+fn field_of_short(name: ShortName, index: usize) -> Field
+    ensures { result ≡ field_of_short name index }
+{
+    match (name, index) {
+        (ShortName::Lark, 0) => Field::Number(8),
+        _ => short_field(name),
+    }
+}
+
+fn field_of_long(name: LongName, index: usize) -> Field
+    ensures { result ≡ field_of_long name index }
+{
+    match (name, index) {
+        (LongName::Lrlk, 0) => Field::Number(8),
+        (LongName::Lrlk, _) => Field::Word16,
+        (_, 0) => Field::Word16,
+        _ => Field::Number(16),
+    }
+}
+
+fn plain_field(name: PlainName) -> Field
+    ensures { result ≡ plain_field name }
+{
+    match name {
+        PlainName::Fort => Field::Number(2),
+        _ => Field::Number(4),
+    }
+}
+
+/// What the operand at an index, from 0 through those that are expressions, fills.
+pub fn form_field(form: Form, index: usize) -> Field
+    ensures { result ≡ form_field form index }
+{
+    match (form, index) {
+        (Form::Mem(_, addr), _) => addr_field(addr),
+        (Form::Shifted(name, addr), _) => with_number(addr, shift_limit(name), index),
+        (Form::ArMem(_, _), 0) => Field::Number(8),
+        (Form::ArMem(_, addr), _) => addr_field(addr),
+        (Form::Port(_, addr), _) => with_number(addr, 16, index),
+        (Form::Bit(_, addr), _) => with_number(addr, 16, index),
+        (Form::Short(name), _) => field_of_short(name, index),
+        (Form::Long(name), _) => field_of_long(name, index),
+        (Form::LongMem(_, _), 0) => Field::Word16,
+        (Form::LongMem(_, addr), _) => addr_field(addr),
+        (Form::Jump(_, _), 0) => Field::Word16,
+        (Form::Jump(_, _), _) => Field::Number(8),
+        (Form::Plain(name, _), _) => plain_field(name),
+    }
+}
+
+fn low16(value: i32) -> u16
+    ensures { result ≡ cut value 16 }
+{
+    value.rem_euclid(65536) as u16
+}
+
+fn low8(value: i32) -> u16
+    ensures { result ≡ cut value 8 }
+{
+    value.rem_euclid(256) as u16
+}
+
+fn low7(value: i32) -> u16
+    ensures { result ≡ cut value 7 }
+{
+    value.rem_euclid(128) as u16
+}
+
+fn within(low: i32, high: i32, value: i32, number: u16) -> Result<u16, FaultKind>
+    ensures { result ≡ within low high value number }
+{
+    if value < low || high < value {
+        Err(FaultKind::FieldRange)
+    } else {
+        Ok(number)
+    }
+}
+
+fn below(limit: u16, value: i32, number: u16) -> Result<u16, FaultKind>
+    ensures { result ≡ below limit value number }
+{
+    if value < 0 || value >= i32::from(limit) {
+        Err(FaultKind::FieldRange)
+    } else {
+        Ok(number)
+    }
+}
+
+/// The number that an absolute value gives a field, or `FieldRange` where the field does not take it
+/// (53).
+#[tactic(auto, unfolding(c25_meaning::specs::Statement::number_in))]
+pub fn number_in(field: Field, value: i32) -> Result<u16, FaultKind>
+    ensures { result ≡ number_in field value }
+{
+    match field {
+        Field::Low7 => within(0, 65535, value, low7(value)),
+        Field::Page9 => within(0, 511, value, low16(value)),
+        Field::Word16 => within(-32768, 65535, value, low16(value)),
+        Field::Number(limit) => below(limit, value, low16(value)),
+        Field::Signed13 => within(-4096, 4095, value, low16(value)),
+        Field::Word => Ok(low16(value)),
+        Field::Byte => within(-128, 255, value, low8(value)),
+    }
+}
+
+/// How a field takes an address, if it does.
+pub fn relocation_of(field: Field) -> Option<RelocationKind>
+    ensures { result ≡ relocation_of field }
+{
+    match field {
+        Field::Low7 => Some(RelocationKind::Low7),
+        Field::Page9 => Some(RelocationKind::Page9),
+        Field::Word16 | Field::Word => Some(RelocationKind::Word16),
+        _ => None,
+    }
+}

@@ -1,0 +1,146 @@
+//! The instruction of a form and its numbers.
+
+ghost use Rattle.std.specs.Prelude.{◌≡◌, slice_get, slice_index};
+ghost use Rattle.c25_meaning.specs.Statement.{insn_of, addr_of, addr_beside, number_beside, short_of, long_of, plain_of, form_row};
+
+use c25_meaning::insn::{Addr, Change, Insn, PlainOperand};
+use c25_meaning::mnemonic::{LongName, Mnemonic, PlainName, ShortName};
+use c25_meaning::statement::{AddrForm, Form};
+
+fn number_at(numbers: &[u16], index: usize) -> u16
+    ensures { result ≡ slice_index numbers.now index }
+{
+    numbers.get(index).copied().unwrap_or(0)
+}
+
+fn given_at(numbers: &[u16], index: usize) -> Option<u16>
+    ensures { result ≡ slice_get numbers.now index }
+{
+    numbers.get(index).copied()
+}
+
+fn addr_of(addr: AddrForm, number: Option<u16>) -> Addr
+    ensures { result ≡ addr_of addr number }
+{
+    match addr {
+        AddrForm::Direct => Addr::Direct(number.unwrap_or(0)),
+        AddrForm::Indirect(change) => Addr::Indirect(change, number),
+    }
+}
+
+fn addr_beside(addr: AddrForm, numbers: &[u16]) -> Addr
+    ensures { result ≡ addr_beside addr numbers.now }
+{
+    match addr {
+        AddrForm::Direct => Addr::Direct(number_at(numbers, 0)),
+        AddrForm::Indirect(change) => Addr::Indirect(change, given_at(numbers, 1)),
+    }
+}
+
+fn number_beside(addr: AddrForm, numbers: &[u16]) -> u16
+    ensures { result ≡ number_beside addr numbers.now }
+{
+    match addr {
+        AddrForm::Direct => number_at(numbers, 1),
+        AddrForm::Indirect(_) => number_at(numbers, 0),
+    }
+}
+
+/// An address and the number beside it.
+fn beside(addr: AddrForm, numbers: &[u16]) -> (Addr, u16)
+    ensures { result ≡ (addr_beside addr numbers.now, number_beside addr numbers.now) }
+{
+    (addr_beside(addr, numbers), number_beside(addr, numbers))
+}
+
+fn short_of(name: ShortName, numbers: &[u16]) -> Insn
+    ensures { result ≡ short_of name numbers.now }
+{
+    match name {
+        ShortName::Lark => {
+            let number = number_at(numbers, 1).cast_signed();
+            Insn::Short(name, number_at(numbers, 0), number)
+        }
+        _ => {
+            let number = number_at(numbers, 0).cast_signed();
+            Insn::Short(name, 0, number)
+        }
+    }
+}
+
+fn long_of(name: LongName, numbers: &[u16]) -> Insn
+    ensures { result ≡ long_of name numbers.now }
+{
+    match name {
+        LongName::Lrlk => Insn::Long(name, number_at(numbers, 1), number_at(numbers, 0)),
+        _ => Insn::Long(name, number_at(numbers, 0), number_at(numbers, 1)),
+    }
+}
+
+fn plain_of(name: PlainName, change: Change, numbers: &[u16]) -> PlainOperand
+    ensures { result ≡ plain_of name change numbers.now }
+{
+    match name {
+        PlainName::Norm => PlainOperand::Change(change),
+        PlainName::Spm | PlainName::Fort | PlainName::Cmpr => {
+            PlainOperand::Number(number_at(numbers, 0))
+        }
+        _ => PlainOperand::Nothing,
+    }
+}
+
+/// The instruction of a form and its numbers.
+pub fn insn_of(form: Form, numbers: &[u16]) -> Insn
+    ensures { result ≡ insn_of form numbers.now }
+{
+    match form {
+        Form::Mem(name, addr) => Insn::Mem(name, addr_of(addr, given_at(numbers, 0))),
+        Form::Shifted(name, addr) => {
+            let (address, number) = beside(addr, numbers);
+            Insn::Shifted(name, address, number)
+        }
+        Form::ArMem(name, addr) => {
+            let address = addr_of(addr, given_at(numbers, 1));
+            Insn::ArMem(name, number_at(numbers, 0), address)
+        }
+        Form::Port(name, addr) => {
+            let (address, number) = beside(addr, numbers);
+            Insn::Port(name, address, number)
+        }
+        Form::Bit(name, addr) => {
+            let (address, number) = beside(addr, numbers);
+            Insn::Bit(name, address, number)
+        }
+        Form::Short(name) => short_of(name, numbers),
+        Form::Long(name) => long_of(name, numbers),
+        Form::LongMem(name, addr) => {
+            Insn::LongMem(
+                name,
+                number_at(numbers, 0),
+                addr_of(addr, given_at(numbers, 1)),
+            )
+        }
+        Form::Jump(name, change) => {
+            Insn::Jump(name, number_at(numbers, 0), change, given_at(numbers, 1))
+        }
+        Form::Plain(name, change) => Insn::Plain(name, plain_of(name, change, numbers)),
+    }
+}
+
+/// The row of the opcode table that a form belongs to.
+pub fn form_row(form: Form) -> Mnemonic
+    ensures { result ≡ form_row form }
+{
+    match form {
+        Form::Mem(name, _) => Mnemonic::Mem(name),
+        Form::Shifted(name, _) => Mnemonic::Shifted(name),
+        Form::ArMem(name, _) => Mnemonic::ArMem(name),
+        Form::Port(name, _) => Mnemonic::Port(name),
+        Form::Bit(name, _) => Mnemonic::Bit(name),
+        Form::Short(name) => Mnemonic::Short(name),
+        Form::Long(name) => Mnemonic::Long(name),
+        Form::LongMem(name, _) => Mnemonic::LongMem(name),
+        Form::Jump(name, _) => Mnemonic::Jump(name),
+        Form::Plain(name, _) => Mnemonic::Plain(name),
+    }
+}

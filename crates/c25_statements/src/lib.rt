@@ -1,0 +1,19 @@
+//! Statements: what one line of a module says after expansion, and the forms and fields of
+//! instructions.
+#![tactic(auto)]
+
+mod directives;
+pub mod fields;
+pub mod forms;
+mod names;
+mod operands;
+mod operations;
+mod reading;
+mod sections;
+mod shapes;
+pub mod statement;
+mod strings;
+mod trees;
+
+pub use operations::{operation_of, spelled};
+pub use reading::read_statement;

@@ -1,0 +1,102 @@
+//! Lists of operands of the directives of the assembler.
+
+ghost use Rattle.std.specs.Prelude.{◌≡◌};
+ghost use Rattle.c25_meaning.specs.Acts as acts;
+ghost use Rattle.c25_meaning.specs.AssemblyLine as says;
+ghost use Rattle.c25_meaning.specs.Results.{Meets};
+ghost use Rattle.c25_expr.specs.Pieces.{pieces_of, operands_view};
+ghost use Rattle.c25_expr.specs.View.{tree_of};
+ghost use Rattle.c25_statements.specs.View.{texts_of, trees_of, count_of};
+
+use crate::trees::exprs_of;
+use c25_expr::operands::written_of;
+use c25_expr::tree::Expr;
+use c25_meaning::failure::Failure;
+use c25_meaning::statement::{FaultKind, Written};
+use c25_operands::{name_in, tree_in};
+use c25_text::tokens::Token;
+use std::alloc::Global;
+
+/// An operand that is written as an expression; what is wrong with it is told later.
+pub(crate) fn later_in(
+    alloc: Global,
+    operand: &[Token<'_>],
+) -> Result<Result<Expr, FaultKind>, Failure<FaultKind>>
+    ensures { Meets count_of (says.later_in (pieces_of operand.now)) result }
+{
+    match written_of(operand) {
+        Written::Expression => match tree_in(alloc, operand) {
+            Ok(expr) => Ok(Ok(expr)),
+            Err(Failure::Fault(fault)) => Ok(Err(fault)),
+            Err(Failure::NoMemory(error)) => Err(Failure::NoMemory(error)),
+        },
+        _ => Err(Failure::Fault(FaultKind::OperandForm)),
+    }
+}
+
+/// There is an operand.
+pub(crate) fn some(operands: &[&[Token<'_>]]) -> Result<(), FaultKind>
+    ensures { result ≡ says.some (operands_view operands.now) }
+{
+    match operands {
+        [] => Err(FaultKind::OperandCount),
+        _ => Ok(()),
+    }
+}
+
+fn all_expressions(operands: &[&[Token<'_>]]) -> Result<(), FaultKind>
+    ensures { result ≡ says.all_expressions (operands_view operands.now) }
+{
+    for operand in operands {
+        if written_of(operand) != Written::Expression {
+            return Err(FaultKind::OperandForm);
+        }
+    }
+    Ok(())
+}
+
+/// Operands that are expressions, at least one.
+pub(crate) fn expressions_in(
+    alloc: Global,
+    operands: &[&[Token<'_>]],
+) -> Result<Vec<Expr>, Failure<FaultKind>>
+    ensures { Meets (λ v. trees_of v.items) (says.expressions_in (operands_view operands.now)) result }
+{
+    match some(operands) {
+        Ok(()) => match all_expressions(operands) {
+            Ok(()) => exprs_of(alloc, operands),
+            Err(fault) => Err(Failure::Fault(fault)),
+        },
+        Err(fault) => Err(Failure::Fault(fault)),
+    }
+}
+
+/// Operands that are names.
+fn names_in<'a>(
+    alloc: Global,
+    operands: &[&[Token<'a>]],
+) -> Result<Vec<&'a str>, Failure<FaultKind>>
+    ensures { Meets (λ v. texts_of v.items) (acts.names_in (operands_view operands.now)) result }
+{
+    let mut names = Vec::new(alloc);
+    for operand in operands {
+        match name_in(operand) {
+            Ok(name) => names.push(name)?,
+            Err(fault) => return Err(Failure::Fault(fault)),
+        }
+    }
+    Ok(names)
+}
+
+/// Operands that are names, at least one.
+pub(crate) fn some_names<'a>(
+    alloc: Global,
+    operands: &[&[Token<'a>]],
+) -> Result<Vec<&'a str>, Failure<FaultKind>>
+    ensures { Meets (λ v. texts_of v.items) (says.some_names (operands_view operands.now)) result }
+{
+    match some(operands) {
+        Ok(()) => names_in(alloc, operands),
+        Err(fault) => Err(Failure::Fault(fault)),
+    }
+}

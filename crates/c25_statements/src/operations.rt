@@ -1,0 +1,72 @@
+//! The instruction of a line.
+
+ghost use Rattle.std.specs.Prelude.{◌≡◌, IfOk, map};
+ghost use Rattle.c25_meaning.specs.StatementLine.{spelled, operation_of};
+ghost use Rattle.c25_meaning.specs.Operands.{written_of};
+ghost use Rattle.c25_meaning.specs.Results.{Meets};
+ghost use Rattle.c25_statements.specs.Steps.{operation_with};
+ghost use Rattle.c25_expr.specs.Pieces.{operands_view};
+ghost use Rattle.c25_statements.specs.View as view;
+
+use crate::shapes::form_of;
+use crate::statement::Operation;
+use crate::trees::exprs_of;
+use c25_expr::operands::written_of;
+use c25_isa::mnemonic;
+use c25_meaning::failure::Failure;
+use c25_meaning::mnemonic::Spelling;
+use c25_meaning::no_memory::NoMemory;
+use c25_meaning::statement::{FaultKind, Written};
+use c25_text::tokens::Token;
+use std::alloc::Global;
+
+/// The spelling of a line's first word, or `UnknownMnemonic` (50).
+pub fn spelled(word: &str) -> Result<Spelling, FaultKind>
+    ensures { result ≡ spelled word.now }
+{
+    mnemonic(word).ok_or(FaultKind::UnknownMnemonic)
+}
+
+fn kinds_of(alloc: Global, operands: &[&[Token<'_>]]) -> Result<Vec<Written>, NoMemory>
+    ensures { IfOk result (λ v. v.items ≡ map written_of (operands_view operands.now)) }
+{
+    let mut kinds = Vec::new(alloc);
+    for operand in operands {
+        kinds.push(written_of(operand))?;
+    }
+    Ok(kinds)
+}
+
+/// The instruction of these operands, or its first fault: too few or too many (51), one of another form
+/// than the instruction takes (52), one that is no expression (20), one that nests too deep (21).
+#[tactic(auto, unfolding(c25_meaning::specs::StatementLine::operation_of))]
+pub fn operation_of(
+    alloc: Global,
+    spelling: Spelling,
+    operands: &[&[Token<'_>]],
+) -> Result<Operation, Failure<FaultKind>>
+    ensures { Meets view.operation_of (operation_of spelling (operands_view operands.now)) result }
+{
+    let kinds = kinds_of(alloc, operands)?;
+    match form_of(spelling, kinds.as_slice()) {
+        Ok(form) => {
+            let trees = exprs_of(alloc, operands)?;
+            Ok(Operation { form, trees })
+        }
+        Err(fault) => Err(Failure::Fault(fault)),
+    }
+}
+
+/// The instruction of a line's first word and operands.
+pub(crate) fn operation_in(
+    alloc: Global,
+    word: &str,
+    operands: &[&[Token<'_>]],
+) -> Result<Operation, Failure<FaultKind>>
+    ensures { Meets view.operation_of (operation_with word.now (operands_view operands.now)) result }
+{
+    match spelled(word) {
+        Ok(spelling) => operation_of(alloc, spelling, operands),
+        Err(fault) => Err(Failure::Fault(fault)),
+    }
+}

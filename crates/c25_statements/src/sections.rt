@@ -1,0 +1,64 @@
+//! Operands that name a section.
+
+ghost use Rattle.std.specs.Prelude.{◌≡◌};
+ghost use Rattle.std.specs.String.{string_bytes};
+ghost use Rattle.c25_meaning.specs.AssemblyLine as says;
+ghost use Rattle.c25_meaning.specs.Results.{Meets};
+ghost use Rattle.c25_text.specs.View.{piece_of};
+ghost use Rattle.c25_expr.specs.Pieces.{pieces_of};
+
+use c25_meaning::failure::Failure;
+use c25_meaning::statement::FaultKind;
+use c25_obj::is_section_name;
+use c25_operands::{is_string, string_in};
+use c25_text::tokens::Token;
+use std::alloc::Global;
+
+/// Whether a token stands directly behind another.
+fn stands_behind(before: &Token<'_>, token: &Token<'_>) -> bool
+    ensures { result ≡ says.stands_behind (piece_of before.now) (piece_of token.now) }
+{
+    token.start >= before.start && token.start - before.start == before.text.len()
+}
+
+/// The text of an operand's tokens, each directly behind the one before it.
+fn joined(alloc: Global, operand: &[Token<'_>]) -> Result<String, Failure<FaultKind>>
+    ensures { Meets string_bytes (says.joined (pieces_of operand.now)) result }
+{
+    let [first, rest @ ..] = operand else {
+        return Err(Failure::Fault(FaultKind::OperandForm));
+    };
+    let mut name = String::from_str(alloc, first.text)?;
+    let mut last = first;
+    for token in rest {
+        if !stands_behind(last, token) {
+            return Err(Failure::Fault(FaultKind::OperandForm));
+        }
+        name.push_str(token.text)?;
+        last = token;
+    }
+    Ok(name)
+}
+
+/// The name that an operand says: that of a string, or else its text.
+fn said_in(alloc: Global, operand: &[Token<'_>]) -> Result<String, Failure<FaultKind>>
+    ensures { Meets string_bytes (says.said_in (pieces_of operand.now)) result }
+{
+    if is_string(operand) {
+        string_in(alloc, operand)
+    } else {
+        joined(alloc, operand)
+    }
+}
+
+/// An operand that is a section's name.
+pub(crate) fn section_in(alloc: Global, operand: &[Token<'_>]) -> Result<String, Failure<FaultKind>>
+    ensures { Meets string_bytes (says.section_in (pieces_of operand.now)) result }
+{
+    let name = said_in(alloc, operand)?;
+    if is_section_name(name.as_bytes()) {
+        Ok(name)
+    } else {
+        Err(Failure::Fault(FaultKind::OperandForm))
+    }
+}

@@ -1,0 +1,78 @@
+//! The expressions of a line's operands.
+
+ghost use Rattle.std.specs.Prelude.{◌≡◌};
+ghost use Rattle.c25_meaning.specs.StatementLine.{no_trees, with_operand, all_trees, trees_in};
+ghost use Rattle.c25_expr.specs.Pieces.{pieces_of, operands_view};
+ghost use Rattle.c25_meaning.specs.Results.{Meets};
+ghost use Rattle.c25_statements.specs.View.{trees_of, so_far};
+
+use c25_expr::operands::written_of;
+use c25_expr::reading::read_expr;
+use c25_expr::tree::Expr;
+use c25_meaning::expression::ExpressionFault;
+use c25_meaning::failure::Failure;
+use c25_meaning::statement::{FaultKind, Written};
+use c25_text::tokens::Token;
+use std::alloc::Global;
+
+/// The expressions of the operands so far, and whether one of those was too deep.
+#[derive(Drop)]
+struct Trees {
+    exprs: Vec<Expr>,
+    deep: bool,
+}
+
+impl Trees {
+    fn new(alloc: Global) -> Trees
+        ensures { so_far result ≡ no_trees }
+    {
+        Trees {
+            exprs: Vec::new(alloc),
+            deep: false,
+        }
+    }
+
+    /// One operand more.
+    #[tactic(auto, unfolding(c25_meaning::specs::StatementLine::with_operand))]
+    fn add(&mut self, alloc: Global, tokens: &[Token<'_>]) -> Result<(), Failure<FaultKind>>
+        ensures { Meets (λ _. so_far self.new) (with_operand (so_far self.old) (pieces_of tokens.now)) result }
+    {
+        if written_of(tokens) != Written::Expression {
+            return Ok(());
+        }
+        match read_expr(alloc, tokens) {
+            Ok(expr) => self.exprs.push(expr)?,
+            Err(Failure::Fault(ExpressionFault::TooDeep)) => self.deep = true,
+            Err(Failure::Fault(ExpressionFault::BadExpression)) => {
+                return Err(Failure::Fault(FaultKind::BadExpression));
+            }
+            Err(Failure::NoMemory(error)) => return Err(error.into()),
+        }
+        Ok(())
+    }
+
+    fn finish(self) -> Result<Vec<Expr>, Failure<FaultKind>>
+        ensures { Meets (λ v. trees_of v.items) (all_trees (so_far self)) result }
+    {
+        let Trees { exprs, deep } = self;
+        if deep {
+            Err(Failure::Fault(FaultKind::TooDeep))
+        } else {
+            Ok(exprs)
+        }
+    }
+}
+
+/// The expressions of the operands that are such.
+pub(crate) fn exprs_of(
+    alloc: Global,
+    operands: &[&[Token<'_>]],
+) -> Result<Vec<Expr>, Failure<FaultKind>>
+    ensures { Meets (λ v. trees_of v.items) (trees_in (operands_view operands.now)) result }
+{
+    let mut trees = Trees::new(alloc);
+    for operand in operands {
+        trees.add(alloc, operand)?;
+    }
+    trees.finish()
+}

@@ -1,0 +1,176 @@
+-- Words without a fault name a subcommand, and have what it must have.
+use Rattle.std.proofs.Common.{◌≡◌, ◌∙◌, ◌&&◌, ◌||◌, ℕ, Bool, cond, codes, true, false, not, refl, sym, ap, subst, arith, drop, length, inl, inr, List, [], ◌∷◌, Option, Some, None, is_some, unwrap_or, true≢false, nat_lt}
+use Rattle.std.specs.List.{AllByRecursion, find, list_all, list_any, slice_index_or}
+use Rattle.std.specs.Option.{option_map, option_map_or}
+use Rattle.std.specs.Str.{bytes_eq}
+use Rattle.clap.specs.Walk.{Row, Rule, Text, action_of, answers_to, finished, is_empty, nothing_held, rows_after, settled, walk, walk_from}
+use Rattle.clap.specs.Simple.{Shape, built, entered, help_shape, label_of, names_of, rows_at, subcommand_of}
+use Rattle.clap.specs.Facts.{unwrap_or_range}
+use Rattle.clap.specs.Faults.{check_fault, defaults_fault, entered_fault, fault_of, level_fault, settle_fault, walk_fault}
+use Rattle.clap.specs.Takes.{is_given}
+use Rattle.clap.specs.Values.{is_request}
+use Rattle.clap.specs.declared.error.kind.ErrorKind.TheVariants as kind
+use Rattle.c25_words.specs.Complete.{IsComplete, IsFoundComplete}
+use Rattle.c25_words.specs.Program.{program}
+use Rattle.c25_words.proofs.Rows.{AreFine, IsSound, given_there, steps_fine, steps_parser, takes_or_asks, use_fine}
+use Rattle.c25_words.proofs.Walks.{level_keeps, none_of_both}
+
+-- what holds of each holds of the one that is found
+found_each : {X : Type 0} (P : X → Type 0) (p : X → Bool) (xs : List X) (x : X) → AllByRecursion P xs → find p xs ≡ Some x → P x
+found_each P p [] x each e = absurd (true≢false (sym (ap is_some e)))
+found_each P p (y ∷ ys) x each e = go (p y) (found_each P p ys x each.1) e
+  where
+    go : (b : Bool) → (find p ys ≡ Some x → P x) → cond b (Some y) (find p ys) ≡ Some x → P x
+    go true rest e = subst P (ap (λ o. unwrap_or o y) e) each.0
+    go false rest e = rest e
+
+-- ---- one subcommand
+
+abbrev IsNeededThere : List Row → Rule → Type 0
+IsNeededThere rows a = a.required ≡ true → is_given a.id rows ≡ true
+
+-- where no argument is missing, each that must be there was given
+none_missing : (rows : List Row) (rules : List Rule) → list_any (λ a. a.required && not (is_given a.id rows)) rules ≡ false → AllByRecursion (IsNeededThere rows) rules
+none_missing rows [] e = tt
+none_missing rows (a ∷ rules) e = (first a.required (is_given a.id rows) e, none_missing rows rules (second (a.required && not (is_given a.id rows)) _ e))
+  where
+    second : (b c : Bool) → (b || c) ≡ false → c ≡ false
+    second true c e = absurd (true≢false e)
+    second false c e = e
+
+    first : (needed given : Bool) → ((needed && not given) || list_any (λ a. a.required && not (is_given a.id rows)) rules) ≡ false → needed ≡ true → given ≡ true
+    first needed true e is = refl
+    first true false e is = absurd (true≢false e)
+    first false false e is = is
+
+-- the last checks find no argument missing
+check_passes : (b : Bool) → cond b (kind.MissingRequiredArgument ∷ []) [] ≡ [] → b ≡ false
+check_passes false e = refl
+check_passes true e =
+    let none : length (kind.MissingRequiredArgument ∷ []) ≡ 0 = ap length e in
+    absurd (omega arith)
+
+abbrev EachSound : Shape → Type 0
+EachSound s = AllByRecursion IsSound s.rules
+
+fine_rows : (s : Shape) → EachSound s → list_all (λ a. is_empty a.defaults) s.rules ≡ true → (words : List Text) → level_fault s [] nothing_held words false [] ≡ []
+    → AreFine (rows_after s.rules [] words) × (check_fault s (rows_after s.rules [] words) false ≡ [])
+fine_rows s sound none words e =
+    level_keeps s AreFine (λ p a is values rows e fine. use_fine s.args_override_self a (found_each IsSound p s.rules a sound is) values rows e fine) words none e tt
+
+-- an option or operand, and the request for help
+taking : (a : Rule) → takes_or_asks (action_of a) ≡ true → nat_lt 0 (unwrap_or_range a.range).start_inclusive ≡ true → bytes_eq a.id (codes "steps") ≡ false → IsSound a
+taking a takes least other = record { action = takes; least = inr least; steps = λ is. absurd (true≢false (sym is ∙ other)) }
+
+asking : (a : Rule) → takes_or_asks (action_of a) ≡ true → is_request (action_of a) ≡ true → bytes_eq a.id (codes "steps") ≡ false → IsSound a
+asking a takes asks other = record { action = takes; least = inl asks; steps = λ is. absurd (true≢false (sym is ∙ other)) }
+
+numbered : (a : Rule) → takes_or_asks (action_of a) ≡ true → nat_lt 0 (unwrap_or_range a.range).start_inclusive ≡ true → a.parser ≡ Some steps_parser → IsSound a
+numbered a takes least parser = record { action = takes; least = inr least; steps = λ is. parser }
+
+-- ---- the subcommands
+
+abbrev IsEach : Shape → Type 0
+IsEach s = (words : List Text) → level_fault s [] nothing_held words false [] ≡ [] → IsComplete s.name (rows_after s.rules [] words)
+
+abbrev sub : ℕ → Shape
+sub k = slice_index_or (built program).subs k help_shape
+
+asm_each : IsEach (sub 0)
+asm_each words e =
+    let kept = fine_rows (sub 0) (taking _ refl refl refl, (taking _ refl refl refl, (taking _ refl refl refl, (asking _ refl refl refl, tt)))) refl words e in
+    let rows = rows_after (sub 0).rules [] words in
+    let found = none_missing rows (sub 0).rules (check_passes _ kept.1) in
+    record {
+      named = refl;
+      asm = λ is. (given_there (codes "source") rows kept.0 (found.0 refl), given_there (codes "obj") rows kept.0 (found.1.0 refl));
+      link = λ is. absurd (true≢false (sym is));
+      build = λ is. absurd (true≢false (sym is));
+      run = λ is. absurd (true≢false (sym is));
+      debug = λ is. absurd (true≢false (sym is));
+    }
+
+link_each : IsEach (sub 1)
+link_each words e =
+    let kept = fine_rows (sub 1) (taking _ refl refl refl, (taking _ refl refl refl, (taking _ refl refl refl, (asking _ refl refl refl, tt)))) refl words e in
+    let rows = rows_after (sub 1).rules [] words in
+    let found = none_missing rows (sub 1).rules (check_passes _ kept.1) in
+    record {
+      named = refl;
+      asm = λ is. absurd (true≢false (sym is));
+      link = λ is. (given_there (codes "command") rows kept.0 (found.0 refl), given_there (codes "object") rows kept.0 (found.1.0 refl), given_there (codes "out") rows kept.0 (found.1.1.0 refl));
+      build = λ is. absurd (true≢false (sym is));
+      run = λ is. absurd (true≢false (sym is));
+      debug = λ is. absurd (true≢false (sym is));
+    }
+
+build_each : IsEach (sub 2)
+build_each words e =
+    let kept = fine_rows (sub 2) (taking _ refl refl refl, (taking _ refl refl refl, (taking _ refl refl refl, (asking _ refl refl refl, tt)))) refl words e in
+    let rows = rows_after (sub 2).rules [] words in
+    let found = none_missing rows (sub 2).rules (check_passes _ kept.1) in
+    record {
+      named = refl;
+      asm = λ is. absurd (true≢false (sym is));
+      link = λ is. absurd (true≢false (sym is));
+      build = λ is. (given_there (codes "source") rows kept.0 (found.0 refl), given_there (codes "out") rows kept.0 (found.1.0 refl));
+      run = λ is. absurd (true≢false (sym is));
+      debug = λ is. absurd (true≢false (sym is));
+    }
+
+run_each : IsEach (sub 3)
+run_each words e =
+    let kept = fine_rows (sub 3) (taking _ refl refl refl, (numbered _ refl refl refl, (taking _ refl refl refl, (taking _ refl refl refl, (taking _ refl refl refl, (asking _ refl refl refl, tt)))))) refl words e in
+    let rows = rows_after (sub 3).rules [] words in
+    let found = none_missing rows (sub 3).rules (check_passes _ kept.1) in
+    record {
+      named = refl;
+      asm = λ is. absurd (true≢false (sym is));
+      link = λ is. absurd (true≢false (sym is));
+      build = λ is. absurd (true≢false (sym is));
+      run = λ is. (given_there (codes "source") rows kept.0 (found.0 refl), steps_fine rows kept.0);
+      debug = λ is. absurd (true≢false (sym is));
+    }
+
+debug_each : IsEach (sub 4)
+debug_each words e =
+    let kept = fine_rows (sub 4) (taking _ refl refl refl, (taking _ refl refl refl, (taking _ refl refl refl, (taking _ refl refl refl, (taking _ refl refl refl, (asking _ refl refl refl, tt)))))) refl words e in
+    let rows = rows_after (sub 4).rules [] words in
+    let found = none_missing rows (sub 4).rules (check_passes _ kept.1) in
+    record {
+      named = refl;
+      asm = λ is. absurd (true≢false (sym is));
+      link = λ is. absurd (true≢false (sym is));
+      build = λ is. absurd (true≢false (sym is));
+      run = λ is. absurd (true≢false (sym is));
+      debug = λ is. (given_there (codes "source") rows kept.0 (found.0 refl), given_there (codes "script") rows kept.0 (found.1.0 refl));
+    }
+
+-- ---- the program
+
+-- a subcommand is there, where the last checks pass
+has_subcommand : (rows : List Row) (has : Bool) → check_fault (built program).top rows has ≡ [] → has ≡ true
+has_subcommand rows true e = refl
+has_subcommand rows false e =
+    let none : length (kind.MissingSubcommand ∷ []) ≡ 0 = ap length e in
+    absurd (omega arith)
+
+entered_complete : (o : Option (Text × List Text)) → entered_fault (built program) o ≡ [] → is_some (entered (built program) o) ≡ true → IsFoundComplete (entered (built program) o)
+entered_complete None e has = absurd (true≢false (sym has))
+entered_complete (Some p) e has = go (find (λ s. answers_to p.0 (label_of s)) (built program).subs) refl e has
+  where
+    go : (o : Option Shape) → find (λ s. answers_to p.0 (label_of s)) (built program).subs ≡ o → option_map_or (λ s. level_fault s [] nothing_held p.1 false []) o [] ≡ []
+        → is_some (option_map (λ s. rows_at s p.1) o) ≡ true → IsFoundComplete (option_map (λ s. rows_at s p.1) o)
+    go None is e has = absurd (true≢false (sym has))
+    go (Some s) is e has =
+        found_each IsEach (λ s. answers_to p.0 (label_of s)) (built program).subs s (asm_each, (link_each, (build_each, (run_each, (debug_each, tt))))) is p.1 e
+
+pub complete : (words : List Text) → fault_of program words ≡ [] → IsFoundComplete (subcommand_of program words)
+complete words e =
+    let top = (built program).top in
+    let end = walk top.rules (names_of (built program)) nothing_held (drop 1 words) in
+    let after_walk = none_of_both (walk_fault top (names_of (built program)) (walk_from nothing_held) (drop 1 words)) _ e in
+    let below = none_of_both (entered_fault (built program) end.stopped) _ after_walk.1 in
+    let settling = none_of_both (settle_fault top.rules top.args_override_self end.held) _ below.1 in
+    let defaults = none_of_both (defaults_fault (settled top.rules end.held).rows top.rules) _ settling.1 in
+    entered_complete end.stopped below.0 (has_subcommand (finished top.rules end.held) (is_some (entered (built program) end.stopped)) defaults.1)

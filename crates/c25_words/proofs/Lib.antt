@@ -1,0 +1,4 @@
+pub mod StepsText
+pub mod Rows
+pub mod Walks
+pub mod Complete

@@ -1,0 +1,3 @@
+pub mod Complete
+pub mod Program
+pub mod Task

@@ -1,0 +1,79 @@
+-- The words that the program takes, as a command of `clap`, whose definitions `subcommand_of` and `fault_of` say what a command makes of words.
+use Rattle.std.specs.Prelude.{◌≡◌, true, false, pos, List, [], ◌∷◌, ◌++◌, Some, codes}
+use Rattle.clap.specs.Lexer.{usize_max}
+use Rattle.clap.specs.Words.{App, Rule, Shape, Text, new_rule, shape_of}
+use Rattle.clap.specs.Simple.{new_shape}
+use Rattle.clap.specs.declared.builder.command.Command.{Command}
+use Rattle.clap.specs.declared.builder.command.Command.TheViews.{out-Command}
+use Rattle.clap.specs.declared.builder.value_parser.ValueParser.TheVariants as parser
+
+-- `--name VALUE`
+abbrev pub option_rule : Text → Rule
+option_rule name = record (new_rule name) { long = Some name }
+
+-- the same, which must be there
+abbrev pub needed_rule : Text → Rule
+needed_rule name = record (option_rule name) { required = true }
+
+-- `--steps N`, N from 0 to 4,294,967,295
+abbrev pub steps_rule : Rule
+steps_rule = record (option_rule (codes "steps")) { parser = Some (parser.Signed (pos 0) (pos 4294967295)) }
+
+-- one operand, which must be there
+abbrev pub operand_rule : Text → Rule
+operand_rule name = record (new_rule name) { required = true }
+
+-- one operand or more
+abbrev pub operands_rule : Text → Rule
+operands_rule name = record (operand_rule name) { range = Some (record { start_inclusive = 1; end_inclusive = usize_max }) }
+
+-- a subcommand of this name with these arguments
+abbrev pub shape_with : Text → List Rule → Shape
+shape_with name rules = record (new_shape name) { rules = rules }
+
+-- a subcommand with one more argument, behind its others
+abbrev pub added : Shape → Rule → Shape
+added shape rule = record shape { rules = shape.rules ++ rule ∷ [] }
+
+-- .. [--command F] [--samples F] [--schedule F]
+abbrev pub with_run_files : Shape → Shape
+with_run_files shape = added (added (added shape (option_rule (codes "command"))) (option_rule (codes "samples"))) (option_rule (codes "schedule"))
+
+-- asm SOURCE --obj F [--list F]
+abbrev pub asm_shape : Shape
+asm_shape = shape_with (codes "asm") (operand_rule (codes "source") ∷ needed_rule (codes "obj") ∷ option_rule (codes "list") ∷ [])
+
+-- link COMMAND OBJECT.. --out B
+abbrev pub link_shape : Shape
+link_shape = shape_with (codes "link") (operand_rule (codes "command") ∷ operands_rule (codes "object") ∷ needed_rule (codes "out") ∷ [])
+
+-- build SOURCE.. --out B [--command F]
+abbrev pub build_shape : Shape
+build_shape = shape_with (codes "build") (operands_rule (codes "source") ∷ needed_rule (codes "out") ∷ option_rule (codes "command") ∷ [])
+
+-- run SOURCE.. [--steps N] [--command F] [--samples F] [--schedule F]
+abbrev pub run_shape : Shape
+run_shape = with_run_files (shape_with (codes "run") (operands_rule (codes "source") ∷ steps_rule ∷ []))
+
+-- debug SOURCE.. --script F [--command F] [--samples F] [--schedule F]
+abbrev pub debug_shape : Shape
+debug_shape = with_run_files (shape_with (codes "debug") (operands_rule (codes "source") ∷ needed_rule (codes "script") ∷ []))
+
+-- the program before it has its subcommands: one of them must be there, and `help` is none
+abbrev pub bare_program : App
+bare_program = record {
+  top = record (new_shape (codes "c25")) { subcommand_required = true; disable_help_subcommand = true };
+  subs = [];
+}
+
+-- the program with all its subcommands
+abbrev pub program : App
+program = record {
+  top = record bare_program.top { is_leaf = false };
+  subs = asm_shape ∷ link_shape ∷ build_shape ∷ run_shape ∷ debug_shape ∷ [];
+}
+
+-- the command is a subcommand of this shape
+pub record IsSubcommand (shape : Shape) (command : Command) : Type 0 where
+  pub is : shape_of command ≡ shape
+  pub local : (out-Command command).has_globals ≡ false

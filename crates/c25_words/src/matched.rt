@@ -1,0 +1,72 @@
+//! Values of what `clap` found.
+
+ghost use Rattle.std.specs.Prelude.{◌≡◌, IfOk, IfSome, Some, codes};
+ghost use Rattle.clap.specs.Words.{all_of, first_of, one_of};
+ghost use Rattle.c25_words.specs.Complete.{IsStepsText, IsThere, rows_in};
+ghost use Rattle.c25_words.specs.Task.{AreRunFiles, IsSteps, text_of, texts_of};
+
+use crate::task::{DEFAULT_STEPS, RunFiles};
+use c25_meaning::no_memory::NoMemory;
+use clap::ArgMatches;
+use std::alloc::Global;
+
+/// The value of an argument that is there.
+pub(crate) fn needed<'a>(matches: &ArgMatches<'a>, id: &str) -> &'a str
+    requires { IsThere (rows_in matches.now) id.now }
+    ensures { first_of id.now (rows_in matches.now) ≡ Some result.now }
+{
+    match matches.get_str(id) {
+        Some(value) => value,
+        None => unreachable!(),
+    }
+}
+
+/// The value of an option, if it was given.
+pub(crate) fn optional<'a>(matches: &ArgMatches<'a>, id: &str) -> Option<&'a str>
+    ensures { first_of id.now (rows_in matches.now) ≡ text_of result }
+{
+    matches.get_str(id)
+}
+
+/// A list of borrowed words.
+fn copied<'a>(alloc: Global, words: &[&'a str]) -> Result<Vec<&'a str>, NoMemory>
+    ensures { IfOk result (λ v. v.items ≡ words.now) }
+{
+    let mut copies = Vec::new(alloc);
+    copies.extend_from_slice(words)?;
+    Ok(copies)
+}
+
+/// The values of an operand that is there, in their order.
+pub(crate) fn all<'a>(
+    alloc: Global,
+    matches: &ArgMatches<'a>,
+    id: &str,
+) -> Result<Vec<&'a str>, NoMemory>
+    requires { IsThere (rows_in matches.now) id.now }
+    ensures { IfOk result (λ v. all_of id.now (rows_in matches.now) ≡ Some (texts_of v.items)) }
+{
+    match matches.get_strs(id) {
+        Some(values) => copied(alloc, values),
+        None => unreachable!(),
+    }
+}
+
+/// The number of steps.
+pub(crate) fn steps(matches: &ArgMatches<'_>) -> u32
+    requires { IfSome (one_of (codes "steps") (rows_in matches.now)) IsStepsText }
+    ensures { IsSteps (one_of (codes "steps") (rows_in matches.now)) result }
+{
+    matches.get_one::<u32>("steps").unwrap_or(DEFAULT_STEPS)
+}
+
+/// The files that a run reads beside its sources.
+pub(crate) fn run_files<'a>(matches: &ArgMatches<'a>) -> RunFiles<'a>
+    ensures { AreRunFiles (rows_in matches.now) result }
+{
+    RunFiles {
+        command: optional(matches, "command"),
+        samples: optional(matches, "samples"),
+        schedule: optional(matches, "schedule"),
+    }
+}

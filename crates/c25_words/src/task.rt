@@ -1,0 +1,56 @@
+//! What the words ask for.
+
+/// How many steps a run has where the words do not say.
+pub const DEFAULT_STEPS: u32 = 1000;
+
+/// The files that a run reads beside its sources. One that is not named stands for an empty text.
+#[derive(Clone, Copy, Debug, PartialEq, Eq)]
+pub struct RunFiles<'a> {
+    /// The linker's command file.
+    pub command: Option<&'a str>,
+    /// The words that `IN` reads.
+    pub samples: Option<&'a str>,
+    /// Interrupts and levels of BIO by steps.
+    pub schedule: Option<&'a str>,
+}
+
+/// What the program is to do: a subcommand with its operands in their order and the values of its
+/// options.
+#[derive(Debug, Drop)]
+pub enum Task<'a> {
+    /// No words: the source is standard input, and runs for `DEFAULT_STEPS` steps.
+    RunStandardInput,
+    /// `asm SOURCE --obj FILE [--list FILE]`: writes the object and the listing.
+    Assemble {
+        source: &'a str,
+        object: &'a str,
+        listing: Option<&'a str>,
+    },
+    /// `link COMMAND OBJECT.. --out BASE`: writes `BASE.p0.hex`, `BASE.p1.hex` and `BASE.map`.
+    Link {
+        command: &'a str,
+        objects: Vec<&'a str>,
+        base: &'a str,
+    },
+    /// `build SOURCE.. --out BASE [--command FILE]`: writes what `link` does, and `BASE.1.lst`,
+    /// `BASE.2.lst`, .., a listing for each source.
+    Build {
+        sources: Vec<&'a str>,
+        base: &'a str,
+        command: Option<&'a str>,
+    },
+    /// `run SOURCE.. [--steps N] [--command FILE] [--samples FILE] [--schedule FILE]`: prints the
+    /// outputs and how the run ended.
+    Run {
+        sources: Vec<&'a str>,
+        steps: u32,
+        files: RunFiles<'a>,
+    },
+    /// `debug SOURCE.. --script FILE [--command FILE] [--samples FILE] [--schedule FILE]`: prints
+    /// the answers to a debugger's script.
+    Debug {
+        sources: Vec<&'a str>,
+        script: &'a str,
+        files: RunFiles<'a>,
+    },
+}

@@ -1,0 +1,284 @@
+//! Words of the program. Each case is a line: what reading it answers, `|`, and the words behind the
+//! program's name, apart by single blanks.
+
+use c25_words::fault::is_want_of_memory;
+use c25_words::read::read_words;
+use c25_words::task::{RunFiles, Task};
+use std::alloc::{AllocError, Global};
+use std::test::Fail;
+
+/// The program's name and the words of a line.
+fn words_of(alloc: Global, line: &str) -> Result<Vec<String>, AllocError> {
+    let mut words = Vec::new(alloc);
+    words.push(String::from_str(alloc, "c25")?)?;
+    for word in line.split(' ') {
+        words.push(String::from_str(alloc, word)?)?;
+    }
+    Ok(words)
+}
+
+/// Adds words, each behind a blank.
+fn push_words(out: &mut String, words: &[&str]) -> Result<(), AllocError> {
+    for word in words {
+        write!(out, " {word}")?;
+    }
+    Ok(())
+}
+
+/// Adds an option that was given.
+fn push_option(out: &mut String, name: &str, value: Option<&str>) -> Result<(), AllocError> {
+    match value {
+        Some(value) => write!(out, " {name}={value}"),
+        None => Ok(()),
+    }
+}
+
+fn push_files(out: &mut String, files: RunFiles<'_>) -> Result<(), AllocError> {
+    push_option(out, "command", files.command)?;
+    push_option(out, "samples", files.samples)?;
+    push_option(out, "schedule", files.schedule)
+}
+
+fn show(alloc: Global, task: &Task<'_>) -> Result<String, AllocError> {
+    let mut out = String::new(alloc);
+    match task {
+        Task::RunStandardInput => write!(out, "standard input")?,
+        Task::Assemble {
+            source,
+            object,
+            listing,
+        } => {
+            write!(out, "asm {source} object={object}")?;
+            push_option(&mut out, "listing", *listing)?;
+        }
+        Task::Link {
+            command,
+            objects,
+            base,
+        } => {
+            write!(out, "link {command} :")?;
+            push_words(&mut out, objects)?;
+            write!(out, " base={base}")?;
+        }
+        Task::Build {
+            sources,
+            base,
+            command,
+        } => {
+            write!(out, "build")?;
+            push_words(&mut out, sources)?;
+            write!(out, " base={base}")?;
+            push_option(&mut out, "command", *command)?;
+        }
+        Task::Run {
+            sources,
+            steps,
+            files,
+        } => {
+            write!(out, "run")?;
+            push_words(&mut out, sources)?;
+            write!(out, " steps={steps}")?;
+            push_files(&mut out, *files)?;
+        }
+        Task::Debug {
+            sources,
+            script,
+            files,
+        } => {
+            write!(out, "debug")?;
+            push_words(&mut out, sources)?;
+            write!(out, " script={script}")?;
+            push_files(&mut out, *files)?;
+        }
+    }
+    Ok(out)
+}
+
+/// What reading words answers: a task, or `refused`.
+fn told(alloc: Global, words: &[String]) -> Result<String, Fail> {
+    match read_words(alloc, words) {
+        Ok(task) => Ok(show(alloc, &task)?),
+        Err(fault) if is_want_of_memory(&fault) => Err("no memory".into()),
+        Err(_) => Ok(String::from_str(alloc, "refused")?),
+    }
+}
+
+/// The cases of a text, a line each, of which the answer is another one, with that answer.
+fn differing(alloc: Global, cases: &str) -> Result<String, Fail> {
+    let mut out = String::new(alloc);
+    for case in cases.lines() {
+        let (wanted, line) = case.split_once(" | ").ok_or("no bar")?;
+        let answer = told(alloc, &words_of(alloc, line)?)?;
+        if answer.as_str() != wanted {
+            write!(out, "{line}: {answer}\n")?;
+        }
+    }
+    Ok(out)
+}
+
+#[test]
+fn no_words_run_standard_input(rt: HostRuntime) -> Result<(), Fail> {
+    let mut words = Vec::new(rt.alloc());
+    assert_eq!(rt; told(rt.alloc(), &words)?.as_str(), "standard input");
+    words.push(String::from_str(rt.alloc(), "c25")?)?;
+    assert_eq!(rt; told(rt.alloc(), &words)?.as_str(), "standard input");
+    Ok(())
+}
+
+#[test]
+fn subcommands_take_their_words(rt: HostRuntime) -> Result<(), Fail> {
+    assert_eq!(rt; differing(rt.alloc(), TASKS)?.as_str(), "");
+    Ok(())
+}
+
+#[test]
+fn numbers_of_steps_are_read(rt: HostRuntime) -> Result<(), Fail> {
+    assert_eq!(rt; differing(rt.alloc(), STEPS)?.as_str(), "");
+    Ok(())
+}
+
+#[test]
+fn other_words_are_refused(rt: HostRuntime) -> Result<(), Fail> {
+    assert_eq!(rt; differing(rt.alloc(), REFUSED)?.as_str(), "");
+    Ok(())
+}
+
+const TASKS: &str = "\
+asm a.asm object=a.obj | asm a.asm --obj a.obj
+asm a.asm object=a.obj listing=a.lst | asm a.asm --obj a.obj --list a.lst
+asm a.asm object=a.obj listing=a.lst | asm --list=a.lst --obj=a.obj a.asm
+asm a.asm object=a.obj listing=a.lst | asm --list a.lst a.asm --obj a.obj
+link c.cmd : a.obj base=b | link c.cmd a.obj --out b
+link c.cmd : a.obj b.obj c.obj base=b | link c.cmd a.obj b.obj c.obj --out b
+link c.cmd : a.obj b.obj base=b | link c.cmd --out b a.obj b.obj
+link c.cmd : a.obj b.obj base=b | link c.cmd a.obj --out b b.obj
+link c.cmd : a.obj a.obj base=b | link --out b c.cmd a.obj a.obj
+build a.asm base=b | build a.asm --out b
+build a.asm b.asm base=b command=c.cmd | build a.asm b.asm --out b --command c.cmd
+build a.asm b.asm base=b command=c.cmd | build --command c.cmd a.asm --out=b b.asm
+run a.asm steps=1000 | run a.asm
+run a.asm b.asm c.asm steps=1000 | run a.asm b.asm c.asm
+run b.asm a.asm steps=3 command=c samples=s schedule=w | run b.asm a.asm --steps 3 --command c --samples s --schedule w
+run b.asm a.asm steps=3 command=c samples=s schedule=w | run --schedule w b.asm --samples=s a.asm --command c --steps=3
+run a.asm steps=1000 command=f samples=f schedule=f | run a.asm --command f --samples f --schedule f
+run a.asm steps=1000 samples=s | run a.asm --samples s
+run a.asm steps=1000 schedule=w | run a.asm --schedule w
+debug a.asm script=d | debug a.asm --script d
+debug a.asm b.asm script=d command=c samples=s schedule=w | debug a.asm --schedule w --samples s b.asm --script d --command c
+run run asm help steps=1000 | run run asm help
+run -a --steps -- steps=1000 | run -- -a --steps --
+run a b steps=1000 | run a -- b
+run a b steps=2 | run a --steps 2 -- b
+run - steps=1000 command=- | run - --command -
+asm - object=- listing=- | asm - --obj - --list=-
+run a steps=1000 command=-c | run a --command=-c
+run a steps=1000 command=--steps | run a --command=--steps
+run a steps=1000 command=c=d | run a --command=c=d
+run a steps=1000 command= | run a --command=
+run a steps=1000 samples==s | run a --samples==s
+link - : - base=- | link - - --out -
+debug a script=-- | debug a --script=--
+";
+
+const STEPS: &str = "\
+run a steps=0 | run a --steps 0
+run a steps=5 | run a --steps=5
+run a steps=5 | run a --steps +5
+run a steps=5 | run a --steps=+5
+run a steps=5 | run a --steps 0000000000000000000000005
+run a steps=0 | run a --steps=-0
+run a steps=0 | run a --steps=-000
+run a steps=0 | run a --steps +0
+run a steps=999 | run a --steps 999
+run a steps=1001 | run a --steps 1001
+run a steps=4294967295 | run a --steps 4294967295
+run a steps=4294967295 | run a --steps=+0004294967295
+refused | run a --steps 4294967296
+refused | run a --steps 18446744073709551616
+refused | run a --steps 99999999999999999999999999999999
+refused | run a --steps=-1
+refused | run a --steps -0
+refused | run a --steps -1
+refused | run a --steps=
+refused | run a --steps=+
+refused | run a --steps=-
+refused | run a --steps=+-0
+refused | run a --steps=-+0
+refused | run a --steps=++5
+refused | run a --steps ten
+refused | run a --steps 10h
+refused | run a --steps 0x10
+refused | run a --steps 1,000
+refused | run a --steps 5.0
+refused | run a --steps
+refused | run a --steps 5 --steps 5
+refused | run a --steps=5 --steps 6
+";
+
+const REFUSED: &str = "\
+refused | run
+refused | run --steps 5
+refused | run --
+refused | debug a.asm
+refused | debug --script d
+refused | debug a.asm --script
+refused | debug a.asm --script d --steps 5
+refused | debug a.asm --script d --script e
+refused | build a.asm
+refused | build --out b
+refused | build a.asm --out b --out b
+refused | build a.asm --out b --samples s
+refused | build a.asm --out b --list l
+refused | asm a.asm
+refused | asm --obj a.obj
+refused | asm a.asm b.asm --obj a.obj
+refused | asm a.asm --obj a.obj --obj a.obj
+refused | asm a.asm --obj a.obj --list
+refused | asm a.asm --obj a.obj --out b
+refused | asm a.asm --obj a.obj --command c
+refused | asm a.asm --obj --list l
+refused | link c.cmd a.obj
+refused | link c.cmd --out b
+refused | link --out b
+refused | link --command c.cmd a.obj --out b
+refused | run a.asm --obj a.obj
+refused | run a.asm --script d
+refused | run a.asm --out b
+refused | run a.asm --command c --command c
+refused | run a.asm --command -c
+refused | run a.asm --command --samples s
+refused | run a.asm --samples --
+refused | run a.asm --Steps 5
+refused | run a.asm --step 5
+refused | run a.asm --s 5
+refused | run a.asm -s 5
+refused | run a.asm -steps 5
+refused | run a.asm --=5
+refused | run a.asm -x
+refused | run a.asm -h
+refused | run a.asm --help
+refused | run a.asm --version
+refused | run a.asm -V
+refused | run --help
+refused | asm -h
+refused | link --help
+refused | build -h
+refused | debug --help
+refused | help
+refused | help run
+refused | -h
+refused | --help
+refused | --version
+refused | -V
+refused | --
+refused | -- run a.asm
+refused | -
+refused | assemble a.asm
+refused | Run a.asm
+refused | ru a.asm
+refused | a.asm
+refused | a.asm --steps 5
+refused | --steps 5
+refused | --steps 5 run a.asm
+refused | --command c run a.asm
+";
