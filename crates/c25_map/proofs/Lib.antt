@@ -1,1 +1,8 @@
+mod Cuts
+mod Digits
+mod Last
 mod Mapped
+mod Readers
+mod Spelled
+mod Steady
+mod Steps

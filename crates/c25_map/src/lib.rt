@@ -1,8 +1,16 @@
 //! Maps of linked programs: their texts, written and read.
 #![tactic(auto)]
 
+mod fields;
+pub mod laws;
+mod lines;
 mod map;
+mod map_fault;
+mod numbers;
+mod reading;
 mod writing;
 
 pub use map::{GlobalSymbol, Map, OutputSection, Part};
+pub use map_fault::MapFault;
+pub use reading::read_map;
 pub use writing::write_map;

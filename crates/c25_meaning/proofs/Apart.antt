@@ -1,15 +1,14 @@
 -- The places of a good map have no word in common.
-use Rattle.std.proofs.Common.{◌≡◌, ℕ, zero, suc, ◌+◌, ◌<◌, ◌≤◌, Bool, true, false, cond, List, [], ◌∷◌, ◌++◌, length, reverse, Some, find, All, Ok, refl, sym, ap, subst, ◌∙◌, arith, max}
-use Rattle.std.specs.List.{list_any}
+use Rattle.std.proofs.Common.{◌≡◌, ℕ, zero, suc, ◌+◌, ◌<◌, ◌≤◌, Bool, true, false, cond, List, [], ◌∷◌, ◌++◌, reverse, Some, find, All, Ok, refl, sym, subst, ◌∙◌, arith}
 use Rattle.std.specs.Str.{bytes_eq}
 use Rattle.std.proofs.lemmas.Bool.Decides.{nat_tests}
 use Rattle.std.proofs.lemmas.List.{reverse-reverse, reverse-append}
-use Rattle.std.proofs.lemmas.List.Elements.{All-nil, All-cons, All-head, All-tail, All-push}
+use Rattle.std.proofs.lemmas.List.Elements.{All-nil, All-head, All-tail, All-push}
 use Rattle.std.proofs.lemmas.List.Folds.{list_any_at}
 use Rattle.std.proofs.lemmas.Slice.Eq.{bytes_eq-Decides}
-use Rattle.c25_meaning.specs.Command.{RangeData, TargetData, Anywhere, InRange, At, Pairwise, IsRange}
+use Rattle.c25_meaning.specs.Command.{RangeData, TargetData, Anywhere, InRange, At, Pairwise}
 use Rattle.c25_meaning.specs.Place.{Place, Covers, place_named}
-use Rattle.c25_meaning.specs.GoodMap.{Request, has_word, is_taken, is_inside, IsFree, IsBase, IsBaseIn, Stands, Stand, ArePlaced, usable, page_for}
+use Rattle.c25_meaning.specs.GoodMap.{Request, has_word, is_taken, IsFree, IsBase, IsBaseIn, Stands, Stand, ArePlaced, usable, page_for}
 
 -- ---- a word of a place
 

@@ -1,6 +1,6 @@
 -- An address of a page lies in one part at most.
-use Rattle.std.proofs.Common.{◌≡◌, ℕ, zero, suc, ◌+◌, ◌<◌, ◌≤◌, Bool, true, false, not, ◌&&◌, ◌||◌, cond, ltb, leb, List, [], ◌∷◌, ◌++◌, length, get_or, take, Option, Some, refl, sym, ap, subst, ◌∙◌, arith, inl, inr, ◌⊎◌, ⊎_elim, add-one}
-use Rattle.std.specs.List.{list_any, slice_get, flat_map, sum_by}
+use Rattle.std.proofs.Common.{◌≡◌, ℕ, zero, suc, ◌+◌, ◌<◌, ◌≤◌, Bool, true, false, not, ◌&&◌, cond, ltb, List, [], ◌∷◌, ◌++◌, length, get_or, take, Option, Some, refl, sym, ap, subst, ◌∙◌, arith, inl, inr, ◌⊎◌}
+use Rattle.std.specs.List.{slice_get, sum_by}
 use Rattle.std.specs.Option.{option_map_or}
 use Rattle.std.specs.Str.{bytes_eq}
 use Rattle.std.proofs.lemmas.Bool.{cases_lt}
@@ -9,12 +9,12 @@ use Rattle.std.proofs.lemmas.List.Concat.{flat_map-cons}
 use Rattle.std.proofs.lemmas.List.Folds.{list_any_at}
 use Rattle.std.proofs.lemmas.List.Sums.{sum_by-append, sum_by-cons, sum_by_more, sum_by-take-le, get_or-le-sum_by}
 use Rattle.std.proofs.lemmas.Option.{slice_get_within, get_or_from_slice_get}
-use Rattle.c25_meaning.specs.Command.{RangeData, PlacingData, CommandData}
+use Rattle.c25_meaning.specs.Command.{RangeData, PlacingData}
 use Rattle.c25_meaning.specs.Module.{SectionData, Contents, body_size, each_fits, section_fits, has_section, is_module, lists_fit, has_sections}
-use Rattle.c25_meaning.specs.Place.{Place, Covers, place_named, base_of, page_of, size_for, size_of_parts, is_there, is_section_named, all_sections, part_base, IsPart, LiesIn}
+use Rattle.c25_meaning.specs.Place.{Place, place_named, base_of, page_of, size_for, size_of_parts, is_section_named, all_sections, part_base, IsPart, LiesIn}
 use Rattle.c25_meaning.specs.GoodMap.{requests, ArePlaced, has_word}
-use Rattle.c25_meaning.proofs.Apart.{Apart, placed_apart, named_apart, is_word}
-use Rattle.c25_meaning.proofs.PlaceNames.{HasPlace, place_of, any_section, is_same, same_name}
+use Rattle.c25_meaning.proofs.Apart.{placed_apart, named_apart, is_word}
+use Rattle.c25_meaning.proofs.PlaceNames.{place_of, any_section, is_same, same_name}
 
 -- ---- sizes of parts
 

@@ -1,13 +1,13 @@
 -- Each section of the modules has a place of its name, with room for all its parts.
-use Rattle.std.proofs.Common.{◌≡◌, ℕ, zero, suc, ◌+◌, ◌<◌, Bool, true, false, not, ◌&&◌, ◌||◌, cond, List, [], ◌∷◌, ◌++◌, map, filter, reverse, Option, Some, find, refl, sym, ap, subst, ◌∙◌}
-use Rattle.std.specs.List.{list_any, slice_get, flat_map}
+use Rattle.std.proofs.Common.{◌≡◌, ℕ, zero, suc, Bool, true, false, not, ◌&&◌, ◌||◌, cond, List, [], ◌∷◌, ◌++◌, map, filter, reverse, Some, refl, sym, ap, subst, ◌∙◌}
+use Rattle.std.specs.List.{list_any, slice_get}
 use Rattle.std.specs.Str.{bytes_eq}
 use Rattle.std.proofs.lemmas.List.{map-append, reverse-reverse, reverse-append}
 use Rattle.std.proofs.lemmas.List.Concat.{flat_map-cons}
 use Rattle.std.proofs.lemmas.List.Folds.{list_any-append}
 use Rattle.std.proofs.lemmas.Map.Keys.{any_passes_from_place}
 use Rattle.std.proofs.lemmas.Slice.Eq.{bytes_eq-Decides}
-use Rattle.c25_meaning.specs.Command.{RangeData, TargetData, Anywhere, InRange, At, PlacingData}
+use Rattle.c25_meaning.specs.Command.{RangeData, PlacingData}
 use Rattle.c25_meaning.specs.Module.{SectionData, Contents}
 use Rattle.c25_meaning.specs.Place.{Place, place_named, size_of_parts, is_there, is_section_named, all_sections}
 use Rattle.c25_meaning.specs.GoodMap.{Request, listed_request, unlisted_request, has_address, comes_first, comes_later, is_among, new_names, unlisted_names, requests, Stand, ArePlaced}

@@ -1,5 +1,5 @@
 -- Fields put and read, and the words of instructions whose fields were filled.
-use Rattle.std.proofs.Common.{◌≡◌, ℕ, ◌+◌, ◌/◌, ◌%◌, ◌^◌, ◌<◌, ℤ, pos, negsuc, true, arith, sym, ap, subst, rules}
+use Rattle.std.proofs.Common.{◌≡◌, ℕ, ◌+◌, ◌/◌, ◌%◌, ◌<◌, ℤ, pos, arith, sym, ap, subst, rules}
 use Rattle.c25_meaning.specs.declared.relocation.RelocationKind.{RelocationKind}
 use Rattle.c25_meaning.specs.declared.relocation.RelocationKind.TheVariants.{Word16, Low7, Page9}
 use Rattle.c25_meaning.specs.declared.insn.Insn.{Insn}

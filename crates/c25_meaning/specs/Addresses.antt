@@ -1,6 +1,6 @@
 -- The operands of a line under all symbols: the numbers that absolute values give their fields, and for each address
 -- the field that it goes into and what it counts from (SPRU018, expressions and relocation).
-use Rattle.std.specs.Prelude.{ℕ, zero, suc, ◌+◌, ◌<◌, Bool, true, false, List, [], ◌∷◌, ◌++◌, length, map, reverse, Option, Some, None, Result, Ok, Err, ℤ, if◌then◌else◌, slice_index}
+use Rattle.std.specs.Prelude.{ℕ, ◌+◌, ◌<◌, Bool, true, false, List, [], ◌∷◌, ◌++◌, length, map, reverse, Option, Some, None, Result, Ok, Err, ℤ, if◌then◌else◌, slice_index}
 use Rattle.std.specs.List.{All}
 use Rattle.c25_meaning.specs.Fits.{Holds}
 use Rattle.c25_meaning.specs.Results.{◌>>=◌, fold_ok}
@@ -19,11 +19,9 @@ use Rattle.c25_meaning.specs.declared.statement.FaultKind.{FaultKind}
 use Rattle.c25_meaning.specs.declared.statement.FaultKind.TheVariants as fault
 use Rattle.c25_meaning.specs.declared.statement.Field.{Field}
 use Rattle.c25_meaning.specs.declared.statement.Field.TheVariants as field
-use Rattle.c25_meaning.specs.declared.statement.Form.{Form}
 use Rattle.c25_meaning.specs.declared.statement.Form.TheVariants as form
 use Rattle.c25_meaning.specs.declared.value.Base.{Base}
 use Rattle.c25_meaning.specs.declared.value.Base.TheVariants.{Absolute, Section, External}
-use Rattle.c25_meaning.specs.declared.value.Value.{Value}
 
 -- ---- fields
 

@@ -10,7 +10,7 @@ use Rattle.c25_meaning.specs.Module.{is_section_name}
 use Rattle.c25_meaning.specs.Operands.{operands_of, written_of, is_string}
 use Rattle.c25_meaning.specs.Forms.{is_expression}
 use Rattle.c25_meaning.specs.Results.{◌>>=◌}
-use Rattle.c25_meaning.specs.StatementLine.{Operation, spelled, operation_of, trees_in}
+use Rattle.c25_meaning.specs.StatementLine.{spelled, operation_of, trees_in}
 use Rattle.c25_meaning.specs.Tree.{Tree}
 use Rattle.c25_meaning.specs.declared.assembly.Directive.{Directive}
 use Rattle.c25_meaning.specs.declared.assembly.Directive.TheVariants as directive

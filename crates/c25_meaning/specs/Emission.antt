@@ -1,5 +1,5 @@
 -- The module that the lines have made, when all its symbols are known (SPRU018, symbols and relocation).
-use Rattle.std.specs.Prelude.{ℕ, ◌+◌, Bool, true, false, not, if◌then◌else◌, List, [], ◌∷◌, ◌++◌, length, map, replicate, Option, Some, None, Result, Ok, Err, ℤ, pos}
+use Rattle.std.specs.Prelude.{ℕ, ◌+◌, Bool, true, false, if◌then◌else◌, List, [], ◌∷◌, ◌++◌, length, map, replicate, Option, Some, None, Result, Ok, Err, pos}
 use Rattle.std.specs.List.{flat_map, list_all}
 use Rattle.c25_meaning.specs.Addresses.{Sheet, sheet_of, words_of, relocations_of}
 use Rattle.c25_meaning.specs.ExpansionAnswers.{ExpansionFault, Faulty}

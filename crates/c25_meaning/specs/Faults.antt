@@ -1,10 +1,13 @@
 -- The numbers and names of faults, and what a fault says.
-use Rattle.std.specs.Prelude.{ℕ, List, ◌++◌, codes, Option, Some}
+use Rattle.std.specs.Prelude.{ℕ, List, ◌++◌, codes, Option, Some, option_map}
 use Rattle.std.specs.Fmt.{decimal}
 use Rattle.c25_meaning.specs.declared.statement.FaultKind.{FaultKind}
 use Rattle.c25_meaning.specs.declared.statement.FaultKind.TheVariants as fault
 use Rattle.c25_meaning.specs.declared.command_fault.CommandFault.{CommandFault}
 use Rattle.c25_meaning.specs.declared.command_fault.CommandFault.TheVariants as command
+use Rattle.c25_meaning.specs.declared.link_fault.FaultyLink.{FaultyLink}
+use Rattle.c25_meaning.specs.declared.link_fault.LinkFault.{LinkFault}
+use Rattle.c25_meaning.specs.declared.link_fault.LinkFault.TheVariants as link
 use Rattle.c25_meaning.specs.declared.hex_fault.HexFault.{HexFault}
 use Rattle.c25_meaning.specs.declared.hex_fault.HexFault.TheVariants as hex
 use Rattle.c25_meaning.specs.declared.object.ObjectFault.{ObjectFault}
@@ -78,6 +81,20 @@ command_name command.Syntax = codes "Syntax"
 command_name command.RangeOverlap = codes "RangeOverlap"
 command_name command.RangeSize = codes "RangeSize"
 command_name command.Twice = codes "Twice"
+
+-- the name of a linker's fault
+abbrev pub link_name : LinkFault → List ℕ
+link_name link.Unresolved = codes "Unresolved"
+link_name link.DefinedTwice = codes "DefinedTwice"
+link_name link.NoRange = codes "NoRange"
+link_name link.DoesNotFit = codes "DoesNotFit"
+link_name link.Overlap = codes "Overlap"
+link_name link.RelocRange = codes "RelocRange"
+link_name link.NoEntry = codes "NoEntry"
+
+-- what a linker's fault says, where it is known what its name is
+abbrev pub link_text : {Name : Type 0} → (Name → Option (List ℕ)) → FaultyLink Name → Option (List ℕ)
+link_text text_of f = option_map (λ name. name ++ codes ": " ++ link_name f.fault) (text_of f.name)
 
 -- the name of a hex text's fault
 abbrev pub hex_name : HexFault → List ℕ

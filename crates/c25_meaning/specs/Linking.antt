@@ -1,7 +1,7 @@
 -- What modules come to under a command: a program, or the first refusal (SPRU018, linker description; which refusal is
 -- told first is this project's own: 71, 70 and 76 over all modules, then 72, 73 and 74 by sections as they are placed,
 -- then 75).
-use Rattle.std.specs.Prelude.{◌≡◌, ℕ, List, [], ◌∷◌, ◌++◌, map, find, filter, ℤ, Bool, false, not, Option, Some, None, is_none, Result, Ok, Err, if◌then◌else◌, ◌⊎◌, ◌↔◌, true}
+use Rattle.std.specs.Prelude.{◌≡◌, ℕ, List, [], ◌∷◌, map, find, filter, ℤ, Bool, false, not, Option, Some, None, is_none, Result, Ok, Err, if◌then◌else◌, ◌⊎◌, ◌↔◌, true}
 use Rattle.std.specs.Option.{option_map}
 use Rattle.std.specs.List.Sorted.{IsPermutation}
 use Rattle.std.specs.Fmt.{decimal}

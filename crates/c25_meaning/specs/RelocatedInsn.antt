@@ -1,5 +1,5 @@
 -- The instructions whose words have a field that is filled when modules are linked (SPRU014, instruction set).
-use Rattle.std.specs.Prelude.{◌≡◌, ℕ, ℤ, pos}
+use Rattle.std.specs.Prelude.{◌≡◌, ℕ, pos}
 use Rattle.c25_meaning.specs.declared.relocation.RelocationKind.{RelocationKind}
 use Rattle.c25_meaning.specs.declared.relocation.RelocationKind.TheVariants.{Word16, Low7, Page9}
 use Rattle.c25_meaning.specs.declared.insn.Insn.{Insn}

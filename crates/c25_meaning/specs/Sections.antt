@@ -1,6 +1,6 @@
 -- What the lines of a module make one after another: sections with their sizes, symbols, and what waits for the symbols
 -- (SPRU018, sections, symbols, assembler directives).
-use Rattle.std.specs.Prelude.{ℕ, ◌+◌, ◌*◌, ◌/◌, Bool, true, false, not, ◌&&◌, is_some, nat_le, nat_lt, if◌then◌else◌, List, [], ◌∷◌, ◌++◌, length, filter, set, slice_get, codes, Option, Some, None, Result, Ok, Err, ℤ, pos, negsuc}
+use Rattle.std.specs.Prelude.{ℕ, ◌+◌, ◌/◌, Bool, true, false, not, ◌&&◌, is_some, nat_le, nat_lt, if◌then◌else◌, List, [], ◌∷◌, ◌++◌, length, filter, set, slice_get, codes, Option, Some, None, Result, Ok, Err, ℤ, pos, negsuc}
 use Rattle.std.specs.List.{position, find, list_any}
 use Rattle.std.specs.Str.{bytes_eq}
 use Rattle.c25_meaning.specs.Addresses.{target_size}

@@ -1,10 +1,9 @@
 -- The words of a program, from its modules: the words of initialised sections at their addresses, each relocated field
 -- holding its base's address or value plus the addend (SPRU018, linker description, relocation and symbols).
-use Rattle.std.specs.Prelude.{◌≡◌, ℕ, ◌+◌, ◌==◌, ℤ, pos, ◌+ℤ◌, Bool, true, false, ◌&&◌, List, [], ◌∷◌, Option, Some, None, find, filter, map}
-use Rattle.std.specs.Option.{option_map, option_map_or}
+use Rattle.std.specs.Prelude.{◌≡◌, ℕ, ◌+◌, ◌==◌, ℤ, pos, ◌+ℤ◌, Bool, true, false, ◌&&◌, List, [], Option, Some, None, find, filter, map}
+use Rattle.std.specs.Option.{option_map_or}
 use Rattle.std.specs.List.{slice_get}
 use Rattle.std.specs.Str.{bytes_eq}
-use Rattle.c25_bits.specs.Cut.{cut}
 use Rattle.c25_meaning.specs.Module.{SectionData, SymbolData, Contents, is_global, body_words}
 use Rattle.c25_meaning.specs.Fields.{filled, field_number}
 use Rattle.c25_meaning.specs.Place.{Place, by_modules, part_base, page_of, IsPart}

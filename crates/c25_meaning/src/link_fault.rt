@@ -23,17 +23,21 @@ pub enum LinkFault {
 }
 
 impl fmt::Display for LinkFault {
+    ghost use Rattle.std.specs.Prelude.{Some};
+    ghost use Rattle.c25_meaning.specs.Faults.{link_name};
+
+    ghost output = { λ fault. Some (link_name fault) };
+
     fn fmt<W: fmt::Write>(&self, f: &mut fmt::Formatter<W>) -> fmt::Result {
-        let name = match self {
-            LinkFault::Unresolved => "Unresolved",
-            LinkFault::DefinedTwice => "DefinedTwice",
-            LinkFault::NoRange => "NoRange",
-            LinkFault::DoesNotFit => "DoesNotFit",
-            LinkFault::Overlap => "Overlap",
-            LinkFault::RelocRange => "RelocRange",
-            LinkFault::NoEntry => "NoEntry",
-        };
-        write!(f, "{name}")
+        match self {
+            LinkFault::Unresolved => f.write_str("Unresolved"),
+            LinkFault::DefinedTwice => f.write_str("DefinedTwice"),
+            LinkFault::NoRange => f.write_str("NoRange"),
+            LinkFault::DoesNotFit => f.write_str("DoesNotFit"),
+            LinkFault::Overlap => f.write_str("Overlap"),
+            LinkFault::RelocRange => f.write_str("RelocRange"),
+            LinkFault::NoEntry => f.write_str("NoEntry"),
+        }
     }
 }
 
@@ -48,6 +52,10 @@ pub struct FaultyLink<Name> {
 }
 
 impl<Name: fmt::Display> fmt::Display for FaultyLink<Name> {
+    ghost use Rattle.c25_meaning.specs.Faults.{link_text};
+
+    ghost output = { λ faulty. link_text Name.output faulty };
+
     fn fmt<W: fmt::Write>(&self, f: &mut fmt::Formatter<W>) -> fmt::Result {
         write!(f, "{}: {}", self.name, self.fault)
     }

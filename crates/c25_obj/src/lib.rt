@@ -24,7 +24,7 @@ mod writing;
 
 pub use made::Module;
 pub use making::module;
-pub use names::is_section_name;
+pub use names::{is_section_name, is_symbol_name};
 pub use parts::{Body, Parts, Section, Symbol};
 pub use reading::read_module;
 pub use spelling::spells;

@@ -26,7 +26,7 @@ pub fn is_section_name(name: &[u8]) -> bool
 }
 
 /// Whether these are 1 to 128 characters of a symbol's name.
-pub(crate) fn is_symbol_name(name: &[u8]) -> bool
+pub fn is_symbol_name(name: &[u8]) -> bool
     ensures { result ≡ spec.is_symbol_name name.now }
 {
     name.len() >= 1 && name.len() <= 128 && begins_name(name[0]) && all_go_on_name(name)

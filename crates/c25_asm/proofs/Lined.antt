@@ -1,0 +1,25 @@
+-- One line more, and its entry in the listing.
+use Rattle.std.proofs.Common.{◌≡◌, ℕ, ◌-◌, List, [], ◌∷◌, ◌++◌, Result, Ok, ap, sym, ◌∙◌}
+use Rattle.c25_meaning.specs.Emission.{at_origin}
+use Rattle.c25_meaning.specs.ExpansionAnswers.{ExpandedLine}
+use Rattle.c25_meaning.specs.Listing.{Entry}
+use Rattle.c25_meaning.specs.ModuleOfSource.{Passed, origin_of, entry_of, pass_line}
+use Rattle.c25_meaning.specs.Results.{◌>>=◌}
+use Rattle.c25_meaning.specs.Sections.{Progress, size_at}
+use Rattle.c25_meaning.specs.declared.statement.FaultKind.{FaultKind}
+use Rattle.c25_asm.specs.Steps.{text_passed}
+
+-- the words by which the section of a line grew
+pub entry_is : (l : ExpandedLine) (old new : Progress) (offset size count : ℕ) → offset ≡ size_at old.sections old.current → size ≡ size_at new.sections old.current → count ≡ size - offset
+    → record { line = l.line; text = l.text; section = old.current; offset = offset; count = count } ≡ entry_of l old new
+entry_is l old new offset size count a b c =
+    let made : ℕ → ℕ → Entry = λ m n. record { line = l.line; text = l.text; section = old.current; offset = m; count = n } in
+    ap (made offset) (c ∙ ap (λ n. n - offset) b) ∙ ap (λ m. made m (size_at new.sections old.current - m)) a
+
+-- a line that passes comes behind the others
+pub line_passed : (l : ExpandedLine) (a : Passed) (p : Progress) (entries : List Entry) → text_passed (origin_of l) l.text a.progress ≡ Ok p
+    → entries ≡ a.entries ++ entry_of l a.progress p ∷ [] → pass_line l a ≡ Ok (record { progress = p; entries = entries })
+unfolding pass_line
+line_passed l a p entries h e =
+    let made : Progress → List Entry → Passed = λ q es. record { progress = q; entries = es } in
+    ap (λ (r : Result Progress FaultKind). at_origin (origin_of l) r >>= λ q. Ok (made q (a.entries ++ entry_of l a.progress q ∷ []))) h ∙ ap (λ es. Ok (made p es)) (sym e)

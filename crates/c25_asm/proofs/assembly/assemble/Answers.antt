@@ -1,0 +1,9 @@
+use Rattle.c25_obj.specs.View.{contents}
+use Rattle.c25_asm.specs.View.{passed_of}
+use Rattle.c25_asm.proofs.Made.{lists_are_a_module}
+use Rattle.c25_asm.proofs.assembly.assemble.Goals as goal
+
+pub module-requires : goal.module-requires
+module-requires c =
+    lists_are_a_module c.args.files.now c.args.name.now (passed_of c.in_ok-progress.field-0) (contents c.in_ok-parts.parts) c.in_ok-progress.ensures
+    c.in_ok-parts.ensures

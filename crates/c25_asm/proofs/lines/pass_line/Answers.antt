@@ -1,0 +1,17 @@
+use Rattle.std.proofs.Common.{ℕ, List, [], ◌∷◌, ◌++◌, ap, sym, ◌∙◌}
+use Rattle.std.proofs.lemmas.List.{map-append}
+use Rattle.c25_macro.specs.Expander.{shown}
+use Rattle.c25_meaning.specs.Listing.{Entry}
+use Rattle.c25_meaning.specs.ModuleOfSource.{origin_of}
+use Rattle.c25_asm.specs.Steps.{text_passed}
+use Rattle.c25_asm.specs.View.{entry_of, entries_of, passed_of, progress_of}
+use Rattle.c25_asm.proofs.Lined.{entry_is, line_passed}
+use Rattle.c25_asm.proofs.lines.pass_line.Goals as goal
+
+pub returns-in-Ok : goal.returns-in-Ok
+returns-in-Ok c =
+    line_passed (shown c.args.line) (passed_of c.args.passed) (progress_of c.read_and_pass.new.progress) (entries_of c.push.new.self.items)
+    (ap (λ (t : List ℕ). text_passed (origin_of (shown c.args.line)) t (progress_of c.args.passed.progress)) (sym c.as_str.ensures.value) ∙ c.in-Ok.ensures.told)
+    (ap entries_of c.in_ok-push-in-Ok.ensures.items ∙ map-append entry_of c.args.passed.entries.items _
+    ∙ ap (λ (e : Entry). entries_of c.args.passed.entries.items ++ e ∷ [])
+    (entry_is (shown c.args.line) (progress_of c.args.passed.progress) (progress_of c.read_and_pass.new.progress) _ _ _ c.size_at-offset.ensures.value c.size_at.ensures.value c.saturating_sub-count.ensures))

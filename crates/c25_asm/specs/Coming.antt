@@ -1,0 +1,21 @@
+-- The lines that a module still has.
+use Rattle.std.specs.Prelude.{◌≡◌, ◌<◌, ℕ, List, Result, Err}
+use Rattle.c25_macro.specs.Expander.{Expansion, Stage, Stands, Absent, Failed}
+use Rattle.c25_meaning.specs.ExpansionAnswers.{ExpansionFault, Missing}
+use Rattle.c25_meaning.specs.Files.{Files}
+use Rattle.c25_meaning.specs.ModuleOfSource as source
+use Rattle.c25_meaning.specs.Results.{MeetsBy}
+use Rattle.c25_meaning.specs.declared.failure.Failure.{Failure}
+use Rattle.c25_asm.specs.View.{fault_of, passed_of}
+use Rattle.c25_asm.specs.declared.fault.AsmFault.{AsmFault}
+use Rattle.c25_asm.specs.declared.passed.Passed.{Passed}
+
+-- what all lines of the module of a name make, where an expansion stands there and these have passed
+abbrev pub StillComes : Files → List ℕ → Stage → source.Passed → Result source.Passed ExpansionFault → Type 0
+StillComes files name (Stands c) a meant = (n : ℕ) × (c.left < n) × (source.passed files n c a ≡ meant)
+StillComes files name Absent a meant = meant ≡ Err (Missing name 0 name)
+StillComes files name (Failed f) a meant = ⊥
+
+-- the answer is what all lines make
+abbrev pub IsRest : Expansion → source.Passed → Result Passed (Failure AsmFault) → Type 0
+IsRest e a result = (meant : Result source.Passed ExpansionFault) → StillComes e.files e.name e.stage a meant → MeetsBy fault_of passed_of meant result

@@ -1,0 +1,9 @@
+pub mod Coming
+pub mod FaultText
+pub mod Flags
+pub mod Imports
+pub mod Names
+pub mod Sizes
+pub mod Steps
+pub mod Told
+pub mod View

@@ -1,0 +1,39 @@
+-- Where a source is refused.
+use Rattle.std.specs.Prelude.{◌≡◌, ℕ, List, Option, Some, None}
+use Rattle.std.specs.String.{string_bytes}
+use denote.Ref.{Bor}
+use Rattle.c25_macro.specs.declared.answer.ExpandFault.{ExpandFault}
+use Rattle.c25_meaning.specs.declared.failure.Failure.{Failure}
+use Rattle.c25_meaning.specs.declared.failure.Failure.TheVariants.{NoMemory, Fault}
+use Rattle.c25_meaning.specs.declared.statement.FaultKind.{FaultKind}
+use Rattle.c25_asm.specs.declared.fault.AsmFault.{AsmFault}
+use Rattle.c25_asm.specs.declared.fault.AsmFault.TheVariants.{Line, NoFile}
+use Rattle.c25_asm.specs.declared.item.Origin.{Origin}
+
+-- why a line is refused, as why the source is
+abbrev pub at_origin : Origin → Failure FaultKind → Failure AsmFault
+at_origin o (NoMemory n) = NoMemory n
+at_origin o (Fault kind) = Fault (Line o.file o.line kind)
+
+-- a line is wrong, as why the source is refused
+abbrev pub IsWrongLine : ExpandFault → Failure AsmFault → Type 0
+IsWrongLine f (Fault (Line file line kind)) = (file.now ≡ f.file.now) × (line ≡ f.line) × (kind ≡ f.kind)
+IsWrongLine f (Fault (NoFile file line text)) = ⊥
+IsWrongLine f (NoMemory n) = ⊥
+
+-- a file of this name is not there, as why the source is refused
+abbrev pub IsNoFile : List ℕ → ExpandFault → Failure AsmFault → Type 0
+IsNoFile name f (Fault (Line file line kind)) = ⊥
+IsNoFile name f (Fault (NoFile file line text)) = (file.now ≡ f.file.now) × (line ≡ f.line) × (string_bytes text ≡ name)
+IsNoFile name f (NoMemory n) = Unit {0}
+
+-- a fault of expansion, as why the source is refused; `missing` is the name of the file that is not there
+abbrev pub IsToldBy : Option (Bor (List ℕ)) → ExpandFault → Failure AsmFault → Type 0
+IsToldBy None f told = IsWrongLine f told
+IsToldBy (Some name) f told = IsNoFile name.now f told
+
+-- why expansion gives no line, as why the source is refused
+abbrev pub IsTold : Option (Bor (List ℕ)) → Failure ExpandFault → Failure AsmFault → Type 0
+IsTold missing (NoMemory n) (NoMemory m) = Unit {0}
+IsTold missing (NoMemory n) (Fault f) = ⊥
+IsTold missing (Fault f) told = IsToldBy missing f told

@@ -1,0 +1,132 @@
+//! A section as far as the lines have made it.
+
+ghost use Rattle.std.specs.Prelude.{◌≡◌, ◌≤◌, ◌+◌, OnOk, IfOk};
+ghost use Rattle.c25_meaning.specs.Emission.{extended, section_of};
+ghost use Rattle.c25_meaning.specs.Sections.{empty_section, is_called, longer, with_mark};
+ghost use Rattle.c25_obj.specs.View.{section_data};
+
+use c25_meaning::no_memory::NoMemory;
+use c25_meaning::object::{ModuleMark, Relocation};
+use c25_obj::Body;
+use std::alloc::Global;
+use std::marker::Model;
+
+/// A section: the first phase gives its size and marks, the second one its words and relocations.
+#[derive(Drop)]
+pub(crate) struct Section {
+    name: String,
+    initialised: bool,
+    size: u32,
+    marks: Vec<ModuleMark>,
+    words: Vec<u16>,
+    relocations: Vec<Relocation>,
+}
+
+impl Model for Section {
+    ghost use Rattle.std.specs.Prelude.{◌≤◌};
+    ghost use Rattle.std.specs.String.{string_bytes};
+    ghost use Rattle.c25_meaning.specs.Sections.{Section};
+
+    ghost Value = { Section };
+
+    ghost view = { λ s. record { name = string_bytes s.name; initialised = s.initialised; size = s.size; marks = s.marks.items; words = s.words.items; relocations = s.relocations.items } };
+
+    ghost invariant = { λ s. s.size ≤ 65536 };
+}
+
+impl Section {
+    /// A section without words.
+    pub(crate) fn new(alloc: Global, name: &str, initialised: bool) -> Result<Section, NoMemory>
+        ensures { IfOk result (λ s. s ≡ empty_section name.now initialised) }
+    {
+        let name = String::from_str(alloc, name)?;
+        Ok(Section {
+            name,
+            initialised,
+            size: 0,
+            marks: Vec::new(alloc),
+            words: Vec::new(alloc),
+            relocations: Vec::new(alloc),
+        })
+    }
+
+    pub(crate) fn is_called(&self, name: &str) -> bool
+        ensures { result ≡ is_called name.now self.now }
+    {
+        name.as_bytes() == self.name.as_bytes()
+    }
+
+    pub(crate) fn is_initialised(&self) -> bool
+        ensures { result ≡ self.now.initialised }
+    {
+        self.initialised
+    }
+
+    pub(crate) fn size(&self) -> u32
+        ensures value { result ≡ self.now.size }
+        ensures bound { result ≤ 65536 }
+    {
+        self.size
+    }
+
+    pub(crate) fn marks(&self) -> &[ModuleMark]
+        ensures { result.now ≡ self.now.marks }
+    {
+        self.marks.as_slice()
+    }
+
+    pub(crate) fn relocations(&self) -> &[Relocation]
+        ensures { result.now ≡ self.now.relocations }
+    {
+        self.relocations.as_slice()
+    }
+
+    /// So many words longer.
+    pub(crate) fn lengthen(&mut self, words: u32)
+        requires { self.old.size + words ≤ 65536 }
+        ensures { self.new ≡ longer words self.old }
+    {
+        self.size += words;
+    }
+
+    /// One mark more.
+    pub(crate) fn mark(&mut self, mark: ModuleMark) -> Result<(), NoMemory>
+        ensures { OnOk result (self.new ≡ with_mark mark self.old) }
+    {
+        self.marks.push(mark)?;
+        Ok(())
+    }
+
+    /// Words and relocations behind those that are there.
+    pub(crate) fn extend(
+        &mut self,
+        words: &[u16],
+        relocations: &[Relocation],
+    ) -> Result<(), NoMemory>
+        ensures { OnOk result (self.new ≡ extended words.now relocations.now self.old) }
+    {
+        self.words.extend_from_slice(words)?;
+        self.relocations.extend_from_slice(relocations)?;
+        Ok(())
+    }
+
+    /// The section of the module.
+    pub(crate) fn into_part(self) -> c25_obj::Section
+        ensures { section_data result ≡ section_of self }
+    {
+        let Section {
+            name,
+            initialised,
+            size,
+            marks: _,
+            words,
+            relocations: _,
+        } = self;
+        let body = if initialised {
+            Body::Initialised(words)
+        } else {
+            Body::Uninitialised(size)
+        };
+        c25_obj::Section { name, body }
+    }
+}

@@ -1,0 +1,165 @@
+//! The sections of a module.
+
+ghost use Rattle.std.specs.Prelude.{◌≡◌, ◌≤◌, ◌<◌, ◌+◌, ◌∷◌, ◌++◌, [], length, OnOk, IfOk, IfSome, map};
+ghost use Rattle.std.specs.List.{position, find, flat_map};
+ghost use Rattle.std.specs.Option.{option_copied};
+ghost use Rattle.c25_meaning.specs.Emission.{extended, section_of};
+ghost use Rattle.c25_meaning.specs.Sections.{changed, is_called, longer, same_kind, size_at, with_mark};
+ghost use Rattle.c25_obj.specs.View.{sections_data};
+
+use crate::section::Section;
+use c25_meaning::no_memory::NoMemory;
+use c25_meaning::object::{ModuleMark, Relocation};
+use std::alloc::Global;
+use std::marker::Model;
+
+/// The sections of a module, in order of first use.
+#[derive(Drop)]
+pub(crate) struct Sections {
+    alloc: Global,
+    sections: Vec<Section>,
+}
+
+impl Model for Sections {
+    ghost use Rattle.std.specs.Prelude.{List, length, ◌≤◌};
+    ghost use Rattle.c25_meaning.specs.Sections.{Section};
+
+    ghost Value = { List Section };
+
+    ghost view = { λ s. s.sections.items };
+
+    ghost invariant = { λ s. length s.sections.items ≤ 255 };
+}
+
+fn find<'a>(sections: &'a [Section], name: &str) -> Option<&'a Section>
+    ensures { option_copied result ≡ find (is_called name.now) sections.now }
+{
+    sections.iter().find(|section| section.is_called(name))
+}
+
+impl Sections {
+    pub(crate) fn new(alloc: Global) -> Sections
+        ensures { result ≡ [] }
+    {
+        Sections {
+            alloc,
+            sections: Vec::new(alloc),
+        }
+    }
+
+    pub(crate) fn len(&self) -> usize
+        ensures value { result ≡ length self.now }
+        ensures bound { result ≤ 255 }
+    {
+        self.sections.len()
+    }
+
+    /// One section more.
+    pub(crate) fn push(&mut self, section: Section) -> Result<(), NoMemory>
+        requires { length self.old < 255 }
+        ensures { OnOk result (self.new ≡ self.old ++ section ∷ []) }
+    {
+        self.sections.push(section)?;
+        Ok(())
+    }
+
+    /// The number of the section of a name.
+    pub(crate) fn position(&self, name: &str) -> Option<usize>
+        ensures value { result ≡ position (is_called name.now) self.now }
+        ensures bound { IfSome result (λ i. i < 255) }
+    {
+        self.sections
+            .iter()
+            .position(|section| section.is_called(name))
+    }
+
+    /// Whether the section of a name, if there is one, is of this kind.
+    pub(crate) fn has_kind(&self, name: &str, initialised: bool) -> bool
+        ensures { result ≡ same_kind initialised (find (is_called name.now) self.now) }
+    {
+        match find(self.sections.as_slice(), name) {
+            Some(section) => section.is_initialised() == initialised,
+            None => true,
+        }
+    }
+
+    /// The size of the section of a number.
+    pub(crate) fn size_at(&self, number: u16) -> u32
+        ensures value { result ≡ size_at self.now number }
+        ensures bound { result ≤ 65536 }
+    {
+        match self.sections.get(number as usize) {
+            Some(section) => section.size(),
+            None => 0,
+        }
+    }
+
+    /// So many words more in the section of a number.
+    pub(crate) fn lengthen(&mut self, number: u16, words: u32)
+        requires { size_at self.old number + words ≤ 65536 }
+        ensures { self.new ≡ changed (longer words) self.old number }
+    {
+        if let Some(section) = self.sections.get_mut(number as usize) {
+            section.lengthen(words);
+        }
+    }
+
+    /// One mark more in the section of a number.
+    pub(crate) fn mark(&mut self, number: u16, mark: ModuleMark) -> Result<(), NoMemory>
+        ensures { OnOk result (self.new ≡ changed (with_mark mark) self.old number) }
+    {
+        if let Some(section) = self.sections.get_mut(number as usize) {
+            section.mark(mark)?;
+        }
+        Ok(())
+    }
+
+    /// Words and relocations behind those of the section of a number.
+    pub(crate) fn extend(
+        &mut self,
+        number: u16,
+        words: &[u16],
+        relocations: &[Relocation],
+    ) -> Result<(), NoMemory>
+        ensures { OnOk result (self.new ≡ changed (extended words.now relocations.now) self.old number) }
+    {
+        if let Some(section) = self.sections.get_mut(number as usize) {
+            section.extend(words, relocations)?;
+        }
+        Ok(())
+    }
+
+    /// The marks of all sections.
+    pub(crate) fn marks(&self) -> Result<Vec<ModuleMark>, NoMemory>
+        ensures { IfOk result (λ v. v.items ≡ flat_map (λ s. s.marks) self.now) }
+    {
+        let mut marks = Vec::new(self.alloc);
+        for section in &self.sections {
+            marks.extend_from_slice(section.marks())?;
+        }
+        Ok(marks)
+    }
+
+    /// The relocations of all sections.
+    pub(crate) fn relocations(&self) -> Result<Vec<Relocation>, NoMemory>
+        ensures { IfOk result (λ v. v.items ≡ flat_map (λ s. s.relocations) self.now) }
+    {
+        let mut relocations = Vec::new(self.alloc);
+        for section in &self.sections {
+            relocations.extend_from_slice(section.relocations())?;
+        }
+        Ok(relocations)
+    }
+
+    /// The sections of the module.
+    pub(crate) fn into_parts(self) -> Result<Vec<c25_obj::Section>, NoMemory>
+        ensures { IfOk result (λ v. sections_data v.items ≡ map section_of self) }
+    {
+        let Sections { alloc, sections } = self;
+        let mut parts = Vec::new(alloc);
+        for section in sections {
+            parts.push(section.into_part())?;
+        }
+        Ok(parts)
+    }
+}

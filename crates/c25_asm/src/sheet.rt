@@ -1,0 +1,167 @@
+//! The operands of a line under all names.
+
+ghost use Rattle.std.specs.Prelude.{◌≡◌, length, OnOk};
+ghost use Rattle.c25_meaning.specs.Addresses.{no_operands, with_number, with_address, with_value, taken, sheet_of, target_size, AreWithin, FitsTarget};
+ghost use Rattle.c25_meaning.specs.Results.{Meets};
+ghost use Rattle.c25_meaning.specs.Statement.{valued};
+ghost use Rattle.c25_expr.specs.View.{tree_of};
+ghost use Rattle.c25_statements.specs.View.{trees_of};
+
+use crate::targets::field_of;
+use c25_expr::failure::value_fault;
+use c25_expr::symbols::Symbols;
+use c25_expr::tree::Expr;
+use c25_expr::value::value;
+use c25_meaning::assembly::{Address, Target};
+use c25_meaning::failure::Failure;
+use c25_meaning::no_memory::NoMemory;
+use c25_meaning::object::RelocationBase;
+use c25_meaning::relocation::RelocationKind;
+use c25_meaning::statement::{FaultKind, Field};
+use c25_meaning::value::{Base, Value};
+use c25_statements::fields::{number_in, relocation_of};
+use std::alloc::Global;
+use std::marker::Model;
+
+/// The numbers of a line's operands, 0 where a value is an address, and the addresses among them.
+#[derive(Drop)]
+pub(crate) struct Sheet {
+    pub(crate) numbers: Vec<u16>,
+    pub(crate) addresses: Vec<Address>,
+}
+
+impl Model for Sheet {
+    ghost use Rattle.c25_meaning.specs.Addresses.{Sheet};
+
+    ghost Value = { Sheet };
+
+    ghost view = { λ s. record { numbers = s.numbers.items; addresses = s.addresses.items } };
+}
+
+/// The value of an expression.
+pub(crate) fn valued(symbols: &Symbols, expr: &Expr) -> Result<Value, FaultKind>
+    ensures { result ≡ valued symbols.now (tree_of expr.now) }
+{
+    match value(expr, symbols) {
+        Ok(value) => Ok(value),
+        Err(fault) => Err(value_fault(fault)),
+    }
+}
+
+impl Sheet {
+    pub(crate) fn new(alloc: Global) -> Sheet
+        ensures { result ≡ no_operands }
+    {
+        Sheet {
+            numbers: Vec::new(alloc),
+            addresses: Vec::new(alloc),
+        }
+    }
+
+    pub(crate) fn numbers(&self) -> &[u16]
+        ensures { result.now ≡ self.now.numbers }
+    {
+        self.numbers.as_slice()
+    }
+
+    pub(crate) fn addresses(&self) -> &[Address]
+        ensures { result.now ≡ self.now.addresses }
+    {
+        self.addresses.as_slice()
+    }
+
+    fn clear(&mut self)
+        ensures { self.new ≡ no_operands }
+    {
+        self.numbers.clear();
+        self.addresses.clear();
+    }
+
+    fn put_number(&mut self, number: u16) -> Result<(), NoMemory>
+        ensures { OnOk result (self.new ≡ with_number number self.old) }
+    {
+        self.numbers.push(number)?;
+        Ok(())
+    }
+
+    /// An address more, where the field takes one.
+    fn put_address(
+        &mut self,
+        kind: Option<RelocationKind>,
+        base: RelocationBase,
+        addend: i32,
+    ) -> Result<(), Failure<FaultKind>>
+        ensures { Meets (λ _. self.new) (with_address kind base addend self.old) result }
+    {
+        let Some(kind) = kind else {
+            return Err(Failure::Fault(FaultKind::NotRelocatable));
+        };
+        let operand = self.numbers.len();
+        self.numbers.push(0)?;
+        self.addresses.push(Address {
+            operand,
+            kind,
+            base,
+            addend,
+        })?;
+        Ok(())
+    }
+
+    /// A value more.
+    fn put(&mut self, field: Field, value: Value) -> Result<(), Failure<FaultKind>>
+        ensures { Meets (λ _. self.new) (with_value value.base field value.offset self.old) result }
+    {
+        match value.base {
+            Base::Absolute => match number_in(field, value.offset) {
+                Ok(number) => {
+                    self.put_number(number)?;
+                    Ok(())
+                }
+                Err(fault) => Err(Failure::Fault(fault)),
+            },
+            Base::Section(number) => {
+                let base = RelocationBase::Section(number);
+                self.put_address(relocation_of(field), base, value.offset)
+            }
+            Base::External(number) => {
+                let base = RelocationBase::External(number);
+                self.put_address(relocation_of(field), base, value.offset)
+            }
+        }
+    }
+
+    /// One operand more.
+    #[tactic(auto, unfolding(c25_meaning::specs::Addresses::taken))]
+    fn take(
+        &mut self,
+        target: Target,
+        symbols: &Symbols,
+        expr: &Expr,
+    ) -> Result<(), Failure<FaultKind>>
+        ensures { Meets (λ _. self.new) (taken target symbols.now self.old (tree_of expr.now)) result }
+    {
+        let index = self.numbers.len();
+        match valued(symbols, expr) {
+            Ok(value) => self.put(field_of(target, index), value),
+            Err(fault) => Err(Failure::Fault(fault)),
+        }
+    }
+
+    /// The operands of a line in the place of those before.
+    pub(crate) fn fill(
+        &mut self,
+        target: Target,
+        symbols: &Symbols,
+        exprs: &[Expr],
+    ) -> Result<(), Failure<FaultKind>>
+        ensures told { Meets (λ _. self.new) (sheet_of target symbols.now (trees_of exprs.now)) result }
+        ensures fits { OnOk result (FitsTarget target self.new.numbers) }
+        ensures within { OnOk result (AreWithin target (target_size target (length exprs.now)) self.new.addresses) }
+    {
+        self.clear();
+        for expr in exprs {
+            self.take(target, symbols, expr)?;
+        }
+        Ok(())
+    }
+}

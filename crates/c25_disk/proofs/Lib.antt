@@ -1,0 +1,4 @@
+pub mod Added
+pub mod Asked
+pub mod Completed
+pub mod Copied

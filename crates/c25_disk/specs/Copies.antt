@@ -1,0 +1,74 @@
+-- Work over files, to which those that it asks for are added.
+use Rattle.std.specs.Prelude.{◌≡◌, ℕ, ◌≤◌, List, [], ◌∷◌, ◌++◌, length, Option, Some, IfSome, is_some, true, false, Result, Ok, Err, String}
+use Rattle.std.specs.String.{string_bytes}
+use Rattle.std.specs.declared.alloc.Global.{Global}
+use Rattle.c25_meaning.specs.Files.{Files, text_named}
+use Rattle.c25_meaning.specs.declared.failure.Failure.{Failure}
+use Rattle.c25_meaning.specs.declared.failure.Failure.TheVariants.{NoMemory, Fault}
+use Rattle.c25_disk.specs.Held.{Held, AreAsHeld, IsAllOf}
+use Rattle.c25_disk.specs.declared.attempts.Turn.{Turn}
+use Rattle.c25_disk.specs.declared.attempts.Turn.TheVariants.{Answered, Lacks}
+use Rattle.c25_disk.specs.declared.fault.FileFault.{FileFault}
+use Rattle.c25_disk.specs.declared.fault.FileFaultKind.TheVariants.{CannotRead}
+use Rattle.c25_disk.specs.declared.work.CopyFault.{CopyFault}
+use Rattle.c25_disk.specs.declared.work.CopyFault.TheVariants.{File, Work}
+
+-- a file that is asked for, if one is, is there
+abbrev pub IsThere : Files → Option (List ℕ) → Type 0
+IsThere files name = IfSome name (λ n. is_some (text_named files n) ≡ true)
+
+-- a file of this name is asked for, and is not there
+abbrev pub Lacking : Files → Option (List ℕ) → List ℕ → Type 0
+Lacking files asked name = (asked ≡ Some name) × (is_some (text_named files name) ≡ false)
+
+-- a file's fault, as the work's
+abbrev pub IsFileFault : {F : Type 0} → Failure (FileFault (String Global)) → Failure (CopyFault F) → Type 0
+IsFileFault (NoMemory n) (NoMemory m) = Unit {0}
+IsFileFault (NoMemory n) (Fault g) = ⊥
+IsFileFault (Fault f) (NoMemory m) = ⊥
+IsFileFault (Fault f) (Fault (File g)) = g ≡ f
+IsFileFault (Fault f) (Fault (Work g)) = ⊥
+
+-- what follows a fault: it is told, unless it asks for a file that is not there
+abbrev pub AfterFault : {A F : Type 0} → (F → Option (List ℕ)) → Files → F → Result (Turn A) (Failure (CopyFault F)) → Type 0
+AfterFault missing files f (Ok (Answered a)) = ⊥
+AfterFault missing files f (Ok (Lacks name)) = Lacking files (missing f) (string_bytes name)
+AfterFault missing files f (Err (NoMemory n)) = Unit {0}
+AfterFault missing files f (Err (Fault (Work g))) = (g ≡ f) × IsThere files (missing g)
+AfterFault missing files f (Err (Fault (File g))) = ⊥
+
+-- a turn of work that may come to these
+abbrev pub IsTurn : {A F : Type 0} → (Result A (Failure F) → Type 0) → (F → Option (List ℕ)) → Files → Result (Turn A) (Failure (CopyFault F)) → Type 0
+IsTurn comes_to missing files (Ok (Answered a)) = comes_to (Ok a)
+IsTurn {A} {F} comes_to missing files (Ok (Lacks name)) = (f : F) × comes_to (Err (Fault f)) × Lacking files (missing f) (string_bytes name)
+IsTurn comes_to missing files (Err (NoMemory n)) = Unit {0}
+IsTurn comes_to missing files (Err (Fault (Work f))) = comes_to (Err (Fault f)) × IsThere files (missing f)
+IsTurn comes_to missing files (Err (Fault (File f))) = ⊥
+
+-- what is answered is what the work comes to over these files, or the file that it asks for cannot be had (8)
+abbrev pub IsEnd : {A F : Type 0} → (Result A (Failure F) → Type 0) → (F → Option (List ℕ)) → Files → Result A (Failure (CopyFault F)) → Type 0
+IsEnd comes_to missing files (Ok a) = comes_to (Ok a)
+IsEnd comes_to missing files (Err (NoMemory n)) = Unit {0}
+IsEnd comes_to missing files (Err (Fault (Work f))) = comes_to (Err (Fault f)) × IsThere files (missing f)
+IsEnd {A} {F} comes_to missing files (Err (Fault (File g))) =
+    (g.kind ≡ CannotRead) × ((f : F) × comes_to (Err (Fault f)) × Lacking files (missing f) (string_bytes g.file))
+
+-- a file is read and joins these, or cannot be read (8)
+abbrev pub AddsCopy : {F : Type 0} → Held → Files → Files → List ℕ → Result (Unit {0}) (Failure (CopyFault F)) → Type 0
+AddsCopy held files after name (Ok done) = (text : List ℕ) × IsAllOf (held name) text × (after ≡ files ++ (name, text) ∷ [])
+AddsCopy held files after name (Err (NoMemory n)) = Unit {0}
+AddsCopy held files after name (Err (Fault (File g))) = (string_bytes g.file ≡ name) × (g.kind ≡ CannotRead)
+AddsCopy held files after name (Err (Fault (Work f))) = ⊥
+
+-- files that were given, and behind them so many at most that were copied from a disk
+pub record HasCopied (held : Held) (given : Files) (most : ℕ) (files : Files) : Type 0 where
+  pub copies : Files
+  pub behind : files ≡ given ++ copies
+  pub few : length copies ≤ most
+  pub read : AreAsHeld held copies
+
+-- what comes of work over given files and at most 256 others that it asks for: what it comes to over the files that are there in
+-- the end, and if these lack one that it asks for, that this one cannot be had (8)
+abbrev pub EndsOver : {A F : Type 0} → Held → Files → (Files → Result A (Failure F) → Type 0) → (F → Option (List ℕ)) → Result A (Failure (CopyFault F)) → Type 0
+EndsOver held given comes_to missing result =
+    (files : Files) × HasCopied held given 256 files × IsEnd (comes_to files) missing files result

@@ -1,0 +1,55 @@
+-- What is read from a disk, and what is written to one.
+use Rattle.std.specs.Prelude.{◌≡◌, ◌⊎◌, ⊤, ℕ, ◌≤◌, List, [], ◌∷◌, ◌++◌, length, Option, Some, None, IfSome, is_some, false, if◌then◌else◌, Result, Ok, Err, IfOk, IfErr, String}
+use Rattle.std.specs.List.{All}
+use Rattle.std.specs.String.{string_bytes}
+use Rattle.std.specs.declared.alloc.Global.{Global}
+use Rattle.c25_meaning.specs.Files.{Files, text_named}
+use Rattle.c25_meaning.specs.declared.failure.Failure.{Failure}
+use Rattle.c25_meaning.specs.declared.failure.Failure.TheVariants.{NoMemory, Fault}
+use Rattle.c25_disk.specs.declared.fault.FileFault.{FileFault}
+use Rattle.c25_disk.specs.declared.fault.FileFaultKind.{FileFaultKind}
+use Rattle.c25_disk.specs.declared.fault.FileFaultKind.TheVariants.{CannotRead, FileTwice}
+
+-- the bytes of files by their names, where they are known
+abbrev pub Held : Type 0
+Held = List ℕ → Option (List ℕ)
+
+-- known files grow by these at their end
+abbrev pub Adds : Option Files → Option Files → Files → Type 0
+Adds None new added = ⊤
+Adds (Some files) None added = ⊥
+Adds (Some files) (Some after) added = after ≡ files ++ added
+
+-- known files stay as they were
+abbrev pub Stay : Option Files → Option Files → Type 0
+Stay old new = Adds old new []
+
+-- a text is all of a file, where that is known; it has at most 16,777,216 bytes
+abbrev pub IsAllOf : Option (List ℕ) → List ℕ → Type 0
+IsAllOf known text = (length text ≤ 16777216) × IfSome known (λ bytes. text ≡ bytes)
+
+-- each text is all of the file of its name
+abbrev pub AreAsHeld : Held → Files → Type 0
+AreAsHeld held files = All (λ file. IsAllOf (held file.0) file.1) files
+
+-- this is wrong with the file of this name, unless memory ran out
+abbrev pub IsOfFile : List ℕ → FileFaultKind → Failure (FileFault (String Global)) → Type 0
+IsOfFile name kind (NoMemory n) = Unit {0}
+IsOfFile name kind (Fault f) = (string_bytes f.file ≡ name) × (f.kind ≡ kind)
+
+-- what is wrong with a file that is to be a source behind these: it is one of them (37), or else it cannot be read (8)
+abbrev pub source_fault : Files → List ℕ → FileFaultKind
+source_fault files name = if is_some (text_named files name) then FileTwice else CannotRead
+
+-- a file's text joins these under its name, or why not
+abbrev pub AddsSource : Held → Files → Files → List ℕ → Result (Unit {0}) (Failure (FileFault (String Global))) → Type 0
+AddsSource held files after name (Ok done) =
+    (text : List ℕ) × IsAllOf (held name) text × (is_some (text_named files name) ≡ false) × (after ≡ files ++ (name, text) ∷ [])
+AddsSource held files after name (Err failure) = IsOfFile name (source_fault files name) failure
+
+-- the sources of names, read one by one behind these, or the first that is refused
+abbrev pub ReadsSources : Held → Files → List (List ℕ) → Result Files (Failure (FileFault (String Global))) → Type 0
+ReadsSources held files [] result = result ≡ Ok files
+ReadsSources held files (name ∷ names) result =
+    IfErr result (IsOfFile name (source_fault files name)) × IfOk result (λ _. ⊥)
+    ⊎ ((text : List ℕ) × IsAllOf (held name) text × (is_some (text_named files name) ≡ false) × ReadsSources held (files ++ (name, text) ∷ []) names result)

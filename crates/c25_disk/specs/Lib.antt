@@ -1,0 +1,4 @@
+pub mod FaultNames
+pub mod Held
+pub mod Copies
+pub mod Written

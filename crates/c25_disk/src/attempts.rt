@@ -1,0 +1,49 @@
+//! One turn of work over files.
+
+ghost use Rattle.c25_disk.specs.Copies.{AfterFault, IsTurn};
+
+use crate::sources::is_among;
+use crate::work::{CopyFault, Work};
+use c25_macro::files::Files;
+use c25_meaning::failure::Failure;
+use std::alloc::Global;
+
+/// What a turn of work comes to: an answer, or the name of a file that is not there.
+#[derive(Drop)]
+pub(crate) enum Turn<A> {
+    Answered(A),
+    Lacks(String),
+}
+
+/// What follows a fault: its file is copied, where it asks for one that is not there.
+#[tactic(auto, using(crate::proofs::Asked::there, crate::proofs::Asked::there_none, crate::proofs::Asked::lacking))]
+fn after_fault<W: Work>(
+    alloc: Global,
+    files: &Files,
+    fault: W::Fault,
+) -> Result<Turn<W::Answer>, Failure<CopyFault<W::Fault>>>
+    ensures { AfterFault W.missing_of files.now fault result }
+{
+    let Some(name) = W::missing(&fault) else {
+        return Err(Failure::Fault(CopyFault::Work(fault)));
+    };
+    if is_among(files, name) {
+        return Err(Failure::Fault(CopyFault::Work(fault)));
+    }
+    Ok(Turn::Lacks(String::from_str(alloc, name)?))
+}
+
+/// Work over these files.
+pub(crate) fn attempt<W: Work>(
+    alloc: Global,
+    files: &Files,
+    work: &W,
+) -> Result<Turn<W::Answer>, Failure<CopyFault<W::Fault>>>
+    ensures { IsTurn (W.comes_to work.now files.now) W.missing_of files.now result }
+{
+    match work.answer(alloc, files) {
+        Ok(answer) => Ok(Turn::Answered(answer)),
+        Err(Failure::NoMemory(error)) => Err(Failure::NoMemory(error)),
+        Err(Failure::Fault(fault)) => after_fault::<W>(alloc, files, fault),
+    }
+}

@@ -1,0 +1,85 @@
+//! Files that the work asks for.
+
+ghost use Rattle.std.specs.Prelude.{◌≡◌, false, is_some};
+ghost use Rattle.c25_meaning.specs.Files.{text_named};
+ghost use Rattle.c25_disk.specs.Copies.{AddsCopy, EndsOver, IsEnd, IsFileFault};
+
+use crate::attempts::{Turn, attempt};
+use crate::disk::Disk;
+use crate::fault::{FileFault, FileFaultKind, fault_of_file};
+use crate::sources::{add_text, read_file};
+use crate::work::{CopyFault, Work};
+use c25_macro::files::Files;
+use c25_meaning::failure::Failure;
+use std::alloc::Global;
+
+/// So many files may be copied.
+const COPIES: usize = 256;
+
+/// A file's fault as the work's.
+fn file_fault<F>(failure: Failure<FileFault<String>>) -> Failure<CopyFault<F>>
+    ensures { IsFileFault failure result }
+{
+    match failure {
+        Failure::NoMemory(error) => Failure::NoMemory(error),
+        Failure::Fault(fault) => Failure::Fault(CopyFault::File(fault)),
+    }
+}
+
+/// Reads a file that the work asks for.
+fn add_copy<D: Disk, F: Drop>(
+    alloc: Global,
+    disk: &D,
+    files: &mut Files,
+    name: &str,
+) -> Result<(), Failure<CopyFault<F>>>
+    requires { is_some (text_named files.old name.now) ≡ false }
+    ensures { AddsCopy (D.bytes_of disk.now) files.old files.new name.now result }
+{
+    match read_file(alloc, disk, name) {
+        Ok(text) => match add_text(files, name, text.as_str()) {
+            Ok(()) => Ok(()),
+            Err(failure) => Err(file_fault(failure)),
+        },
+        Err(failure) => Err(file_fault(failure)),
+    }
+}
+
+/// Work when no further file may be copied.
+fn last_attempt<W: Work>(
+    alloc: Global,
+    files: &Files,
+    work: &W,
+) -> Result<W::Answer, Failure<CopyFault<W::Fault>>>
+    ensures { IsEnd (W.comes_to work.now files.now) W.missing_of files.now result }
+{
+    match attempt(alloc, files, work)? {
+        Turn::Answered(answer) => Ok(answer),
+        Turn::Lacks(name) => {
+            let failure = fault_of_file(alloc, name.as_str(), FileFaultKind::CannotRead);
+            Err(file_fault(failure))
+        }
+    }
+}
+
+/// Work over files to which those that it asks for are added: where it asks for one that is not there,
+/// that one is read, and the work begins again. At most 256 files are copied; the 257th is refused (8)
+/// without being read.
+#[tactic(auto, using(crate::proofs::Copied::copied_none, crate::proofs::Copied::copied_more, crate::proofs::Copied::copied_most))]
+pub fn with_copies<D: Disk, W: Work>(
+    alloc: Global,
+    disk: &D,
+    given: Files,
+    work: &W,
+) -> Result<W::Answer, Failure<CopyFault<W::Fault>>>
+    ensures { EndsOver (D.bytes_of disk.now) given (W.comes_to work.now) W.missing_of result }
+{
+    let mut files = given;
+    for _ in 0..COPIES {
+        match attempt(alloc, &files, work)? {
+            Turn::Answered(answer) => return Ok(answer),
+            Turn::Lacks(name) => add_copy(alloc, disk, &mut files, name.as_str())?,
+        }
+    }
+    last_attempt(alloc, &files, work)
+}

@@ -1,0 +1,19 @@
+//! The files of the program: which texts are read, and what is written.
+//!
+//! The work between stands on [`Disk`], so that contracts can say which text of which name goes where.
+#![tactic(auto)]
+
+mod attempts;
+mod copies;
+pub mod disk;
+pub mod fault;
+mod reading;
+mod sources;
+pub mod system;
+pub mod work;
+mod writing;
+
+pub use copies::with_copies;
+pub use reading::{CannotRead, read_text};
+pub use sources::{read_file, read_sources};
+pub use writing::{Output, write_outputs};

@@ -1,0 +1,103 @@
+//! Sources, read from a disk.
+
+ghost use Rattle.std.specs.Prelude.{◌≡◌, ◌++◌, ◌∷◌, [], IfErr, IfOk, OnOk, false, is_some, map, string_bytes};
+ghost use Rattle.c25_meaning.specs.Files.{text_named};
+ghost use Rattle.c25_meaning.specs.Results.{IsNoMemory};
+ghost use Rattle.c25_disk.specs.declared.fault.FileFaultKind.TheVariants as kind;
+ghost use Rattle.c25_disk.specs.Held.{AddsSource, IsAllOf, IsOfFile, ReadsSources};
+
+use crate::disk::{Disk, Refused};
+use crate::fault::{FileFault, FileFaultKind, fault_of_file};
+use crate::reading::{CannotRead, read_text};
+use c25_macro::files::{FileTwice, Files};
+use c25_meaning::failure::Failure;
+use std::alloc::Global;
+
+/// The text of a file, or why there is none.
+fn text_of<D: Disk>(alloc: Global, disk: &D, name: &str) -> Result<String, Failure<CannotRead>>
+    ensures { IfOk result (λ text. IsAllOf (D.bytes_of disk.now name.now) (string_bytes text)) }
+{
+    match disk.open(name) {
+        Ok(reader) => {
+            let mut reader = reader;
+            read_text(alloc, &mut reader)
+        }
+        Err(Refused) => Err(Failure::Fault(CannotRead)),
+    }
+}
+
+/// The text of a file. It is refused (8) where the file cannot be opened or read, has more than
+/// 16,777,216 bytes, or is not UTF-8.
+pub fn read_file<D: Disk>(
+    alloc: Global,
+    disk: &D,
+    name: &str,
+) -> Result<String, Failure<FileFault<String>>>
+    ensures text { IfOk result (λ text. IsAllOf (D.bytes_of disk.now name.now) (string_bytes text)) }
+    ensures fault { IfErr result (IsOfFile name.now kind.CannotRead) }
+{
+    match text_of(alloc, disk, name) {
+        Ok(text) => Ok(text),
+        Err(Failure::NoMemory(error)) => Err(Failure::NoMemory(error)),
+        Err(Failure::Fault(CannotRead)) => {
+            Err(fault_of_file(alloc, name, FileFaultKind::CannotRead))
+        }
+    }
+}
+
+/// Whether there is a file of this name.
+pub(crate) fn is_among(files: &Files, name: &str) -> bool
+    ensures { result ≡ is_some (text_named files.now name.now) }
+{
+    files.text(name).is_some()
+}
+
+/// Adds the text of a new name.
+pub(crate) fn add_text(
+    files: &mut Files,
+    name: &str,
+    text: &str,
+) -> Result<(), Failure<FileFault<String>>>
+    requires { is_some (text_named files.old name.now) ≡ false }
+    ensures ok { OnOk result (files.new ≡ files.old ++ (name.now, text.now) ∷ []) }
+    ensures err { IfErr result IsNoMemory }
+{
+    match files.add(name, text) {
+        Ok(()) => Ok(()),
+        Err(Failure::NoMemory(error)) => Err(Failure::NoMemory(error)),
+        Err(Failure::Fault(FileTwice)) => unreachable!(),
+    }
+}
+
+/// Reads a source behind others: one that is there already is refused without being read (37).
+fn add_source<D: Disk>(
+    alloc: Global,
+    disk: &D,
+    files: &mut Files,
+    name: &str,
+) -> Result<(), Failure<FileFault<String>>>
+    ensures { AddsSource (D.bytes_of disk.now) files.old files.new name.now result }
+{
+    if is_among(files, name) {
+        return Err(fault_of_file(alloc, name, FileFaultKind::FileTwice));
+    }
+    let text = read_file(alloc, disk, name)?;
+    add_text(files, name, text.as_str())
+}
+
+/// Reads the sources of names, one by one. The first that is there already is refused (37), and so is
+/// the first that cannot be read (8).
+#[tactic(auto, using(crate::proofs::Completed::completes_none, crate::proofs::Completed::completes_more, crate::proofs::Completed::ends_refused, crate::proofs::Completed::ends_read))]
+pub fn read_sources<D: Disk>(
+    alloc: Global,
+    disk: &D,
+    names: &[&str],
+) -> Result<Files, Failure<FileFault<String>>>
+    ensures { ReadsSources (D.bytes_of disk.now) [] (map (λ name. name.now) names.now) result }
+{
+    let mut files = Files::new(alloc);
+    for name in names {
+        add_source(alloc, disk, &mut files, name)?;
+    }
+    Ok(files)
+}

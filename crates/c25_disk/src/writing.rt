@@ -1,0 +1,38 @@
+//! Files that are written when all work is done.
+
+ghost use Rattle.std.specs.Prelude.{IfErr, OnOk, map};
+ghost use Rattle.c25_disk.specs.Held.{Adds};
+ghost use Rattle.c25_disk.specs.Written.{contents_of, IsUnwritten};
+
+use crate::disk::{Disk, Refused};
+use crate::fault::{FileFault, FileFaultKind, fault_of_file};
+use c25_meaning::failure::Failure;
+use std::alloc::Global;
+
+/// A file to be written, and all that it is to have.
+#[derive(Drop)]
+pub struct Output<'a> {
+    pub name: &'a str,
+    pub bytes: Vec<u8>,
+}
+
+/// Writes files, one behind another. The first that cannot be written ends it (7).
+#[tactic(auto, using(crate::proofs::Added::adds_none, crate::proofs::Added::adds_more, crate::proofs::Added::adds_all, crate::proofs::Added::unwritten))]
+pub fn write_outputs<D: Disk>(
+    alloc: Global,
+    disk: &mut D,
+    outputs: &[Output<'_>],
+) -> Result<(), Failure<FileFault<String>>>
+    ensures written { OnOk result (Adds (D.written disk.old) (D.written disk.new) (map contents_of outputs.now)) }
+    ensures fault { IfErr result (IsUnwritten outputs.now) }
+{
+    for output in outputs {
+        match disk.write(output.name, &output.bytes) {
+            Ok(()) => {}
+            Err(Refused) => {
+                return Err(fault_of_file(alloc, output.name, FileFaultKind::CannotWrite));
+            }
+        }
+    }
+    Ok(())
+}

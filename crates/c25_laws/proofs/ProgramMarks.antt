@@ -1,0 +1,82 @@
+-- The marks of a program are the addresses and sizes of its statements.
+use Rattle.std.proofs.Common.{◌≡◌, ℕ, ◌+◌, eqb, List, [], ◌∷◌, ◌++◌, map, filter, refl, sym, ap, ◌∙◌, subst}
+use Rattle.std.specs.List.Sorted.{IsPermutation}
+use Rattle.std.proofs.lemmas.List.{map-append}
+use Rattle.std.proofs.lemmas.List.Sorted.{IsPermutation-append_left, IsPermutation-append_right, IsPermutation-map, IsPermutation-refl, IsPermutation-sym, IsPermutation-trans}
+use Rattle.std.proofs.lemmas.Simd.{map-map}
+use Rattle.c25_meaning.specs.Command.{CommandData}
+use Rattle.c25_meaning.specs.Files.{Files}
+use Rattle.c25_meaning.specs.InstructionStatements.{Instruction}
+use Rattle.c25_meaning.specs.Linking.{ImageData, IsProgram}
+use Rattle.c25_meaning.specs.Module.{Contents}
+use Rattle.c25_meaning.specs.Place.{Place, by_modules}
+use Rattle.c25_meaning.specs.Statement.{form_row, insn_of}
+use Rattle.c25_meaning.specs.Statements.{Statement, marks_of}
+use Rattle.c25_meaning.specs.Statements as statements
+use Rattle.c25_meaning.specs.Table.{size, size_of}
+use Rattle.c25_meaning.specs.Words.{is_on_program, module_marks, placed_mark, program_marks, section_base}
+use Rattle.c25_meaning.specs.declared.mark.Mark.{Mark}
+use Rattle.c25_meaning.specs.declared.mnemonic.LongName.TheVariants as long
+use Rattle.c25_meaning.specs.declared.mnemonic.ShortName.TheVariants as short
+use Rattle.c25_meaning.specs.declared.object.ModuleMark.{ModuleMark}
+use Rattle.c25_meaning.specs.declared.statement.Form.{Form}
+use Rattle.c25_meaning.specs.declared.statement.Form.TheVariants as form
+use Rattle.c25_laws.proofs.ByKeys.{alike_filtered, alike_permuted, filter_mapped, map_same}
+use Rattle.c25_laws.proofs.SourcesRead.{AreRead, sources_read}
+use Rattle.c25_laws.specs.ModuleStatements.{AreStatements, mark_of}
+use Rattle.c25_laws.specs.ProgramStatements.{AreMarksOf, AreModulesOf, program_statements, statements_in, module_statements, operand_numbers, placed_statement, stands_on_program, statements_from}
+
+-- the size of a statement is that of its instruction, whatever the numbers
+pub size_of_form : (f : Form) (ns : List ℕ) → size_of (insn_of f ns) ≡ size (form_row f)
+size_of_form (form.Mem name a) ns = refl
+size_of_form (form.Shifted name a) ns = refl
+size_of_form (form.ArMem name a) ns = refl
+size_of_form (form.Port name a) ns = refl
+size_of_form (form.Bit name a) ns = refl
+size_of_form (form.Short short.Lark) ns = refl
+size_of_form (form.Short _) ns = refl
+size_of_form (form.Long long.Lrlk) ns = refl
+size_of_form (form.Long _) ns = refl
+size_of_form (form.LongMem name a) ns = refl
+size_of_form (form.Jump name change) ns = refl
+size_of_form (form.Plain name change) ns = refl
+
+module _ (modules : List Contents) (places : List Place) where
+  one_mark : (number : ℕ) (m : Contents) (i : Instruction) → placed_mark modules places number m (mark_of i) ≡ statements.mark_of (placed_statement modules places number m i)
+  one_mark number m i = ap (λ n. record { address = section_base modules places number m i.section + i.offset; size = n }) (sym (size_of_form i.form (operand_numbers modules places number m i)))
+
+  module_marked : (number : ℕ) (m : Contents) (is : List Instruction) → AreStatements m is → IsPermutation (marks_of (module_statements modules places number m is)) (module_marks modules places number m)
+  module_marked number m is h =
+      let on = filter (stands_on_program places m) is in
+      let key : ModuleMark → ℕ = λ mark. mark.section in
+      let alike = λ (k : ℕ). h.marks k ∙ sym (filter_mapped (λ (mark : ModuleMark). eqb mark.section k) mark_of is) in
+      let same = alike_permuted key (filter (is_on_program places m) m.marks) (filter (is_on_program places m) (map mark_of is)) (alike_filtered key (is_on_program places m) m.marks (map mark_of is) alike) in
+      let placed = IsPermutation-map (placed_mark modules places number m) (filter (is_on_program places m) m.marks) (filter (is_on_program places m) (map mark_of is)) same in
+      let marks : map (placed_mark modules places number m) (filter (is_on_program places m) (map mark_of is)) ≡ marks_of (module_statements modules places number m is) =
+      ap (map (placed_mark modules places number m)) (filter_mapped (is_on_program places m) mark_of is)
+      ∙ map-map (placed_mark modules places number m) mark_of on
+      ∙ map_same (λ i. placed_mark modules places number m (mark_of i)) (λ i. statements.mark_of (placed_statement modules places number m i)) on (one_mark number m)
+      ∙ sym (map-map statements.mark_of (placed_statement modules places number m) on) in
+      IsPermutation-sym (module_marks modules places number m) (marks_of (module_statements modules places number m is)) (subst (IsPermutation (module_marks modules places number m)) marks placed)
+
+  pub all_marked : (number : ℕ) (ms : List Contents) (all : List (List Instruction)) → AreRead ms all → IsPermutation (marks_of (statements_from modules places number ms all)) (by_modules (module_marks modules places) number ms)
+  all_marked number [] [] h = IsPermutation-refl []
+  all_marked number [] (is ∷ all) h = absurd h
+  all_marked number (m ∷ ms) [] h = absurd h
+  all_marked number (m ∷ ms) (is ∷ all) h =
+      let own = module_statements modules places number m is in
+      let rest = statements_from modules places (number + 1) ms all in
+      let marks = module_marks modules places number m in
+      let others = by_modules (module_marks modules places) (number + 1) ms in
+      subst (λ (xs : List Mark). IsPermutation xs (marks ++ others)) (sym (map-append statements.mark_of own rest))
+      (IsPermutation-trans (marks_of own ++ marks_of rest) (marks ++ marks_of rest) (marks ++ others)
+      (IsPermutation-append_left (marks_of rest) (marks_of own) marks (module_marked number m is (h.0).said))
+      (IsPermutation-append_right marks (marks_of rest) others (all_marked (number + 1) ms all h.1)))
+
+pub marks_are : (files : Files) (names : List (List ℕ)) (modules : List Contents) (command : CommandData) (image : ImageData) → AreModulesOf files names modules → (p : IsProgram modules command image)
+    → AreMarksOf (program_statements files names modules p.places) image.marks
+marks_are files names modules command image of p = record {
+  same = IsPermutation-trans (marks_of (program_statements files names modules p.places)) (program_marks modules p.places) image.marks
+      (all_marked modules p.places 0 modules (map (statements_in files) names) (sources_read files names modules of)) p.marks.same;
+  ascend = p.marks.ascend;
+}

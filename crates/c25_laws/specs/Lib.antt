@@ -1,0 +1,2 @@
+pub mod ModuleStatements
+pub mod ProgramStatements

@@ -1,0 +1,11 @@
+mod Again
+mod Based
+mod First
+mod Linked
+mod Loaded
+mod Marked
+mod Named
+mod Owned
+mod Parted
+mod Printed
+mod Search

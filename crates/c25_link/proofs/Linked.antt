@@ -1,0 +1,61 @@
+-- Modules linked: where their sections stand there is room for all parts, and what is made there is their program.
+use Rattle.std.proofs.Common.{◌≡◌, ◌+◌, ◌<◌, ◌≤◌, List, Result, Ok, Err, All, String, arith, inr}
+use Rattle.std.specs.Str.{bytes_eq}
+use Rattle.std.specs.declared.alloc.Global.{Global}
+use Rattle.std.proofs.lemmas.List.Elements.{All-map}
+use Rattle.c25_meaning.specs.Command.{CommandData}
+use Rattle.c25_meaning.specs.GoodMap.{IsGoodMap, ranges_for, placings_for}
+use Rattle.c25_meaning.specs.Linking.{ImageData, names_checked}
+use Rattle.c25_meaning.specs.Module.{Contents}
+use Rattle.c25_meaning.specs.Place.{Place}
+use Rattle.c25_meaning.specs.declared.failure.Failure.{Failure}
+use Rattle.c25_meaning.specs.declared.failure.Failure.TheVariants.{NoMemory, Fault}
+use Rattle.c25_meaning.specs.declared.link_fault.FaultyLink.{FaultyLink}
+use Rattle.c25_meaning.proofs.Parts.{part_in_place, one_part}
+use Rattle.c25_place.specs.Placement.{IsWithin}
+use Rattle.c25_place.specs.View.{place_view, places_view}
+use Rattle.c25_place.specs.declared.placement.Place as code
+use Rattle.c25_link.specs.Bases.{HasRoom}
+use Rattle.c25_link.specs.Layout.{AreModules, HasOnePart}
+use Rattle.c25_link.specs.Link.{Links, LinksAt}
+use Rattle.c25_link.proofs.Owned.{found_holds}
+
+-- ---- places within their pages
+
+pub record IsWithinPage (p : Place) : Type 0 where
+  pub page : p.page ≤ 1
+  pub base : p.base < 65536
+  pub end : p.base + p.size ≤ 65536
+
+pub within_pages : (places : List code.Place) → All IsWithin places → All IsWithinPage (places_view places)
+within_pages places h = All-map IsWithinPage place_view places (λ i d lt. let w = h i d lt in record { page = w.page; base = w.base; end = w.end })
+
+pub low_bases : (places : List Place) → All IsWithinPage places → All (λ p. p.base < 65536) places
+low_bases places h = λ i d lt. (h i d lt).base
+
+pub has_room : (modules : List Contents) (command : CommandData) (places : List Place) → IsGoodMap modules command places → All IsWithinPage places → HasRoom modules places
+has_room modules command places good within = λ number index owner section part.
+    let i = part_in_place (ranges_for command) modules (placings_for command) places number index owner section good part in
+    let w = found_holds IsWithinPage (λ (p : Place). bytes_eq section.name p.name) places i.place within i.found in
+    record { place = i.place; found = i.found; page = w.page; within = omega (arith, i.within, w.end) }
+
+pub has_one_part : (modules : List Contents) (command : CommandData) (places : List Place) → AreModules modules → IsGoodMap modules command places → HasOnePart modules places
+has_one_part modules command places are good = λ number other index another page address owner owner_2 section section_2 p q l k.
+    let one = one_part (ranges_for command) modules (placings_for command) places (λ m n is. (are n m is).lists) good number other index another page address owner owner_2 section section_2 p q l k in
+    (one.numbers, one.indexes)
+
+-- ---- what linking answers
+
+pub links : (modules : List Contents) (command : CommandData) (places : List Place) (result : Result ImageData (Failure (FaultyLink (String Global)))) → names_checked modules command.entry ≡ Ok tt → IsGoodMap modules command places → LinksAt modules places command.entry result → Links modules command result
+links modules command places (Ok image) names good h = record {
+  places = places;
+  names = names;
+  good = good;
+  fields = h.fields;
+  program = h.program;
+  store = h.store;
+  marks = h.marks;
+  described = h.described;
+}
+links modules command places (Err (NoMemory n)) names good h = tt
+links modules command places (Err (Fault f)) names good h = inr (inr (record { places = places; names = names; good = good; spilled = h }))

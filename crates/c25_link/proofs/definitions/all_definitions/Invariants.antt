@@ -1,0 +1,9 @@
+-- the definitions of the modules so far stand there
+use Rattle.std.proofs.Common.{◌≡◌, take}
+use Rattle.c25_meaning.specs.Place.{by_modules}
+use Rattle.c25_meaning.specs.Words.{module_definitions}
+use Rattle.c25_link.specs.View.{definitions_view}
+use Rattle.c25_link.proofs.definitions.all_definitions.Given as goal
+
+abbrev pub invariant-loop-number : goal.invariant-loop-number
+invariant-loop-number l = definitions_view l.list.items ≡ by_modules module_definitions 0 (take l.number l.modules)

@@ -1,0 +1,20 @@
+use Rattle.std.proofs.Common.{List, take, ap, sym, ◌∙◌, ◌++◌}
+use Rattle.c25_meaning.specs.Linking.{section_parts}
+use Rattle.c25_meaning.specs.MapText.{PartData}
+use Rattle.c25_meaning.specs.Module.{Contents}
+use Rattle.c25_meaning.specs.Place.{by_modules}
+use Rattle.c25_obj.specs.View.{contents}
+use Rattle.c25_link.specs.Layout.{places_in}
+use Rattle.c25_link.proofs.Search.{by_modules_more}
+use Rattle.c25_link.proofs.described.parts_by_name.Goals as goal
+
+pub loop-number-preserved : goal.loop-number-preserved
+loop-number-preserved c = λ name.
+    let modules = c.args.layout.now.modules.now in
+    let i = c.loop-number.number in
+    let parts = section_parts modules (places_in c.args.layout.now) name in
+    let so_far : List PartData = by_modules parts 0 (take i modules) in
+    c.in_ok-add_parts.ensures name
+    ∙ ap (λ (ps : List PartData). ps ++ parts i (contents c.parts.result.now)) (c.loop-number.invariant name)
+    ∙ ap (λ (m : Contents). so_far ++ parts i m) c.parts.ensures.kept
+    ∙ sym (by_modules_more parts modules i c.module-item.result c.loop-number-test.true c.module-item.is)

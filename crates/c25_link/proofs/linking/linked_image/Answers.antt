@@ -1,0 +1,10 @@
+use Rattle.std.proofs.Common.{sym, subst}
+use Rattle.std.specs.Option.{option_map}
+use Rattle.c25_link.specs.Layout.{places_in}
+use Rattle.c25_link.specs.Link.{IsImageAt}
+use Rattle.c25_link.proofs.linking.linked_image.Goals as goal
+
+pub returns : goal.returns
+returns c =
+    subst (IsImageAt c.args.layout.now.modules.now (places_in c.args.layout.now) (option_map (λ name. name.now) c.args.entry)) (sym c.new.ensures)
+    (record { fields = sym c.in-None.ensures; program = c.in_ok-pages.ensures.program; store = c.in_ok-pages.ensures.store; marks = c.in_ok-marks.ensures; described = c.in_ok-described.ensures })

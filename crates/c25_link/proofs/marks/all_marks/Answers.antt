@@ -1,0 +1,20 @@
+use Rattle.std.proofs.Common.{List, take, ap, sym, ◌∙◌, ◌++◌}
+use Rattle.c25_meaning.specs.Module.{Contents}
+use Rattle.c25_meaning.specs.Place.{by_modules}
+use Rattle.c25_meaning.specs.Words.{module_marks}
+use Rattle.c25_meaning.specs.declared.mark.Mark.{Mark}
+use Rattle.c25_obj.specs.View.{contents}
+use Rattle.c25_link.specs.Layout.{places_in}
+use Rattle.c25_link.proofs.Search.{by_modules_more}
+use Rattle.c25_link.proofs.marks.all_marks.Goals as goal
+
+pub loop-number-preserved : goal.loop-number-preserved
+loop-number-preserved c =
+    let modules = c.args.layout.now.modules.now in
+    let i = c.loop-number.number in
+    let own = module_marks modules (places_in c.args.layout.now) in
+    let so_far : List Mark = by_modules own 0 (take i modules) in
+    c.in_ok-push_marks.ensures
+    ∙ ap (λ (ms : List Mark). ms ++ own i (contents c.parts.result.now)) c.loop-number.invariant
+    ∙ ap (λ (m : Contents). so_far ++ own i m) c.parts.ensures.kept
+    ∙ sym (by_modules_more own modules i c.module-item.result c.loop-number-test.true c.module-item.is)

@@ -1,0 +1,32 @@
+-- What linking answers.
+use Rattle.std.specs.Prelude.{◌≡◌, List, ℕ, Option, None, Result, Ok, Err, String}
+use Rattle.std.specs.declared.alloc.Global.{Global}
+use Rattle.c25_meaning.specs.Command.{CommandData}
+use Rattle.c25_meaning.specs.Linking.{ImageData, IsProgram, IsRefusal, HasWords, HasMarks, first_spilled, refused_with, map_of}
+use Rattle.c25_meaning.specs.Module.{Contents}
+use Rattle.c25_meaning.specs.Place.{Place}
+use Rattle.c25_meaning.specs.declared.failure.Failure.{Failure}
+use Rattle.c25_meaning.specs.declared.failure.Failure.TheVariants.{NoMemory, Fault}
+use Rattle.c25_meaning.specs.declared.link_fault.FaultyLink.{FaultyLink}
+use Rattle.c25_meaning.specs.declared.link_fault.LinkFault.TheVariants.{RelocRange}
+use Rattle.c25_place.specs.View.{refusal_of}
+
+-- the program, or the first refusal, unless memory ran out
+abbrev pub Links : List Contents → CommandData → Result ImageData (Failure (FaultyLink (String Global))) → Type 0
+Links modules command (Ok image) = IsProgram modules command image
+Links modules command (Err (NoMemory n)) = Unit {0}
+Links modules command (Err (Fault f)) = IsRefusal modules command (refusal_of f)
+
+-- what is made where the sections stand at these places
+pub record IsImageAt (modules : List Contents) (places : List Place) (entry : Option (List ℕ)) (image : ImageData) : Type 0 where
+  pub fields : first_spilled modules places ≡ None
+  pub program : HasWords modules places 0 image.program
+  pub store : HasWords modules places 1 image.store
+  pub marks : HasMarks modules places image.marks
+  pub described : image.described ≡ map_of modules entry places
+
+-- that, or the first field that does not take its value
+abbrev pub LinksAt : List Contents → List Place → Option (List ℕ) → Result ImageData (Failure (FaultyLink (String Global))) → Type 0
+LinksAt modules places entry (Ok image) = IsImageAt modules places entry image
+LinksAt modules places entry (Err (NoMemory n)) = Unit {0}
+LinksAt modules places entry (Err (Fault f)) = refused_with RelocRange (first_spilled modules places) ≡ Err (refusal_of f)

@@ -1,0 +1,136 @@
+//! Where the parts of sections stand that modules have.
+
+ghost use Rattle.std.specs.Prelude.{◌≡◌, ◌≤◌, ◌+◌, ◌++◌, ◌∷◌, [], ℕ, List, IfOk, OnOk, Some, take};
+ghost use Rattle.std.specs.List.{slice_get};
+ghost use Rattle.c25_meaning.specs.Module.{SectionData, Contents, IsModule, body_size};
+ghost use Rattle.c25_meaning.specs.Place as place;
+ghost use Rattle.c25_meaning.specs.Place.{all_sections};
+ghost use Rattle.c25_meaning.specs.Words.{section_base, section_page};
+ghost use Rattle.c25_obj.specs.View.{contents, body_data, section_data};
+ghost use Rattle.c25_link.specs.Bases.{parts_of, next_part, KnowsBases, KnowsNext, HasRoom, HasPlaceFor};
+ghost use Rattle.c25_place.specs.View.{places_view};
+
+use c25_obj::{Module, Parts, Section};
+use c25_place::{Place, body_size};
+use std::alloc::{AllocError, Global};
+use std::collections::HashMap;
+
+/// The page of a part and the address of its first word.
+#[derive(Clone, Copy)]
+pub(crate) struct PartBase {
+    pub page: u8,
+    pub base: u32,
+}
+
+/// Those of each section of each module.
+#[derive(Drop)]
+pub(crate) struct Bases {
+    modules: Vec<Vec<PartBase>>,
+}
+
+/// Where the next part of each section of the program begins.
+#[derive(Drop)]
+struct NextParts<'a> {
+    found: HashMap<&'a str, PartBase>,
+}
+
+/// Where the first parts begin.
+fn first_parts<'a>(alloc: Global, places: &[Place<'a>]) -> Result<NextParts<'a>, AllocError>
+    ensures { IfOk result (λ next. KnowsNext next (places_view places.now) []) }
+{
+    let mut found = HashMap::new(alloc);
+    for place in places {
+        if found.get(place.name).is_none() {
+            let part = PartBase {
+                page: place.page,
+                base: place.base,
+            };
+            found.insert(place.name, part)?;
+        }
+    }
+    Ok(NextParts { found })
+}
+
+/// The part of a section where none begins.
+const NO_PART: PartBase = PartBase { page: 0, base: 0 };
+
+impl<'a> NextParts<'a> {
+    /// Where the part of a section begins; the next one of its name begins behind it.
+    fn take(&mut self, section: &'a Section) -> Result<PartBase, AllocError>
+        requires { body_size (body_data section.now.body) ≤ 65536 }
+        ensures next { (places : List place.Place) (sections : List SectionData) (p : place.Place) → KnowsNext self.old places sections
+            → HasPlaceFor places sections (section_data section.now) p
+            → OnOk result (KnowsNext self.new places (sections ++ section_data section.now ∷ [])) }
+        ensures part { (places : List place.Place) (sections : List SectionData) (p : place.Place) → KnowsNext self.old places sections
+            → HasPlaceFor places sections (section_data section.now) p
+            → IfOk result (λ part. part ≡ next_part sections p) }
+    {
+        let name = section.name.as_str();
+        match self.found.get(name).copied() {
+            Some(part) => {
+                let base = part.base.saturating_add(body_size(&section.body));
+                let after = PartBase {
+                    page: part.page,
+                    base,
+                };
+                self.found.insert(name, after)?;
+                Ok(part)
+            }
+            None => Ok(NO_PART),
+        }
+    }
+}
+
+/// The parts of a module behind those of the modules before it.
+fn module_bases<'a>(
+    alloc: Global,
+    owner: &'a Parts,
+    next: &mut NextParts<'a>,
+) -> Result<Vec<PartBase>, AllocError>
+    requires { IsModule (contents owner.now) }
+    ensures next { (modules : List Contents) (places : List place.Place) (number : ℕ) → HasRoom modules places → slice_get modules number ≡ Some (contents owner.now)
+        → KnowsNext next.old places (all_sections (take number modules)) → OnOk result (KnowsNext next.new places (all_sections (take (number + 1) modules))) }
+    ensures parts { (modules : List Contents) (places : List place.Place) (number : ℕ) → HasRoom modules places → slice_get modules number ≡ Some (contents owner.now)
+        → KnowsNext next.old places (all_sections (take number modules))
+        → IfOk result (λ v. (index : ℕ) → slice_get v.items index ≡ parts_of modules places number (contents owner.now) index) }
+{
+    let mut list = Vec::new(alloc);
+    for section in &owner.sections {
+        list.push(next.take(section)?)?;
+    }
+    Ok(list)
+}
+
+impl Bases {
+    /// The parts of all modules where the sections stand at these places.
+    pub(crate) fn new<'a>(
+        alloc: Global,
+        modules: &'a [Module],
+        places: &[Place<'a>],
+    ) -> Result<Self, AllocError>
+        ensures { HasRoom modules.now (places_view places.now) → IfOk result (λ b. KnowsBases b modules.now (places_view places.now)) }
+    {
+        let mut next = first_parts(alloc, places)?;
+        let mut list = Vec::new(alloc);
+        for module in modules {
+            list.push(module_bases(alloc, module.parts(), &mut next)?)?;
+        }
+        Ok(Bases { modules: list })
+    }
+
+    /// The part of a module's section, by their numbers.
+    pub(crate) fn get(&self, number: usize, index: usize) -> PartBase
+        ensures base { (modules : List Contents) (places : List place.Place) (m : Contents) → KnowsBases self.now modules places → slice_get modules number ≡ Some m
+            → result.base ≡ section_base modules places number m index }
+        ensures page { (modules : List Contents) (places : List place.Place) (m : Contents) → KnowsBases self.now modules places → slice_get modules number ≡ Some m
+            → result.page ≡ section_page places m index }
+    {
+        match self.modules.get(number) {
+            Some(parts) => match parts.get(index) {
+                Some(part) => *part,
+                None => NO_PART,
+            },
+            None => NO_PART,
+        }
+    }
+}

@@ -1,0 +1,95 @@
+//! A linked program.
+
+ghost use Rattle.std.specs.Prelude.{◌≡◌, ◌≤◌, All, IfOk, map, string_bytes, if◌then◌else◌, ◌==◌};
+ghost use Rattle.c25_map.specs.View.{map_data, symbol_data};
+ghost use Rattle.c25_meaning.specs.MapText.{map_text, HasDigits};
+
+use c25_map::{GlobalSymbol, Map, write_map};
+use c25_meaning::mark::Mark;
+use c25_meaning::no_memory::NoMemory;
+use c25_meaning::word_map::WordMap;
+use std::alloc::Global;
+use std::marker::Model;
+
+/// A linked program: its words, its instructions and its map.
+#[derive(Drop)]
+pub struct Image {
+    program: WordMap,
+    store: WordMap,
+    marks: Vec<Mark>,
+    described: Map,
+}
+
+impl Model for Image {
+    ghost use Rattle.std.specs.Coded.{codes, coded_ℕ};
+    ghost use Rattle.std.specs.FinMap as finite;
+    ghost use Rattle.std.specs.Ordering.{nat_cmp};
+    ghost use Rattle.std.specs.Prelude.{All};
+    ghost use Rattle.c25_map.specs.View.{map_data};
+    ghost use Rattle.c25_meaning.specs.Linking.{ImageData};
+    ghost use Rattle.c25_meaning.specs.MapText.{HasDigits};
+
+    ghost Value = { ImageData };
+
+    ghost coded = { Prim.hlevel (codes, finite.code {R = nat_cmp} coded_ℕ coded_ℕ) };
+
+    ghost view = { λ i. record { program = i.program; store = i.store; marks = i.marks.items; described = map_data i.described } };
+
+    ghost invariant = { λ i. All HasDigits (map_data i.described).sections };
+}
+
+impl Image {
+    /// An image of these parts.
+    pub(crate) fn new(program: WordMap, store: WordMap, marks: Vec<Mark>, described: Map) -> Self
+        requires { All HasDigits (map_data described).sections }
+        ensures { result ≡ record { program = program; store = store; marks = marks.items; described = map_data described } }
+    {
+        Image {
+            program,
+            store,
+            marks,
+            described,
+        }
+    }
+
+    /// The words of page 0, program memory, or of page 1, data memory.
+    pub fn words(&self, page: u8) -> &WordMap
+        requires { page ≤ 1 }
+        ensures { result.now ≡ (if page == 0 then self.now.program else self.now.store) }
+    {
+        if page == 0 {
+            &self.program
+        } else {
+            &self.store
+        }
+    }
+
+    /// The instructions on page 0, by their addresses.
+    pub fn marks(&self) -> &[Mark]
+        ensures { result.now ≡ self.now.marks }
+    {
+        &self.marks
+    }
+
+    /// The global symbols that modules define, by modules and symbols, with the low 32 bits of their
+    /// values.
+    pub fn symbols(&self) -> &[GlobalSymbol]
+        ensures { map symbol_data result.now ≡ self.now.described.symbols }
+    {
+        &self.described.symbols
+    }
+
+    /// The map.
+    pub fn map(&self) -> &Map
+        ensures { map_data result.now ≡ self.now.described }
+    {
+        &self.described
+    }
+
+    /// The text of the map.
+    pub fn write_map(&self, alloc: Global) -> Result<String, NoMemory>
+        ensures { IfOk result (λ text. string_bytes text ≡ map_text self.now.described) }
+    {
+        write_map(alloc, &self.described)
+    }
+}

@@ -1,0 +1,27 @@
+//! What the words, the instructions and the map of a program are made from.
+
+ghost use Rattle.c25_link.specs.Layout.{AreModules};
+
+use crate::bases::Bases;
+use crate::definitions::Definitions;
+use c25_obj::Module;
+use c25_place::Place;
+
+/// Modules, their definitions, and where the sections of the program and the parts of the modules
+/// stand.
+#[derive(Clone, Copy)]
+pub(crate) struct Layout<'m, 'p> {
+    pub modules: &'m [Module],
+    pub places: &'p [Place<'m>],
+    pub definitions: &'p Definitions<'m>,
+    pub bases: &'p Bases,
+}
+
+/// Each of these is a module. The call changes nothing: a proof knows of each module what was read.
+pub(crate) fn are_modules(modules: &[Module])
+    ensures { AreModules modules.now }
+{
+    for module in modules {
+        let _parts = module.parts();
+    }
+}

@@ -1,0 +1,17 @@
+//! Modules of relocatable words, linked into the words of a program.
+#![tactic(auto)]
+
+mod bases;
+mod definitions;
+mod described;
+mod fields;
+mod image;
+mod layout;
+mod linking;
+mod loading;
+mod marks;
+mod uses;
+mod values;
+
+pub use image::Image;
+pub use linking::link;

@@ -1,0 +1,183 @@
+//! The words of a program at their addresses.
+
+ghost use Rattle.std.specs.Prelude.{◌≡◌, ◌<◌, ◌≤◌, ◌+◌, ℕ, Some, true, length, IfOk, OnOk};
+ghost use Rattle.std.specs.FinMap as finite;
+ghost use Rattle.std.specs.Option.{option_map};
+ghost use Rattle.c25_meaning.specs.Linking.{HasWords};
+ghost use Rattle.c25_meaning.specs.Module.{SectionData, body_size};
+ghost use Rattle.c25_meaning.specs.Words.{relocated, section_base, section_page};
+ghost use Rattle.c25_obj.specs.View.{contents, body_data, section_data};
+ghost use Rattle.c25_link.specs.Layout.{IsLaidOut, IsOwner, places_in};
+ghost use Rattle.c25_link.specs.Loading.{KnowsRelocations, loaded, linked_at, HavePagesBefore};
+
+use crate::bases::PartBase;
+use crate::fields::{field_number, filled};
+use crate::layout::Layout;
+use crate::values::relocated_value;
+use c25_meaning::no_memory::NoMemory;
+use c25_meaning::object::Relocation;
+use c25_meaning::word_map::WordMap;
+use c25_obj::{Body, Parts};
+use std::alloc::{AllocError, Global};
+use std::collections::HashMap;
+
+/// The words of both pages.
+#[derive(Drop)]
+pub(crate) struct Pages {
+    pub program: WordMap,
+    pub store: WordMap,
+}
+
+/// The relocations of a module by the sections and offsets of their words.
+type ByWord = HashMap<(u16, u16), Relocation>;
+
+/// Those of a module. No two are of one word.
+fn by_word(alloc: Global, owner: &Parts) -> Result<ByWord, AllocError>
+    ensures { IfOk result (λ m. KnowsRelocations m (contents owner.now)) }
+{
+    let mut found = HashMap::new(alloc);
+    for relocation in &owner.relocations {
+        let word = (relocation.section, relocation.offset);
+        if found.get(&word).is_none() {
+            found.insert(word, *relocation)?;
+        }
+    }
+    Ok(found)
+}
+
+/// A word of a module with its field filled, where it has one.
+fn linked_word(
+    layout: &Layout<'_, '_>,
+    number: usize,
+    owner: &Parts,
+    relocation: Option<&Relocation>,
+    word: u16,
+) -> u16
+    requires laid { IsLaidOut layout.now }
+    requires owner { IsOwner layout.now number (contents owner.now) }
+    ensures { result ≡ relocated layout.now.modules.now (places_in layout.now) number (contents owner.now) (option_map (λ r. r.now) relocation.entry) word }
+{
+    match relocation {
+        Some(relocation) => {
+            let value = relocated_value(layout, number, owner, relocation);
+            let number = field_number(relocation.kind, value);
+            filled(relocation.kind, number, word)
+        }
+        None => word,
+    }
+}
+
+/// Loads the words of a section from an address on.
+fn load_words(
+    layout: &Layout<'_, '_>,
+    number: usize,
+    owner: &Parts,
+    relocations: &ByWord,
+    section: u16,
+    base: u32,
+    words: &[u16],
+    page: &mut WordMap,
+) -> Result<(), NoMemory>
+    requires laid { IsLaidOut layout.now }
+    requires owner { IsOwner layout.now number (contents owner.now) }
+    requires relocations { KnowsRelocations relocations.now (contents owner.now) }
+    requires within { base + length words.now ≤ 65536 }
+    ensures { (address : ℕ) → OnOk result (finite.get page.new address
+        ≡ loaded base (length words.now) (linked_at layout.now.modules.now (places_in layout.now) number (contents owner.now) section words.now) (finite.get page.old address) address) }
+{
+    for (offset, word) in words.iter().enumerate() {
+        let address = (base as usize + offset) as u16;
+        let relocation = relocations.get(&(section, offset as u16));
+        let linked = linked_word(layout, number, owner, relocation, *word);
+        page.insert(address, linked)?;
+    }
+    Ok(())
+}
+
+/// Loads a section of a module where its part stands.
+#[tactic(auto, using(crate::proofs::Loaded::section_loaded, crate::proofs::Loaded::section_passed, crate::proofs::Loaded::none_elsewhere, crate::proofs::Loaded::none_uninitialised))]
+fn load_section(
+    layout: &Layout<'_, '_>,
+    number: usize,
+    owner: &Parts,
+    relocations: &ByWord,
+    index: usize,
+    pages: &mut Pages,
+) -> Result<(), NoMemory>
+    requires laid { IsLaidOut layout.now }
+    requires owner { IsOwner layout.now number (contents owner.now) }
+    requires relocations { KnowsRelocations relocations.now (contents owner.now) }
+    requires section { index < length (contents owner.now).sections }
+    requires before { HavePagesBefore layout.now.modules.now (places_in layout.now) number index pages.old }
+    ensures { OnOk result (HavePagesBefore layout.now.modules.now (places_in layout.now) number (index + 1) pages.new) }
+{
+    let part = layout.bases.get(number, index);
+    let section = &owner.sections[index];
+    match &section.body {
+        Body::Uninitialised(_) => Ok(()),
+        Body::Initialised(words) => {
+            let index = index as u16;
+            if part.page == 0 {
+                load_words(
+                    layout,
+                    number,
+                    owner,
+                    relocations,
+                    index,
+                    part.base,
+                    words,
+                    &mut pages.program,
+                )
+            } else {
+                load_words(
+                    layout,
+                    number,
+                    owner,
+                    relocations,
+                    index,
+                    part.base,
+                    words,
+                    &mut pages.store,
+                )
+            }
+        }
+    }
+}
+
+/// Loads the sections of a module.
+#[tactic(auto, using(crate::proofs::Loaded::module_loaded))]
+fn load_module(
+    alloc: Global,
+    layout: &Layout<'_, '_>,
+    number: usize,
+    owner: &Parts,
+    pages: &mut Pages,
+) -> Result<(), NoMemory>
+    requires laid { IsLaidOut layout.now }
+    requires owner { IsOwner layout.now number (contents owner.now) }
+    requires before { HavePagesBefore layout.now.modules.now (places_in layout.now) number 0 pages.old }
+    ensures { OnOk result (HavePagesBefore layout.now.modules.now (places_in layout.now) (number + 1) 0 pages.new) }
+{
+    let relocations = by_word(alloc, owner)?;
+    for index in 0..owner.sections.len() {
+        load_section(layout, number, owner, &relocations, index, pages)?;
+    }
+    Ok(())
+}
+
+/// The words of all modules.
+#[tactic(auto, using(crate::proofs::Loaded::nothing_loaded, crate::proofs::Loaded::all_loaded))]
+pub(crate) fn load(alloc: Global, layout: &Layout<'_, '_>) -> Result<Pages, NoMemory>
+    requires { IsLaidOut layout.now }
+    ensures program { IfOk result (λ p. HasWords layout.now.modules.now (places_in layout.now) 0 p.program) }
+    ensures store { IfOk result (λ p. HasWords layout.now.modules.now (places_in layout.now) 1 p.store) }
+{
+    let mut pages = Pages {
+        program: WordMap::new(alloc),
+        store: WordMap::new(alloc),
+    };
+    for (number, module) in layout.modules.iter().enumerate() {
+        load_module(alloc, layout, number, module.parts(), &mut pages)?;
+    }
+    Ok(pages)
+}

@@ -1,0 +1,77 @@
+//! What the fields of a map's line say.
+
+ghost use Rattle.std.specs.Prelude.{◌≡◌, [], IfOk};
+ghost use Rattle.c25_meaning.specs.Results.{Meets};
+ghost use Rattle.c25_map.specs.Reading.{part_of, place_of, value_of};
+ghost use Rattle.c25_map.specs.View.{part_data, section_data, symbol_data};
+
+use crate::map::{GlobalSymbol, OutputSection, Part};
+use crate::map_fault::MapFault;
+use crate::numbers::{address_of, is_number, long_of, page_of, size_of, word_of};
+use c25_meaning::failure::Failure;
+use c25_obj::{is_section_name, is_symbol_name};
+use std::alloc::Global;
+
+/// The part of a line `PART number base size`.
+#[tactic(auto, unfolding(crate::specs::Reading::part_of))]
+pub(crate) fn part_of(
+    alloc: Global,
+    number: &str,
+    base: &str,
+    size: &str,
+) -> Result<Part, Failure<MapFault>>
+    ensures { Meets part_data (part_of number.now base.now size.now) result }
+{
+    if !is_number(number.as_bytes()) {
+        return Err(Failure::Fault(MapFault::BadMap));
+    }
+    let base = address_of(base)?;
+    let size = size_of(size.as_bytes())?;
+    let number = String::from_str(alloc, number)?;
+    Ok(Part { number, base, size })
+}
+
+/// The section of a line `SECTION page base size name`, without parts.
+#[tactic(auto, unfolding(crate::specs::Reading::place_of))]
+pub(crate) fn section_of(
+    alloc: Global,
+    page: &str,
+    base: &str,
+    size: &str,
+    name: &str,
+) -> Result<OutputSection, Failure<MapFault>>
+    ensures place { Meets (λ s. (section_data s).place) (place_of page.now base.now size.now name.now) result }
+    ensures parts { IfOk result (λ s. s.parts.items ≡ []) }
+{
+    if !is_section_name(name.as_bytes()) {
+        return Err(Failure::Fault(MapFault::BadMap));
+    }
+    let page = page_of(page)?;
+    let base = u32::from(word_of(base.as_bytes())?);
+    let size = size_of(size.as_bytes())?;
+    let name = String::from_str(alloc, name)?;
+    Ok(OutputSection {
+        name,
+        page,
+        base,
+        size,
+        parts: Vec::new(alloc),
+    })
+}
+
+/// The symbol of a line `SYMBOL value name` or `ENTRY value name`.
+#[tactic(auto, unfolding(crate::specs::Reading::value_of))]
+pub(crate) fn symbol_of(
+    alloc: Global,
+    value: &str,
+    name: &str,
+) -> Result<GlobalSymbol, Failure<MapFault>>
+    ensures { Meets symbol_data (value_of value.now name.now) result }
+{
+    if !is_symbol_name(name.as_bytes()) {
+        return Err(Failure::Fault(MapFault::BadMap));
+    }
+    let value = long_of(value.as_bytes())?;
+    let name = String::from_str(alloc, name)?;
+    Ok(GlobalSymbol { name, value })
+}
