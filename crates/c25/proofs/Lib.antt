@@ -1,5 +1,7 @@
-pub mod Ends
-pub mod Loaded
-pub mod OutputLines
-pub mod RanInput
-pub mod PageWords
+pub mod Listings
+pub mod Told
+pub mod Unread
+pub mod Quiet
+pub mod Gathered
+pub mod Joined
+pub mod Words

@@ -1,6 +1,9 @@
-pub mod FaultText
-pub mod Refusal
-pub mod Chain
-pub mod OutcomeText
-pub mod Program
+pub mod Tells
+pub mod Files
 pub mod View
+pub mod Assembly
+pub mod Objects
+pub mod Building
+pub mod Linking
+pub mod Running
+pub mod Program

@@ -1,36 +1,66 @@
--- What the program reads, prints and answers.
-use Rattle.std.specs.Prelude.{◌≡◌, ◌≢◌, ℕ, ◌≤◌, List, [], ◌∷◌, codes, length, IfSome, IfOk, Option, Result, Ok, Err}
-use Rattle.std.specs.Io.KnownBytes.{Appends, Keeps}
-use Rattle.c25_board.specs.declared.board.Outcome.{Outcome}
-use Rattle.c25_board.specs.declared.board.Outcome.TheVariants as outcome
-use Rattle.c25.specs.declared.fault.Refusal.{Refusal}
-use Rattle.c25.specs.declared.run.Chain.{Chain}
-use Rattle.c25.specs.Chain.{Answers}
-use Rattle.c25.specs.OutcomeText.{run_text}
-use Rattle.c25.specs.Refusal.{Fault, Input, chain_input}
+-- What the program reads, prints, writes and answers.
+use Rattle.std.specs.Prelude.{◌≡◌, ◌⊎◌, ℕ, ◌<◌, ◌≤◌, List, length, Option, Result, Ok, Err}
+use Rattle.std.specs.Io.KnownBytes.{Keeps}
+use Rattle.clap.specs.declared.error.Error.{Error}
+use Rattle.c25_chain.specs.Refusal.{Fault}
+use Rattle.c25_chain.specs.declared.built.Built.{Built}
+use Rattle.c25_disk.specs.Held.{Held, Stay}
+use Rattle.c25_meaning.specs.declared.failure.Failure.{Failure}
+use Rattle.c25_words.specs.Task.{IsWantOfMemory, Reads, text_of, texts_of}
+use Rattle.c25_words.specs.declared.task.Task.{Task}
+use Rattle.c25_words.specs.declared.task.Task.TheVariants.{RunStandardInput, Assemble, Link, Build, Run, Debug}
+use Rattle.c25.specs.Assembly.{Assembles}
+use Rattle.c25.specs.Building.{BuildsFrom, WritesProgram}
+use Rattle.c25.specs.Linking.{LinksFrom}
+use Rattle.c25.specs.Running.{Runs, RunsTold}
+use Rattle.c25.specs.Tells.{Printed, Wrote}
 
--- what is run of a text as the one source, named stdin, without command file, samples and schedule
-abbrev pub input_of_text : List ℕ → Result Input (Refusal (List ℕ))
-input_of_text text = chain_input ((codes "stdin", text) ∷ []) (codes "stdin") [] [] []
+-- what the program does to the world: its status, what it prints to standard output and standard error, and what it writes
+pub record Effect : Type 0 where
+  pub status : ℕ
+  pub out : Printed
+  pub err : Printed
+  pub written : Wrote
 
--- the status of a run: 0 where all steps were done, 3 where the code was left
-abbrev pub status_of : Outcome → ℕ
-status_of outcome.Ran = 0
-status_of (outcome.Left at stop) = 3
-status_of (outcome.SinkFault at) = 1
+-- ---- tasks
 
--- a run of 1,000 steps of what stood on standard input, where that is known
-abbrev pub RanInput : Option (List ℕ) → Chain → Type 0
-RanInput input chain = IfSome input (λ text. Answers (input_of_text text) 1000 (Ok chain) × (length text ≤ 16777216))
+-- nothing is printed to standard output and nothing is written
+abbrev pub IsQuiet : Effect → Type 0
+IsQuiet e = Keeps e.out.0 e.out.1 × Stay e.written.0 e.written.1
 
--- an answer is told with a status; the pairs are what was printed before and what is then. A run's text goes to standard output and
--- nothing to standard error, unless memory runs out or printing fails, which is status 1; a fault's status is 1, and nothing goes to
--- standard output
-abbrev pub Tells : Result Chain Fault → ℕ → Option (List ℕ) × Option (List ℕ) → Option (List ℕ) × Option (List ℕ) → Type 0
-Tells (Ok chain) status out err =
-    status ≢ 1 → (status ≡ status_of chain.outcome) × Appends out.0 out.1 (run_text chain) × Keeps err.0 err.1
-Tells (Err fault) status out err = (status ≡ 1) × Keeps out.0 out.1
+-- the files of a program are written, or why there is none
+abbrev pub WritesBuilt : (Result Built Fault → Type 0) → List ℕ → Effect → Type 0
+WritesBuilt comes base e = (told : Result Built Fault) × comes told × WritesProgram base told e.status e.err e.written
 
--- what the program does of its input, if it is given no words
-abbrev pub Runs : Option (List ℕ) → ℕ → Option (List ℕ) × Option (List ℕ) → Option (List ℕ) × Option (List ℕ) → Type 0
-Runs input status out err = (answer : Result Chain Fault) × IfOk answer (RanInput input) × Tells answer status out err
+-- what the program does for a task, with what is known of standard input and of the files on the disk
+abbrev pub Does : Held → Option (List ℕ) → Task → Effect → Type 0
+Does held input RunStandardInput e = Runs held input e.status e.out e.err × Stay e.written.0 e.written.1
+Does held input (Assemble source object listing) e =
+    Assembles held source.now object.now (text_of listing) e.status e.err e.written × Keeps e.out.0 e.out.1
+Does held input (Link command objects base) e = WritesBuilt (LinksFrom held command.now (texts_of objects.items)) base.now e × Keeps e.out.0 e.out.1
+Does held input (Build sources base command) e = WritesBuilt (BuildsFrom held (texts_of sources.items) (text_of command)) base.now e × Keeps e.out.0 e.out.1
+Does held input (Run sources steps files) e = RunsTold held (texts_of sources.items) steps files e.status e.out e.err × Stay e.written.0 e.written.1
+Does held input (Debug sources script files) e = (e.status ≡ 2) × IsQuiet e
+
+-- ---- words
+
+-- the status of words that are no task: 1 where memory ran out, else 2
+abbrev pub HasWordsStatus : Failure Error → ℕ → Type 0
+HasWordsStatus fault status = (IsWantOfMemory fault × (status ≡ 1)) ⊎ ((IsWantOfMemory fault → ⊥) × (status ≡ 2))
+
+-- what the program does where words are read so
+abbrev pub DoesRead : Held → Option (List ℕ) → Result Task (Failure Error) → Effect → Type 0
+DoesRead held input (Ok task) e = Does held input task e
+DoesRead held input (Err fault) e = HasWordsStatus fault e.status × IsQuiet e
+
+-- how words are read, the program's name first: alone, or none at all, they ask for the run of standard input
+abbrev pub AreRead : List (List ℕ) → Result Task (Failure Error) → Type 0
+AreRead words answer = (length words < 2 → answer ≡ Ok RunStandardInput) × (2 ≤ length words → Reads words answer)
+
+-- what the program does for words
+abbrev pub DoesWords : Held → Option (List ℕ) → List (List ℕ) → Effect → Type 0
+DoesWords held input words e = (answer : Result Task (Failure Error)) × AreRead words answer × DoesRead held input answer e
+
+-- what the program does: for some words, which are not known; or they cannot be had, and nothing is done
+abbrev pub IsProgram : Held → Option (List ℕ) → Effect → Type 0
+IsProgram held input e = ((words : List (List ℕ)) × DoesWords held input words e) ⊎ IsQuiet e

@@ -1,7 +1,16 @@
--- What the chain's own structs stand for.
-use Rattle.c25.specs.declared.chain.Input as code
-use Rattle.c25.specs.Refusal.{Input}
+-- How the program's structs stand for the definitions' data.
+use Rattle.std.specs.Prelude.{map}
+use Rattle.std.specs.String.{string_bytes}
+use Rattle.c25_chain.specs.Chain.{Given}
+use Rattle.c25_meaning.specs.Files.{Files}
+use Rattle.c25.specs.declared.copies.Run.{Run}
 
--- what a run is made of
-abbrev pub input_of : code.Input → Input
-input_of input = record { insns = input.insns.items; samples = input.samples; entries = input.schedule }
+-- what the chain is given to run
+abbrev pub given_of : Files → Run → Given
+given_of files run = record {
+  files = files;
+  sources = map string_bytes run.sources.now;
+  command = run.command.now;
+  samples = run.samples.now;
+  schedule = run.schedule.now;
+}

@@ -1,97 +1,10 @@
-//! The program on readers and writers that the tests make.
+//! The program on standard input, and its words.
 
-use crate::input::{CannotRead, read_text};
 use crate::program::run_program;
-use c25_meaning::failure::Failure;
-use std::env::FillError;
-use std::io;
-use std::io::{Error, ErrorKind, Read, Write};
+use crate::tests_worlds::{Closed, NotText, Pieces, Shelf, Words};
 use std::process::{Abort, ExitCode};
 use std::rt::Env;
 use std::test::Fail;
-
-/// Gives bytes at most so many at a time, and then ends or fails.
-#[derive(Drop)]
-struct Pieces<'a> {
-    rest: &'a [u8],
-    most: usize,
-    fails: bool,
-}
-
-impl Read for Pieces<'_> {
-    fn read(&mut self, buf: &mut [u8]) -> io::Result<usize> {
-        if self.rest.is_empty() && self.fails {
-            return Err(Error::from(ErrorKind::Other));
-        }
-        let count = self.most.min(buf.len()).min(self.rest.len());
-        let (now, later) = self.rest.split_at(count);
-        buf[..count].copy_from_slice(now);
-        self.rest = later;
-        Ok(count)
-    }
-}
-
-/// Gives so many `*`.
-#[derive(Drop)]
-struct Stars {
-    left: usize,
-    most: usize,
-}
-
-impl Read for Stars {
-    fn read(&mut self, buf: &mut [u8]) -> io::Result<usize> {
-        let count = self.most.min(buf.len()).min(self.left);
-        buf[..count].fill(b'*');
-        self.left -= count;
-        Ok(count)
-    }
-}
-
-/// So many words, the program's name first, none of which can be had where they are long.
-#[derive(Drop)]
-struct Words {
-    count: usize,
-    long: bool,
-}
-
-impl Env for Words {
-    fn arg(&self, i: usize, _buf: &mut [u8]) -> Result<usize, FillError> {
-        if i >= self.count {
-            Err(FillError::NotPresent)
-        } else if self.long {
-            Err(FillError::TooLong)
-        } else {
-            Ok(0)
-        }
-    }
-
-    fn var(&self, _name: &str, _buf: &mut [u8]) -> Result<usize, FillError> {
-        Err(FillError::NotPresent)
-    }
-
-    fn var_at(&self, _i: usize, _buf: &mut [u8]) -> Result<usize, FillError> {
-        Err(FillError::NotPresent)
-    }
-}
-
-const NO_WORDS: Words = Words {
-    count: 1,
-    long: true,
-};
-
-/// Takes nothing.
-#[derive(Drop)]
-struct Closed;
-
-impl Write for Closed {
-    fn write(&mut self, _buf: &[u8]) -> io::Result<usize> {
-        Err(Error::from(ErrorKind::BrokenPipe))
-    }
-
-    fn flush(&mut self) -> io::Result<()> {
-        Ok(())
-    }
-}
 
 /// What the program is to print, and its status.
 #[derive(Clone, Copy)]
@@ -104,18 +17,22 @@ struct Printed<'a> {
 /// The program prints this.
 fn prints(
     rt: &(impl Abort + AllocGlobal),
-    words: &Words,
+    words: &impl Env,
     input: &mut Pieces<'_>,
     printed: Printed<'_>,
 ) -> Result<(), Fail> {
     let mut out = Vec::<u8>::new(rt.alloc());
     let mut err = Vec::<u8>::new(rt.alloc());
-    let status = run_program(rt.alloc(), words, input, &mut out, &mut err);
+    let mut shelf = Shelf::of(rt.alloc(), &[]);
+    let status = run_program(rt.alloc(), words, &mut shelf, input, &mut out, &mut err);
     assert_eq!(rt; out.as_slice(), printed.out.as_bytes());
     assert_eq!(rt; err.as_slice(), printed.err.as_bytes());
     assert_eq!(rt; status, ExitCode::from(printed.status));
+    assert!(rt; shelf.written.is_empty());
     Ok(())
 }
+
+const NO_WORDS: Words<'_> = Words { words: &[] };
 
 #[test]
 fn a_run_goes_to_standard_output(rt: HostRuntime) -> Result<(), Fail> {
@@ -182,19 +99,64 @@ fn a_fault_goes_to_standard_error(rt: HostRuntime) -> Result<(), Fail> {
 }
 
 #[test]
-fn words_are_refused_and_nothing_is_read(rt: HostRuntime) -> Result<(), Fail> {
-    for long in [false, true] {
+fn debugging_is_not_there_yet(rt: HostRuntime) -> Result<(), Fail> {
+    let mut input = Pieces {
+        rest: b" NOP\n",
+        most: 9,
+        fails: false,
+    };
+    let printed = Printed {
+        out: "",
+        err: "c25: debug is not there yet\n",
+        status: 2,
+    };
+    let words = Words {
+        words: &["debug", "a.asm", "--script", "a.txt"],
+    };
+    prints(&rt, &words, &mut input, printed)?;
+    assert_eq!(&rt; input.rest, b" NOP\n".as_slice());
+    Ok(())
+}
+
+#[test]
+fn words_that_are_no_text_have_status_2(rt: HostRuntime) -> Result<(), Fail> {
+    let mut input = Pieces {
+        rest: b" NOP\n",
+        most: 9,
+        fails: false,
+    };
+    let printed = Printed {
+        out: "",
+        err: "c25: a word is not UTF-8\n",
+        status: 2,
+    };
+    prints(&rt, &NotText, &mut input, printed)
+}
+
+#[test]
+fn words_that_are_no_task_have_status_2(rt: HostRuntime) -> Result<(), Fail> {
+    for word in ["asm", "help", "--help", "--version", "--", "a.asm"] {
+        let mut out = Vec::<u8>::new(rt.alloc());
+        let mut err = Vec::<u8>::new(rt.alloc());
+        let mut shelf = Shelf::of(rt.alloc(), &[]);
         let mut input = Pieces {
             rest: b" NOP\n",
             most: 9,
             fails: false,
         };
-        let printed = Printed {
-            out: "",
-            err: "c25: it takes no words yet, and reads its source from standard input\n",
-            status: 2,
-        };
-        prints(&rt, &Words { count: 2, long }, &mut input, printed)?;
+        let words = [word];
+        let words = Words { words: &words };
+        let status = run_program(
+            rt.alloc(),
+            &words,
+            &mut shelf,
+            &mut input,
+            &mut out,
+            &mut err,
+        );
+        assert_eq!(rt; status, ExitCode::from(2));
+        assert!(rt; out.is_empty());
+        assert!(rt; !err.is_empty());
         assert_eq!(&rt; input.rest, b" NOP\n".as_slice());
     }
     Ok(())
@@ -208,44 +170,15 @@ fn a_run_that_cannot_be_printed_is_a_failure(rt: HostRuntime) {
         fails: false,
     };
     let mut err = Vec::<u8>::new(rt.alloc());
-    let status = run_program(rt.alloc(), &NO_WORDS, &mut input, &mut Closed, &mut err);
+    let mut shelf = Shelf::of(rt.alloc(), &[]);
+    let status = run_program(
+        rt.alloc(),
+        &NO_WORDS,
+        &mut shelf,
+        &mut input,
+        &mut Closed,
+        &mut err,
+    );
     assert_eq!(rt; status, ExitCode::FAILURE);
     assert!(rt; err.is_empty());
-}
-
-#[test]
-fn characters_may_be_cut_between_reads(rt: HostRuntime) -> Result<(), Fail> {
-    let text = "a\u{e9}z\u{20ac}\u{1f600}";
-    for most in 1..6 {
-        let mut input = Pieces {
-            rest: text.as_bytes(),
-            most,
-            fails: false,
-        };
-        let read = read_text(rt.alloc(), &mut input)?;
-        assert_eq!(rt; read.as_str(), text);
-    }
-    Ok(())
-}
-
-#[test]
-fn the_limit_is_16777216_bytes(rt: HostRuntime) -> Result<(), Fail> {
-    for most in [4096, 4095] {
-        let mut full = Stars {
-            left: 16_777_216,
-            most,
-        };
-        let text = read_text(rt.alloc(), &mut full)?;
-        assert_eq!(rt; text.len(), 16_777_216);
-        let mut past = Stars {
-            left: 16_777_217,
-            most,
-        };
-        match read_text(rt.alloc(), &mut past) {
-            Err(Failure::Fault(CannotRead)) => {}
-            Err(Failure::NoMemory(error)) => return Err(error.into()),
-            Ok(_) => return Err(Fail::from("a byte too many was read")),
-        }
-    }
-    Ok(())
 }

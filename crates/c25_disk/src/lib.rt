@@ -4,6 +4,7 @@
 #![tactic(auto)]
 
 mod attempts;
+mod binary;
 mod copies;
 pub mod disk;
 pub mod fault;
@@ -13,6 +14,7 @@ pub mod system;
 pub mod work;
 mod writing;
 
+pub use binary::read_binary;
 pub use copies::with_copies;
 pub use reading::{CannotRead, read_text};
 pub use sources::{read_file, read_sources};

@@ -1,0 +1,98 @@
+-- Faults of files, as the program tells them; files that need not be named; work over sources of a disk.
+use Rattle.std.specs.Prelude.{◌≡◌, ℕ, List, [], Option, Some, None, Result, Ok, Err, String}
+use Rattle.std.specs.String.{string_bytes}
+use Rattle.std.specs.declared.alloc.Global.{Global}
+use Rattle.c25_chain.specs.Refusal.{Fault}
+use Rattle.c25_chain.specs.declared.fault.Refusal.{Refusal}
+use Rattle.c25_chain.specs.declared.fault.Refusal.TheVariants.{Source, NoFile, Object, Command, Link, Hex, Schedule, Samples, Script, File}
+use Rattle.c25_disk.specs.Copies.{EndsOver}
+use Rattle.c25_disk.specs.Held.{Held, IsAllOf, IsOfFile, ReadsSources}
+use Rattle.c25_disk.specs.declared.fault.FileFault.{FileFault}
+use Rattle.c25_disk.specs.declared.fault.FileFaultKind.TheVariants.{CannotRead}
+use Rattle.c25_disk.specs.declared.work.CopyFault.{CopyFault}
+use Rattle.c25_disk.specs.declared.work.CopyFault.TheVariants as copy
+use Rattle.c25_meaning.specs.Files.{Files}
+use Rattle.c25_meaning.specs.declared.failure.Failure.{Failure}
+use Rattle.c25_meaning.specs.declared.failure.Failure.TheVariants as failure
+
+-- ---- faults
+
+-- a file's fault
+abbrev pub IsToldOfFile : Failure (FileFault (String Global)) → Fault → Type 0
+IsToldOfFile (failure.NoMemory n) (failure.NoMemory m) = Unit {0}
+IsToldOfFile (failure.NoMemory n) (failure.Fault r) = ⊥
+IsToldOfFile (failure.Fault f) (failure.NoMemory m) = ⊥
+IsToldOfFile (failure.Fault f) (failure.Fault r) = r ≡ File f
+
+-- a fault of work over files that may be copied
+abbrev pub IsToldOfCopies : Failure (CopyFault (Refusal (String Global))) → Fault → Type 0
+IsToldOfCopies (failure.NoMemory n) (failure.NoMemory m) = Unit {0}
+IsToldOfCopies (failure.NoMemory n) (failure.Fault r) = ⊥
+IsToldOfCopies (failure.Fault f) (failure.NoMemory m) = ⊥
+IsToldOfCopies (failure.Fault (copy.File f)) (failure.Fault r) = r ≡ File f
+IsToldOfCopies (failure.Fault (copy.Work g)) (failure.Fault r) = r ≡ g
+
+-- the name of the file that a refusal asks for
+abbrev pub missing_name : Refusal (String Global) → Option (List ℕ)
+missing_name (NoFile file line name) = Some (string_bytes name)
+missing_name (Source file line kind) = None
+missing_name (Object file fault) = None
+missing_name (Command faulty) = None
+missing_name (Link faulty) = None
+missing_name (Hex placed) = None
+missing_name (Schedule line) = None
+missing_name (Samples line) = None
+missing_name (Script line) = None
+missing_name (File f) = None
+
+-- an answer is a fault of which this holds
+abbrev pub FailsWith : {A : Type 0} → Result A Fault → (Fault → Type 0) → Type 0
+FailsWith (Ok a) holds = ⊥
+FailsWith (Err fault) holds = holds fault
+
+-- ---- files that need not be named
+
+-- the file of this name cannot be read (8), or memory ran out
+abbrev pub IsUnread : List ℕ → Fault → Type 0
+IsUnread name fault = (failure : Failure (FileFault (String Global))) × IsOfFile name CannotRead failure × IsToldOfFile failure fault
+
+-- the same of a file that need not be named
+abbrev pub IsUnreadOptional : Option (List ℕ) → Fault → Type 0
+IsUnreadOptional None fault = ⊥
+IsUnreadOptional (Some name) fault = IsUnread name fault
+
+-- a text is all of the file of this name, or empty where none is named
+abbrev pub IsOptional : Held → Option (List ℕ) → List ℕ → Type 0
+IsOptional held None text = text ≡ []
+IsOptional held (Some name) text = IsAllOf (held name) text
+
+-- the text of such a file, or why it is not read
+abbrev pub ReadsOptional : Held → Option (List ℕ) → Result (String Global) Fault → Type 0
+ReadsOptional held name (Ok text) = IsOptional held name (string_bytes text)
+ReadsOptional held name (Err fault) = IsUnreadOptional name fault
+
+-- ---- sources
+
+-- the sources of names, or the first that is refused: it is among those before it (37), or cannot be read (8)
+abbrev pub ReadsAll : Held → List (List ℕ) → Result Files Fault → Type 0
+ReadsAll held names (Ok files) = ReadsSources held [] names (Ok files)
+ReadsAll held names (Err fault) = (failure : Failure (FileFault (String Global))) × ReadsSources held [] names (Err failure) × IsToldOfFile failure fault
+
+-- one of these sources is refused
+abbrev pub IsRefusedSource : {A : Type 0} → Held → List (List ℕ) → Result A Fault → Type 0
+IsRefusedSource held names answer = FailsWith answer (λ fault. ReadsAll held names (Err fault))
+
+-- ---- work over files
+
+-- what comes of work, as the program tells it
+abbrev pub IsToldOf : {A : Type 0} → Result A (Failure (CopyFault (Refusal (String Global)))) → Result A Fault → Type 0
+IsToldOf (Ok a) (Ok b) = b ≡ a
+IsToldOf (Ok a) (Err fault) = ⊥
+IsToldOf (Err failure) (Ok b) = ⊥
+IsToldOf (Err failure) (Err fault) = IsToldOfCopies failure fault
+
+-- what is told of work over given files and at most 256 others that it asks for: what it comes to over the files that are there in the
+-- end, or that the one that it then lacks cannot be had (8)
+abbrev pub ComesTo : {A : Type 0} → Held → Files → (Files → Result A Fault → Type 0) → Result A Fault → Type 0
+ComesTo {A} held given comes_to answer =
+    (result : Result A (Failure (CopyFault (Refusal (String Global))))) × EndsOver held given comes_to missing_name result × IsToldOf result answer

@@ -1,0 +1,71 @@
+-- The hex texts of a program spell its words: addresses and words have 16 bits.
+use Rattle.std.proofs.Common.{◌≡◌, ℕ, ◌<◌, ◌^◌, List, [], ◌∷◌, Option, Some, None, All, sym, subst, arith}
+use Rattle.std.specs.FinMap as finite
+use Rattle.std.specs.List.{AllByRecursion, slice_get}
+use Rattle.std.specs.Ordering.{nat_cmp}
+use Rattle.std.specs.Str.{bytes_eq}
+use Rattle.std.proofs.lemmas.List.Elements.{All-from_recursion}
+use Rattle.std.proofs.lemmas.Option.{get_or_from_slice_get, slice_get_within}
+use Rattle.c25_cmd.proofs.Kept.{text_keeps}
+use Rattle.c25_hex.proofs.ReadBack.{read_back}
+use Rattle.c25_laws.proofs.SourcesRead.{AreRead, sources_read}
+use Rattle.c25_laws.specs.ProgramStatements.{AreModulesOf}
+use Rattle.c25_meaning.proofs.Parts.{part_in_place}
+use Rattle.c25_meaning.proofs.RelocatedFields.{filled_below, number_below}
+use Rattle.c25_meaning.specs.Command.{CommandData, IsCommand}
+use Rattle.c25_meaning.specs.Files.{Files}
+use Rattle.c25_meaning.specs.GoodMap.{IsGoodMap, placings_for, ranges_for}
+use Rattle.c25_meaning.specs.Hex.{SpellsWords}
+use Rattle.c25_meaning.specs.InstructionStatements.{Instruction}
+use Rattle.c25_meaning.specs.Linking.{HasWords, ImageData}
+use Rattle.c25_meaning.specs.Module.{Contents, Initialised, IsModule, SectionBody, SectionData, Uninitialised, body_size, body_words}
+use Rattle.c25_meaning.specs.Place.{Place}
+use Rattle.c25_meaning.specs.WordMap.{IsWordMap}
+use Rattle.c25_meaning.specs.Words.{HasWord, relocated, relocated_value, relocation_at}
+use Rattle.c25_meaning.specs.declared.object.Relocation.{Relocation}
+use Rattle.c25_chain.proofs.Named.{found_holds, module_at}
+use Rattle.c25_chain.proofs.Placed.{IsGoodPlace, good_places}
+use Rattle.c25_chain.specs.Linked.{IsLinkedUnder, Texts}
+
+item_at : {A : Type 0} (P : A → Type 0) (xs : List A) (k : ℕ) (x : A) → AllByRecursion P xs → slice_get xs k ≡ Some x → P x
+item_at P xs k x h e = subst P (get_or_from_slice_get xs k x x e) (All-from_recursion P xs h k x (slice_get_within xs k x e))
+
+in_body : (b : SectionBody) (k w : ℕ) → slice_get (body_words b) k ≡ Some w → k < body_size b
+in_body (Uninitialised size) k w e = let l = slice_get_within [] k w e in absurd (omega (arith, l))
+in_body (Initialised words) k w e = slice_get_within words k w e
+
+linked_fits : (modules : List Contents) (places : List Place) (number : ℕ) (m : Contents) (o : Option Relocation) (w : ℕ) → w < 65536 → relocated modules places number m o w < 65536
+linked_fits modules places number m None w h = h
+linked_fits modules places number m (Some r) w h = filled_below r.kind _ w (number_below r.kind (relocated_value modules places number m r)) h
+
+word_fits : (modules : List Contents) (command : CommandData) (places : List Place) (page address word : ℕ) → All IsModule modules → IsCommand command → IsGoodMap modules command places → HasWord modules places page address word → (address < 2 ^ 16) × (word < 2 ^ 16)
+word_fits modules command places page address word are is good h =
+    let i = part_in_place (ranges_for command) modules (placings_for command) places h.number h.index h.owner h.section good h.part in
+    let p = found_holds IsGoodPlace (λ (q : Place). bytes_eq (h.section).name q.name) places i.place (good_places modules command places are is good) i.found in
+    let within = i.within in
+    let last = p.last in
+    let at = h.address_is in
+    let k = in_body (h.section).body h.offset h.before h.word_is in
+    let m = module_at modules h.number h.owner are (h.part).owner_is in
+    let words = item_at (λ (s : SectionData). AllByRecursion (λ w. w < 2 ^ 16) (body_words s.body)) (h.owner).sections h.index h.section (m.sized).words (h.part).section_is in
+    let before = item_at (λ w. w < 2 ^ 16) (body_words (h.section).body) h.offset h.before words h.word_is in
+    let linked : word < 65536 = subst (λ w. w < 65536) (sym h.linked) (linked_fits modules places h.number h.owner (relocation_at h.owner h.index h.offset) h.before before) in
+    (omega (arith, at, within, last, k), linked)
+
+each_module : (ms : List Contents) (all : List (List Instruction)) → AreRead ms all → AllByRecursion IsModule ms
+each_module [] [] h = tt
+each_module [] (is ∷ all) h = absurd h
+each_module (m ∷ ms) [] h = absurd h
+each_module (m ∷ ms) (is ∷ all) h = ((h.0).module_is, each_module ms all h.1)
+
+module _ (files : Files) (names : List (List ℕ)) (modules : List Contents) (of : AreModulesOf files names modules) (text : List ℕ) (image : ImageData) (texts : Texts) (h : IsLinkedUnder modules text image texts) where
+  are_word_map : (page : ℕ) (words : finite.FinMap nat_cmp ℕ) → HasWords modules (h.program).places page words → IsWordMap words
+  are_word_map page words has address word e =
+      word_fits modules h.command (h.program).places page address word (All-from_recursion IsModule modules (each_module modules _ (sources_read files names modules of)))
+      (text_keeps text h.command h.read) (h.program).good ((has address word).0 e)
+
+  pub program_spelled : SpellsWords texts.page0 image.program
+  program_spelled = subst (λ (t : List ℕ). SpellsWords t image.program) (sym (h.texts_are).page0) (read_back image.program (are_word_map 0 image.program (h.program).program))
+
+  pub store_spelled : SpellsWords texts.page1 image.store
+  store_spelled = subst (λ (t : List ℕ). SpellsWords t image.store) (sym (h.texts_are).page1) (read_back image.store (are_word_map 1 image.store (h.program).store))

@@ -1,0 +1,79 @@
+-- What the chain answers: a program of its sources and its command, and a run of it, or the first refusal.
+use Rattle.std.specs.Prelude.{◌≡◌, ◌⊎◌, ℕ, List, map, Result, Ok, Err}
+use Rattle.std.specs.String.{string_bytes}
+use Rattle.c25_meaning.specs.Files.{Files}
+use Rattle.c25_meaning.specs.Linking.{ImageData}
+use Rattle.c25_meaning.specs.Results.{◌>>=◌, told}
+use Rattle.c25_meaning.specs.Samples.{samples_of}
+use Rattle.c25_meaning.specs.Schedule.{schedule_of}
+use Rattle.c25_meaning.specs.declared.failure.Failure.TheVariants as failure
+use Rattle.c25_meaning.specs.declared.sample.Sample.{Sample}
+use Rattle.c25_meaning.specs.declared.schedule.Entry.{Entry}
+use Rattle.c25_chain.specs.Built.{IsBuilt, IsUnbuilt}
+use Rattle.c25_chain.specs.Linked.{Texts}
+use Rattle.c25_chain.specs.Refusal.{Fault, refusal_of}
+use Rattle.c25_chain.specs.Run.{RunData, IsRunOf}
+use Rattle.c25_chain.specs.declared.chain.Chain.{Chain}
+use Rattle.c25_chain.specs.declared.fault.Refusal.{Refusal}
+use Rattle.c25_chain.specs.declared.fault.Refusal.TheVariants.{Schedule, Samples}
+
+-- what the chain is given: files, the names of the sources among them, and the texts of the command file, the samples and the schedule
+pub record Given : Type 0 where
+  pub files : Files
+  pub sources : List (List ℕ)
+  pub command : List ℕ
+  pub samples : List ℕ
+  pub schedule : List ℕ
+
+-- ---- the texts beside its sources
+
+-- samples and the entries of a schedule
+pub record Inputs : Type 0 where
+  pub samples : List Sample
+  pub entries : List Entry
+
+-- those of its texts, or the first refusal among them
+abbrev pub inputs_in : Given → Result Inputs (Refusal (List ℕ))
+inputs_in g =
+    told Samples (samples_of g.samples) >>= λ samples.
+    told Schedule (schedule_of g.schedule) >>= λ entries.
+    Ok (record { samples = samples; entries = entries })
+
+-- ---- the first refusal
+
+-- its sources come to a program, but a text beside them is refused
+pub record IsRefusedInput (g : Given) (r : Refusal (List ℕ)) : Type 0 where
+  pub image : ImageData
+  pub texts : Texts
+  pub listings : List (List ℕ)
+  pub built : IsBuilt g.files g.sources g.command image texts listings
+  pub refused : inputs_in g ≡ Err r
+
+-- a source is refused, or else the command or linking, or else a text beside them
+abbrev pub IsRefused : Given → Refusal (List ℕ) → Type 0
+IsRefused g r = IsUnbuilt g.files g.sources g.command r ⊎ IsRefusedInput g r
+
+-- ---- the answer
+
+-- its hex texts and its map
+abbrev pub texts_of : Chain → Texts
+texts_of c = record { page0 = string_bytes c.page0; page1 = string_bytes c.page1; map = string_bytes c.map }
+
+-- its run
+abbrev pub run_of : Chain → RunData
+run_of c = record { outputs = c.outputs.items; regs = c.regs; memory = c.memory.items; outcome = c.outcome; steps = c.steps }
+
+-- the program of the sources and the command, in which samples, schedule and n have no part, with its texts and listings; and n steps of
+-- its words under the samples and the schedule
+pub record IsAnswer (g : Given) (n : ℕ) (c : Chain) : Type 0 where
+  pub image : ImageData
+  pub inputs : Inputs
+  pub built : IsBuilt g.files g.sources g.command image (texts_of c) (map string_bytes c.listings.items)
+  pub read : inputs_in g ≡ Ok inputs
+  pub run : IsRunOf image.program image.store image.marks inputs.samples inputs.entries n (run_of c)
+
+-- what the chain answers: that, or the first refusal, unless memory ran out
+abbrev pub Answers : Given → ℕ → Result Chain Fault → Type 0
+Answers g n (Ok c) = IsAnswer g n c
+Answers g n (Err (failure.NoMemory m)) = Unit {0}
+Answers g n (Err (failure.Fault f)) = IsRefused g (refusal_of f)

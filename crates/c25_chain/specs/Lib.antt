@@ -1,0 +1,10 @@
+pub mod Refusal
+pub mod FaultText
+pub mod Modules
+pub mod Linked
+pub mod Built
+pub mod Run
+pub mod Chain
+pub mod OutcomeText
+pub mod View
+pub mod Headline

@@ -1,0 +1,36 @@
+-- Refusals by the bytes of their names.
+use Rattle.std.specs.Prelude.{◌≡◌, ℕ, List, String}
+use Rattle.std.specs.String.{string_bytes}
+use Rattle.std.specs.declared.alloc.Global.{Global}
+use Rattle.c25_disk.specs.declared.fault.FileFault.{FileFault}
+use Rattle.c25_meaning.specs.declared.failure.Failure.{Failure}
+use Rattle.c25_meaning.specs.declared.failure.Failure.TheVariants as failure
+use Rattle.c25_place.specs.View as place
+use Rattle.c25_chain.specs.declared.fault.Refusal.{Refusal}
+use Rattle.c25_chain.specs.declared.fault.Refusal.TheVariants.{Source, NoFile, Object, Command, Link, Hex, Schedule, Samples, Script, File}
+
+-- what the code's calls fail with
+abbrev pub Fault : Type 0
+Fault = Failure (Refusal (String Global))
+
+-- what is wrong with a file, by the bytes of its name
+abbrev pub file_fault_of : FileFault (String Global) → FileFault (List ℕ)
+file_fault_of f = record { file = string_bytes f.file; kind = f.kind }
+
+-- a refusal with the bytes of its names
+abbrev pub refusal_of : Refusal (String Global) → Refusal (List ℕ)
+refusal_of (Source file line kind) = Source (string_bytes file) line kind
+refusal_of (NoFile file line name) = NoFile (string_bytes file) line (string_bytes name)
+refusal_of (Object file fault) = Object (string_bytes file) fault
+refusal_of (Command faulty) = Command faulty
+refusal_of (Link faulty) = Link (place.refusal_of faulty)
+refusal_of (Hex placed) = Hex placed
+refusal_of (Schedule line) = Schedule line
+refusal_of (Samples line) = Samples line
+refusal_of (Script line) = Script line
+refusal_of (File f) = File (file_fault_of f)
+
+-- a fault is this refusal, unless memory ran out
+abbrev pub IsRefusedAs : Refusal (List ℕ) → Fault → Type 0
+IsRefusedAs r (failure.NoMemory n) = Unit {0}
+IsRefusedAs r (failure.Fault f) = refusal_of f ≡ r

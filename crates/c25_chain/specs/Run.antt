@@ -1,0 +1,54 @@
+-- What an answer says of the run of a program.
+use Rattle.std.specs.Prelude.{◌≡◌, ℕ, ◌<◌, List, length, slice_index}
+use Rattle.std.specs.FinMap as finite
+use Rattle.std.specs.Ordering.{nat_cmp}
+use Rattle.c25_board.specs.declared.board.Outcome.{Outcome}
+use Rattle.c25_board.specs.declared.board.Outcome.TheVariants as outcome
+use Rattle.c25_meaning.specs.FirstState.{first_of_pages}
+use Rattle.c25_meaning.specs.Run.{Ending, Ran, Left, Runs}
+use Rattle.c25_meaning.specs.Samples.{samples_at}
+use Rattle.c25_meaning.specs.Signals.{signals_of}
+use Rattle.c25_meaning.specs.State.{State}
+use Rattle.c25_meaning.specs.Status.{regs_of}
+use Rattle.c25_meaning.specs.WordStep.{WordStep}
+use Rattle.c25_meaning.specs.declared.mark.Mark.{Mark}
+use Rattle.c25_meaning.specs.declared.registers.Regs.{Regs}
+use Rattle.c25_meaning.specs.declared.sample.Sample.{Sample}
+use Rattle.c25_meaning.specs.declared.schedule.Entry.{Entry}
+use Rattle.c25_chain.specs.declared.run.Done.{Done}
+
+-- what a run did and left: its outputs in order, registers, data memory, how it ended, and how many steps were done
+pub record RunData : Type 0 where
+  pub outputs : List (ℕ × ℕ)
+  pub regs : Regs
+  pub memory : List ℕ
+  pub outcome : Outcome
+  pub steps : ℕ
+
+-- the outputs, the registers and all of data memory are those of a state
+pub record Shows (t : State) (d : RunData) : Type 0 where
+  pub outputs : d.outputs ≡ t.world.outputs
+  pub regs : d.regs ≡ regs_of t.registers
+  pub size : length d.memory ≡ 65536
+  pub memory : (address : ℕ) → address < 65536 → slice_index d.memory address ≡ t.world.words address
+
+-- a run of n steps that ends so is told so
+abbrev pub EndsAs : ℕ → Ending → RunData → Type 0
+EndsAs n (Ran t) d = (d.outcome ≡ outcome.Ran) × (d.steps ≡ n) × Shows t d
+EndsAs n (Left j stop t) d = (d.outcome ≡ outcome.Left j stop) × (d.steps ≡ j) × Shows t d
+
+-- n steps of the words of both pages, with instructions at these places, from a reset on, under these samples and this schedule
+abbrev pub RunsWords : (page0 page1 : finite.FinMap nat_cmp ℕ) → List Mark → List Sample → List Entry → ℕ → Ending → Type 0
+RunsWords page0 page1 marks samples entries n e = Runs WordStep (signals_of entries) 0 n (first_of_pages page0 page1 marks (samples_at samples)) e
+
+-- what was done is that run
+abbrev pub IsRunOf : (page0 page1 : finite.FinMap nat_cmp ℕ) → List Mark → List Sample → List Entry → ℕ → RunData → Type 0
+IsRunOf page0 page1 marks samples entries n d = (e : Ending) × RunsWords page0 page1 marks samples entries n e × EndsAs n e d
+
+-- what the code has of a run
+abbrev pub run_data : Done → RunData
+run_data d = record { outputs = d.outputs.items; regs = d.regs; memory = d.memory.items; outcome = d.outcome; steps = d.steps }
+
+-- and it is that run
+abbrev pub HasRun : (page0 page1 : finite.FinMap nat_cmp ℕ) → List Mark → List Sample → List Entry → ℕ → Done → Type 0
+HasRun page0 page1 marks samples entries n d = IsRunOf page0 page1 marks samples entries n (run_data d)

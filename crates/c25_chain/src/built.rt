@@ -1,0 +1,35 @@
+//! Sources, assembled and linked.
+
+ghost use Rattle.std.specs.Prelude.{map, string_bytes};
+ghost use Rattle.c25_chain.specs.Built.{Builds};
+
+use crate::fault::Fault;
+use crate::linked::{Linked, link_modules};
+use crate::modules::{Modules, assemble_all};
+use c25_macro::files::Files;
+use std::alloc::Global;
+
+/// A linked program with its texts, and the listings of its sources.
+#[derive(Drop)]
+pub struct Built {
+    pub linked: Linked,
+    /// The text of a listing for each source.
+    pub listings: Vec<String>,
+}
+
+/// Assembles sources, the texts of which are among these files, and links their modules under the
+/// command that a text spells. Without sources the program has no words. The first refusal is the
+/// answer: the sources, one behind another (10 to 55), a line of the command (60 to 63), linking
+/// (70 to 76).
+pub fn build(
+    alloc: Global,
+    files: &Files,
+    sources: &[String],
+    command: &str,
+) -> Result<Built, Fault>
+    ensures { Builds files.now (map string_bytes sources.now) command.now result }
+{
+    let Modules { modules, listings } = assemble_all(alloc, files, sources)?;
+    let linked = link_modules(alloc, modules.as_slice(), command)?;
+    Ok(Built { linked, listings })
+}

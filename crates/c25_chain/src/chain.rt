@@ -1,0 +1,132 @@
+//! The whole chain: from the texts of sources to what their run put out.
+
+ghost use Rattle.std.specs.Prelude.{◌≡◌, IfOk, map, string_bytes};
+ghost use Rattle.c25_meaning.specs.Results.{MeetsBy, told};
+ghost use Rattle.c25_meaning.specs.Samples.{samples_of};
+ghost use Rattle.c25_meaning.specs.Schedule.{schedule_of};
+ghost use Rattle.c25_chain.specs.Refusal.{refusal_of};
+ghost use Rattle.c25_chain.specs.Chain.{Answers, run_of, texts_of};
+ghost use Rattle.c25_chain.specs.Headline.{CodeStays, HoldsSourceWords, MarksStatements, OfProgram, RunsAsSources, TellsStatementsRun};
+ghost use Rattle.c25_chain.specs.Linked as linked;
+ghost use Rattle.c25_chain.specs.Run.{run_data};
+ghost use Rattle.c25_chain.specs.declared.fault.Refusal.TheVariants as refusal;
+
+use crate::built::{Built, build};
+use crate::fault::{Fault, Refusal};
+use crate::linked::Linked;
+use crate::page::Page;
+use crate::run::{Done, run_linked};
+use c25_board::board::Outcome;
+use c25_board::samples::{BadSamples, Samples, read_samples};
+use c25_board::schedule::{BadSchedule, Schedule, read_schedule};
+use c25_macro::files::Files;
+use c25_meaning::failure::Failure;
+use c25_meaning::registers::Regs;
+use std::alloc::Global;
+
+/// What the chain answers.
+#[derive(Debug, Drop)]
+pub struct Chain {
+    /// The Intel hex text of page 0, program memory.
+    pub page0: String,
+    /// The Intel hex text of page 1, data memory.
+    pub page1: String,
+    /// The linker's map.
+    pub map: String,
+    /// A listing for each source.
+    pub listings: Vec<String>,
+    /// The outputs in order: each a port, 0 to 15, and a word.
+    pub outputs: Vec<(u16, u16)>,
+    /// The registers at the end.
+    pub regs: Regs,
+    /// The 65,536 words of data memory at the end, with block B0's at 200h to 2FFh wherever B0 is
+    /// seen.
+    pub memory: Vec<u16>,
+    /// How the run ended.
+    pub outcome: Outcome,
+    /// How many steps were done.
+    pub steps: u32,
+}
+
+/// The samples of a text.
+fn samples_in(alloc: Global, text: &str) -> Result<Samples, Fault>
+    ensures { MeetsBy refusal_of (λ samples. samples) (told refusal.Samples (samples_of text.now)) result }
+{
+    match read_samples(alloc, text) {
+        Ok(samples) => Ok(samples),
+        Err(Failure::NoMemory(error)) => Err(error.into()),
+        Err(Failure::Fault(BadSamples { line })) => Err(Failure::Fault(Refusal::Samples { line })),
+    }
+}
+
+/// The schedule of a text.
+fn schedule_in(alloc: Global, text: &str) -> Result<Schedule, Fault>
+    ensures { MeetsBy refusal_of (λ schedule. schedule) (told refusal.Schedule (schedule_of text.now)) result }
+{
+    match read_schedule(alloc, text) {
+        Ok(schedule) => Ok(schedule),
+        Err(Failure::NoMemory(error)) => Err(error.into()),
+        Err(Failure::Fault(BadSchedule { line })) => {
+            Err(Failure::Fault(Refusal::Schedule { line }))
+        }
+    }
+}
+
+/// What the chain answers of a program and its run.
+fn chain_of(built: Built, done: Done) -> Chain
+    ensures texts { texts_of result ≡ linked.texts_of built.linked }
+    ensures listings { result.listings ≡ built.listings }
+    ensures run { run_of result ≡ run_data done }
+{
+    let Built { linked, listings } = built;
+    let Linked {
+        image: _,
+        page0,
+        page1,
+        map,
+    } = linked;
+    let Page { text: page0, .. } = page0;
+    let Page { text: page1, .. } = page1;
+    Chain {
+        page0,
+        page1,
+        map,
+        listings,
+        outputs: done.outputs,
+        regs: done.regs,
+        memory: done.memory,
+        outcome: done.outcome,
+        steps: done.steps,
+    }
+}
+
+/// Assembles sources, links their modules under a command file, and runs n steps of the program with
+/// these samples and this schedule of interrupt lines and BIO levels.
+///
+/// The texts of the sources are those of `files`. Each module is passed through its records, and the
+/// words of both pages through their hex texts. Without sources the program has no words. The first
+/// refusal is the answer, in this order: the sources, one behind another (10 to 55), a line of the
+/// command file (60 to 63), linking (70 to 76), the samples (91), the schedule (90). A refused growth,
+/// of the list of outputs too, is `NoMemory`.
+pub fn run_chain(
+    alloc: Global,
+    files: &Files,
+    sources: &[String],
+    command: &str,
+    samples: &str,
+    schedule: &str,
+    n: u32,
+) -> Result<Chain, Fault>
+    ensures answer { Answers (record { files = files.now; sources = map string_bytes sources.now; command = command.now; samples = samples.now; schedule = schedule.now }) n result }
+    ensures hex_texts_hold_the_words { IfOk result (λ chain. OfProgram (HoldsSourceWords chain) files.now (map string_bytes sources.now) command.now chain) }
+    ensures marks_are_statements { IfOk result (OfProgram MarksStatements files.now (map string_bytes sources.now) command.now) }
+    ensures runs_agree { IfOk result (OfProgram RunsAsSources files.now (map string_bytes sources.now) command.now) }
+    ensures code_stays { IfOk result (OfProgram CodeStays files.now (map string_bytes sources.now) command.now) }
+    ensures own_run_is_the_statements { IfOk result (TellsStatementsRun (record { files = files.now; sources = map string_bytes sources.now; command = command.now; samples = samples.now; schedule = schedule.now }) n) }
+{
+    let built = build(alloc, files, sources, command)?;
+    let samples = samples_in(alloc, samples)?;
+    let schedule = schedule_in(alloc, schedule)?;
+    let done = run_linked(alloc, &built.linked, samples, schedule, n)?;
+    Ok(chain_of(built, done))
+}

@@ -1,0 +1,23 @@
+//! The tool chain from sources to a run: assembling, linking, hex texts, and the board.
+#![tactic(auto)]
+
+pub mod built;
+pub mod chain;
+pub mod fault;
+mod fault_numbers;
+mod fault_text;
+pub mod laws;
+pub mod linked;
+pub mod modules;
+mod output;
+pub mod page;
+mod run;
+pub mod sources;
+
+pub use built::build;
+pub use chain::run_chain;
+pub use fault_text::write_fault;
+pub use linked::link_modules;
+pub use modules::assemble_all;
+pub use output::write_run;
+pub use sources::assemble_source;

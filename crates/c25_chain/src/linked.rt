@@ -1,0 +1,95 @@
+//! Modules, linked under the text of a command file.
+
+ghost use Rattle.std.specs.Prelude.{◌<◌, ◌^◌, All, IfOk, length};
+ghost use Rattle.c25_cmd.specs.View.{command_data};
+ghost use Rattle.c25_meaning.specs.Command.{IsCommand};
+ghost use Rattle.c25_meaning.specs.CommandText.{command_of};
+ghost use Rattle.c25_meaning.specs.Module.{IsModule};
+ghost use Rattle.c25_meaning.specs.Results.{MeetsBy, told};
+ghost use Rattle.c25_chain.specs.Linked.{HasTextsOf, Links, LinksUnder};
+ghost use Rattle.c25_chain.specs.Refusal.{refusal_of};
+ghost use Rattle.c25_chain.specs.declared.fault.Refusal.TheVariants as refusal;
+
+use crate::fault::{Fault, Refusal};
+use crate::page::{Page, page_of};
+use c25_cmd::{Command, read_command};
+use c25_link::{Image, link};
+use c25_meaning::failure::Failure;
+use c25_meaning::no_memory::NoMemory;
+use c25_obj::Module;
+use std::alloc::Global;
+
+/// A linked program and its texts.
+#[derive(Drop)]
+pub struct Linked {
+    pub image: Image,
+    /// Program memory.
+    pub page0: Page,
+    /// Data memory.
+    pub page1: Page,
+    /// The text of the map.
+    pub map: String,
+}
+
+/// Each of these is a module, and there are not too many for their numbers. The call changes nothing: a
+/// proof knows of each module what was read.
+fn are_modules(modules: &[Module])
+    ensures each { All IsModule modules.now }
+    ensures few { length modules.now < 2 ^ 64 }
+{
+    let _count = modules.len();
+    for module in modules {
+        let _parts = module.parts();
+    }
+}
+
+/// The command that a text spells.
+fn command_in(alloc: Global, text: &str) -> Result<Command, Fault>
+    ensures told { MeetsBy refusal_of command_data (told refusal.Command (command_of text.now)) result }
+    ensures kept { IfOk result (λ command. IsCommand (command_data command)) }
+{
+    match read_command(alloc, text) {
+        Ok(command) => Ok(command),
+        Err(Failure::NoMemory(error)) => Err(error.into()),
+        Err(Failure::Fault(faulty)) => Err(Failure::Fault(Refusal::Command(faulty))),
+    }
+}
+
+/// The program of modules under a command.
+fn image_of(alloc: Global, modules: &[Module], command: &Command) -> Result<Image, Fault>
+    requires { IsCommand (command_data command.now) }
+    ensures { Links modules.now (command_data command.now) result }
+{
+    match link(alloc, modules, command) {
+        Ok(image) => Ok(image),
+        Err(Failure::NoMemory(error)) => Err(error.into()),
+        Err(Failure::Fault(faulty)) => Err(Failure::Fault(Refusal::Link(faulty))),
+    }
+}
+
+/// A program with its texts.
+fn with_texts(alloc: Global, image: Image) -> Result<Linked, NoMemory>
+    ensures { IfOk result (HasTextsOf image) }
+{
+    let map = image.write_map(alloc)?;
+    let page0 = page_of(alloc, image.words(0))?;
+    let page1 = page_of(alloc, image.words(1))?;
+    Ok(Linked {
+        image,
+        page0,
+        page1,
+        map,
+    })
+}
+
+/// Links modules under the command that a text spells, and writes the map and the hex texts of both
+/// pages. It is refused where a line of the text is wrong (60 to 63) or where the modules cannot be
+/// linked (70 to 76).
+pub fn link_modules(alloc: Global, modules: &[Module], command: &str) -> Result<Linked, Fault>
+    ensures { LinksUnder modules.now command.now result }
+{
+    are_modules(modules);
+    let command = command_in(alloc, command)?;
+    let image = image_of(alloc, modules, &command)?;
+    Ok(with_texts(alloc, image)?)
+}

@@ -1,0 +1,57 @@
+//! The modules of several sources.
+
+ghost use Rattle.std.specs.Prelude.{◌≡◌, map, string_bytes};
+ghost use Rattle.c25_meaning.specs.Results.{MeetsBy};
+ghost use Rattle.c25_chain.specs.Refusal.{refusal_of};
+ghost use Rattle.c25_chain.specs.Modules.{modules_of, no_modules, with_source};
+ghost use Rattle.c25_chain.specs.View.{modules_view};
+
+use crate::fault::Fault;
+use crate::sources::{assemble_source, read_back};
+use c25_macro::files::Files;
+use c25_obj::Module;
+use std::alloc::Global;
+
+/// The modules of sources, and the texts of their listings.
+#[derive(Drop)]
+pub struct Modules {
+    /// A module for each source.
+    pub modules: Vec<Module>,
+    /// The text of a listing for each source.
+    pub listings: Vec<String>,
+}
+
+/// None yet.
+fn none(alloc: Global) -> Modules
+    ensures { modules_view result ≡ no_modules }
+{
+    Modules {
+        modules: Vec::new(alloc),
+        listings: Vec::new(alloc),
+    }
+}
+
+/// Assembles one source more, and passes its module through its records.
+fn add_source(alloc: Global, files: &Files, name: &str, all: &mut Modules) -> Result<(), Fault>
+    ensures { MeetsBy refusal_of (λ _. modules_view all.new) (with_source files.now (modules_view all.old) name.now) result }
+{
+    let assembled = assemble_source(alloc, files, name)?;
+    let listing = assembled.listing.text(alloc, &assembled.module)?;
+    let module = read_back(alloc, &assembled.module)?;
+    all.modules.push(module)?;
+    all.listings.push(listing)?;
+    Ok(())
+}
+
+/// Assembles sources, the texts of which are among these files, one behind another: their modules, and
+/// the texts of their listings. Each module is passed through its records. The first source that is
+/// refused ends it (10 to 55); one whose name comes twice is assembled twice.
+pub fn assemble_all(alloc: Global, files: &Files, sources: &[String]) -> Result<Modules, Fault>
+    ensures { MeetsBy refusal_of modules_view (modules_of files.now (map string_bytes sources.now)) result }
+{
+    let mut all = none(alloc);
+    for source in sources {
+        add_source(alloc, files, source.as_str(), &mut all)?;
+    }
+    Ok(all)
+}

@@ -1,0 +1,71 @@
+//! The printed text of a run.
+
+ghost use Rattle.std.specs.Prelude.{◌≡◌, ◌++◌, OnOk, IfOk, string_bytes};
+ghost use Rattle.c25_meaning.specs.Show.{four_digits};
+ghost use Rattle.c25_meaning.specs.RunText.{output_line, outputs_text};
+ghost use Rattle.c25_chain.specs.OutcomeText.{outcome_text, run_text};
+
+use crate::chain::Chain;
+use c25_board::board::Outcome;
+use c25_meaning::no_memory::NoMemory;
+use std::alloc::Global;
+
+/// Appends a word as four hexadecimal digits.
+#[tactic(auto, using(std::proofs::lemmas::Fmt::hex_byte))]
+fn push_word(out: &mut String, word: u16) -> Result<(), NoMemory>
+    ensures { OnOk result (string_bytes out.new ≡ string_bytes out.old ++ four_digits word) }
+{
+    let high = word >> 8;
+    let low = word % 256;
+    write!(out, "{high:02X}{low:02X}")?;
+    Ok(())
+}
+
+fn push_output(out: &mut String, port: u16, word: u16) -> Result<(), NoMemory>
+    ensures { OnOk result (string_bytes out.new ≡ string_bytes out.old ++ output_line (port, word)) }
+{
+    write!(out, "{port} ")?;
+    push_word(out, word)?;
+    out.push_str("\n")?;
+    Ok(())
+}
+
+#[tactic(auto, using(crate::proofs::OutputLines::outputs_more, crate::proofs::OutputLines::outputs_none))]
+fn push_outputs(out: &mut String, outputs: &[(u16, u16)]) -> Result<(), NoMemory>
+    ensures { OnOk result (string_bytes out.new ≡ string_bytes out.old ++ outputs_text outputs.now) }
+{
+    for (port, word) in outputs {
+        push_output(out, *port, *word)?;
+    }
+    Ok(())
+}
+
+fn push_outcome(out: &mut String, outcome: Outcome, steps: u32) -> Result<(), NoMemory>
+    ensures { OnOk result (string_bytes out.new ≡ string_bytes out.old ++ outcome_text outcome steps) }
+{
+    match outcome {
+        Outcome::Ran => {
+            write!(out, "ran {steps}\n")?;
+            Ok(())
+        }
+        Outcome::Left(_, stop) => {
+            write!(out, "left {steps} {stop}\n")?;
+            Ok(())
+        }
+        Outcome::SinkFault(_) => {
+            write!(out, "sink {steps}\n")?;
+            Ok(())
+        }
+    }
+}
+
+/// The text of a run: a line for each output, its port in decimal and its word in four hexadecimal
+/// digits, and then `ran N` or `left N NAME`, N being the number of steps that were done.
+pub fn write_run(alloc: Global, chain: &Chain) -> Result<String, NoMemory>
+    ensures { IfOk result (λ text. string_bytes text ≡ run_text chain.now) }
+{
+    let mut text = String::new(alloc);
+    push_outputs(&mut text, &chain.outputs)?;
+    push_outcome(&mut text, chain.outcome, chain.steps)?;
+    Ok(text)
+}

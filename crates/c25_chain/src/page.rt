@@ -1,0 +1,31 @@
+//! A page of a program: its words and their hex text.
+
+ghost use Rattle.std.specs.Prelude.{◌≡◌, IfOk, string_bytes};
+ghost use Rattle.c25_meaning.specs.HexText.{written};
+
+use c25_hex::{read_hex, write_hex};
+use c25_meaning::failure::Failure;
+use c25_meaning::no_memory::NoMemory;
+use c25_meaning::word_map::WordMap;
+use std::alloc::Global;
+
+/// A page's Intel hex text, and the words that it spells.
+#[derive(Drop)]
+pub struct Page {
+    pub text: String,
+    pub words: WordMap,
+}
+
+/// The page of these words: they are written as a hex text, and read from it again. No hex text is
+/// refused here, since one that was written spells its words.
+pub(crate) fn page_of(alloc: Global, words: &WordMap) -> Result<Page, NoMemory>
+    ensures text { IfOk result (λ page. string_bytes page.text ≡ written words.now) }
+    ensures words { IfOk result (λ page. page.words ≡ words.now) }
+{
+    let text = write_hex(alloc, words)?;
+    match read_hex(alloc, text.as_str()) {
+        Ok(words) => Ok(Page { text, words }),
+        Err(Failure::NoMemory(error)) => Err(error),
+        Err(Failure::Fault(_)) => unreachable!(),
+    }
+}

@@ -1,0 +1,53 @@
+//! A run of a linked program.
+
+ghost use Rattle.std.specs.Prelude.{◌≡◌, IfOk, true};
+ghost use Rattle.c25_meaning.specs.Marks.{fit_from};
+ghost use Rattle.c25_chain.specs.Run.{HasRun};
+
+use crate::linked::Linked;
+use c25_board::board::{Board, Outcome};
+use c25_board::ports::ListSink;
+use c25_board::samples::Samples;
+use c25_board::schedule::Schedule;
+use c25_meaning::no_memory::NoMemory;
+use c25_meaning::registers::Regs;
+use std::alloc::Global;
+
+/// What a run did, and what it left.
+#[derive(Drop)]
+pub(crate) struct Done {
+    pub(crate) outputs: Vec<(u16, u16)>,
+    pub(crate) regs: Regs,
+    pub(crate) memory: Vec<u16>,
+    pub(crate) outcome: Outcome,
+    pub(crate) steps: u32,
+}
+
+/// Runs n steps of a program, from a reset on.
+pub(crate) fn run_linked(
+    alloc: Global,
+    linked: &Linked,
+    samples: Samples,
+    schedule: Schedule,
+    n: u32,
+) -> Result<Done, NoMemory>
+    requires { fit_from 0 linked.now.image.marks ≡ true }
+    ensures { IfOk result (λ done. HasRun linked.now.page0.words linked.now.page1.words linked.now.image.marks samples schedule n done) }
+{
+    let page0 = &linked.page0.words;
+    let page1 = &linked.page1.words;
+    let marks = linked.image.marks();
+    let sink = ListSink::new(alloc);
+    let mut board = Board::new(alloc, page0, page1, marks, schedule, samples, sink)?;
+    let outcome = board.run(n);
+    if let Some(refused) = board.sink().refused() {
+        return Err(refused);
+    }
+    Ok(Done {
+        outputs: board.sink().words().to_vec(alloc)?,
+        regs: board.regs(),
+        memory: board.data().to_vec(alloc)?,
+        outcome,
+        steps: board.steps(),
+    })
+}

@@ -1,0 +1,83 @@
+//! Sources, assembled.
+
+ghost use Rattle.std.specs.Prelude.{◌≡◌, IfOk, string_bytes};
+ghost use Rattle.c25_asm.specs.View.{fault_of};
+ghost use Rattle.c25_meaning.specs.Results.{MeetsBy};
+ghost use Rattle.c25_chain.specs.Refusal.{IsRefusedAs, refusal_of};
+ghost use Rattle.c25_chain.specs.Modules.{asm_refusal, assembled_in};
+ghost use Rattle.c25_chain.specs.View.{assembled_of};
+ghost use Rattle.c25_chain.specs.declared.fault.Refusal.TheVariants as refusal;
+
+use crate::fault::{Fault, Refusal};
+use c25_asm::assemble;
+use c25_asm::fault::AsmFault;
+use c25_asm::listing::Listing;
+use c25_macro::files::Files;
+use c25_meaning::failure::Failure;
+use c25_meaning::no_memory::NoMemory;
+use c25_meaning::statement::FaultKind;
+use c25_obj::{Module, read_module, write_module};
+use std::alloc::Global;
+
+/// A module and its listing.
+#[derive(Drop)]
+pub struct Assembled {
+    pub module: Module,
+    pub listing: Listing,
+}
+
+/// A wrong line of a file.
+fn wrong_line(alloc: Global, file: &str, line: usize, kind: FaultKind) -> Fault
+    ensures { IsRefusedAs (refusal.Source file.now line kind) result }
+{
+    match String::from_str(alloc, file) {
+        Ok(file) => Failure::Fault(Refusal::Source { file, line, kind }),
+        Err(error) => Failure::NoMemory(NoMemory::from(error)),
+    }
+}
+
+/// A line of a file that asks for one of this name, which is not there.
+fn no_file(alloc: Global, file: &str, line: usize, name: String) -> Fault
+    ensures { IsRefusedAs (refusal.NoFile file.now line (string_bytes name)) result }
+{
+    match String::from_str(alloc, file) {
+        Ok(file) => Failure::Fault(Refusal::NoFile { file, line, name }),
+        Err(error) => Failure::NoMemory(NoMemory::from(error)),
+    }
+}
+
+/// Why a source has no module, as the chain tells it.
+fn refused(alloc: Global, fault: AsmFault<'_>) -> Fault
+    ensures { IsRefusedAs (asm_refusal (fault_of fault.entry)) result }
+{
+    match fault {
+        AsmFault::Line { file, line, kind } => wrong_line(alloc, file, line, kind),
+        AsmFault::NoFile { file, line, name } => no_file(alloc, file, line, name),
+    }
+}
+
+/// The module of the source of a name among these files, and its listing. It is refused where a line
+/// is wrong (10 to 13, 20 to 26, 31 to 36, 38, 50 to 55), or where a file that it asks for is not there
+/// (30).
+pub fn assemble_source(alloc: Global, files: &Files, name: &str) -> Result<Assembled, Fault>
+    ensures { MeetsBy refusal_of assembled_of (assembled_in files.now name.now) result }
+{
+    match assemble(alloc, files, name) {
+        Ok((module, listing)) => Ok(Assembled { module, listing }),
+        Err(Failure::NoMemory(error)) => Err(error.into()),
+        Err(Failure::Fault(fault)) => Err(refused(alloc, fault)),
+    }
+}
+
+/// The module that a module's bytes are read as: they are its one spelling, so it is that module.
+pub(crate) fn read_back(alloc: Global, object: &Module) -> Result<Module, NoMemory>
+    ensures { IfOk result (λ again. again ≡ object.now) }
+{
+    let _parts = object.parts();
+    let bytes = write_module(alloc, object)?;
+    match read_module(alloc, bytes.as_slice()) {
+        Ok(again) => Ok(again),
+        Err(Failure::NoMemory(error)) => Err(error),
+        Err(Failure::Fault(_)) => unreachable!(),
+    }
+}

@@ -1,0 +1,43 @@
+//! Files that are no texts.
+
+ghost use Rattle.std.specs.Prelude.{◌≡◌, IfErr, IfOk};
+ghost use Rattle.c25_disk.specs.declared.fault.FileFaultKind.TheVariants as kind;
+ghost use Rattle.c25_disk.specs.Held.{IsAllOf, IsOfFile};
+
+use crate::disk::{Disk, Refused};
+use crate::fault::{FileFault, FileFaultKind, fault_of_file};
+use crate::reading::{CannotRead, read_bytes};
+use c25_meaning::failure::Failure;
+use std::alloc::Global;
+
+/// The bytes of a file, or why there are none.
+fn bytes_of<D: Disk>(alloc: Global, disk: &D, name: &str) -> Result<Vec<u8>, Failure<CannotRead>>
+    ensures { IfOk result (λ bytes. IsAllOf (D.bytes_of disk.now name.now) bytes.items) }
+{
+    match disk.open(name) {
+        Ok(reader) => {
+            let mut reader = reader;
+            read_bytes(alloc, &mut reader)
+        }
+        Err(Refused) => Err(Failure::Fault(CannotRead)),
+    }
+}
+
+/// The bytes of a file. It is refused (8) where the file cannot be opened or read, or has more than
+/// 16,777,216 bytes.
+pub fn read_binary<D: Disk>(
+    alloc: Global,
+    disk: &D,
+    name: &str,
+) -> Result<Vec<u8>, Failure<FileFault<String>>>
+    ensures bytes { IfOk result (λ bytes. IsAllOf (D.bytes_of disk.now name.now) bytes.items) }
+    ensures fault { IfErr result (IsOfFile name.now kind.CannotRead) }
+{
+    match bytes_of(alloc, disk, name) {
+        Ok(bytes) => Ok(bytes),
+        Err(Failure::NoMemory(error)) => Err(Failure::NoMemory(error)),
+        Err(Failure::Fault(CannotRead)) => {
+            Err(fault_of_file(alloc, name, FileFaultKind::CannotRead))
+        }
+    }
+}

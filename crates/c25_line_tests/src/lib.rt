@@ -1,0 +1,9 @@
+//! Tests of what reads a line: its tokens (`c25_text`) and its expressions (`c25_expr`).
+#![tactic(auto)]
+
+#[cfg(test)]
+mod cases;
+#[cfg(test)]
+mod expressions;
+#[cfg(test)]
+mod lines;
