@@ -17,11 +17,11 @@ use Rattle.c25_meaning.specs.Sections.{Progress, table}
 use Rattle.c25_meaning.specs.Value.{Table}
 use Rattle.c25_meaning.specs.declared.failure.Failure.{Failure}
 use Rattle.c25_meaning.specs.declared.failure.Failure.TheVariants.{NoMemory, Fault}
+use Rattle.c25_phases.specs.View.{fault_of}
+use Rattle.c25_phases.specs.declared.fault.AsmFault.{AsmFault}
+use Rattle.c25_phases.specs.declared.fault.AsmFault.TheVariants.{Line, NoFile}
 use Rattle.c25_asm.specs.Coming.{StillComes}
 use Rattle.c25_asm.specs.Told.{IsTold, IsToldBy}
-use Rattle.c25_asm.specs.View.{fault_of}
-use Rattle.c25_asm.specs.declared.fault.AsmFault.{AsmFault}
-use Rattle.c25_asm.specs.declared.fault.AsmFault.TheVariants.{Line, NoFile}
 
 by_start : (files : Files) (name : List ℕ) (file : ℕ) (o : Option (List ℕ))
     → StillComes files name (begun_at (option_map (start file) o)) no_lines (passed_from files name (option_map (start file) o))

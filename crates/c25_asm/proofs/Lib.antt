@@ -1,10 +1,3 @@
-pub mod Columns
 pub mod Coming
-pub mod Declared
-pub mod Flagged
-pub mod Keys
 pub mod Lined
-pub mod Listed
 pub mod Made
-pub mod Reversed
-pub mod Sheets

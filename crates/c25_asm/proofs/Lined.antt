@@ -7,7 +7,7 @@ use Rattle.c25_meaning.specs.ModuleOfSource.{Passed, origin_of, entry_of, pass_l
 use Rattle.c25_meaning.specs.Results.{◌>>=◌}
 use Rattle.c25_meaning.specs.Sections.{Progress, size_at}
 use Rattle.c25_meaning.specs.declared.statement.FaultKind.{FaultKind}
-use Rattle.c25_asm.specs.Steps.{text_passed}
+use Rattle.c25_phases.specs.Steps.{text_passed}
 
 -- the words by which the section of a line grew
 pub entry_is : (l : ExpandedLine) (old new : Progress) (offset size count : ℕ) → offset ≡ size_at old.sections old.current → size ≡ size_at new.sections old.current → count ≡ size - offset

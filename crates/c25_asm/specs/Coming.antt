@@ -6,8 +6,9 @@ use Rattle.c25_meaning.specs.Files.{Files}
 use Rattle.c25_meaning.specs.ModuleOfSource as source
 use Rattle.c25_meaning.specs.Results.{MeetsBy}
 use Rattle.c25_meaning.specs.declared.failure.Failure.{Failure}
-use Rattle.c25_asm.specs.View.{fault_of, passed_of}
-use Rattle.c25_asm.specs.declared.fault.AsmFault.{AsmFault}
+use Rattle.c25_phases.specs.View.{fault_of}
+use Rattle.c25_phases.specs.declared.fault.AsmFault.{AsmFault}
+use Rattle.c25_asm.specs.View.{passed_of}
 use Rattle.c25_asm.specs.declared.passed.Passed.{Passed}
 
 -- what all lines of the module of a name make, where an expansion stands there and these have passed

@@ -1,9 +1,3 @@
 pub mod Coming
-pub mod FaultText
-pub mod Flags
-pub mod Imports
-pub mod Names
-pub mod Sizes
-pub mod Steps
 pub mod Told
 pub mod View

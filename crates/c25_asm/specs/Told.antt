@@ -5,15 +5,8 @@ use denote.Ref.{Bor}
 use Rattle.c25_macro.specs.declared.answer.ExpandFault.{ExpandFault}
 use Rattle.c25_meaning.specs.declared.failure.Failure.{Failure}
 use Rattle.c25_meaning.specs.declared.failure.Failure.TheVariants.{NoMemory, Fault}
-use Rattle.c25_meaning.specs.declared.statement.FaultKind.{FaultKind}
-use Rattle.c25_asm.specs.declared.fault.AsmFault.{AsmFault}
-use Rattle.c25_asm.specs.declared.fault.AsmFault.TheVariants.{Line, NoFile}
-use Rattle.c25_asm.specs.declared.item.Origin.{Origin}
-
--- why a line is refused, as why the source is
-abbrev pub at_origin : Origin → Failure FaultKind → Failure AsmFault
-at_origin o (NoMemory n) = NoMemory n
-at_origin o (Fault kind) = Fault (Line o.file o.line kind)
+use Rattle.c25_phases.specs.declared.fault.AsmFault.{AsmFault}
+use Rattle.c25_phases.specs.declared.fault.AsmFault.TheVariants.{Line, NoFile}
 
 -- a line is wrong, as why the source is refused
 abbrev pub IsWrongLine : ExpandFault → Failure AsmFault → Type 0

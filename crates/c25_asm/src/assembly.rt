@@ -4,21 +4,22 @@ ghost use Rattle.c25_meaning.specs.ModuleOfSource as source;
 ghost use Rattle.c25_meaning.specs.Results.{MeetsBy};
 ghost use Rattle.c25_meaning.specs.ExpansionRuns.{start_of};
 ghost use Rattle.c25_macro.specs.Expanders.{expansion_of};
+ghost use Rattle.c25_phases.specs.View.{fault_of};
 ghost use Rattle.c25_asm.specs.Coming.{IsRest};
 ghost use Rattle.c25_asm.specs.Told.{IsNoFile, IsTold, IsWrongLine};
-ghost use Rattle.c25_asm.specs.View.{assembled_of, fault_of, passed_of};
+ghost use Rattle.c25_asm.specs.View.{assembled_of, passed_of};
 
-use crate::fault::AsmFault;
 use crate::lines::{no_lines, pass_line};
-use crate::listing::Listing;
-use crate::making::finish;
 use crate::passed::Passed;
+use c25_listing::listing::Listing;
 use c25_macro::answer::ExpandFault;
 use c25_macro::expander::Expander;
 use c25_macro::files::Files;
 use c25_meaning::failure::Failure;
 use c25_meaning::no_memory::NoMemory;
 use c25_obj::{Module, module};
+use c25_phases::fault::AsmFault;
+use c25_phases::finish;
 use std::alloc::Global;
 
 /// The file of this name, that a line asks for, is not there.

@@ -1,55 +1,20 @@
-//! Lines read and passed.
+//! Lines passed.
 
-ghost use Rattle.std.specs.Prelude.{◌≡◌, ◌≤◌, IfOk, OnOk};
+ghost use Rattle.std.specs.Prelude.{◌≡◌, IfOk};
 ghost use Rattle.c25_macro.specs.Expander.{shown};
 ghost use Rattle.c25_meaning.specs.ModuleOfSource as source;
-ghost use Rattle.c25_meaning.specs.Results.{Meets, MeetsBy};
-ghost use Rattle.c25_meaning.specs.Sections.{name_count};
-ghost use Rattle.c25_asm.specs.Steps.{text_passed};
-ghost use Rattle.c25_asm.specs.Told.{at_origin};
-ghost use Rattle.c25_asm.specs.View.{fault_of, origin_of, passed_of, progress_of};
+ghost use Rattle.c25_meaning.specs.Results.{MeetsBy};
+ghost use Rattle.c25_phases.specs.View.{fault_of};
+ghost use Rattle.c25_asm.specs.View.{passed_of};
 
-use crate::fault::AsmFault;
-use crate::item::Origin;
-use crate::listing::Entry;
 use crate::passed::Passed;
-use crate::progress::Progress;
+use c25_listing::listing::Entry;
 use c25_macro::answer::ExpLine;
 use c25_meaning::failure::Failure;
 use c25_meaning::no_memory::NoMemory;
-use c25_meaning::statement::FaultKind;
-use c25_statements::read_statement;
+use c25_phases::fault::AsmFault;
+use c25_phases::{Origin, Progress, at_origin, read_and_pass};
 use std::alloc::Global;
-
-/// Why a line is refused, as why the source is.
-pub(crate) fn at_origin<'a>(
-    origin: Origin<'a>,
-    failure: Failure<FaultKind>,
-) -> Failure<AsmFault<'a>>
-    ensures { result ≡ at_origin origin.entry failure }
-{
-    match failure {
-        Failure::NoMemory(error) => Failure::NoMemory(error),
-        Failure::Fault(kind) => Failure::Fault(AsmFault::Line {
-            file: origin.file,
-            line: origin.line,
-            kind,
-        }),
-    }
-}
-
-/// A line's text read and passed.
-fn read_and_pass<'a>(
-    progress: &mut Progress<'a>,
-    origin: Origin<'a>,
-    text: &str,
-) -> Result<(), Failure<FaultKind>>
-    ensures told { Meets (λ _. progress_of progress.new) (text_passed (origin_of origin.entry) text.now (progress_of progress.old)) result }
-    ensures few { OnOk result (name_count (progress_of progress.new).names (progress_of progress.new).declared ≤ 65535) }
-{
-    let statement = read_statement(progress.alloc, text)?;
-    progress.pass(origin, statement)
-}
 
 /// Before the first line.
 pub(crate) fn no_lines<'a>(alloc: Global) -> Result<Passed<'a>, NoMemory>
@@ -75,10 +40,10 @@ pub(crate) fn pass_line<'a>(
     let ExpLine { file, line, text } = line;
     let origin = Origin { file, line };
     let section = progress.current;
-    let offset = progress.sections.size_at(section);
+    let offset = progress.size_at(section);
     match read_and_pass(&mut progress, origin, text.as_str()) {
         Ok(()) => {
-            let count = progress.sections.size_at(section).saturating_sub(offset);
+            let count = progress.size_at(section).saturating_sub(offset);
             entries.push(Entry {
                 line,
                 text,

@@ -2,14 +2,15 @@
 
 ghost use Rattle.std.specs.Prelude.{◌≤◌};
 ghost use Rattle.c25_meaning.specs.Sections.{name_count};
+ghost use Rattle.c25_phases.specs.View.{progress_of};
 
-use crate::listing::Entry;
-use crate::progress::Progress;
+use c25_listing::listing::Entry;
+use c25_phases::Progress;
 
 /// What the lines so far have made, and their entries in the listing.
 #[derive(Drop)]
 pub(crate) struct Passed<'a> {
     pub(crate) progress: Progress<'a>,
     pub(crate) entries: Vec<Entry>,
-    ghost few: { name_count progress.symbols.entries progress.declared ≤ 65535 },
+    ghost few: { name_count (progress_of progress).names (progress_of progress).declared ≤ 65535 },
 }

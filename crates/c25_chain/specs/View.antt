@@ -1,7 +1,7 @@
 -- How the chain's structs stand for the definitions' data.
 use Rattle.std.specs.Prelude.{map}
 use Rattle.std.specs.String.{string_bytes}
-use Rattle.c25_asm.specs.View.{entries_of}
+use Rattle.c25_listing.specs.View.{entries_of}
 use Rattle.c25_meaning.specs.ModuleOfSource as source
 use Rattle.c25_chain.specs.Modules as meant
 use Rattle.c25_chain.specs.declared.modules.Modules.{Modules}

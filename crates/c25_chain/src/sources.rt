@@ -1,7 +1,7 @@
 //! Sources, assembled.
 
 ghost use Rattle.std.specs.Prelude.{◌≡◌, IfOk, string_bytes};
-ghost use Rattle.c25_asm.specs.View.{fault_of};
+ghost use Rattle.c25_phases.specs.View.{fault_of};
 ghost use Rattle.c25_meaning.specs.Results.{MeetsBy};
 ghost use Rattle.c25_chain.specs.Refusal.{IsRefusedAs, refusal_of};
 ghost use Rattle.c25_chain.specs.Modules.{asm_refusal, assembled_in};

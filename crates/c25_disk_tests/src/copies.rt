@@ -3,7 +3,7 @@
 ghost use Rattle.std.specs.Prelude.{◌≡◌, None, Some, string_bytes, option_map};
 ghost use Rattle.c25_disk_tests.specs.declared.copies.Stop.TheVariants.{Lacks, At};
 
-use crate::shelf::Shelf;
+use crate::reading::shelf_of;
 use c25_disk::fault::FileFault;
 use c25_disk::with_copies;
 use c25_disk::work::{CopyFault, Work};
@@ -64,7 +64,7 @@ impl Work for Joined<'_> {
 
 /// What joining the files of these names comes to.
 fn told(alloc: Global, names: &[&str]) -> Result<String, Fail> {
-    let shelf = Shelf::of(alloc, &[("a", b"1"), ("b", b"22"), ("c", b"stop")]);
+    let shelf = shelf_of(alloc, &[("a", b"1"), ("b", b"22"), ("c", b"stop")]);
     let work = Joined { names };
     match with_copies(alloc, &shelf, Files::new(alloc), &work) {
         Ok(text) => Ok(text),

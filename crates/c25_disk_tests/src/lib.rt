@@ -1,13 +1,11 @@
-//! Tests of reading and writing files.
+//! Tests of reading and writing files; the readers and the files in memory that tests are made with.
 #![tactic(auto)]
 
 #[cfg(test)]
 mod copies;
-#[cfg(test)]
-mod readers;
+pub mod readers;
 #[cfg(test)]
 mod reading;
-#[cfg(test)]
-mod shelf;
+pub mod shelf;
 #[cfg(test)]
 mod system;

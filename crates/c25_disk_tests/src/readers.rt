@@ -1,14 +1,14 @@
-//! Readers that the tests make.
+//! Readers that tests make.
 
 use std::io;
 use std::io::{Error, ErrorKind, Read};
 
 /// Gives bytes at most so many at a time, and then ends or fails.
 #[derive(Drop)]
-pub(crate) struct Pieces<'a> {
-    pub(crate) rest: &'a [u8],
-    pub(crate) most: usize,
-    pub(crate) fails: bool,
+pub struct Pieces<'a> {
+    pub rest: &'a [u8],
+    pub most: usize,
+    pub fails: bool,
 }
 
 impl Read for Pieces<'_> {
@@ -20,22 +20,6 @@ impl Read for Pieces<'_> {
         let (now, later) = self.rest.split_at(count);
         buf[..count].copy_from_slice(now);
         self.rest = later;
-        Ok(count)
-    }
-}
-
-/// Gives so many `*`.
-#[derive(Drop)]
-pub(crate) struct Stars {
-    pub(crate) left: usize,
-    pub(crate) most: usize,
-}
-
-impl Read for Stars {
-    fn read(&mut self, buf: &mut [u8]) -> io::Result<usize> {
-        let count = self.most.min(buf.len()).min(self.left);
-        buf[..count].fill(b'*');
-        self.left -= count;
         Ok(count)
     }
 }

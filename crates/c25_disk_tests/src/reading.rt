@@ -1,13 +1,41 @@
 //! Texts of readers, sources and what is written.
 
-use crate::readers::{Pieces, Stars};
+use crate::readers::Pieces;
 use crate::shelf::Shelf;
 use c25_disk::fault::FileFault;
 use c25_disk::{CannotRead, Output, read_file, read_sources, read_text, write_outputs};
 use c25_meaning::failure::Failure;
+use std::alloc::Global;
+use std::io;
 use std::io::Read;
 use std::process::Abort;
 use std::test::Fail;
+
+/// Gives so many `*`.
+#[derive(Drop)]
+struct Stars {
+    left: usize,
+    most: usize,
+}
+
+impl Read for Stars {
+    fn read(&mut self, buf: &mut [u8]) -> io::Result<usize> {
+        let count = self.most.min(buf.len()).min(self.left);
+        buf[..count].fill(b'*');
+        self.left -= count;
+        Ok(count)
+    }
+}
+
+/// These files, and room for many more.
+pub(crate) fn shelf_of<'a>(alloc: Global, files: &'a [(&'a str, &'a [u8])]) -> Shelf<'a> {
+    Shelf {
+        files,
+        others: None,
+        room: 9,
+        written: Vec::new(alloc),
+    }
+}
 
 #[test]
 fn characters_may_be_cut_between_reads(rt: HostRuntime) -> Result<(), Fail> {
@@ -93,7 +121,7 @@ const FILES: &[(&str, &[u8])] = &[("a", b" NOP\n"), ("b", b""), ("c", b"\xFF")];
 
 #[test]
 fn sources_are_read_in_their_order(rt: HostRuntime) -> Result<(), Fail> {
-    let shelf = Shelf::of(rt.alloc(), FILES);
+    let shelf = shelf_of(rt.alloc(), FILES);
     let files = read_sources(rt.alloc(), &shelf, &["b", "a"])?;
     assert_eq!(rt; files.text("a"), Some(" NOP\n"));
     assert_eq!(rt; files.text("b"), Some(""));
@@ -105,7 +133,7 @@ fn sources_are_read_in_their_order(rt: HostRuntime) -> Result<(), Fail> {
 
 #[test]
 fn the_first_refused_source_is_told(rt: HostRuntime) -> Result<(), Fail> {
-    let shelf = Shelf::of(rt.alloc(), FILES);
+    let shelf = shelf_of(rt.alloc(), FILES);
     for (names, line) in [
         (["a", "a", "q"], "a: 37 FileTwice"),
         (["q", "a", "a"], "q: 8 CannotRead"),
@@ -125,7 +153,7 @@ fn outputs_are_written_in_their_order(rt: HostRuntime) -> Result<(), Fail> {
         bytes.extend_from_slice(text.as_bytes())?;
         outputs.push(Output { name, bytes })?;
     }
-    let mut shelf = Shelf::of(rt.alloc(), &[]);
+    let mut shelf = shelf_of(rt.alloc(), &[]);
     write_outputs(rt.alloc(), &mut shelf, &outputs)?;
     assert_eq!(&rt; shelf.written.as_slice(), b"x\n1y\n22".as_slice());
     shelf.room = 1;

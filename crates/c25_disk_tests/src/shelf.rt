@@ -2,23 +2,25 @@
 
 use crate::readers::Pieces;
 use c25_disk::disk::{Disk, Refused};
-use std::alloc::Global;
 
-/// Files of a list, and what was written: for each file its name, a line feed, and its bytes.
+/// Files of a list, and what was written: for each file its name, a line feed, and its bytes. All other
+/// names are of a file with this text, if there is one; so many files may still be written.
 #[derive(Drop)]
-pub(crate) struct Shelf<'a> {
-    pub(crate) files: &'a [(&'a str, &'a [u8])],
-    pub(crate) room: usize,
-    pub(crate) written: Vec<u8>,
+pub struct Shelf<'a> {
+    pub files: &'a [(&'a str, &'a [u8])],
+    pub others: Option<&'a [u8]>,
+    pub room: usize,
+    pub written: Vec<u8>,
 }
 
 impl<'a> Shelf<'a> {
-    pub(crate) fn of(alloc: Global, files: &'a [(&'a str, &'a [u8])]) -> Shelf<'a> {
-        Shelf {
-            files,
-            room: 9,
-            written: Vec::new(alloc),
+    fn find(&self, name: &str) -> Option<&'a [u8]> {
+        for (held, bytes) in self.files {
+            if *held == name {
+                return Some(bytes);
+            }
         }
+        self.others
     }
 }
 
@@ -32,16 +34,14 @@ impl<'a> Disk for Shelf<'a> {
     ghost written = { λ _. None };
 
     fn open(&self, name: &str) -> Result<Pieces<'a>, Refused> {
-        for (held, rest) in self.files {
-            if *held == name {
-                return Ok(Pieces {
-                    rest,
-                    most: 3,
-                    fails: false,
-                });
-            }
+        match self.find(name) {
+            Some(rest) => Ok(Pieces {
+                rest,
+                most: 3,
+                fails: false,
+            }),
+            None => Err(Refused),
         }
-        Err(Refused)
     }
 
     fn write(&mut self, name: &str, bytes: &[u8]) -> Result<(), Refused> {

@@ -3,7 +3,9 @@ use Rattle.std.proofs.lemmas.Result.{err_from_is_err_and}
 use Rattle.c25_macro.specs.Expanders.{expansion_of}
 use Rattle.c25_meaning.specs.ModuleOfSource.{Passed}
 use Rattle.c25_meaning.specs.Sections.{table}
-use Rattle.c25_asm.specs.View.{entries_of, passed_of, progress_of}
+use Rattle.c25_listing.specs.View.{entries_of}
+use Rattle.c25_phases.specs.View.{progress_of}
+use Rattle.c25_asm.specs.View.{passed_of}
 use Rattle.c25_asm.proofs.Coming.{at, ends, expansion_fails, goes_on, line_refused, moved}
 use Rattle.c25_asm.proofs.assembly.pass_rest.Goals as goal
 

@@ -3,8 +3,10 @@ use Rattle.std.proofs.lemmas.List.{map-append}
 use Rattle.c25_macro.specs.Expander.{shown}
 use Rattle.c25_meaning.specs.Listing.{Entry}
 use Rattle.c25_meaning.specs.ModuleOfSource.{origin_of}
-use Rattle.c25_asm.specs.Steps.{text_passed}
-use Rattle.c25_asm.specs.View.{entry_of, entries_of, passed_of, progress_of}
+use Rattle.c25_listing.specs.View.{entry_of, entries_of}
+use Rattle.c25_phases.specs.Steps.{text_passed}
+use Rattle.c25_phases.specs.View.{progress_of}
+use Rattle.c25_asm.specs.View.{passed_of}
 use Rattle.c25_asm.proofs.Lined.{entry_is, line_passed}
 use Rattle.c25_asm.proofs.lines.pass_line.Goals as goal
 

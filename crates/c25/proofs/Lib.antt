@@ -1,7 +1,0 @@
-pub mod Listings
-pub mod Told
-pub mod Unread
-pub mod Quiet
-pub mod Gathered
-pub mod Joined
-pub mod Words

@@ -1,8 +1,0 @@
-use Rattle.std.proofs.Common.{◌≡◌, drop}
-use Rattle.std.specs.List.{list_any}
-use Rattle.c25_meaning.specs.Sections.{is_predefined}
-use Rattle.c25_statements.specs.View.{texts_of}
-use Rattle.c25_asm.proofs.acts.any_predefined.Given as goal
-
-abbrev pub invariant-loop-name : goal.invariant-loop-name
-invariant-loop-name l = list_any is_predefined (texts_of (drop l.name-index l.names)) ≡ list_any is_predefined (texts_of l.names)

@@ -1,6 +1,0 @@
-use Rattle.std.proofs.Common.{◌≡◌, ◌++◌, drop}
-use Rattle.std.specs.List.{flat_map}
-use Rattle.c25_asm.proofs.sections.Sections.relocations.Given as goal
-
-abbrev pub invariant-loop-section : goal.invariant-loop-section
-invariant-loop-section l = l.relocations.items ++ flat_map (λ s. s.relocations) (drop l.section-index l.section-items) ≡ flat_map (λ s. s.relocations) l.section-items

@@ -1,0 +1,1 @@
+SECTIONS { high : > 20h  edge : > 7FFFh }

@@ -1,0 +1,5 @@
+        .def    START
+        .ref    OUTSIDE
+        .global HERE,THERE
+START   CALL    OUTSIDE
+HERE    B       THERE

@@ -1,0 +1,4 @@
+        .mmregs
+        LDPK    0
+        LACK    1
+        SACL    IMR

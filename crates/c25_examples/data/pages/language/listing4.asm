@@ -1,0 +1,3 @@
+        .ref    FAR
+TAB     .word   TAB,FAR+2,END-TAB,2+TAB
+END     .word   $-TAB

@@ -1,0 +1,2 @@
+ B FAR
+ .ref FAR

@@ -1,0 +1,2 @@
+GO NOP
+ .def GO

@@ -1,0 +1,1 @@
+MEMORY { P : o = 0, l = 10h }

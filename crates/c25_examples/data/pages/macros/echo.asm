@@ -1,0 +1,3 @@
+        .copy   "ports.inc"
+        ECHO    60h
+        B       0

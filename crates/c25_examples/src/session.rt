@@ -1,0 +1,67 @@
+//! Sessions: commands that are run in the order of their lines.
+
+use crate::command::{Call, Command, Input, command_of};
+use anyhow::{Result, bail};
+use c25_disk::system::System;
+use c25_tasks::run_words;
+use std::io::Write;
+use std::process::ExitCode;
+use std::rt::Files;
+use std::{fs, io};
+
+/// What stands on standard input.
+fn input_of<R: Files + AllocGlobal>(rt: &R, input: Input<'_>) -> Result<String> {
+    match input {
+        Input::Nothing => Ok(String::new(rt.alloc())),
+        Input::Line(text) => Ok(format!(in rt.alloc(); "{text}\n")?),
+        Input::File(name) => Ok(fs::read_to_string(rt, name)?),
+    }
+}
+
+/// Calls the program `c25`. What goes to standard error is shown last.
+fn run_call<R: Files + Print + AllocGlobal>(rt: &R, call: &Call<'_>) -> Result<ExitCode> {
+    let mut words = Vec::new(rt.alloc());
+    for word in call.words.split_whitespace() {
+        words.push(String::from_str(rt.alloc(), word)?)?;
+    }
+    let input = input_of(rt, call.input)?;
+    let mut errors = Vec::<u8>::new(rt.alloc());
+    let status = run_words(
+        rt.alloc(),
+        &words,
+        &mut System::new(rt),
+        &mut input.as_bytes(),
+        &mut io::writer(rt),
+        &mut errors,
+    );
+    if call.shows_errors {
+        io::writer(rt).write_all(&errors)?;
+    }
+    Ok(status)
+}
+
+/// The number of a status.
+fn number_of(status: ExitCode) -> u8 {
+    for number in 0..u8::MAX {
+        if status == ExitCode::from(number) {
+            return number;
+        }
+    }
+    u8::MAX
+}
+
+/// Runs the commands of the file `session`, each behind its line.
+pub(crate) fn run_session<R: Files + Print + AllocGlobal>(rt: &R) -> Result<()> {
+    let text = fs::read_to_string(rt, "session")?;
+    let mut status = ExitCode::SUCCESS;
+    for line in text.lines() {
+        println!(rt; "$ {line}")?;
+        match command_of(line) {
+            Some(Command::Call(call)) => status = run_call(rt, &call)?,
+            Some(Command::Show(name)) => rt.print(fs::read_to_string(rt, name)?)?,
+            Some(Command::Status) => println!(rt; "{}", number_of(status))?,
+            None => bail!("no command: {line}"),
+        }
+    }
+    Ok(())
+}

@@ -1,0 +1,7 @@
+//! Listings: the lines of a module beside the offsets and the words that they made.
+#![tactic(auto)]
+
+mod flags;
+pub mod listing;
+mod printing;
+mod text;

@@ -1,0 +1,26 @@
+//! The listing of a module.
+
+ghost use Rattle.std.specs.Prelude.{◌≤◌, ◌+◌};
+
+/// A line, and where its words are.
+#[derive(Debug, Drop)]
+pub struct Entry {
+    /// Its number in its file.
+    pub line: usize,
+    /// Its text, without its end.
+    pub text: String,
+    /// The number of the section that its words are in.
+    pub section: u16,
+    /// The offset there of the first of them.
+    pub offset: u32,
+    /// How many there are.
+    pub count: u32,
+    ghost within: { offset + count ≤ 65536 },
+}
+
+/// The lines of a module and the places of their words.
+#[derive(Debug, Drop)]
+pub struct Listing {
+    /// One for each line.
+    pub entries: Vec<Entry>,
+}

@@ -1,0 +1,25 @@
+-- The names of a set, found by their bytes.
+use Rattle.std.proofs.Common.{◌≡◌, ℕ, false, cond, ◌||◌, List, [], ◌∷◌, ◌++◌, String, refl, ap, ◌∙◌}
+use Rattle.std.specs.declared.alloc.Global.{Global}
+use Rattle.std.specs.List.{list_any}
+use Rattle.std.specs.Str.{bytes_eq}
+use Rattle.std.specs.String.{string_bytes, string_eq}
+use Rattle.indexmap.specs.IndexSet.{insert_key}
+use Rattle.c25_meaning.specs.Sections.{is_in}
+use Rattle.c25_phases.specs.Names.{bytes_of_names}
+
+-- a name is found by its bytes
+pub any_bytes : (ks : List (String Global)) (name : List ℕ) → list_any (λ k. bytes_eq name (string_bytes k)) ks ≡ is_in (bytes_of_names ks) name
+any_bytes [] name = refl
+any_bytes (k ∷ ks) name = ap (λ b. bytes_eq name (string_bytes k) || b) (any_bytes ks name)
+
+bytes-push : (ks : List (String Global)) (k : String Global) → bytes_of_names (ks ++ k ∷ []) ≡ bytes_of_names ks ++ string_bytes k ∷ []
+bytes-push [] k = refl
+bytes-push (x ∷ xs) k = ap (λ ns. string_bytes x ∷ ns) (bytes-push xs k)
+
+-- a name that is not there comes last
+pub added : (ks new : List (String Global)) (k : String Global) (name : List ℕ) → string_bytes k ≡ name → is_in (bytes_of_names ks) name ≡ false → new ≡ insert_key string_eq ks k
+    → bytes_of_names new ≡ bytes_of_names ks ++ name ∷ []
+added ks new k name same away is =
+    let none : list_any (string_eq k) ks ≡ false = any_bytes ks (string_bytes k) ∙ ap (is_in (bytes_of_names ks)) same ∙ away in
+    ap bytes_of_names (is ∙ ap (λ b. cond b ks (ks ++ k ∷ [])) none) ∙ bytes-push ks k ∙ ap (λ n. bytes_of_names ks ++ n ∷ []) same

@@ -1,0 +1,5 @@
+pub mod Declared
+pub mod Keys
+pub mod Listed
+pub mod Reversed
+pub mod Sheets

@@ -1,0 +1,20 @@
+-- How many words what waits will have.
+use Rattle.std.specs.Prelude.{ℕ, ◌<◌, ◌≤◌, length}
+use Rattle.c25_meaning.specs.Addresses.{target_size}
+use Rattle.c25_meaning.specs.declared.assembly.Target.{Target}
+use Rattle.c25_meaning.specs.declared.assembly.Target.TheVariants as target
+use Rattle.c25_phases.specs.declared.item.Content.{Content}
+use Rattle.c25_phases.specs.declared.item.Content.TheVariants as content
+
+-- the words of what waits
+abbrev pub content_size : Content → ℕ
+content_size (content.Operands target operands) = target_size target (length operands.items)
+content_size (content.Words words) = length words.items
+content_size (content.Zeros count) = count
+content_size (content.Exported names) = 0
+
+-- an instruction has one word or two
+abbrev pub IsSize : Target → ℕ → Type 0
+IsSize (target.Instruction f) n = (0 < n) × (n ≤ 2)
+IsSize target.Words n = Unit {0}
+IsSize target.Bytes n = Unit {0}

@@ -1,0 +1,51 @@
+-- What the types of both phases stand for.
+use Rattle.std.specs.Prelude.{map}
+use Rattle.std.specs.String.{string_bytes}
+use Rattle.c25_statements.specs.View.{trees_of}
+use Rattle.c25_meaning.specs.ExpansionAnswers as answer
+use Rattle.c25_meaning.specs.Sections as sections
+use Rattle.c25_meaning.specs.Value.{Table}
+use Rattle.c25_phases.specs.Names.{bytes_of_names}
+use Rattle.c25_phases.specs.declared.fault.AsmFault.{AsmFault}
+use Rattle.c25_phases.specs.declared.fault.AsmFault.TheVariants as fault
+use Rattle.c25_phases.specs.declared.item.Content.{Content}
+use Rattle.c25_phases.specs.declared.item.Content.TheVariants as content
+use Rattle.c25_phases.specs.declared.item.Item.{Item}
+use Rattle.c25_phases.specs.declared.item.Origin.{Origin}
+use Rattle.c25_phases.specs.declared.progress.Progress.{Progress}
+
+-- what waits
+abbrev pub content_of : Content → sections.Content
+content_of (content.Operands target operands) = sections.Operands target (trees_of operands.items)
+content_of (content.Words words) = sections.Words words.items
+content_of (content.Zeros count) = sections.Zeros count
+content_of (content.Exported names) = sections.Exported (bytes_of_names names.items)
+
+-- a line
+abbrev pub origin_of : Origin → sections.Origin
+origin_of o = record { file = o.file.now; line = o.line }
+
+-- what waits, and where it is of
+abbrev pub item_of : Item → sections.Item
+item_of i = record { origin = origin_of i.origin; section = i.section; offset = i.offset; content = content_of i.content }
+
+-- what the lines so far have made
+abbrev pub progress_of : Progress → sections.Progress
+progress_of p = record {
+  sections = p.sections;
+  current = p.current;
+  names = p.symbols.entries;
+  declared = p.declared;
+  exported = p.exported;
+  registers = p.registers;
+  items = map item_of p.items.items;
+}
+
+-- what names stand for so far, and `$`
+abbrev pub symbols_of : Progress → Table
+symbols_of p = p.symbols
+
+-- why a source has no module
+abbrev pub fault_of : AsmFault → answer.ExpansionFault
+fault_of (fault.Line file line kind) = answer.Faulty file.now line kind
+fault_of (fault.NoFile file line name) = answer.Missing file.now line (string_bytes name)

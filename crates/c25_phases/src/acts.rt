@@ -1,0 +1,321 @@
+//! The first phase: what one line does.
+
+ghost use Rattle.std.specs.Prelude.{◌≡◌, ◌≤◌, ◌+◌, OnOk, IfOk};
+ghost use Rattle.std.specs.List.{list_any};
+ghost use Rattle.std.specs.Option.{option_map};
+ghost use Rattle.c25_meaning.specs.Results.{Meets};
+ghost use Rattle.c25_meaning.specs.Sections as meaning;
+ghost use Rattle.c25_expr.specs.View.{tree_of};
+ghost use Rattle.c25_statements.specs.View.{act_of, count_of, statement_of, texts_of, trees_of};
+ghost use Rattle.c25_phases.specs.Sizes.{IsSize};
+ghost use Rattle.c25_phases.specs.Names.{bytes_of_names};
+ghost use Rattle.c25_phases.specs.View.{origin_of, progress_of};
+
+use crate::item::{Content, Item, Origin};
+use crate::progress::Progress;
+use crate::targets::target_size;
+use c25_expr::symbols::is_predefined;
+use c25_expr::tree::Expr;
+use c25_meaning::assembly::Target;
+use c25_meaning::failure::Failure;
+use c25_meaning::no_memory::NoMemory;
+use c25_meaning::statement::FaultKind;
+use c25_meaning::value::{Base, Value};
+use c25_statements::statement::{Act, Statement};
+use std::alloc::Global;
+
+fn any_predefined(names: &[&str]) -> bool
+    ensures { result ≡ list_any meaning.is_predefined (texts_of names.now) }
+{
+    for name in names {
+        if is_predefined(name) {
+            return true;
+        }
+    }
+    false
+}
+
+fn copied(alloc: Global, names: &[&str]) -> Result<Vec<String>, NoMemory>
+    ensures { IfOk result (λ v. bytes_of_names v.items ≡ texts_of names.now) }
+{
+    let mut copies = Vec::new(alloc);
+    for name in names {
+        copies.push(String::from_str(alloc, name)?)?;
+    }
+    Ok(copies)
+}
+
+impl<'a> Progress<'a> {
+    fn of_kind(&self, section: &str, initialised: bool) -> Result<(), FaultKind>
+        ensures { result ≡ meaning.of_kind section.now initialised (progress_of self.now) }
+    {
+        if self.sections.has_kind(section, initialised) {
+            Ok(())
+        } else {
+            Err(FaultKind::OperandForm)
+        }
+    }
+
+    /// What is looked at before the label is defined.
+    fn allowed(&self, act: &Act<'_>) -> Result<(), FaultKind>
+        ensures { result ≡ meaning.allowed (act_of act.now) (progress_of self.now) }
+    {
+        match act {
+            Act::Enter(section) => self.of_kind(section.as_str(), true),
+            Act::Reserve { section, count, .. } => {
+                match self.of_kind(section.as_str(), false) {
+                    Ok(()) => match count {
+                        Ok(_) => Ok(()),
+                        Err(fault) => Err(*fault),
+                    },
+                    Err(fault) => Err(fault),
+                }
+            }
+            _ => Ok(()),
+        }
+    }
+
+    fn label(&mut self, label: Option<&str>) -> Result<(), Failure<FaultKind>>
+        ensures { Meets (λ _. progress_of self.new) (meaning.label (option_map (λ t. t.now) label.entry) (progress_of self.old)) result }
+    {
+        match label {
+            Some(name) => {
+                let here = self.here();
+                self.define(name, here)
+            }
+            None => Ok(()),
+        }
+    }
+
+    /// `.text`, `.data`, `.sect`
+    fn enter(&mut self, section: &str) -> Result<(), Failure<FaultKind>>
+        ensures { Meets (λ _. progress_of self.new) (meaning.enter section.now (progress_of self.old)) result }
+    {
+        self.current = self.open(section, true)?;
+        Ok(())
+    }
+
+    /// Words for a name.
+    #[tactic(auto, unfolding(c25_meaning::specs::Sections::reserve))]
+    fn reserve(&mut self, section: &str, name: &str, words: usize) -> Result<(), Failure<FaultKind>>
+        ensures { Meets (λ _. progress_of self.new) (meaning.reserve section.now name.now words (progress_of self.old)) result }
+    {
+        let section = self.open(section, false)?;
+        let place = self.place_in(section);
+        self.grow(section, words)?;
+        self.define(name, place)
+    }
+
+    /// `.bss`, `.usect`
+    fn reserve_count(
+        &mut self,
+        section: &str,
+        name: &str,
+        count: &Result<Expr, FaultKind>,
+    ) -> Result<(), Failure<FaultKind>>
+        ensures { Meets (λ _. progress_of self.new) (meaning.reserve_count section.now name.now (count_of count.now) (progress_of self.old)) result }
+    {
+        if self.symbols.get(name).is_some() {
+            return Err(Failure::Fault(FaultKind::Defined));
+        }
+        match count {
+            Ok(expr) => match self.count_in(expr) {
+                Ok(words) => self.reserve(section, name, words as usize),
+                Err(fault) => Err(Failure::Fault(fault)),
+            },
+            Err(fault) => Err(Failure::Fault(*fault)),
+        }
+    }
+
+    /// `.set`, `.equ`
+    fn equate(&mut self, name: &str, value: &Expr) -> Result<(), Failure<FaultKind>>
+        ensures { Meets (λ _. progress_of self.new) (meaning.equate name.now (tree_of value.now) (progress_of self.old)) result }
+    {
+        if self.symbols.get(name).is_some() {
+            return Err(Failure::Fault(FaultKind::Defined));
+        }
+        match self.valued(value) {
+            Ok(value) => self.define(name, value),
+            Err(fault) => Err(Failure::Fault(fault)),
+        }
+    }
+
+    /// An instruction of so many words marks where it begins.
+    fn mark_target(
+        &mut self,
+        target: Target,
+        section: u16,
+        offset: u32,
+        words: usize,
+    ) -> Result<(), NoMemory>
+        requires within { offset + words ≤ 65536 }
+        requires some { IsSize target words }
+        ensures { OnOk result (progress_of self.new ≡ meaning.mark target section offset words (progress_of self.old)) }
+    {
+        match target {
+            Target::Instruction(_) => self.mark(section, offset as u16, words as u8),
+            Target::Words | Target::Bytes => Ok(()),
+        }
+    }
+
+    /// An instruction, `.word`, `.int`, `.byte`
+    fn put(
+        &mut self,
+        origin: Origin<'a>,
+        target: Target,
+        operands: Vec<Expr>,
+    ) -> Result<(), Failure<FaultKind>>
+        ensures { Meets (λ _. progress_of self.new) (meaning.put (origin_of origin.entry) target (trees_of operands.items) (progress_of self.old)) result }
+    {
+        let words = target_size(target, operands.len());
+        let section = self.current;
+        let offset = self.sections.size_at(section);
+        self.lay(origin, Content::Operands(target, operands), words)?;
+        self.mark_target(target, section, offset, words)?;
+        Ok(())
+    }
+
+    /// `.space`
+    fn space(&mut self, origin: Origin<'a>, bits: &Expr) -> Result<(), Failure<FaultKind>>
+        ensures { Meets (λ _. progress_of self.new) (meaning.space (origin_of origin.entry) (tree_of bits.now) (progress_of self.old)) result }
+    {
+        match self.count_in(bits) {
+            Ok(bits) => {
+                let words = (bits as usize + 15) / 16;
+                self.lay(origin, Content::Zeros(words as u32), words)
+            }
+            Err(fault) => Err(Failure::Fault(fault)),
+        }
+    }
+
+    #[tactic(auto, using(crate::proofs::Declared::few_missing))]
+    fn declare_one(&mut self, name: &str) -> Result<(), NoMemory>
+        ensures { OnOk result (progress_of self.new ≡ record (progress_of self.old) { declared = meaning.once (progress_of self.old).declared name.now }) }
+    {
+        if self.declared.has(name) {
+            return Ok(());
+        }
+        let _known = self.declared.len();
+        let is_missing = self.symbols.get(name).is_none();
+        self.declared.add(name)?;
+        if is_missing {
+            self.missing += 1;
+        }
+        Ok(())
+    }
+
+    fn declare_all(&mut self, names: &[&str]) -> Result<(), NoMemory>
+        ensures { OnOk result (progress_of self.new ≡ record (progress_of self.old) { declared = meaning.all_once (progress_of self.old).declared (texts_of names.now) }) }
+    {
+        for name in names {
+            self.declare_one(name)?;
+        }
+        Ok(())
+    }
+
+    /// `.global`, `.ref`
+    fn declare(&mut self, names: &[&str]) -> Result<(), Failure<FaultKind>>
+        ensures { Meets (λ _. progress_of self.new) (meaning.declare (texts_of names.now) (progress_of self.old)) result }
+    {
+        if any_predefined(names) {
+            return Err(Failure::Fault(FaultKind::Defined));
+        }
+        self.declare_all(names)?;
+        self.exported.add_all(names)?;
+        Ok(())
+    }
+
+    /// `.def`
+    fn export(&mut self, origin: Origin<'a>, names: &[&str]) -> Result<(), Failure<FaultKind>>
+        ensures { Meets (λ _. progress_of self.new) (meaning.export (origin_of origin.entry) (texts_of names.now) (progress_of self.old)) result }
+    {
+        if any_predefined(names) {
+            return Err(Failure::Fault(FaultKind::Defined));
+        }
+        self.exported.add_all(names)?;
+        let names = copied(self.alloc, names)?;
+        let section = self.current;
+        let offset = self.sections.size_at(section);
+        self.items.push(Item {
+            origin,
+            section,
+            offset,
+            content: Content::Exported(names),
+        })?;
+        Ok(())
+    }
+
+    fn define_register(&mut self, name: &str, number: u8) -> Result<(), Failure<FaultKind>>
+        ensures { Meets (λ _. progress_of self.new) (meaning.define name.now (meaning.absolute number) (progress_of self.old)) result }
+    {
+        let value = Value {
+            base: Base::Absolute,
+            offset: i32::from(number),
+        };
+        self.define(name, value)
+    }
+
+    /// `.mmregs`
+    #[tactic(auto, unfolding(c25_meaning::specs::Sections::registers))]
+    fn name_registers(&mut self) -> Result<(), Failure<FaultKind>>
+        ensures { Meets (λ _. progress_of self.new) (meaning.registers (progress_of self.old)) result }
+    {
+        if self.registers {
+            return Ok(());
+        }
+        self.registers = true;
+        self.define_register("DRR", 0)?;
+        self.define_register("DXR", 1)?;
+        self.define_register("TIM", 2)?;
+        self.define_register("PRD", 3)?;
+        self.define_register("IMR", 4)?;
+        self.define_register("GREG", 5)
+    }
+
+    /// What a line does.
+    fn act(&mut self, origin: Origin<'a>, act: Act<'_>) -> Result<(), Failure<FaultKind>>
+        ensures { Meets (λ _. progress_of self.new) (meaning.act (origin_of origin.entry) (act_of act.entry) (progress_of self.old)) result }
+    {
+        match act {
+            Act::Nothing => Ok(()),
+            Act::Enter(section) => self.enter(section.as_str()),
+            Act::Reserve {
+                section,
+                name,
+                count,
+            } => self.reserve_count(section.as_str(), name, &count),
+            Act::Equate { name, value } => self.equate(name, &value),
+            Act::Put(target, operands) => self.put(origin, target, operands),
+            Act::Load(words) => {
+                let count = words.len();
+                self.lay(origin, Content::Words(words), count)
+            }
+            Act::Space(bits) => self.space(origin, &bits),
+            Act::Declare(names) => self.declare(names.as_slice()),
+            Act::Export(names) => self.export(origin, names.as_slice()),
+            Act::Registers => self.name_registers(),
+        }
+    }
+
+    /// One line more.
+    #[tactic(auto, unfolding(c25_meaning::specs::Sections::pass))]
+    pub(crate) fn pass(
+        &mut self,
+        origin: Origin<'a>,
+        statement: Statement<'_>,
+    ) -> Result<(), Failure<FaultKind>>
+        ensures told { Meets (λ _. progress_of self.new) (meaning.pass (origin_of origin.entry) (statement_of statement.entry) (progress_of self.old)) result }
+        ensures few { OnOk result (meaning.name_count (progress_of self.new).names (progress_of self.new).declared ≤ 65535) }
+    {
+        let Statement { label, act } = statement;
+        if let Err(fault) = self.allowed(&act) {
+            return Err(Failure::Fault(fault));
+        }
+        self.label(label)?;
+        self.act(origin, act)?;
+        match self.few() {
+            Ok(()) => Ok(()),
+            Err(fault) => Err(Failure::Fault(fault)),
+        }
+    }
+}

@@ -1,0 +1,233 @@
+//! The second phase: words and relocations under all names.
+
+ghost use Rattle.std.specs.Prelude.{◌≡◌, ◌≤◌, ◌<◌, ◌+◌, length, replicate, OnOk, IfOk, map};
+ghost use Rattle.std.specs.List.{All, list_all};
+ghost use Rattle.c25_meaning.specs.Addresses as spec;
+ghost use Rattle.c25_meaning.specs.Emission as emission;
+ghost use Rattle.c25_meaning.specs.Results.{Meets, MeetsBy};
+ghost use Rattle.c25_meaning.specs.Sections.{name_count};
+ghost use Rattle.c25_phases.specs.Imports.{imported};
+ghost use Rattle.c25_phases.specs.Names.{bytes_of_names};
+ghost use Rattle.c25_phases.specs.View.{content_of, fault_of, item_of};
+
+use crate::fault::AsmFault;
+use crate::item::{Content, Item};
+use crate::names::Names;
+use crate::phase::place;
+use crate::refusal::at_origin;
+use crate::sections::Sections;
+use crate::sheet::Sheet;
+use crate::targets::{ends_first, field_of, word_of};
+use c25_expr::symbols::{Defined, Symbols};
+use c25_isa::encode;
+use c25_meaning::assembly::{Address, Target};
+use c25_meaning::failure::Failure;
+use c25_meaning::no_memory::NoMemory;
+use c25_meaning::object::Relocation;
+use c25_meaning::statement::FaultKind;
+use c25_meaning::value::{Base, Value};
+use c25_statements::forms::insn_of;
+use std::alloc::Global;
+
+/// The declared names that stand for nothing, behind the others: other modules' names, each with its
+/// number among all.
+pub(crate) fn import_all(symbols: &mut Symbols, declared: &Names) -> Result<(), NoMemory>
+    requires { name_count symbols.old.entries declared.now ≤ 65535 }
+    ensures { OnOk result (symbols.new.entries ≡ emission.names_with symbols.old.entries declared.now) }
+{
+    for number in 0..declared.len() {
+        if let Some(name) = declared.get(number) {
+            import(symbols, name)?;
+        }
+    }
+    Ok(())
+}
+
+/// A declared name that stands for nothing is another module's.
+fn import(symbols: &mut Symbols, name: &str) -> Result<(), NoMemory>
+    requires { length symbols.old.entries < 65536 }
+    ensures { OnOk result (symbols.new.entries ≡ imported symbols.old.entries name.now) }
+{
+    let value = Value {
+        base: Base::External(symbols.len() as u16),
+        offset: 0,
+    };
+    match symbols.define(name, value) {
+        Ok(()) | Err(Failure::Fault(Defined)) => Ok(()),
+        Err(Failure::NoMemory(error)) => Err(error),
+    }
+}
+
+fn is_inside(base: Base) -> bool
+    ensures { result ≡ emission.is_inside base }
+{
+    match base {
+        Base::Absolute | Base::Section(_) => true,
+        Base::External(_) => false,
+    }
+}
+
+fn is_here(symbols: &Symbols, name: &str) -> bool
+    ensures { result ≡ emission.is_here symbols.now.entries name.now }
+{
+    match symbols.get(name) {
+        Some(value) => is_inside(value.base),
+        None => false,
+    }
+}
+
+fn are_here(symbols: &Symbols, names: &[String]) -> bool
+    ensures { result ≡ list_all (emission.is_here symbols.now.entries) (bytes_of_names names.now) }
+{
+    for name in names {
+        if !is_here(symbols, name.as_str()) {
+            return false;
+        }
+    }
+    true
+}
+
+/// The relocation of an address of a line that begins at an offset of a section.
+fn relocation_at(target: Target, section: u16, offset: u32, address: &Address) -> Relocation
+    requires { offset + spec.word_of (spec.field_of target address.now.operand) address.now.operand < 65536 }
+    ensures { result ≡ spec.relocation_at target section offset address.now }
+{
+    let word = word_of(field_of(target, address.operand), address.operand);
+    Relocation {
+        section,
+        offset: (offset as usize + word) as u16,
+        kind: address.kind,
+        base: address.base,
+        addend: address.addend,
+    }
+}
+
+/// The relocations of addresses, as they come.
+fn relocations_at(
+    alloc: Global,
+    target: Target,
+    section: u16,
+    offset: u32,
+    addresses: &[Address],
+) -> Result<Vec<Relocation>, NoMemory>
+    requires { All (λ a. offset + spec.word_of (spec.field_of target a.operand) a.operand < 65536) addresses.now }
+    ensures { IfOk result (λ v. v.items ≡ map (spec.relocation_at target section offset) addresses.now) }
+{
+    let mut relocations = Vec::new(alloc);
+    for address in addresses {
+        relocations.push(relocation_at(target, section, offset, address))?;
+    }
+    Ok(relocations)
+}
+
+/// The relocations of a line, in the order of its words.
+#[tactic(auto, using(crate::proofs::Reversed::map_reverse))]
+fn relocations_of(
+    alloc: Global,
+    target: Target,
+    section: u16,
+    offset: u32,
+    addresses: &[Address],
+) -> Result<Vec<Relocation>, NoMemory>
+    requires { All (λ a. offset + spec.word_of (spec.field_of target a.operand) a.operand < 65536) addresses.now }
+    ensures { IfOk result (λ v. v.items ≡ spec.relocations_of target section offset addresses.now) }
+{
+    let mut relocations = relocations_at(alloc, target, section, offset, addresses)?;
+    if ends_first(target) {
+        relocations.reverse();
+        Ok(relocations)
+    } else {
+        Ok(relocations)
+    }
+}
+
+/// The words and relocations of a line's operands.
+#[tactic(auto, using(c25_meaning::proofs::Numbers::in_range))]
+fn put_sheet(
+    alloc: Global,
+    sections: &mut Sections,
+    section: u16,
+    offset: u32,
+    target: Target,
+    sheet: &Sheet,
+) -> Result<(), NoMemory>
+    requires fits { spec.FitsTarget target sheet.now.numbers }
+    requires within { All (λ a. offset + spec.word_of (spec.field_of target a.operand) a.operand < 65536) sheet.now.addresses }
+    ensures { OnOk result (sections.new ≡ emission.with_sheet target section offset sections.old sheet.now) }
+{
+    let relocations = relocations_of(alloc, target, section, offset, sheet.addresses())?;
+    match target {
+        Target::Instruction(form) => {
+            let insn = insn_of(form, sheet.numbers());
+            let code = encode(&insn);
+            sections.extend(section, code.as_slice(), relocations.as_slice())
+        }
+        Target::Words | Target::Bytes => {
+            sections.extend(section, sheet.numbers(), relocations.as_slice())
+        }
+    }
+}
+
+fn zeros(alloc: Global, count: usize) -> Result<Vec<u16>, NoMemory>
+    ensures { IfOk result (λ v. v.items ≡ replicate count 0) }
+{
+    Ok(vec![in alloc; 0; count]?)
+}
+
+/// An item's words.
+fn emit(
+    alloc: Global,
+    symbols: &mut Symbols,
+    sections: &mut Sections,
+    sheet: &mut Sheet,
+    item: &Item<'_>,
+) -> Result<(), Failure<FaultKind>>
+    ensures told { Meets (λ _. sections.new) (emission.emit symbols.old.entries item.now.section item.now.offset sections.old (content_of item.now.content)) result }
+    ensures names { symbols.new.entries ≡ symbols.old.entries }
+{
+    let section = item.section;
+    match &item.content {
+        Content::Operands(target, operands) => {
+            symbols.set_here(place(section, item.offset));
+            sheet.fill(*target, symbols, operands.as_slice())?;
+            put_sheet(alloc, sections, section, item.offset, *target, sheet)?;
+            Ok(())
+        }
+        Content::Words(words) => {
+            sections.extend(section, words.as_slice(), &[])?;
+            Ok(())
+        }
+        Content::Zeros(count) => {
+            let zeros = zeros(alloc, *count as usize)?;
+            sections.extend(section, zeros.as_slice(), &[])?;
+            Ok(())
+        }
+        Content::Exported(names) => {
+            if are_here(symbols, names.as_slice()) {
+                Ok(())
+            } else {
+                Err(Failure::Fault(FaultKind::Undefined))
+            }
+        }
+    }
+}
+
+/// All items, line by line.
+pub(crate) fn emit_all<'a>(
+    alloc: Global,
+    symbols: &mut Symbols,
+    sections: &mut Sections,
+    sheet: &mut Sheet,
+    items: &[Item<'a>],
+) -> Result<(), Failure<AsmFault<'a>>>
+    ensures told { MeetsBy fault_of (λ _. sections.new) (emission.emit_all symbols.old.entries sections.old (map item_of items.now)) result }
+    ensures names { symbols.new.entries ≡ symbols.old.entries }
+{
+    for item in items {
+        match emit(alloc, symbols, sections, sheet, item) {
+            Ok(()) => {}
+            Err(failure) => return Err(at_origin(item.origin, failure)),
+        }
+    }
+    Ok(())
+}

@@ -1,0 +1,26 @@
+//! Both phases of the assembler: statements to the lists of a module.
+//!
+//! The first phase goes line by line, gives sections their sizes and marks, and names their values. The
+//! second one goes over the operands that waited for all names, and gives words and relocations.
+#![tactic(auto)]
+
+mod acts;
+mod emission;
+pub mod fault;
+mod item;
+mod making;
+mod names;
+mod phase;
+mod progress;
+mod reading;
+mod refusal;
+mod section;
+mod sections;
+mod sheet;
+mod targets;
+
+pub use item::Origin;
+pub use making::finish;
+pub use progress::Progress;
+pub use reading::read_and_pass;
+pub use refusal::at_origin;

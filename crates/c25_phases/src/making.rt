@@ -1,0 +1,107 @@
+//! The module that the lines have made.
+
+ghost use Rattle.std.specs.Prelude.{◌≡◌, ◌≤◌, IfOk, map};
+ghost use Rattle.c25_meaning.specs.Emission as emission;
+ghost use Rattle.c25_meaning.specs.Results.{MeetsBy};
+ghost use Rattle.c25_meaning.specs.Sections.{name_count};
+ghost use Rattle.c25_obj.specs.View.{contents, symbol_data, symbols_data};
+ghost use Rattle.c25_phases.specs.View.{fault_of, progress_of};
+
+use crate::emission::{emit_all, import_all};
+use crate::fault::AsmFault;
+use crate::names::Names;
+use crate::progress::Progress;
+use crate::sheet::Sheet;
+use c25_expr::symbols::Symbols;
+use c25_meaning::failure::Failure;
+use c25_meaning::no_memory::NoMemory;
+use c25_meaning::object::{Scope, SymbolKind};
+use c25_meaning::value::{Base, Value};
+use c25_obj::{Parts, Symbol};
+use std::alloc::Global;
+
+fn kind_of(base: Base) -> SymbolKind
+    ensures { result ≡ emission.kind_of base }
+{
+    match base {
+        Base::Absolute => SymbolKind::Absolute,
+        Base::Section(number) => SymbolKind::InSection(number),
+        Base::External(_) => SymbolKind::External,
+    }
+}
+
+fn scope_of(is_global: bool) -> Scope
+    ensures { result ≡ emission.scope_of is_global }
+{
+    if is_global {
+        Scope::Global
+    } else {
+        Scope::Local
+    }
+}
+
+/// A symbol of the module.
+fn symbol_of(alloc: Global, exported: &Names, name: &str, value: Value) -> Result<Symbol, NoMemory>
+    ensures { IfOk result (λ y. symbol_data y ≡ emission.symbol_of exported.now (name.now, value)) }
+{
+    let name_copy = String::from_str(alloc, name)?;
+    Ok(Symbol {
+        kind: kind_of(value.base),
+        scope: scope_of(exported.has(name)),
+        value: value.offset,
+        name: name_copy,
+    })
+}
+
+/// The symbols of the module.
+fn symbols_of(alloc: Global, symbols: &Symbols, exported: &Names) -> Result<Vec<Symbol>, NoMemory>
+    ensures { IfOk result (λ v. symbols_data v.items ≡ map (emission.symbol_of exported.now) symbols.now.entries) }
+{
+    let mut all = Vec::new(alloc);
+    for number in 0..symbols.len() {
+        if let Some((name, value)) = symbols.entry(number) {
+            all.push(symbol_of(alloc, exported, name, value)?)?;
+        }
+    }
+    Ok(all)
+}
+
+/// The module that the lines have made, or the first fault of their operands.
+#[tactic(auto, unfolding(c25_meaning::specs::Emission::finished))]
+pub fn finish(progress: Progress<'_>) -> Result<Parts, Failure<AsmFault<'_>>>
+    requires { name_count (progress_of progress).names (progress_of progress).declared ≤ 65535 }
+    ensures { MeetsBy fault_of contents (emission.finished (progress_of progress.entry)) result }
+{
+    let Progress {
+        alloc,
+        sections,
+        current: _,
+        symbols,
+        declared,
+        missing: _,
+        exported,
+        registers: _,
+        items,
+    } = progress;
+    let mut sections = sections;
+    let mut symbols = symbols;
+    let mut sheet = Sheet::new(alloc);
+    import_all(&mut symbols, &declared)?;
+    emit_all(
+        alloc,
+        &mut symbols,
+        &mut sections,
+        &mut sheet,
+        items.as_slice(),
+    )?;
+    let marks = sections.marks()?;
+    let relocations = sections.relocations()?;
+    let symbols = symbols_of(alloc, &symbols, &exported)?;
+    let sections = sections.into_parts()?;
+    Ok(Parts {
+        sections,
+        marks,
+        symbols,
+        relocations,
+    })
+}

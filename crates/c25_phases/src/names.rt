@@ -1,0 +1,89 @@
+//! Names, each once.
+
+ghost use Rattle.std.specs.Prelude.{◌≡◌, ◌<◌, ◌^◌, [], true, length, slice_get, OnOk, OnErr};
+ghost use Rattle.std.specs.Option.{option_map};
+ghost use Rattle.c25_meaning.specs.Sections.{all_once, are_distinct, is_in, once};
+ghost use Rattle.c25_statements.specs.View.{texts_of};
+
+use c25_meaning::no_memory::NoMemory;
+use indexmap::IndexSet;
+use std::alloc::Global;
+use std::marker::Model;
+
+/// Names, each once, in order.
+#[derive(Drop)]
+pub(crate) struct Names {
+    alloc: Global,
+    names: IndexSet<String>,
+}
+
+impl Model for Names {
+    ghost use Rattle.std.specs.Prelude.{◌≡◌, true, List, ℕ};
+    ghost use Rattle.c25_meaning.specs.Sections.{are_distinct};
+    ghost use Rattle.c25_phases.specs.Names.{bytes_of_names};
+
+    ghost Value = { List (List ℕ) };
+
+    ghost view = { λ n. bytes_of_names n.names.keys };
+
+    ghost invariant = { λ n. are_distinct (bytes_of_names n.names.keys) ≡ true };
+}
+
+impl Names {
+    pub(crate) fn new(alloc: Global) -> Names
+        ensures { result ≡ [] }
+    {
+        Names {
+            alloc,
+            names: IndexSet::new(alloc),
+        }
+    }
+
+    pub(crate) fn has(&self, name: &str) -> bool
+        ensures value { result ≡ is_in self.now name.now }
+        ensures distinct { are_distinct self.now ≡ true }
+    {
+        self.names.contains(name)
+    }
+
+    /// The name of a number.
+    pub(crate) fn get(&self, number: usize) -> Option<&str>
+        ensures value { option_map (λ t. t.now) result ≡ slice_get self.now number }
+        ensures distinct { are_distinct self.now ≡ true }
+    {
+        match self.names.get_index(number) {
+            Some(name) => Some(name.as_str()),
+            None => None,
+        }
+    }
+
+    pub(crate) fn len(&self) -> usize
+        ensures value { result ≡ length self.now }
+        ensures small { result < 2 ^ 63 }
+    {
+        self.names.len()
+    }
+
+    /// A name behind the others, once.
+    pub(crate) fn add(&mut self, name: &str) -> Result<(), NoMemory>
+        ensures ok { OnOk result (self.new ≡ once self.old name.now) }
+        ensures err { OnErr result (self.new ≡ self.old) }
+    {
+        if self.has(name) {
+            return Ok(());
+        }
+        let name = String::from_str(self.alloc, name)?;
+        self.names.insert(name)?;
+        Ok(())
+    }
+
+    /// Names behind the others, each once.
+    pub(crate) fn add_all(&mut self, names: &[&str]) -> Result<(), NoMemory>
+        ensures { OnOk result (self.new ≡ all_once self.old (texts_of names.now)) }
+    {
+        for name in names {
+            self.add(name)?;
+        }
+        Ok(())
+    }
+}

@@ -1,0 +1,30 @@
+//! What the lines so far have made.
+
+ghost use Rattle.std.specs.Prelude.{◌≡◌, length};
+ghost use Rattle.c25_meaning.specs.Sections.{imports};
+
+use crate::item::Item;
+use crate::names::Names;
+use crate::sections::Sections;
+use c25_expr::symbols::Symbols;
+use std::alloc::Global;
+
+/// What the lines so far have made.
+#[derive(Drop)]
+pub struct Progress<'a> {
+    pub(crate) alloc: Global,
+    pub(crate) sections: Sections,
+    /// The number of the section that lines go on in.
+    pub current: u16,
+    pub(crate) symbols: Symbols,
+    /// The names of `.global` and `.ref`.
+    pub(crate) declared: Names,
+    /// How many of those stand for nothing.
+    pub(crate) missing: usize,
+    /// The names of `.global`, `.ref` and `.def`.
+    pub(crate) exported: Names,
+    /// Whether there was a `.mmregs`.
+    pub(crate) registers: bool,
+    pub(crate) items: Vec<Item<'a>>,
+    ghost counted: { length (imports symbols.entries declared) ≡ missing },
+}

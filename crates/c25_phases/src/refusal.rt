@@ -1,0 +1,23 @@
+//! Where a line is refused.
+
+ghost use Rattle.std.specs.Prelude.{◌≡◌};
+ghost use Rattle.c25_phases.specs.Refusals.{at_origin};
+
+use crate::fault::AsmFault;
+use crate::item::Origin;
+use c25_meaning::failure::Failure;
+use c25_meaning::statement::FaultKind;
+
+/// Why a line is refused, as why the source is.
+pub fn at_origin<'a>(origin: Origin<'a>, failure: Failure<FaultKind>) -> Failure<AsmFault<'a>>
+    ensures { result ≡ at_origin origin.entry failure }
+{
+    match failure {
+        Failure::NoMemory(error) => Failure::NoMemory(error),
+        Failure::Fault(kind) => Failure::Fault(AsmFault::Line {
+            file: origin.file,
+            line: origin.line,
+            kind,
+        }),
+    }
+}

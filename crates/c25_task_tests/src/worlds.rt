@@ -1,0 +1,93 @@
+//! Worlds that the tests make for the program: words, writers and files.
+
+ghost use Rattle.std.specs.Io.{WritesAtMost};
+
+use c25_disk_tests::shelf::Shelf;
+use std::alloc::Global;
+use std::env::FillError;
+use std::io;
+use std::io::{Error, ErrorKind, Write};
+use std::rt::Env;
+
+/// Words behind the program's name.
+#[derive(Drop)]
+pub(crate) struct Words<'a> {
+    pub(crate) words: &'a [&'a str],
+}
+
+/// Copies a word to the start of a buffer.
+fn fill(word: &[u8], buf: &mut [u8]) -> Result<usize, FillError>
+    ensures { WritesAtMost result buf.new }
+{
+    if buf.len() < word.len() {
+        return Err(FillError::TooLong);
+    }
+    buf[..word.len()].copy_from_slice(word);
+    Ok(word.len())
+}
+
+impl Env for Words<'_> {
+    fn arg(&self, i: usize, buf: &mut [u8]) -> Result<usize, FillError> {
+        if i == 0 {
+            return fill(b"c25", buf);
+        }
+        match self.words.get(i - 1) {
+            Some(word) => fill(word.as_bytes(), buf),
+            None => Err(FillError::NotPresent),
+        }
+    }
+
+    fn var(&self, _name: &str, _buf: &mut [u8]) -> Result<usize, FillError> {
+        Err(FillError::NotPresent)
+    }
+
+    fn var_at(&self, _i: usize, _buf: &mut [u8]) -> Result<usize, FillError> {
+        Err(FillError::NotPresent)
+    }
+}
+
+/// One word, which is not UTF-8.
+#[derive(Drop)]
+pub(crate) struct NotText;
+
+impl Env for NotText {
+    fn arg(&self, i: usize, buf: &mut [u8]) -> Result<usize, FillError> {
+        if i == 0 {
+            fill(b"\xFF", buf)
+        } else {
+            Err(FillError::NotPresent)
+        }
+    }
+
+    fn var(&self, _name: &str, _buf: &mut [u8]) -> Result<usize, FillError> {
+        Err(FillError::NotPresent)
+    }
+
+    fn var_at(&self, _i: usize, _buf: &mut [u8]) -> Result<usize, FillError> {
+        Err(FillError::NotPresent)
+    }
+}
+
+/// Takes nothing.
+#[derive(Drop)]
+pub(crate) struct Closed;
+
+impl Write for Closed {
+    fn write(&mut self, _buf: &[u8]) -> io::Result<usize> {
+        Err(Error::from(ErrorKind::BrokenPipe))
+    }
+
+    fn flush(&mut self) -> io::Result<()> {
+        Ok(())
+    }
+}
+
+/// These files, and room for many more.
+pub(crate) fn shelf_of<'a>(alloc: Global, files: &'a [(&'a str, &'a [u8])]) -> Shelf<'a> {
+    Shelf {
+        files,
+        others: None,
+        room: 9,
+        written: Vec::new(alloc),
+    }
+}

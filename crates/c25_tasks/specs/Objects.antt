@@ -1,0 +1,51 @@
+-- The modules of object files.
+use Rattle.std.specs.Prelude.{◌≡◌, ℕ, List, [], ◌∷◌, ◌++◌, map, Result, Ok, Err, Vec}
+use Rattle.std.specs.declared.alloc.Global.{Global}
+use Rattle.c25_chain.specs.Refusal.{Fault}
+use Rattle.c25_chain.specs.declared.fault.Refusal.{Refusal}
+use Rattle.c25_chain.specs.declared.fault.Refusal.TheVariants.{Object}
+use Rattle.c25_disk.specs.Held.{AreAsHeld, Held}
+use Rattle.c25_meaning.specs.Files.{Files}
+use Rattle.c25_meaning.specs.Module.{Contents}
+use Rattle.c25_meaning.specs.RecordReading.{module_of}
+use Rattle.c25_meaning.specs.Results.{◌>>=◌, fold_ok, told}
+use Rattle.c25_tasks.specs.Files.{IsUnread}
+use Rattle.c25_tasks.specs.declared.objects.Object as code
+
+-- the names and the bytes of files
+abbrev pub objects_of : List code.Object → Files
+objects_of objects = map (λ o. (o.name.now, o.bytes.items)) objects
+
+-- the names of files
+abbrev pub names_in : Files → List (List ℕ)
+names_in files = map (λ file. file.0) files
+
+-- one of the files of these names cannot be read (8), or memory ran out
+pub record IsUnreadAmong (names : List (List ℕ)) (fault : Fault) : Type 0 where
+  pub before : List (List ℕ)
+  pub name : List ℕ
+  pub after : List (List ℕ)
+  pub among : names ≡ before ++ name ∷ after
+  pub unread : IsUnread name fault
+
+-- the files of these names, each with all that it has
+pub record AreFiles (held : Held) (names : List (List ℕ)) (files : Files) : Type 0 where
+  pub named : names_in files ≡ names
+  pub as_held : AreAsHeld held files
+
+-- what is read of the files of names
+abbrev pub ReadsBytes : Held → List (List ℕ) → Result (Vec code.Object Global) Fault → Type 0
+ReadsBytes held names (Ok objects) = AreFiles held names (objects_of objects.items)
+ReadsBytes held names (Err fault) = IsUnreadAmong names fault
+
+-- the module of a file, or why its bytes are those of none
+abbrev pub module_in : List ℕ × List ℕ → Result Contents (Refusal (List ℕ))
+module_in file = told (λ fault. Object file.0 fault) (module_of file.1)
+
+-- one module more
+abbrev pub with_object : List Contents → List ℕ × List ℕ → Result (List Contents) (Refusal (List ℕ))
+with_object modules file = module_in file >>= λ m. Ok (modules ++ m ∷ [])
+
+-- the modules of files, one behind another, or the first refusal
+abbrev pub modules_in : Files → Result (List Contents) (Refusal (List ℕ))
+modules_in files = fold_ok with_object [] files

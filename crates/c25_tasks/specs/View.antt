@@ -1,0 +1,16 @@
+-- How the program's structs stand for the definitions' data.
+use Rattle.std.specs.Prelude.{map}
+use Rattle.std.specs.String.{string_bytes}
+use Rattle.c25_chain.specs.Chain.{Given}
+use Rattle.c25_meaning.specs.Files.{Files}
+use Rattle.c25_tasks.specs.declared.copies.Run.{Run}
+
+-- what the chain is given to run
+abbrev pub given_of : Files → Run → Given
+given_of files run = record {
+  files = files;
+  sources = map string_bytes run.sources.now;
+  command = run.command.now;
+  samples = run.samples.now;
+  schedule = run.schedule.now;
+}

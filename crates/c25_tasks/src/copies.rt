@@ -1,0 +1,122 @@
+//! What the chain does over the files of a disk.
+
+ghost use Rattle.std.specs.Option.{option_map};
+ghost use Rattle.std.specs.Prelude.{◌≡◌, map, string_bytes};
+ghost use Rattle.c25_chain.specs.Built.{Builds};
+ghost use Rattle.c25_chain.specs.Chain.{Answers};
+ghost use Rattle.c25_tasks.specs.Files.{ComesTo, missing_name};
+ghost use Rattle.c25_tasks.specs.View.{given_of};
+
+use crate::files::{fault_of_copies, missing_name};
+use c25_chain::built::Built;
+use c25_chain::chain::Chain;
+use c25_chain::fault::{Fault, Refusal};
+use c25_chain::{build, run_chain};
+use c25_disk::disk::Disk;
+use c25_disk::with_copies;
+use c25_disk::work::Work;
+use c25_macro::files::Files;
+use std::alloc::Global;
+
+/// Sources that are to be linked under the text of a command.
+#[derive(Clone, Copy)]
+pub(crate) struct Build<'a> {
+    pub(crate) sources: &'a [String],
+    pub(crate) command: &'a str,
+}
+
+impl<'a> Work for Build<'a> {
+    ghost use Rattle.std.specs.Prelude.{map, string_bytes};
+    ghost use Rattle.c25_chain.specs.Built.{Builds};
+    ghost use Rattle.c25_tasks.specs.Files.{missing_name};
+
+    type Answer = Built;
+
+    type Fault = Refusal<String>;
+
+    ghost comes_to = { λ work files result. Builds files (map string_bytes work.sources.now) work.command.now result };
+
+    ghost missing_of = { missing_name };
+
+    fn answer(&self, alloc: Global, files: &Files) -> Result<Built, Fault> {
+        build(alloc, files, self.sources, self.command)
+    }
+
+    fn missing(fault: &Refusal<String>) -> Option<&str>
+        ensures { option_map (λ name. name.now) result ≡ missing_name fault.now }
+    {
+        missing_name(fault)
+    }
+}
+
+/// Sources that are to be run so many steps, and the texts beside them.
+#[derive(Clone, Copy)]
+pub(crate) struct Run<'a> {
+    pub(crate) sources: &'a [String],
+    pub(crate) command: &'a str,
+    pub(crate) samples: &'a str,
+    pub(crate) schedule: &'a str,
+    pub(crate) steps: u32,
+}
+
+impl<'a> Work for Run<'a> {
+    ghost use Rattle.c25_chain.specs.Chain.{Answers};
+    ghost use Rattle.c25_tasks.specs.Files.{missing_name};
+    ghost use Rattle.c25_tasks.specs.View.{given_of};
+
+    type Answer = Chain;
+
+    type Fault = Refusal<String>;
+
+    ghost comes_to = { λ work files result. Answers (given_of files work) work.steps result };
+
+    ghost missing_of = { missing_name };
+
+    fn answer(&self, alloc: Global, files: &Files) -> Result<Chain, Fault> {
+        run_chain(
+            alloc,
+            files,
+            self.sources,
+            self.command,
+            self.samples,
+            self.schedule,
+            self.steps,
+        )
+    }
+
+    fn missing(fault: &Refusal<String>) -> Option<&str>
+        ensures { option_map (λ name. name.now) result ≡ missing_name fault.now }
+    {
+        missing_name(fault)
+    }
+}
+
+/// Builds sources among these files, and those that they copy from a disk.
+pub(crate) fn build_over<D: Disk>(
+    alloc: Global,
+    disk: &D,
+    files: Files,
+    work: &Build<'_>,
+) -> Result<Built, Fault>
+    ensures { ComesTo (D.bytes_of disk.now) files (λ given result. Builds given (map string_bytes work.now.sources.now) work.now.command.now result) result }
+{
+    match with_copies(alloc, disk, files, work) {
+        Ok(built) => Ok(built),
+        Err(failure) => Err(fault_of_copies(failure)),
+    }
+}
+
+/// Runs sources among these files, and those that they copy from a disk.
+pub(crate) fn run_over<D: Disk>(
+    alloc: Global,
+    disk: &D,
+    files: Files,
+    work: &Run<'_>,
+) -> Result<Chain, Fault>
+    ensures { ComesTo (D.bytes_of disk.now) files (λ given result. Answers (given_of given work.now) work.now.steps result) result }
+{
+    match with_copies(alloc, disk, files, work) {
+        Ok(chain) => Ok(chain),
+        Err(failure) => Err(fault_of_copies(failure)),
+    }
+}

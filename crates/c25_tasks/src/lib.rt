@@ -1,0 +1,18 @@
+//! The tasks of the program: what its words ask for, over any files, reader and writers.
+#![tactic(auto)]
+
+mod assembly;
+mod building;
+mod copies;
+mod files;
+mod linking;
+mod objects;
+mod program;
+mod report;
+mod running;
+mod sources;
+mod standard_input;
+mod task;
+mod texts;
+
+pub use program::{run_program, run_words};

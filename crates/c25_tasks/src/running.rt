@@ -1,0 +1,60 @@
+//! The run of sources from a disk.
+
+ghost use Rattle.std.specs.Prelude.{◌≡◌};
+ghost use Rattle.std.specs.Process.{exit_status};
+ghost use Rattle.c25_words.specs.Task.{texts_of};
+ghost use Rattle.c25_tasks.specs.Running.{RunsFrom, RunsTold};
+
+use crate::copies::{Run, run_over};
+use crate::files::{names_of, read_optional};
+use crate::report::report;
+use crate::sources::sources_of;
+use c25_chain::chain::Chain;
+use c25_chain::fault::Fault;
+use c25_disk::disk::Disk;
+use c25_words::task::RunFiles;
+use std::alloc::Global;
+use std::io::Write;
+use std::process::ExitCode;
+
+/// Reads the files of a run, the sources first and then the command file, the samples and the schedule,
+/// and runs the sources.
+fn answer<D: Disk>(
+    alloc: Global,
+    disk: &D,
+    sources: &[&str],
+    steps: u32,
+    beside: RunFiles<'_>,
+) -> Result<Chain, Fault>
+    ensures { RunsFrom (D.bytes_of disk.now) (texts_of sources.now) steps beside.entry result }
+{
+    let files = sources_of(alloc, disk, sources)?;
+    let command = read_optional(alloc, disk, beside.command)?;
+    let samples = read_optional(alloc, disk, beside.samples)?;
+    let schedule = read_optional(alloc, disk, beside.schedule)?;
+    let sources = names_of(alloc, sources)?;
+    let work = Run {
+        sources: sources.as_slice(),
+        command: command.as_str(),
+        samples: samples.as_str(),
+        schedule: schedule.as_str(),
+        steps,
+    };
+    run_over(alloc, disk, files, &work)
+}
+
+/// Runs sources, and prints the run or why it is refused.
+pub(crate) fn run_sources<D: Disk, O: Write, E: Write>(
+    alloc: Global,
+    sources: &[&str],
+    steps: u32,
+    beside: RunFiles<'_>,
+    disk: &D,
+    out: &mut O,
+    err: &mut E,
+) -> ExitCode
+    ensures { RunsTold (D.bytes_of disk.now) (texts_of sources.now) steps beside.entry (exit_status result) (O.contents out.old, O.contents out.new) (E.contents err.old, E.contents err.new) }
+{
+    let told = answer(alloc, disk, sources, steps, beside);
+    report(alloc, &told, out, err)
+}

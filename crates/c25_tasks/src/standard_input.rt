@@ -1,0 +1,74 @@
+//! The run of a source from standard input.
+
+ghost use Rattle.std.specs.Prelude.{◌≡◌};
+ghost use Rattle.std.specs.Process.{exit_status};
+ghost use Rattle.c25_tasks.specs.Files.{ComesTo};
+ghost use Rattle.c25_tasks.specs.Running.{RanInput, RanText, Runs};
+
+use crate::copies::{Run, run_over};
+use crate::files::names_of;
+use crate::report::report;
+use c25_chain::chain::Chain;
+use c25_chain::fault::{Fault, Refusal};
+use c25_disk::disk::Disk;
+use c25_disk::fault::{FileFault, FileFaultKind};
+use c25_disk::{CannotRead, read_text};
+use c25_macro::files::{FileTwice, Files};
+use c25_meaning::failure::Failure;
+use c25_words::task::DEFAULT_STEPS;
+use std::alloc::Global;
+use std::io::{Read, Write};
+use std::process::ExitCode;
+
+/// The name of standard input as a source.
+const STANDARD_INPUT: &str = "stdin";
+
+/// Runs a text as the one source of the chain, with the files that it copies from a disk.
+fn run_text<D: Disk>(alloc: Global, disk: &D, text: &str) -> Result<Chain, Fault>
+    ensures { RanText (D.bytes_of disk.now) text.now result }
+{
+    let mut files = Files::new(alloc);
+    match files.add(STANDARD_INPUT, text) {
+        Ok(()) => {}
+        Err(Failure::NoMemory(error)) => return Err(error.into()),
+        Err(Failure::Fault(FileTwice)) => unreachable!(),
+    }
+    let sources = names_of(alloc, &[STANDARD_INPUT])?;
+    let work = Run {
+        sources: sources.as_slice(),
+        command: "",
+        samples: "",
+        schedule: "",
+        steps: DEFAULT_STEPS,
+    };
+    run_over(alloc, disk, files, &work)
+}
+
+/// What the run of the text that a reader gives answers.
+fn answer<D: Disk, R: Read>(alloc: Global, disk: &D, reader: &mut R) -> Result<Chain, Fault>
+    ensures { RanInput (D.bytes_of disk.now) (R.remaining reader.old) result }
+{
+    match read_text(alloc, reader) {
+        Ok(text) => run_text(alloc, disk, text.as_str()),
+        Err(Failure::NoMemory(error)) => Err(error.into()),
+        Err(Failure::Fault(CannotRead)) => {
+            let file = String::from_str(alloc, STANDARD_INPUT)?;
+            let kind = FileFaultKind::CannotRead;
+            Err(Failure::Fault(Refusal::File(FileFault { file, kind })))
+        }
+    }
+}
+
+/// Runs what a reader gives, and prints the run or why it is refused.
+pub(crate) fn run_standard_input<D: Disk, R: Read, O: Write, E: Write>(
+    alloc: Global,
+    disk: &D,
+    input: &mut R,
+    out: &mut O,
+    err: &mut E,
+) -> ExitCode
+    ensures { Runs (D.bytes_of disk.now) (R.remaining input.old) (exit_status result) (O.contents out.old, O.contents out.new) (E.contents err.old, E.contents err.new) }
+{
+    let told = answer(alloc, disk, input);
+    report(alloc, &told, out, err)
+}

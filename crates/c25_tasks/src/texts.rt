@@ -1,0 +1,40 @@
+//! The files that are written of what was built.
+
+ghost use Rattle.std.specs.Prelude.{◌≡◌, ℕ, List, IfOk, map};
+ghost use Rattle.c25_disk.specs.Written.{contents_of};
+ghost use Rattle.c25_report.specs.ProgramFiles.{AreNames, files_of};
+ghost use Rattle.c25_tasks.specs.Building.{texts_in};
+
+use c25_chain::built::Built;
+use c25_chain::linked::Linked;
+use c25_chain::page::Page;
+use c25_disk::Output;
+use c25_meaning::no_memory::NoMemory;
+use c25_report::texts::{Names, Texts, program_outputs};
+use std::alloc::Global;
+
+/// The files that are written of a program: both hex texts, the map, and the listings.
+pub(crate) fn outputs_of<'a>(
+    alloc: Global,
+    names: &'a Names,
+    built: Built,
+) -> Result<Vec<Output<'a>>, NoMemory>
+    ensures { (base : List ℕ) → AreNames base built.listings.len names.entry.now → IfOk result (λ outputs. map contents_of outputs.items ≡ files_of base (texts_in built)) }
+{
+    let Built { linked, listings } = built;
+    let Linked {
+        image: _,
+        page0,
+        page1,
+        map,
+    } = linked;
+    let Page { text: page0, .. } = page0;
+    let Page { text: page1, .. } = page1;
+    let texts = Texts {
+        page0,
+        page1,
+        map,
+        listings,
+    };
+    program_outputs(alloc, names, texts)
+}
