@@ -5,18 +5,19 @@ use Rattle.std.specs.Option.{option_map}
 use Rattle.c25_macro.specs.Expander.{Expansion, IsNext, Stage, Stands, Absent, Failed, begun_at, shown, IsNextAt, IsFailure, Tells, TellsFault, missing_of, left_of}
 use Rattle.c25_macro.specs.declared.answer.ExpLine.{ExpLine}
 use Rattle.c25_macro.specs.declared.answer.ExpandFault.{ExpandFault}
-use Rattle.c25_meaning.specs.Expansion.{Config, Rewriting, Gives, Goes, Finishes, Faults, Misses}
-use Rattle.c25_meaning.specs.ExpansionAnswers.{ExpandedLine, ExpansionFault, Faulty, Missing, given_by, fault_by}
-use Rattle.c25_meaning.specs.ExpansionRuns.{first, start, start_of}
-use Rattle.c25_meaning.specs.Files.{Files, text_named}
-use Rattle.c25_meaning.specs.ModuleOfSource.{Passed, no_lines, pass_line, passed_by, passed, passed_from}
-use Rattle.c25_meaning.specs.Results.{◌>>=◌, FailsBy}
-use Rattle.c25_meaning.specs.Rows.{file_number}
-use Rattle.c25_meaning.specs.Listing.{Entry}
-use Rattle.c25_meaning.specs.Sections.{Progress, table}
-use Rattle.c25_meaning.specs.Value.{Table}
-use Rattle.c25_meaning.specs.declared.failure.Failure.{Failure}
-use Rattle.c25_meaning.specs.declared.failure.Failure.TheVariants.{NoMemory, Fault}
+use Rattle.c25_meaning_expansion.specs.Expansion.{Config, Rewriting, Gives, Goes, Finishes, Faults, Misses}
+use Rattle.c25_meaning_expansion.specs.ExpansionAnswers.{ExpandedLine, given_by, fault_by}
+use Rattle.c25_meaning_language.specs.ExpansionFault.{ExpansionFault, Faulty, Missing}
+use Rattle.c25_meaning_expansion.specs.ExpansionRuns.{first, start, start_of}
+use Rattle.c25_meaning_expansion.specs.Files.{Files, text_named}
+use Rattle.c25_meaning_sources.specs.ModuleOfSource.{Passed, no_lines, pass_line, passed_by, passed, passed_from}
+use Rattle.c25_meaning_common.specs.Results.{◌>>=◌, FailsBy}
+use Rattle.c25_meaning_expansion.specs.Rows.{file_number}
+use Rattle.c25_meaning_assembly.specs.Listing.{Entry}
+use Rattle.c25_meaning_assembly.specs.Sections.{Progress, table}
+use Rattle.c25_meaning_language.specs.Value.{Table}
+use Rattle.c25_meaning_common.specs.declared.failure.Failure.{Failure}
+use Rattle.c25_meaning_common.specs.declared.failure.Failure.TheVariants.{NoMemory, Fault}
 use Rattle.c25_phases.specs.View.{fault_of}
 use Rattle.c25_phases.specs.declared.fault.AsmFault.{AsmFault}
 use Rattle.c25_phases.specs.declared.fault.AsmFault.TheVariants.{Line, NoFile}

@@ -1,12 +1,12 @@
 -- One line more, and its entry in the listing.
 use Rattle.std.proofs.Common.{◌≡◌, ℕ, ◌-◌, List, [], ◌∷◌, ◌++◌, Result, Ok, ap, sym, ◌∙◌}
-use Rattle.c25_meaning.specs.Emission.{at_origin}
-use Rattle.c25_meaning.specs.ExpansionAnswers.{ExpandedLine}
-use Rattle.c25_meaning.specs.Listing.{Entry}
-use Rattle.c25_meaning.specs.ModuleOfSource.{Passed, origin_of, entry_of, pass_line}
-use Rattle.c25_meaning.specs.Results.{◌>>=◌}
-use Rattle.c25_meaning.specs.Sections.{Progress, size_at}
-use Rattle.c25_meaning.specs.declared.statement.FaultKind.{FaultKind}
+use Rattle.c25_meaning_assembly.specs.Emission.{at_origin}
+use Rattle.c25_meaning_expansion.specs.ExpansionAnswers.{ExpandedLine}
+use Rattle.c25_meaning_assembly.specs.Listing.{Entry}
+use Rattle.c25_meaning_sources.specs.ModuleOfSource.{Passed, origin_of, entry_of, pass_line}
+use Rattle.c25_meaning_common.specs.Results.{◌>>=◌}
+use Rattle.c25_meaning_assembly.specs.Sections.{Progress, size_at}
+use Rattle.c25_meaning_language.specs.declared.statement.FaultKind.{FaultKind}
 use Rattle.c25_phases.specs.Steps.{text_passed}
 
 -- the words by which the section of a line grew

@@ -1,11 +1,11 @@
 -- The lines that a module still has.
 use Rattle.std.specs.Prelude.{◌≡◌, ◌<◌, ℕ, List, Result, Err}
 use Rattle.c25_macro.specs.Expander.{Expansion, Stage, Stands, Absent, Failed}
-use Rattle.c25_meaning.specs.ExpansionAnswers.{ExpansionFault, Missing}
-use Rattle.c25_meaning.specs.Files.{Files}
-use Rattle.c25_meaning.specs.ModuleOfSource as source
-use Rattle.c25_meaning.specs.Results.{MeetsBy}
-use Rattle.c25_meaning.specs.declared.failure.Failure.{Failure}
+use Rattle.c25_meaning_language.specs.ExpansionFault.{ExpansionFault, Missing}
+use Rattle.c25_meaning_expansion.specs.Files.{Files}
+use Rattle.c25_meaning_sources.specs.ModuleOfSource as source
+use Rattle.c25_meaning_common.specs.Results.{MeetsBy}
+use Rattle.c25_meaning_common.specs.declared.failure.Failure.{Failure}
 use Rattle.c25_phases.specs.View.{fault_of}
 use Rattle.c25_phases.specs.declared.fault.AsmFault.{AsmFault}
 use Rattle.c25_asm.specs.View.{passed_of}

@@ -1,8 +1,8 @@
 //! Both phases.
 
-ghost use Rattle.c25_meaning.specs.ModuleOfSource as source;
-ghost use Rattle.c25_meaning.specs.Results.{MeetsBy};
-ghost use Rattle.c25_meaning.specs.ExpansionRuns.{start_of};
+ghost use Rattle.c25_meaning_sources.specs.ModuleOfSource as source;
+ghost use Rattle.c25_meaning_common.specs.Results.{MeetsBy};
+ghost use Rattle.c25_meaning_expansion.specs.ExpansionRuns.{start_of};
 ghost use Rattle.c25_macro.specs.Expanders.{expansion_of};
 ghost use Rattle.c25_phases.specs.View.{fault_of};
 ghost use Rattle.c25_asm.specs.Coming.{IsRest};
@@ -15,8 +15,8 @@ use c25_listing::listing::Listing;
 use c25_macro::answer::ExpandFault;
 use c25_macro::expander::Expander;
 use c25_macro::files::Files;
-use c25_meaning::failure::Failure;
-use c25_meaning::no_memory::NoMemory;
+use c25_meaning_common::failure::Failure;
+use c25_meaning_common::no_memory::NoMemory;
 use c25_obj::{Module, module};
 use c25_phases::fault::AsmFault;
 use c25_phases::finish;
@@ -104,7 +104,7 @@ fn pass_all<'a>(
 /// 36, 54. Only where that phase finds nothing, a second phase tells the first operand of an
 /// instruction, of `.word`, `.int`, `.byte` and `.def`, without a value under all names (22 to 25),
 /// with an address where none may stand (55), or out of the range of its field (53).
-#[tactic(auto, unfolding(c25_meaning::specs::ModuleOfSource::assembled), using(crate::proofs::Made::lists_are_a_module))]
+#[tactic(auto, unfolding(c25_meaning_sources::specs::ModuleOfSource::assembled), using(crate::proofs::Made::lists_are_a_module))]
 pub fn assemble<'a>(
     alloc: Global,
     files: &'a Files,

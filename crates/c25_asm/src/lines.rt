@@ -2,16 +2,16 @@
 
 ghost use Rattle.std.specs.Prelude.{◌≡◌, IfOk};
 ghost use Rattle.c25_macro.specs.Expander.{shown};
-ghost use Rattle.c25_meaning.specs.ModuleOfSource as source;
-ghost use Rattle.c25_meaning.specs.Results.{MeetsBy};
+ghost use Rattle.c25_meaning_sources.specs.ModuleOfSource as source;
+ghost use Rattle.c25_meaning_common.specs.Results.{MeetsBy};
 ghost use Rattle.c25_phases.specs.View.{fault_of};
 ghost use Rattle.c25_asm.specs.View.{passed_of};
 
 use crate::passed::Passed;
 use c25_listing::listing::Entry;
 use c25_macro::answer::ExpLine;
-use c25_meaning::failure::Failure;
-use c25_meaning::no_memory::NoMemory;
+use c25_meaning_common::failure::Failure;
+use c25_meaning_common::no_memory::NoMemory;
 use c25_phases::fault::AsmFault;
 use c25_phases::{Origin, Progress, at_origin, read_and_pass};
 use std::alloc::Global;
@@ -27,7 +27,7 @@ pub(crate) fn no_lines<'a>(alloc: Global) -> Result<Passed<'a>, NoMemory>
 }
 
 /// One line more.
-#[tactic(auto, unfolding(c25_meaning::specs::ModuleOfSource::pass_line))]
+#[tactic(auto, unfolding(c25_meaning_sources::specs::ModuleOfSource::pass_line))]
 pub(crate) fn pass_line<'a>(
     passed: Passed<'a>,
     line: ExpLine<'a>,

@@ -1,7 +1,7 @@
 //! The lines so far, and what they have made.
 
 ghost use Rattle.std.specs.Prelude.{◌≤◌};
-ghost use Rattle.c25_meaning.specs.Sections.{name_count};
+ghost use Rattle.c25_meaning_assembly.specs.Sections.{name_count};
 ghost use Rattle.c25_phases.specs.View.{progress_of};
 
 use c25_listing::listing::Entry;

@@ -3,9 +3,9 @@
 use c25_asm::assemble;
 use c25_asm::fault::AsmFault;
 use c25_macro::files::Files;
-use c25_meaning::failure::Failure;
-use c25_meaning::no_memory::NoMemory;
-use c25_meaning::object::{RelocationBase, Scope, SymbolKind};
+use c25_meaning_common::failure::Failure;
+use c25_meaning_common::no_memory::NoMemory;
+use c25_meaning_objects::object::{RelocationBase, Scope, SymbolKind};
 use c25_obj::{Body, Parts, write_module};
 use std::alloc::Global;
 use std::fmt::Write;

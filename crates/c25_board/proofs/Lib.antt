@@ -4,6 +4,7 @@ pub mod Kept
 pub mod PlaceMarks
 pub mod Rising
 pub mod Runs
+pub mod RunsTo
 pub mod SamplePorts
 pub mod SamplesTaken
 pub mod Timing

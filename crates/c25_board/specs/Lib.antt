@@ -4,6 +4,7 @@ pub mod Prepared
 pub mod Timed
 pub mod Board
 pub mod Run
+pub mod RunTo
 pub mod SamplesLeft
 pub mod ScheduleRises
 pub mod Lends

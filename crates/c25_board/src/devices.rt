@@ -1,15 +1,15 @@
 //! The memories and ports of a board.
 
 ghost use Rattle.std.specs.Prelude.{◌≡◌, [], true, vec_len, IfOk};
-ghost use Rattle.c25_meaning.specs.FirstState.{memory_of_map};
-ghost use Rattle.c25_meaning.specs.Memory.{memory_of};
+ghost use Rattle.c25_meaning_processor.specs.FirstState.{memory_of_map};
+ghost use Rattle.c25_meaning_processor.specs.Memory.{memory_of};
 ghost use Rattle.c25_board.specs.Places.{are_whole};
 
 use crate::places::{Place, WORDS, place_at};
 use crate::ports::{Feed, Sink};
 use c25_core::{Bus, SinkFailed};
-use c25_meaning::no_memory::NoMemory;
-use c25_meaning::word_map::WordMap;
+use c25_meaning_common::no_memory::NoMemory;
+use c25_meaning_image::word_map::WordMap;
 
 /// What lies around the processor. Each memory has 65,536 words; those of data memory hold block
 /// B0's at 200h to 2FFh, wherever B0 is seen. Beside program memory stands what each of its words is
@@ -50,7 +50,7 @@ impl<F: Feed + Drop, S: Sink + Drop> Bus for Devices<F, S> {
         self.words[usize::from(address)]
     }
 
-    #[tactic(auto, using(c25_meaning::proofs::Memories::memory_of_set))]
+    #[tactic(auto, using(c25_meaning_processor::proofs::Memories::memory_of_set))]
     fn set_data(&mut self, address: u16, word: u16) {
         self.words[usize::from(address)] = word;
     }
@@ -59,7 +59,7 @@ impl<F: Feed + Drop, S: Sink + Drop> Bus for Devices<F, S> {
         self.program[usize::from(address)]
     }
 
-    #[tactic(auto, using(c25_meaning::proofs::Memories::memory_of_set))]
+    #[tactic(auto, using(c25_meaning_processor::proofs::Memories::memory_of_set))]
     fn set_program(&mut self, address: u16, word: u16) {
         self.program[usize::from(address)] = word;
     }

@@ -8,5 +8,6 @@ pub mod fixed_sink;
 mod places;
 pub mod ports;
 mod prepared;
+pub mod run_to;
 pub mod samples;
 pub mod schedule;

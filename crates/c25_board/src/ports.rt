@@ -2,11 +2,11 @@
 
 ghost use Rattle.std.specs.Prelude.{◌≡◌, ℕ, ◌∷◌, [], ◌++◌, List, OnSome, IfNone, OnOk, OnErr, slice_get};
 ghost use Rattle.std.specs.Option.{ForNone};
-ghost use Rattle.c25_meaning.specs.State.{taken};
+ghost use Rattle.c25_meaning_processor.specs.State.{taken};
 ghost use Rattle.c25_core.specs.Sink.{HasFailed};
 
 use c25_core::SinkFailed;
-use c25_meaning::no_memory::NoMemory;
+use c25_meaning_common::no_memory::NoMemory;
 use std::alloc::Global;
 
 /// Samples for each input port.
@@ -39,7 +39,7 @@ pub trait Sink {
 }
 
 /// No samples at any port.
-#[derive(Clone, Copy, Debug)]
+#[derive(Clone, Copy)]
 pub struct NoSamples;
 
 impl Feed for NoSamples {

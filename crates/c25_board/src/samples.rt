@@ -1,27 +1,27 @@
 //! Texts of samples: a port and a word a line.
 
 ghost use Rattle.std.specs.Prelude.{◌≡◌, ◌+◌, ◌<◌, [], ◌∷◌, length, drop, IfSome, IfNone};
-ghost use Rattle.c25_meaning.specs.Samples.{samples_at, samples_of};
-ghost use Rattle.c25_meaning.specs.Results.{MeetsBy};
+ghost use Rattle.c25_meaning_stimulus.specs.Samples.{samples_at, samples_of};
+ghost use Rattle.c25_meaning_common.specs.Results.{MeetsBy};
 
 use crate::ports::Feed;
 use c25_items::{LineFormat, decimal_of, hexadecimal_of, read_items};
-use c25_meaning::failure::Failure;
-use c25_meaning::sample::Sample;
+use c25_meaning_common::failure::Failure;
+use c25_meaning_stimulus::sample::Sample;
 use std::alloc::Global;
 use std::error::Error;
 use std::fmt;
 use std::marker::Model;
 
 /// The first line of a text, counted from 1, whose words are no sample (91).
-#[derive(Clone, Copy, Debug, PartialEq, Eq)]
+#[derive(Clone, Copy, Debug)]
 pub struct BadSamples {
     pub line: usize,
 }
 
 impl fmt::Display for BadSamples {
     ghost use Rattle.std.specs.Prelude.{Some, codes};
-    ghost use Rattle.c25_meaning.specs.Faults.{line_text};
+    ghost use Rattle.c25_meaning_common.specs.Faults.{line_text};
 
     ghost output = { λ bad. Some (line_text bad.line (codes "BadSamples")) };
 
@@ -36,7 +36,7 @@ impl Error for BadSamples {}
 const PORTS: usize = 16;
 
 /// Samples, which each port takes in order. Contracts see them as the list of those that are left.
-#[derive(Drop, Debug)]
+#[derive(Drop)]
 pub struct Samples {
     samples: Vec<Sample>,
     /// The place behind the last sample that each port took.
@@ -45,7 +45,7 @@ pub struct Samples {
 
 impl Model for Samples {
     ghost use Rattle.std.specs.Prelude.{List};
-    ghost use Rattle.c25_meaning.specs.declared.sample.Sample.{Sample};
+    ghost use Rattle.c25_meaning_stimulus.specs.declared.sample.Sample.{Sample};
     ghost use Rattle.c25_board.specs.SamplesLeft.{left_from, HavePorts};
 
     ghost Value = { List Sample };
@@ -85,7 +85,7 @@ fn find(samples: &[Sample], from: usize, port: u16) -> Option<(usize, u16)>
 }
 
 impl Feed for Samples {
-    ghost use Rattle.c25_meaning.specs.Samples.{samples_at};
+    ghost use Rattle.c25_meaning_stimulus.specs.Samples.{samples_at};
 
     ghost left = { samples_at };
 
@@ -105,7 +105,7 @@ impl Feed for Samples {
 struct SampleLines;
 
 impl LineFormat for SampleLines {
-    ghost use Rattle.c25_meaning.specs.Samples.{sample_of};
+    ghost use Rattle.c25_meaning_stimulus.specs.Samples.{sample_of};
 
     type Item = Sample;
 

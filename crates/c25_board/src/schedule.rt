@@ -1,13 +1,13 @@
 //! Schedules: a step and an event a line.
 
 ghost use Rattle.std.specs.Prelude.{◌≡◌};
-ghost use Rattle.c25_meaning.specs.Schedule.{event_of, last_step, schedule_of};
-ghost use Rattle.c25_meaning.specs.Results.{MeetsBy};
+ghost use Rattle.c25_meaning_stimulus.specs.Schedule.{event_of, last_step, schedule_of};
+ghost use Rattle.c25_meaning_common.specs.Results.{MeetsBy};
 
 use c25_items::{LineFormat, decimal_of, is_word, read_items};
-use c25_meaning::failure::Failure;
-use c25_meaning::lines::Lines;
-use c25_meaning::schedule::{Entry, Event};
+use c25_meaning_common::failure::Failure;
+use c25_meaning_processor::lines::Lines;
+use c25_meaning_stimulus::schedule::{Entry, Event};
 use std::alloc::Global;
 use std::error::Error;
 use std::fmt;
@@ -15,14 +15,14 @@ use std::marker::Model;
 
 /// The first line of a text, counted from 1, whose words are no entry, or whose step is less than the
 /// one before (90).
-#[derive(Clone, Copy, Debug, PartialEq, Eq)]
+#[derive(Clone, Copy, Debug)]
 pub struct BadSchedule {
     pub line: usize,
 }
 
 impl fmt::Display for BadSchedule {
     ghost use Rattle.std.specs.Prelude.{Some, codes};
-    ghost use Rattle.c25_meaning.specs.Faults.{line_text};
+    ghost use Rattle.c25_meaning_common.specs.Faults.{line_text};
 
     ghost output = { λ bad. Some (line_text bad.line (codes "BadSchedule")) };
 
@@ -34,14 +34,14 @@ impl fmt::Display for BadSchedule {
 impl Error for BadSchedule {}
 
 /// Events by steps that do not fall. Contracts see it as the list of its entries.
-#[derive(Drop, Debug)]
+#[derive(Drop)]
 pub struct Schedule {
     entries: Vec<Entry>,
 }
 
 impl Model for Schedule {
     ghost use Rattle.std.specs.Prelude.{List};
-    ghost use Rattle.c25_meaning.specs.declared.schedule.Entry.{Entry};
+    ghost use Rattle.c25_meaning_stimulus.specs.declared.schedule.Entry.{Entry};
     ghost use Rattle.c25_board.specs.ScheduleRises.{RisesFrom};
 
     ghost Value = { List Entry };
@@ -65,7 +65,7 @@ impl Schedule {
 }
 
 /// The event that a word names.
-#[tactic(auto, unfolding(c25_meaning::specs::Schedule::event_of))]
+#[tactic(auto, unfolding(c25_meaning_stimulus::specs::Schedule::event_of))]
 fn event_of(word: &[u8]) -> Option<Event>
     ensures { result ≡ event_of word.now }
 {
@@ -95,7 +95,7 @@ fn last_step(before: &[Entry]) -> u32
 struct EntryLines;
 
 impl LineFormat for EntryLines {
-    ghost use Rattle.c25_meaning.specs.Schedule.{entry_of};
+    ghost use Rattle.c25_meaning_stimulus.specs.Schedule.{entry_of};
 
     type Item = Entry;
 

@@ -7,10 +7,10 @@ use c25_board::board::{Board, Outcome};
 use c25_board::ports::{Feed, ListSink, NoSamples, Sink};
 use c25_board::schedule::read_schedule;
 use c25_core::{Halt, SinkFailed};
-use c25_meaning::mark::Mark;
-use c25_meaning::marks::marks_fit;
-use c25_meaning::stop::Stop;
-use c25_meaning::word_map::WordMap;
+use c25_meaning_image::mark::Mark;
+use c25_meaning_image::marks::marks_fit;
+use c25_meaning_image::word_map::WordMap;
+use c25_meaning_processor::stop::Stop;
 use std::alloc::Global;
 use std::test::Fail;
 

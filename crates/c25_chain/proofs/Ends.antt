@@ -7,16 +7,16 @@ use Rattle.std.proofs.Math.Nat.{le-min}
 use Rattle.c25_board.specs.Run.{IsRun}
 use Rattle.c25_board.specs.declared.board.Outcome.{Outcome}
 use Rattle.c25_board.specs.declared.board.Outcome.TheVariants as outcome
-use Rattle.c25_meaning.specs.FirstState.{first_of_pages, memory_of_map}
-use Rattle.c25_meaning.specs.Placing.{loaded}
-use Rattle.c25_meaning.specs.Reset.{reset}
-use Rattle.c25_meaning.specs.Run.{Ran, Left}
-use Rattle.c25_meaning.specs.Samples.{samples_at}
-use Rattle.c25_meaning.specs.Signals.{signals_of}
-use Rattle.c25_meaning.specs.State.{State, state_of}
-use Rattle.c25_meaning.specs.declared.mark.Mark.{Mark}
-use Rattle.c25_meaning.specs.declared.sample.Sample.{Sample}
-use Rattle.c25_meaning.specs.declared.schedule.Entry.{Entry}
+use Rattle.c25_meaning_processor.specs.FirstState.{first_of_pages, memory_of_map}
+use Rattle.c25_meaning_processor.specs.FirstState.{loaded}
+use Rattle.c25_meaning_processor.specs.Reset.{reset}
+use Rattle.c25_meaning_processor.specs.Run.{Ran, Left}
+use Rattle.c25_meaning_stimulus.specs.Samples.{samples_at}
+use Rattle.c25_meaning_stimulus.specs.Signals.{signals_of}
+use Rattle.c25_meaning_processor.specs.State.{State, state_of}
+use Rattle.c25_meaning_image.specs.declared.mark.Mark.{Mark}
+use Rattle.c25_meaning_stimulus.specs.declared.sample.Sample.{Sample}
+use Rattle.c25_meaning_stimulus.specs.declared.schedule.Entry.{Entry}
 use Rattle.c25_chain.specs.Run.{HasRun, Shows, run_data}
 use Rattle.c25_chain.specs.declared.run.Done.{Done}
 

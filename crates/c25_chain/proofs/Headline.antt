@@ -8,33 +8,35 @@ use Rattle.std.proofs.lemmas.List.Elements.{All-from_recursion}
 use Rattle.std.proofs.lemmas.Simd.{map-map}
 use Rattle.c25_laws.proofs.ProgramMarks.{marks_are}
 use Rattle.c25_laws.proofs.ProgramRuns.{is_image}
-use Rattle.c25_laws.proofs.ProgramWords.{words_are}
-use Rattle.c25_laws.proofs.ResultSteps.{bound}
+use Rattle.c25_laws.proofs.ProgramWords.{stored_words_are, words_are}
+use Rattle.c25_module_laws.proofs.ResultSteps.{bound}
 use Rattle.c25_laws.proofs.SourcesRead as sources
-use Rattle.c25_laws.specs.ProgramStatements.{AreMarksOf, AreModulesOf, ReadsAs, program_statements}
-use Rattle.c25_meaning.proofs.Image.{runs_alike}
-use Rattle.c25_meaning.proofs.Keeps.{Keeps, KeepsAfter, keeps_same, keeps_then, stepped_keeps}
-use Rattle.c25_meaning.specs.ExpansionAnswers.{ExpansionFault}
-use Rattle.c25_meaning.specs.Files.{Files}
-use Rattle.c25_meaning.specs.Linking.{HasWords, ImageData, map_of, section_place}
-use Rattle.c25_meaning.specs.MapText.{SectionPlace}
-use Rattle.c25_meaning.specs.Module.{Contents}
-use Rattle.c25_meaning.specs.ModuleOfSource.{Assembled, assembled}
-use Rattle.c25_meaning.specs.Place.{Place}
-use Rattle.c25_meaning.specs.Results.{told}
-use Rattle.c25_meaning.specs.Run.{Ending, Ran, Reaches, Signals}
-use Rattle.c25_meaning.specs.Samples.{samples_at}
-use Rattle.c25_meaning.specs.Signals.{signals_of}
-use Rattle.c25_meaning.specs.State.{State}
-use Rattle.c25_meaning.specs.Statements.{IsImageOf, Statement}
-use Rattle.c25_meaning.specs.Step.{begun}
-use Rattle.c25_meaning.specs.WordStep.{WordStep}
-use Rattle.c25_meaning.specs.declared.failure.Failure.TheVariants as failure
-use Rattle.c25_meaning.specs.declared.sample.Sample.{Sample}
+use Rattle.c25_laws.proofs.WordsOfSources.{page_agrees}
+use Rattle.c25_laws.specs.ProgramStatements.{AreMarksOf, AreModulesOf, ReadsAs, page_statements, program_statements}
+use Rattle.c25_laws.specs.SourceWords as items
+use Rattle.c25_run_laws.proofs.Image.{runs_alike}
+use Rattle.c25_run_laws.proofs.Keeps.{Keeps, KeepsAfter, keeps_same, keeps_then, stepped_keeps}
+use Rattle.c25_meaning_language.specs.ExpansionFault.{ExpansionFault}
+use Rattle.c25_meaning_expansion.specs.Files.{Files}
+use Rattle.c25_meaning_linking.specs.Linking.{HasWords, ImageData, map_of, section_place}
+use Rattle.c25_meaning_linking.specs.MapText.{SectionPlace}
+use Rattle.c25_meaning_objects.specs.Module.{Contents}
+use Rattle.c25_meaning_sources.specs.ModuleOfSource.{Assembled, assembled}
+use Rattle.c25_meaning_linking.specs.Place.{Place}
+use Rattle.c25_meaning_common.specs.Results.{told}
+use Rattle.c25_meaning_processor.specs.Run.{Ending, Ran, Reaches, Signals}
+use Rattle.c25_meaning_stimulus.specs.Samples.{samples_at}
+use Rattle.c25_meaning_stimulus.specs.Signals.{signals_of}
+use Rattle.c25_meaning_processor.specs.State.{State}
+use Rattle.c25_meaning_processor.specs.Statements.{IsImageOf, Statement}
+use Rattle.c25_meaning_processor.specs.Step.{begun}
+use Rattle.c25_meaning_processor.specs.WordStep.{WordStep}
+use Rattle.c25_meaning_common.specs.declared.failure.Failure.TheVariants as failure
+use Rattle.c25_meaning_stimulus.specs.declared.sample.Sample.{Sample}
 use Rattle.c25_chain.proofs.Spelled.{program_spelled, store_spelled}
 use Rattle.c25_chain.specs.Built.{IsBuilt}
 use Rattle.c25_chain.specs.Chain.{Answers, Given, IsAnswer, run_of, texts_of}
-use Rattle.c25_chain.specs.Headline.{CodeStays, HasStatements, HoldsSourceWords, MarksStatements, OfProgram, RunsAsSources, RunsItsWords, TellsStatementsRun, first_state, source_modules, source_statements, without_refusal}
+use Rattle.c25_chain.specs.Headline.{CodeStays, HasSourceWords, HasStatements, HoldsSourceWords, MarksStatements, OfProgram, RunsAsSources, RunsItsWords, TellsStatementsRun, first_state, source_modules, source_statements, stored_statements, without_refusal}
 use Rattle.c25_chain.specs.Linked.{Texts, places_of}
 use Rattle.c25_chain.specs.Modules.{Modules, asm_refusal, modules_of, no_modules, with_module, with_source}
 use Rattle.c25_chain.specs.Refusal.{Fault}
@@ -63,7 +65,7 @@ each_has : (files : Files) (names : List (List ℕ)) (modules : List Contents) �
 each_has files [] [] h = tt
 each_has files [] (m ∷ modules) h = absurd h
 each_has files (name ∷ names) [] h = absurd h
-each_has files (name ∷ names) (m ∷ modules) h = let a = h.0 in (sources.source_statements files name a.0 a.1, each_has files names modules h.1)
+each_has files (name ∷ names) (m ∷ modules) h = let a = h.0 in (sources.source_lines files name a.0 a.1, each_has files names modules h.1)
 
 -- ---- the map
 
@@ -103,8 +105,18 @@ module _ (files : Files) (names : List (List ℕ)) (command : List ℕ) (image :
   words_read : All (ReadsAs image.program) (source_statements files names image.described)
   words_read = subst (All (ReadsAs image.program)) (sym said) (words_are files names (b.all).modules (b.linked).command image of (b.linked).program)
 
-  words_said : (page : ℕ) (words : _) → HasWords (b.all).modules (places_of image.described) page words → HasWords (source_modules files names) (places_of image.described) page words
-  words_said page words h = subst (λ (ms : List Contents). HasWords ms (places_of image.described) page words) (sym modules_said) h
+  stored_said : stored_statements files names image.described ≡ page_statements 1 files names (b.all).modules ((b.linked).program).places
+  stored_said =
+      ap (λ (ms : List Contents). page_statements 1 files names ms (places_of image.described)) modules_said
+      ∙ ap (page_statements 1 files names (b.all).modules) places_said
+
+  stored_read : All (ReadsAs image.store) (stored_statements files names image.described)
+  stored_read = subst (All (ReadsAs image.store)) (sym stored_said) (stored_words_are files names (b.all).modules (b.linked).command image of (b.linked).program)
+
+  words_said : (page : ℕ) (words : _) → HasWords (b.all).modules (places_of image.described) page words → HasSourceWords files names image.described page words
+  words_said page words h =
+      subst (λ (ms : List Contents). items.HasSourceWords files names ms (places_of image.described) page words) (sym modules_said)
+      (page_agrees files names (b.all).modules of (places_of image.described) page words h)
 
   image_said : (samples : List Sample) → IsImageOf (source_statements files names image.described) (first_state image samples).world
   image_said samples = is_image (source_statements files names image.described) image.program image.store image.marks (samples_at samples) marks_said words_read
@@ -143,6 +155,7 @@ module _ (g : Given) (n : ℕ) (c : Chain) (a : IsAnswer g n c) where
           program = word 0 (a.image).program t.program;
           store = word 1 (a.image).store t.store;
           statements = words_read g.files g.sources g.command a.image (texts_of c) (map string_bytes c.listings.items) a.built;
+          stored = stored_read g.files g.sources g.command a.image (texts_of c) (map string_bytes c.listings.items) a.built;
         };
       }
 

@@ -8,16 +8,16 @@ use Rattle.std.specs.Ordering.{nat_cmp}
 use Rattle.std.proofs.lemmas.Bool.Decides.{nat_tests}
 use Rattle.std.proofs.lemmas.List.Sorted.{IsPermutation-sym}
 use Rattle.c25_laws.proofs.Members.{behind_in, first_in, in_front, in_permuted, nothing_in}
-use Rattle.c25_meaning.proofs.OneMap.{placed_once}
-use Rattle.c25_meaning.specs.Command.{CommandData}
-use Rattle.c25_meaning.specs.Files.{Files}
-use Rattle.c25_meaning.specs.GoodMap.{placings_for, ranges_for, requests}
-use Rattle.c25_meaning.specs.Linking.{HasMarks, HasWords, ImageData, IsProgram, map_of}
-use Rattle.c25_meaning.specs.Marks.{fit_from, fits_behind}
-use Rattle.c25_meaning.specs.Module.{Contents}
-use Rattle.c25_meaning.specs.Place.{Place}
-use Rattle.c25_meaning.specs.Words.{program_marks}
-use Rattle.c25_meaning.specs.declared.mark.Mark.{Mark}
+use Rattle.c25_placing_laws.proofs.OneMap.{placed_once}
+use Rattle.c25_meaning_commands.specs.Command.{CommandData}
+use Rattle.c25_meaning_expansion.specs.Files.{Files}
+use Rattle.c25_meaning_linking.specs.GoodMap.{placings_for, ranges_for, requests}
+use Rattle.c25_meaning_linking.specs.Linking.{HasMarks, HasWords, ImageData, IsProgram, map_of}
+use Rattle.c25_meaning_image.specs.Marks.{fit_from, fits_behind}
+use Rattle.c25_meaning_objects.specs.Module.{Contents}
+use Rattle.c25_meaning_linking.specs.Place.{Place}
+use Rattle.c25_meaning_linking.specs.Words.{program_marks}
+use Rattle.c25_meaning_image.specs.declared.mark.Mark.{Mark}
 use Rattle.c25_chain.specs.Built.{IsBuilt}
 use Rattle.c25_chain.specs.Linked.{IsLinkedUnder, Texts}
 use Rattle.c25_chain.specs.Modules.{Modules}

@@ -10,19 +10,19 @@ use Rattle.c25_cmd.proofs.Kept.{text_keeps}
 use Rattle.c25_hex.proofs.ReadBack.{read_back}
 use Rattle.c25_laws.proofs.SourcesRead.{AreRead, sources_read}
 use Rattle.c25_laws.specs.ProgramStatements.{AreModulesOf}
-use Rattle.c25_meaning.proofs.Parts.{part_in_place}
-use Rattle.c25_meaning.proofs.RelocatedFields.{filled_below, number_below}
-use Rattle.c25_meaning.specs.Command.{CommandData, IsCommand}
-use Rattle.c25_meaning.specs.Files.{Files}
-use Rattle.c25_meaning.specs.GoodMap.{IsGoodMap, placings_for, ranges_for}
-use Rattle.c25_meaning.specs.Hex.{SpellsWords}
-use Rattle.c25_meaning.specs.InstructionStatements.{Instruction}
-use Rattle.c25_meaning.specs.Linking.{HasWords, ImageData}
-use Rattle.c25_meaning.specs.Module.{Contents, Initialised, IsModule, SectionBody, SectionData, Uninitialised, body_size, body_words}
-use Rattle.c25_meaning.specs.Place.{Place}
-use Rattle.c25_meaning.specs.WordMap.{IsWordMap}
-use Rattle.c25_meaning.specs.Words.{HasWord, relocated, relocated_value, relocation_at}
-use Rattle.c25_meaning.specs.declared.object.Relocation.{Relocation}
+use Rattle.c25_meaning_linking.proofs.Parts.{part_in_place}
+use Rattle.c25_instruction_laws.proofs.RelocatedFields.{filled_below, number_below}
+use Rattle.c25_meaning_commands.specs.Command.{CommandData, IsCommand}
+use Rattle.c25_meaning_expansion.specs.Files.{Files}
+use Rattle.c25_meaning_linking.specs.GoodMap.{IsGoodMap, placings_for, ranges_for}
+use Rattle.c25_meaning_intel_hex.specs.Hex.{SpellsWords}
+use Rattle.c25_meaning_assembly.specs.InstructionStatements.{Instruction}
+use Rattle.c25_meaning_linking.specs.Linking.{HasWords, ImageData}
+use Rattle.c25_meaning_objects.specs.Module.{Contents, Initialised, IsModule, SectionBody, SectionData, Uninitialised, body_size, body_words}
+use Rattle.c25_meaning_linking.specs.Place.{Place}
+use Rattle.c25_meaning_image.specs.WordMap.{IsWordMap}
+use Rattle.c25_meaning_linking.specs.Words.{HasWord, relocated, relocated_value, relocation_at}
+use Rattle.c25_meaning_objects.specs.declared.object.Relocation.{Relocation}
 use Rattle.c25_chain.proofs.Named.{found_holds, module_at}
 use Rattle.c25_chain.proofs.Placed.{IsGoodPlace, good_places}
 use Rattle.c25_chain.specs.Linked.{IsLinkedUnder, Texts}

@@ -1,15 +1,15 @@
 -- The texts of a program say where its sections stand.
 use Rattle.std.proofs.Common.{◌≡◌, ℕ, ◌<◌, ◌^◌, List, [], ◌∷◌, length, map, All, Ok, Err, Result, refl, ap, subst, sym, ◌∙◌}
-use Rattle.c25_meaning.specs.Command.{CommandData, IsCommand}
-use Rattle.c25_meaning.specs.CommandText.{command_of}
-use Rattle.c25_meaning.specs.GoodMap.{IsGoodMap}
-use Rattle.c25_meaning.specs.Linking.{ImageData, IsProgram, HasWords, HasMarks, section_place}
-use Rattle.c25_meaning.specs.HexText.{written}
-use Rattle.c25_meaning.specs.MapText.{MapData, IsPrinted, map_text}
-use Rattle.c25_meaning.specs.Module.{Contents, IsModule}
-use Rattle.c25_meaning.specs.Place.{Place}
-use Rattle.c25_meaning.specs.Results.{told}
-use Rattle.c25_meaning.specs.declared.command_fault.FaultyCommand.{FaultyCommand}
+use Rattle.c25_meaning_commands.specs.Command.{CommandData, IsCommand}
+use Rattle.c25_meaning_commands.specs.CommandText.{command_of}
+use Rattle.c25_meaning_linking.specs.GoodMap.{IsGoodMap}
+use Rattle.c25_meaning_linking.specs.Linking.{ImageData, IsProgram, HasWords, HasMarks, section_place}
+use Rattle.c25_meaning_intel_hex.specs.HexText.{written}
+use Rattle.c25_meaning_linking.specs.MapText.{MapData, IsPrinted, map_text}
+use Rattle.c25_meaning_objects.specs.Module.{Contents, IsModule}
+use Rattle.c25_meaning_linking.specs.Place.{Place}
+use Rattle.c25_meaning_common.specs.Results.{told}
+use Rattle.c25_meaning_commands.specs.declared.command_fault.FaultyCommand.{FaultyCommand}
 use Rattle.c25_chain.specs.Linked.{AreTexts, HasTextsOf, IsLinked, Texts, places_of, texts_of}
 use Rattle.c25_chain.specs.declared.fault.Refusal.{Refusal}
 use Rattle.c25_chain.specs.declared.fault.Refusal.TheVariants.{Command}

@@ -1,17 +1,22 @@
 -- The line that tells a fault: where it is, its number and its name.
 use Rattle.std.specs.Prelude.{ℕ, List, ◌++◌, codes}
 use Rattle.std.specs.Fmt.{decimal}
-use Rattle.c25_meaning.specs.Faults.{command_name, hex_name, link_name, numbered_name, object_name, placed_text}
-use Rattle.c25_meaning.specs.declared.command_fault.CommandFault.{CommandFault}
-use Rattle.c25_meaning.specs.declared.command_fault.CommandFault.TheVariants as command
-use Rattle.c25_meaning.specs.declared.failure.Failure.TheVariants as failure
-use Rattle.c25_meaning.specs.declared.hex_fault.HexFault.{HexFault}
-use Rattle.c25_meaning.specs.declared.hex_fault.HexFault.TheVariants as hex
-use Rattle.c25_meaning.specs.declared.link_fault.LinkFault.{LinkFault}
-use Rattle.c25_meaning.specs.declared.link_fault.LinkFault.TheVariants as link
-use Rattle.c25_meaning.specs.declared.object.ObjectFault.{ObjectFault}
-use Rattle.c25_meaning.specs.declared.object.ObjectFault.TheVariants as object
-use Rattle.c25_meaning.specs.declared.statement.FaultKind.TheVariants as kind
+use Rattle.c25_meaning_commands.specs.Faults.{command_name}
+use Rattle.c25_meaning_intel_hex.specs.Faults.{hex_name}
+use Rattle.c25_meaning_linking.specs.Faults.{link_name}
+use Rattle.c25_meaning_language.specs.Faults.{numbered_name}
+use Rattle.c25_meaning_objects.specs.Faults.{object_name}
+use Rattle.c25_meaning_common.specs.Faults.{placed_text}
+use Rattle.c25_meaning_commands.specs.declared.command_fault.CommandFault.{CommandFault}
+use Rattle.c25_meaning_commands.specs.declared.command_fault.CommandFault.TheVariants as command
+use Rattle.c25_meaning_common.specs.declared.failure.Failure.TheVariants as failure
+use Rattle.c25_meaning_intel_hex.specs.declared.hex_fault.HexFault.{HexFault}
+use Rattle.c25_meaning_intel_hex.specs.declared.hex_fault.HexFault.TheVariants as hex
+use Rattle.c25_meaning_linking.specs.declared.link_fault.LinkFault.{LinkFault}
+use Rattle.c25_meaning_linking.specs.declared.link_fault.LinkFault.TheVariants as link
+use Rattle.c25_meaning_objects.specs.declared.object.ObjectFault.{ObjectFault}
+use Rattle.c25_meaning_objects.specs.declared.object.ObjectFault.TheVariants as object
+use Rattle.c25_meaning_language.specs.declared.statement.FaultKind.TheVariants as kind
 use Rattle.c25_disk.specs.FaultNames as files
 use Rattle.c25_disk.specs.declared.fault.FileFaultKind.{FileFaultKind}
 use Rattle.c25_chain.specs.Refusal.{Fault, refusal_of}

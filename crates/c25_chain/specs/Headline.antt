@@ -4,23 +4,24 @@ use Rattle.std.specs.FinMap as finite
 use Rattle.std.specs.List.{All}
 use Rattle.std.specs.Ordering.{nat_cmp}
 use Rattle.std.specs.String.{string_bytes}
-use Rattle.c25_laws.specs.ModuleStatements.{instructions_in}
-use Rattle.c25_laws.specs.ProgramStatements.{AreMarksOf, ReadsAs, program_statements, statements_in}
-use Rattle.c25_meaning.specs.Files.{Files}
-use Rattle.c25_meaning.specs.FirstState.{first_of_pages, memory_of_map}
-use Rattle.c25_meaning.specs.Hex.{SpellsWords}
-use Rattle.c25_meaning.specs.HexText.{written}
-use Rattle.c25_meaning.specs.Linking.{HasWords, ImageData}
-use Rattle.c25_meaning.specs.MapText.{IsMapOf, MapData}
-use Rattle.c25_meaning.specs.Module.{Contents}
-use Rattle.c25_meaning.specs.Run as runs
-use Rattle.c25_meaning.specs.Run.{Ending, Ran}
-use Rattle.c25_meaning.specs.Samples.{samples_at}
-use Rattle.c25_meaning.specs.Signals.{signals_of}
-use Rattle.c25_meaning.specs.State.{State, is_code}
-use Rattle.c25_meaning.specs.Statements.{Statement, marks_of, statement_step}
-use Rattle.c25_meaning.specs.declared.sample.Sample.{Sample}
-use Rattle.c25_meaning.specs.declared.schedule.Entry.{Entry}
+use Rattle.c25_laws.specs.ProgramStatements.{AreMarksOf, ReadsAs, lines_in, lines_of, page_statements, program_statements}
+use Rattle.c25_laws.specs.SourceWords as sources
+use Rattle.c25_meaning_expansion.specs.Files.{Files}
+use Rattle.c25_meaning_processor.specs.FirstState.{first_of_pages, memory_of_map}
+use Rattle.c25_meaning_intel_hex.specs.Hex.{SpellsWords}
+use Rattle.c25_meaning_intel_hex.specs.HexText.{written}
+use Rattle.c25_meaning_linking.specs.Linking.{ImageData}
+use Rattle.c25_meaning_linking.specs.MapText.{IsMapOf, MapData}
+use Rattle.c25_meaning_objects.specs.Module.{Contents}
+use Rattle.c25_meaning_processor.specs.Run as runs
+use Rattle.c25_meaning_processor.specs.Run.{Ending, Ran}
+use Rattle.c25_meaning_stimulus.specs.Samples.{samples_at}
+use Rattle.c25_meaning_stimulus.specs.Signals.{signals_of}
+use Rattle.c25_meaning_processor.specs.State.{State}
+use Rattle.c25_meaning_image.specs.Marks.{is_code}
+use Rattle.c25_meaning_processor.specs.Statements.{Statement, marks_of, statement_step}
+use Rattle.c25_meaning_stimulus.specs.declared.sample.Sample.{Sample}
+use Rattle.c25_meaning_stimulus.specs.declared.schedule.Entry.{Entry}
 use Rattle.c25_chain.specs.Built.{IsBuilt}
 use Rattle.c25_chain.specs.Chain.{Given, Inputs, inputs_in, run_of, texts_of}
 use Rattle.c25_chain.specs.Linked.{places_of}
@@ -45,13 +46,17 @@ source_modules files names = without_refusal (modules_of files names)
 abbrev pub source_statements : Files → List (List ℕ) → MapData → List Statement
 source_statements files names printed = program_statements files names (source_modules files names) (places_of printed)
 
--- the words of a page are those of the sources at their addresses under a map, neither more nor less
-abbrev pub HasSourceWords : Files → List (List ℕ) → MapData → ℕ → finite.FinMap nat_cmp ℕ → Type 0
-HasSourceWords files names printed page words = HasWords (source_modules files names) (places_of printed) page words
+-- those on page 1: their words are in its hex text, and nothing runs them
+abbrev pub stored_statements : Files → List (List ℕ) → MapData → List Statement
+stored_statements files names printed = page_statements 1 files names (source_modules files names) (places_of printed)
 
--- a source has its instruction statements, so none of them is left out
+-- the words of a page are those of the items of the sources' lines at their addresses under a map, neither more nor less
+abbrev pub HasSourceWords : Files → List (List ℕ) → MapData → ℕ → finite.FinMap nat_cmp ℕ → Type 0
+HasSourceWords files names printed page words = sources.HasSourceWords files names (source_modules files names) (places_of printed) page words
+
+-- the lines of a source have no fault, so none of its statements is left out
 abbrev pub HasStatements : Files → List ℕ → Type 0
-HasStatements files name = instructions_in files name ≡ Ok (statements_in files name)
+HasStatements files name = lines_of files name ≡ Ok (lines_in files name)
 
 -- ---- runs
 
@@ -71,7 +76,7 @@ statements_run files names image samples entries n =
 -- ---- claims of a program
 
 -- the hex texts hold exactly the words of the sources at the addresses of the printed map, and the words at each instruction
--- statement read as its mnemonic with the numbers of its operands
+-- statement on either page read as its mnemonic with the numbers of its operands
 pub record HoldsSourceWords (c : Chain) (files : Files) (names : List (List ℕ)) (image : ImageData) : Type 0 where
   pub printed : IsMapOf (string_bytes c.map) image.described
   pub page0 : string_bytes c.page0 ≡ written image.program
@@ -81,6 +86,7 @@ pub record HoldsSourceWords (c : Chain) (files : Files) (names : List (List ℕ)
   pub program : HasSourceWords files names image.described 0 image.program
   pub store : HasSourceWords files names image.described 1 image.store
   pub statements : All (ReadsAs image.program) (source_statements files names image.described)
+  pub stored : All (ReadsAs image.store) (stored_statements files names image.described)
 
 -- the marks are exactly the addresses and sizes of the instruction statements on page 0, and no source lacks its statements
 pub record MarksStatements (files : Files) (names : List (List ℕ)) (image : ImageData) : Type 0 where

@@ -1,7 +1,7 @@
 -- The printed text of a chain's run.
 use Rattle.std.specs.Prelude.{ℕ, List, ◌++◌, codes}
 use Rattle.std.specs.Fmt.{decimal}
-use Rattle.c25_meaning.specs.RunText.{outputs_text, stop_name}
+use Rattle.c25_meaning_processor.specs.RunText.{outputs_text, stop_name}
 use Rattle.c25_board.specs.declared.board.Outcome.{Outcome}
 use Rattle.c25_board.specs.declared.board.Outcome.TheVariants as outcome
 use Rattle.c25_chain.specs.declared.chain.Chain.{Chain}

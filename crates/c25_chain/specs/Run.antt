@@ -4,17 +4,17 @@ use Rattle.std.specs.FinMap as finite
 use Rattle.std.specs.Ordering.{nat_cmp}
 use Rattle.c25_board.specs.declared.board.Outcome.{Outcome}
 use Rattle.c25_board.specs.declared.board.Outcome.TheVariants as outcome
-use Rattle.c25_meaning.specs.FirstState.{first_of_pages}
-use Rattle.c25_meaning.specs.Run.{Ending, Ran, Left, Runs}
-use Rattle.c25_meaning.specs.Samples.{samples_at}
-use Rattle.c25_meaning.specs.Signals.{signals_of}
-use Rattle.c25_meaning.specs.State.{State}
-use Rattle.c25_meaning.specs.Status.{regs_of}
-use Rattle.c25_meaning.specs.WordStep.{WordStep}
-use Rattle.c25_meaning.specs.declared.mark.Mark.{Mark}
-use Rattle.c25_meaning.specs.declared.registers.Regs.{Regs}
-use Rattle.c25_meaning.specs.declared.sample.Sample.{Sample}
-use Rattle.c25_meaning.specs.declared.schedule.Entry.{Entry}
+use Rattle.c25_meaning_processor.specs.FirstState.{first_of_pages}
+use Rattle.c25_meaning_processor.specs.Run.{Ending, Ran, Left, Runs}
+use Rattle.c25_meaning_stimulus.specs.Samples.{samples_at}
+use Rattle.c25_meaning_stimulus.specs.Signals.{signals_of}
+use Rattle.c25_meaning_processor.specs.State.{State}
+use Rattle.c25_meaning_processor.specs.Status.{regs_of}
+use Rattle.c25_meaning_processor.specs.WordStep.{WordStep}
+use Rattle.c25_meaning_image.specs.declared.mark.Mark.{Mark}
+use Rattle.c25_meaning_processor.specs.declared.registers.Regs.{Regs}
+use Rattle.c25_meaning_stimulus.specs.declared.sample.Sample.{Sample}
+use Rattle.c25_meaning_stimulus.specs.declared.schedule.Entry.{Entry}
 use Rattle.c25_chain.specs.declared.run.Done.{Done}
 
 -- what a run did and left: its outputs in order, registers, data memory, how it ended, and how many steps were done

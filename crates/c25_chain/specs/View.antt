@@ -2,7 +2,7 @@
 use Rattle.std.specs.Prelude.{map}
 use Rattle.std.specs.String.{string_bytes}
 use Rattle.c25_listing.specs.View.{entries_of}
-use Rattle.c25_meaning.specs.ModuleOfSource as source
+use Rattle.c25_meaning_sources.specs.ModuleOfSource as source
 use Rattle.c25_chain.specs.Modules as meant
 use Rattle.c25_chain.specs.declared.modules.Modules.{Modules}
 use Rattle.c25_chain.specs.declared.sources.Assembled.{Assembled}

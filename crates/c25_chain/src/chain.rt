@@ -1,9 +1,9 @@
 //! The whole chain: from the texts of sources to what their run put out.
 
 ghost use Rattle.std.specs.Prelude.{◌≡◌, IfOk, map, string_bytes};
-ghost use Rattle.c25_meaning.specs.Results.{MeetsBy, told};
-ghost use Rattle.c25_meaning.specs.Samples.{samples_of};
-ghost use Rattle.c25_meaning.specs.Schedule.{schedule_of};
+ghost use Rattle.c25_meaning_common.specs.Results.{MeetsBy, told};
+ghost use Rattle.c25_meaning_stimulus.specs.Samples.{samples_of};
+ghost use Rattle.c25_meaning_stimulus.specs.Schedule.{schedule_of};
 ghost use Rattle.c25_chain.specs.Refusal.{refusal_of};
 ghost use Rattle.c25_chain.specs.Chain.{Answers, run_of, texts_of};
 ghost use Rattle.c25_chain.specs.Headline.{CodeStays, HoldsSourceWords, MarksStatements, OfProgram, RunsAsSources, TellsStatementsRun};
@@ -20,12 +20,12 @@ use c25_board::board::Outcome;
 use c25_board::samples::{BadSamples, Samples, read_samples};
 use c25_board::schedule::{BadSchedule, Schedule, read_schedule};
 use c25_macro::files::Files;
-use c25_meaning::failure::Failure;
-use c25_meaning::registers::Regs;
+use c25_meaning_common::failure::Failure;
+use c25_meaning_processor::registers::Regs;
 use std::alloc::Global;
 
 /// What the chain answers.
-#[derive(Debug, Drop)]
+#[derive(Drop)]
 pub struct Chain {
     /// The Intel hex text of page 0, program memory.
     pub page0: String,

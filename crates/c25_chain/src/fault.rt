@@ -1,16 +1,16 @@
 //! Why the chain refuses.
 
 use c25_disk::fault::FileFault;
-use c25_meaning::command_fault::FaultyCommand;
-use c25_meaning::failure::Failure;
-use c25_meaning::hex_fault::PlacedHexFault;
-use c25_meaning::link_fault::FaultyLink;
-use c25_meaning::object::ObjectFault;
-use c25_meaning::statement::FaultKind;
+use c25_meaning_commands::command_fault::FaultyCommand;
+use c25_meaning_common::failure::Failure;
+use c25_meaning_intel_hex::hex_fault::PlacedHexFault;
+use c25_meaning_language::statement::FaultKind;
+use c25_meaning_linking::link_fault::FaultyLink;
+use c25_meaning_objects::object::ObjectFault;
 
 /// Why there is no answer, memory aside. The code has names as texts, the definitions as lists of
 /// bytes.
-#[derive(Debug, Drop)]
+#[derive(Drop)]
 pub enum Refusal<Name> {
     /// A line of a source is wrong (10 to 13, 20 to 26, 31 to 36, 38, 50 to 55).
     Source {

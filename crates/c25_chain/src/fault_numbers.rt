@@ -1,14 +1,14 @@
 //! The numbers of faults.
 
 ghost use Rattle.std.specs.Prelude.{◌≡◌};
-ghost use Rattle.c25_meaning.specs.Faults as meaning;
+ghost use Rattle.c25_meaning_language.specs.Faults as meaning;
 ghost use Rattle.c25_chain.specs.FaultText as spec;
 
-use c25_meaning::command_fault::CommandFault;
-use c25_meaning::hex_fault::HexFault;
-use c25_meaning::link_fault::LinkFault;
-use c25_meaning::object::ObjectFault;
-use c25_meaning::statement::FaultKind;
+use c25_meaning_commands::command_fault::CommandFault;
+use c25_meaning_intel_hex::hex_fault::HexFault;
+use c25_meaning_language::statement::FaultKind;
+use c25_meaning_linking::link_fault::LinkFault;
+use c25_meaning_objects::object::ObjectFault;
 
 /// That of a source's fault.
 pub(crate) fn source_number(kind: FaultKind) -> u8

@@ -1,20 +1,21 @@
 //! The line that says why the chain refuses.
 
 ghost use Rattle.std.specs.Prelude.{◌≡◌, ◌++◌, IfOk, codes, string_bytes};
-ghost use Rattle.c25_meaning.specs.Faults.{numbered_name, placed_text};
+ghost use Rattle.c25_meaning_language.specs.Faults.{numbered_name};
+ghost use Rattle.c25_meaning_common.specs.Faults.{placed_text};
 ghost use Rattle.c25_chain.specs.FaultText.{at_file, command_text, fault_text, hex_text, link_line, object_text, refusal_text};
 ghost use Rattle.c25_chain.specs.Refusal.{refusal_of};
 
 use crate::fault::{Fault, Refusal};
 use crate::fault_numbers::{command_number, hex_number, link_number, object_number, source_number};
 use c25_disk::fault::FileFaultKind;
-use c25_meaning::command_fault::CommandFault;
-use c25_meaning::failure::Failure;
-use c25_meaning::hex_fault::HexFault;
-use c25_meaning::link_fault::LinkFault;
-use c25_meaning::no_memory::NoMemory;
-use c25_meaning::object::ObjectFault;
-use c25_meaning::statement::FaultKind;
+use c25_meaning_commands::command_fault::CommandFault;
+use c25_meaning_common::failure::Failure;
+use c25_meaning_common::no_memory::NoMemory;
+use c25_meaning_intel_hex::hex_fault::HexFault;
+use c25_meaning_language::statement::FaultKind;
+use c25_meaning_linking::link_fault::LinkFault;
+use c25_meaning_objects::object::ObjectFault;
 use std::alloc::Global;
 
 /// What is wrong with a line of a source.

@@ -1,8 +1,8 @@
 //! Laws of what the chain answers, each the contract of a function that does nothing.
 
 ghost use Rattle.std.specs.Prelude.{◌≡◌, List, ℕ};
-ghost use Rattle.c25_meaning.specs.Files.{Files};
-ghost use Rattle.c25_meaning.specs.Linking.{ImageData};
+ghost use Rattle.c25_meaning_expansion.specs.Files.{Files};
+ghost use Rattle.c25_meaning_linking.specs.Linking.{ImageData};
 ghost use Rattle.c25_chain.specs.Built.{IsBuilt};
 ghost use Rattle.c25_chain.specs.Chain.{Given, IsAnswer};
 ghost use Rattle.c25_chain.specs.Headline.{CodeStays, HoldsSourceWords, MarksStatements, OfProgram, RunsAsSources, TellsStatementsRun};

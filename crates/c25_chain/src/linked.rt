@@ -2,10 +2,10 @@
 
 ghost use Rattle.std.specs.Prelude.{◌<◌, ◌^◌, All, IfOk, length};
 ghost use Rattle.c25_cmd.specs.View.{command_data};
-ghost use Rattle.c25_meaning.specs.Command.{IsCommand};
-ghost use Rattle.c25_meaning.specs.CommandText.{command_of};
-ghost use Rattle.c25_meaning.specs.Module.{IsModule};
-ghost use Rattle.c25_meaning.specs.Results.{MeetsBy, told};
+ghost use Rattle.c25_meaning_commands.specs.Command.{IsCommand};
+ghost use Rattle.c25_meaning_commands.specs.CommandText.{command_of};
+ghost use Rattle.c25_meaning_objects.specs.Module.{IsModule};
+ghost use Rattle.c25_meaning_common.specs.Results.{MeetsBy, told};
 ghost use Rattle.c25_chain.specs.Linked.{HasTextsOf, Links, LinksUnder};
 ghost use Rattle.c25_chain.specs.Refusal.{refusal_of};
 ghost use Rattle.c25_chain.specs.declared.fault.Refusal.TheVariants as refusal;
@@ -14,8 +14,8 @@ use crate::fault::{Fault, Refusal};
 use crate::page::{Page, page_of};
 use c25_cmd::{Command, read_command};
 use c25_link::{Image, link};
-use c25_meaning::failure::Failure;
-use c25_meaning::no_memory::NoMemory;
+use c25_meaning_common::failure::Failure;
+use c25_meaning_common::no_memory::NoMemory;
 use c25_obj::Module;
 use std::alloc::Global;
 

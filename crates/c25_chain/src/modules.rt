@@ -1,7 +1,7 @@
 //! The modules of several sources.
 
 ghost use Rattle.std.specs.Prelude.{◌≡◌, map, string_bytes};
-ghost use Rattle.c25_meaning.specs.Results.{MeetsBy};
+ghost use Rattle.c25_meaning_common.specs.Results.{MeetsBy};
 ghost use Rattle.c25_chain.specs.Refusal.{refusal_of};
 ghost use Rattle.c25_chain.specs.Modules.{modules_of, no_modules, with_source};
 ghost use Rattle.c25_chain.specs.View.{modules_view};

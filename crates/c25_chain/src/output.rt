@@ -1,13 +1,13 @@
 //! The printed text of a run.
 
 ghost use Rattle.std.specs.Prelude.{◌≡◌, ◌++◌, OnOk, IfOk, string_bytes};
-ghost use Rattle.c25_meaning.specs.Show.{four_digits};
-ghost use Rattle.c25_meaning.specs.RunText.{output_line, outputs_text};
+ghost use Rattle.c25_meaning_common.specs.Digits.{four_digits};
+ghost use Rattle.c25_meaning_processor.specs.RunText.{output_line, outputs_text};
 ghost use Rattle.c25_chain.specs.OutcomeText.{outcome_text, run_text};
 
 use crate::chain::Chain;
 use c25_board::board::Outcome;
-use c25_meaning::no_memory::NoMemory;
+use c25_meaning_common::no_memory::NoMemory;
 use std::alloc::Global;
 
 /// Appends a word as four hexadecimal digits.

@@ -1,12 +1,12 @@
 //! A page of a program: its words and their hex text.
 
 ghost use Rattle.std.specs.Prelude.{◌≡◌, IfOk, string_bytes};
-ghost use Rattle.c25_meaning.specs.HexText.{written};
+ghost use Rattle.c25_meaning_intel_hex.specs.HexText.{written};
 
 use c25_hex::{read_hex, write_hex};
-use c25_meaning::failure::Failure;
-use c25_meaning::no_memory::NoMemory;
-use c25_meaning::word_map::WordMap;
+use c25_meaning_common::failure::Failure;
+use c25_meaning_common::no_memory::NoMemory;
+use c25_meaning_image::word_map::WordMap;
 use std::alloc::Global;
 
 /// A page's Intel hex text, and the words that it spells.

@@ -1,7 +1,7 @@
 //! A run of a linked program.
 
 ghost use Rattle.std.specs.Prelude.{◌≡◌, IfOk, true};
-ghost use Rattle.c25_meaning.specs.Marks.{fit_from};
+ghost use Rattle.c25_meaning_image.specs.Marks.{fit_from};
 ghost use Rattle.c25_chain.specs.Run.{HasRun};
 
 use crate::linked::Linked;
@@ -9,8 +9,8 @@ use c25_board::board::{Board, Outcome};
 use c25_board::ports::ListSink;
 use c25_board::samples::Samples;
 use c25_board::schedule::Schedule;
-use c25_meaning::no_memory::NoMemory;
-use c25_meaning::registers::Regs;
+use c25_meaning_common::no_memory::NoMemory;
+use c25_meaning_processor::registers::Regs;
 use std::alloc::Global;
 
 /// What a run did, and what it left.

@@ -2,7 +2,7 @@
 
 ghost use Rattle.std.specs.Prelude.{◌≡◌, IfOk, string_bytes};
 ghost use Rattle.c25_phases.specs.View.{fault_of};
-ghost use Rattle.c25_meaning.specs.Results.{MeetsBy};
+ghost use Rattle.c25_meaning_common.specs.Results.{MeetsBy};
 ghost use Rattle.c25_chain.specs.Refusal.{IsRefusedAs, refusal_of};
 ghost use Rattle.c25_chain.specs.Modules.{asm_refusal, assembled_in};
 ghost use Rattle.c25_chain.specs.View.{assembled_of};
@@ -13,9 +13,9 @@ use c25_asm::assemble;
 use c25_asm::fault::AsmFault;
 use c25_asm::listing::Listing;
 use c25_macro::files::Files;
-use c25_meaning::failure::Failure;
-use c25_meaning::no_memory::NoMemory;
-use c25_meaning::statement::FaultKind;
+use c25_meaning_common::failure::Failure;
+use c25_meaning_common::no_memory::NoMemory;
+use c25_meaning_language::statement::FaultKind;
 use c25_obj::{Module, read_module, write_module};
 use std::alloc::Global;
 

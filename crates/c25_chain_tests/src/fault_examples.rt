@@ -12,7 +12,7 @@ use c25_debug::script::{BadCommand, read_script};
 use c25_hex::read_hex;
 use c25_macro::files::Files;
 use c25_map::{MapFault, read_map};
-use c25_meaning::failure::Failure;
+use c25_meaning_common::failure::Failure;
 use c25_obj::read_module;
 use std::alloc::{AllocError, Global};
 use std::process::Abort;

@@ -1,7 +1,7 @@
 //! A source with every mnemonic of the instruction set, and the words of its statements.
 
 use crate::bench::{alone, built_of, run_of};
-use c25_meaning::word_map::WordMap;
+use c25_meaning_image::word_map::WordMap;
 use std::alloc::Global;
 use std::test::Fail;
 

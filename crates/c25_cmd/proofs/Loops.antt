@@ -1,12 +1,12 @@
 -- Reading one thing after another, as a loop does.
 use Rattle.std.proofs.Common.{◌≡◌, ℕ, zero, suc, ◌-◌, ◌+◌, ◌≤◌, ◌<◌, true, false, List, Ok, Err, refl, sym, ◌∙◌, arith}
-use Rattle.c25_meaning.specs.declared.command_token.Want.{Want}
-use Rattle.c25_meaning.specs.CommandTokens.{Token}
-use Rattle.c25_meaning.specs.CommandGrammar.{Reading, repeated, begins}
-use Rattle.c25_meaning.specs.Results.{Fails}
-use Rattle.c25_meaning.specs.declared.command_fault.PlacedFault.{PlacedFault}
-use Rattle.c25_meaning.specs.declared.failure.Failure.{Failure}
-use Rattle.c25_meaning.specs.declared.failure.Failure.TheVariants.{NoMemory, Fault}
+use Rattle.c25_meaning_commands.specs.declared.command_token.Want.{Want}
+use Rattle.c25_meaning_commands.specs.CommandTokens.{Token}
+use Rattle.c25_meaning_commands.specs.CommandGrammar.{Reading, repeated, begins}
+use Rattle.c25_meaning_common.specs.Results.{Fails}
+use Rattle.c25_meaning_commands.specs.declared.command_fault.PlacedFault.{PlacedFault}
+use Rattle.c25_meaning_common.specs.declared.failure.Failure.{Failure}
+use Rattle.c25_meaning_common.specs.declared.failure.Failure.TheVariants.{NoMemory, Fault}
 
 module _ {S : Type 0} (last : Want) (one : S → List Token → Reading S) where
   ended : (n : ℕ) (s : S) (ts : List Token) → begins last ts ≡ true → repeated last one n s ts ≡ Ok (s, ts)

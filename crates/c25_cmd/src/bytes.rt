@@ -3,10 +3,10 @@
 ghost use Rattle.std.specs.Prelude.{◌≡◌, ◌≤◌, ◌<◌, ◌-◌, ◌+◌, ◌^◌, length, IfSome, drop, take};
 ghost use Rattle.std.specs.List.{prefix_len};
 ghost use Rattle.std.specs.Option.{option_map_or};
-ghost use Rattle.c25_meaning.specs.CommandTokens.{sign_of, is_word, comment_len, lexeme, covered};
+ghost use Rattle.c25_meaning_commands.specs.CommandTokens.{sign_of, is_word, comment_len, lexeme, covered};
 
-use c25_meaning::command_token::{Lexeme, Sign};
-use c25_text::{byte_at, is_space};
+use c25_bytes::{byte_at, is_space};
+use c25_meaning_commands::command_token::{Lexeme, Sign};
 
 fn sign_of(byte: u8) -> Option<Sign>
     ensures { result ≡ sign_of byte }
@@ -93,7 +93,7 @@ fn sign_piece(sign: Option<Sign>) -> Lexeme
 }
 
 /// What stands at the front of a text that is not empty.
-#[tactic(auto, unfolding(c25_meaning::specs::CommandTokens::lexeme))]
+#[tactic(auto, unfolding(c25_meaning_commands::specs::CommandTokens::lexeme))]
 pub(crate) fn lexeme(text: &[u8]) -> Lexeme
     requires { 0 < length text.now }
     ensures value { result ≡ lexeme text.now }

@@ -1,7 +1,7 @@
 //! What a command file says.
 
 /// A range of a page, which sections may be placed in.
-#[derive(Debug, Drop)]
+#[derive(Drop)]
 pub struct MemoryRange {
     /// 0 for program words, 1 for data words.
     pub page: u8,
@@ -13,7 +13,7 @@ pub struct MemoryRange {
 }
 
 /// Where a section is to stand.
-#[derive(Debug, Drop)]
+#[derive(Drop)]
 pub enum Target {
     /// Wherever the linker finds room.
     Anywhere,
@@ -25,7 +25,7 @@ pub enum Target {
 }
 
 /// What `SECTIONS` says of the sections of one name.
-#[derive(Debug, Drop)]
+#[derive(Drop)]
 pub struct Placing {
     pub name: String,
     pub target: Target,
@@ -34,7 +34,7 @@ pub struct Placing {
 }
 
 /// What a command file says.
-#[derive(Debug, Drop)]
+#[derive(Drop)]
 pub struct Command {
     /// The name behind `-e`.
     pub entry: Option<String>,

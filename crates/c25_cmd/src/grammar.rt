@@ -1,14 +1,14 @@
 //! Single tokens.
 
 ghost use Rattle.std.specs.Prelude.{◌≡◌, ◌≤◌, IfOk};
-ghost use Rattle.c25_meaning.specs.CommandGrammar.{passes, begins, wanted, past, fault_at, fault_if, number_at, number_of_kind, page_number_at, setting_at};
-ghost use Rattle.c25_meaning.specs.Results.{Meets};
+ghost use Rattle.c25_meaning_commands.specs.CommandGrammar.{passes, begins, wanted, past, fault_at, fault_if, number_at, number_of_kind, page_number_at, setting_at};
+ghost use Rattle.c25_meaning_common.specs.Results.{Meets};
 ghost use Rattle.c25_cmd.specs.View.{token_of, tokens_of};
 
 use crate::token::Token;
-use c25_meaning::command_fault::{CommandFault, PlacedFault};
-use c25_meaning::command_token::{Keyword, Kind, Sign, Want};
-use c25_meaning::failure::Failure;
+use c25_meaning_commands::command_fault::{CommandFault, PlacedFault};
+use c25_meaning_commands::command_token::{Keyword, Kind, Sign, Want};
+use c25_meaning_common::failure::Failure;
 
 fn passes(want: Want, kind: Kind) -> bool
     ensures { result ≡ passes want kind }
@@ -46,7 +46,7 @@ pub(crate) fn begins(want: Want, tokens: &[Token]) -> bool
 }
 
 /// A token that must stand here, and those behind it.
-#[tactic(auto, unfolding(c25_meaning::specs::CommandGrammar::wanted))]
+#[tactic(auto, unfolding(c25_meaning_commands::specs::CommandGrammar::wanted))]
 pub(crate) fn wanted(
     want: Want,
     tokens: &[Token],
@@ -79,7 +79,7 @@ fn number_of_kind(kind: Kind) -> Option<u32>
 }
 
 /// A number that must stand here, and the tokens behind it.
-#[tactic(auto, unfolding(c25_meaning::specs::CommandGrammar::number_at))]
+#[tactic(auto, unfolding(c25_meaning_commands::specs::CommandGrammar::number_at))]
 pub(crate) fn number_at(tokens: &[Token]) -> Result<(u32, &[Token]), Failure<PlacedFault>>
     ensures { Meets (λ x. (x.0, tokens_of x.1.now)) (number_at (tokens_of tokens.now)) result }
 {
@@ -108,7 +108,7 @@ pub(crate) fn fault_if(
 }
 
 /// The number of a page: 0 or 1.
-#[tactic(auto, unfolding(c25_meaning::specs::CommandGrammar::page_number_at))]
+#[tactic(auto, unfolding(c25_meaning_commands::specs::CommandGrammar::page_number_at))]
 pub(crate) fn page_number_at(tokens: &[Token]) -> Result<(u8, &[Token]), Failure<PlacedFault>>
     ensures given { Meets (λ x. (x.0, tokens_of x.1.now)) (page_number_at (tokens_of tokens.now)) result }
     ensures low { IfOk result (λ x. x.0 ≤ 1) }
@@ -119,7 +119,7 @@ pub(crate) fn page_number_at(tokens: &[Token]) -> Result<(u8, &[Token]), Failure
 }
 
 /// `keyword =`: the tokens behind it.
-#[tactic(auto, unfolding(c25_meaning::specs::CommandGrammar::setting_at))]
+#[tactic(auto, unfolding(c25_meaning_commands::specs::CommandGrammar::setting_at))]
 pub(crate) fn setting_at(
     keyword: Keyword,
     tokens: &[Token],

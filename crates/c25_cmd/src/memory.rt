@@ -1,25 +1,25 @@
 //! `MEMORY`: the ranges of the pages.
 
 ghost use Rattle.std.specs.Prelude.{◌≡◌, ◌≤◌, ◌<◌, ◌+◌, length, [], ◌∷◌, ◌++◌, IfOk, OnOk};
-ghost use Rattle.c25_meaning.specs.CommandGrammar.{repeated};
-ghost use Rattle.c25_meaning.specs.CommandMemory.{page_at, attributes_at, extent_at, range_at, more_ranges, memory_at};
-ghost use Rattle.c25_meaning.specs.declared.command_token.Want.TheVariants as want;
-ghost use Rattle.c25_meaning.specs.declared.command_token.Sign.TheVariants as sign;
+ghost use Rattle.c25_meaning_commands.specs.CommandGrammar.{repeated};
+ghost use Rattle.c25_meaning_commands.specs.CommandMemory.{page_at, attributes_at, extent_at, range_at, more_ranges, memory_at};
+ghost use Rattle.c25_meaning_commands.specs.declared.command_token.Want.TheVariants as want;
+ghost use Rattle.c25_meaning_commands.specs.declared.command_token.Sign.TheVariants as sign;
 ghost use Rattle.c25_cmd.specs.Known.{HasRangeNames, KnowsWords};
-ghost use Rattle.c25_meaning.specs.Results.{Meets};
+ghost use Rattle.c25_meaning_common.specs.Results.{Meets};
 ghost use Rattle.c25_cmd.specs.View.{tokens_of, range_of, ranges_of};
 
 use crate::command::MemoryRange;
 use crate::grammar::{begins, fault_if, number_at, page_number_at, past, setting_at, wanted};
 use crate::ranges::{PAGE_WORDS, Ranges, no_ranges, shares_word, take_name, take_range};
 use crate::token::Token;
-use c25_meaning::command_fault::{CommandFault, PlacedFault};
-use c25_meaning::command_token::{Keyword, Sign, Want};
-use c25_meaning::failure::Failure;
+use c25_meaning_commands::command_fault::{CommandFault, PlacedFault};
+use c25_meaning_commands::command_token::{Keyword, Sign, Want};
+use c25_meaning_common::failure::Failure;
 use std::alloc::Global;
 
 /// The page of the ranges from here on.
-#[tactic(auto, unfolding(c25_meaning::specs::CommandMemory::page_at))]
+#[tactic(auto, unfolding(c25_meaning_commands::specs::CommandMemory::page_at))]
 fn page_at(page: u8, tokens: &[Token]) -> Result<(u8, &[Token]), Failure<PlacedFault>>
     requires { page ≤ 1 }
     ensures given { Meets (λ x. (x.0, tokens_of x.1.now)) (page_at page (tokens_of tokens.now)) result }
@@ -34,7 +34,7 @@ fn page_at(page: u8, tokens: &[Token]) -> Result<(u8, &[Token]), Failure<PlacedF
 }
 
 /// One word in parentheses, if they are there, which counts for nothing.
-#[tactic(auto, unfolding(c25_meaning::specs::CommandMemory::attributes_at))]
+#[tactic(auto, unfolding(c25_meaning_commands::specs::CommandMemory::attributes_at))]
 fn attributes_at(tokens: &[Token]) -> Result<&[Token], Failure<PlacedFault>>
     ensures { Meets (λ x. tokens_of x.now) (attributes_at (tokens_of tokens.now)) result }
 {
@@ -48,7 +48,7 @@ fn attributes_at(tokens: &[Token]) -> Result<&[Token], Failure<PlacedFault>>
 }
 
 /// The origin and the length of a range of that page.
-#[tactic(auto, unfolding(c25_meaning::specs::CommandMemory::extent_at))]
+#[tactic(auto, unfolding(c25_meaning_commands::specs::CommandMemory::extent_at))]
 fn extent_at<'t>(
     page: u8,
     ranges: &Ranges<'_>,
@@ -75,7 +75,7 @@ fn extent_at<'t>(
 }
 
 /// A range of that page, behind those that were read; its name joins theirs.
-#[tactic(auto, unfolding(c25_meaning::specs::CommandMemory::range_at))]
+#[tactic(auto, unfolding(c25_meaning_commands::specs::CommandMemory::range_at))]
 fn range_at<'a>(
     alloc: Global,
     page: u8,
@@ -110,7 +110,7 @@ fn range_at<'a>(
 }
 
 /// Reads a range more, and answers its page.
-#[tactic(auto, unfolding(c25_meaning::specs::CommandMemory::more_ranges))]
+#[tactic(auto, unfolding(c25_meaning_commands::specs::CommandMemory::more_ranges))]
 fn add_range<'a>(
     alloc: Global,
     page: u8,
@@ -156,7 +156,7 @@ fn ranges_at(
 }
 
 /// What stands behind the word `MEMORY`.
-#[tactic(auto, unfolding(c25_meaning::specs::CommandMemory::memory_at))]
+#[tactic(auto, unfolding(c25_meaning_commands::specs::CommandMemory::memory_at))]
 pub(crate) fn memory_at(
     alloc: Global,
     tokens: &[Token],

@@ -2,18 +2,18 @@
 
 ghost use Rattle.std.specs.Prelude.{◌≡◌, ◌==◌, ◌≤◌, length, count_by, IfOk};
 ghost use Rattle.std.specs.Str.Lines.{lines};
-ghost use Rattle.c25_meaning.specs.Command.{IsCommand};
-ghost use Rattle.c25_meaning.specs.CommandText.{command_of};
-ghost use Rattle.c25_meaning.specs.CommandTokens.{line_at};
-ghost use Rattle.c25_meaning.specs.Results.{Meets};
+ghost use Rattle.c25_meaning_commands.specs.Command.{IsCommand};
+ghost use Rattle.c25_meaning_commands.specs.CommandText.{command_of};
+ghost use Rattle.c25_meaning_commands.specs.CommandTokens.{line_at};
+ghost use Rattle.c25_meaning_common.specs.Results.{Meets};
 ghost use Rattle.c25_cmd.specs.View.{command_data};
 
 use crate::bytes::front;
 use crate::command::Command;
 use crate::lexer::tokens;
 use crate::parts::command_at;
-use c25_meaning::command_fault::FaultyCommand;
-use c25_meaning::failure::Failure;
+use c25_meaning_commands::command_fault::FaultyCommand;
+use c25_meaning_common::failure::Failure;
 use std::alloc::Global;
 
 fn line_feeds(text: &[u8]) -> usize

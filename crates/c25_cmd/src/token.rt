@@ -1,9 +1,9 @@
 //! Tokens.
 
-use c25_meaning::command_token::Kind;
+use c25_meaning_commands::command_token::Kind;
 
 /// A token of a text.
-#[derive(Debug, Drop)]
+#[derive(Drop)]
 pub(crate) struct Token {
     pub kind: Kind,
     /// Where it begins, in bytes from 0.

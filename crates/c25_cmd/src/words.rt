@@ -2,16 +2,16 @@
 
 ghost use Rattle.std.specs.Prelude.{◌≡◌, IfOk};
 ghost use Rattle.std.specs.Option.{option_map_or};
-ghost use Rattle.c25_meaning.specs.CommandTokens.{word_numeral, is_numeral, keyword_of, number_kind, word_kind};
+ghost use Rattle.c25_meaning_commands.specs.CommandTokens.{word_numeral, is_numeral, keyword_of, number_kind, word_kind};
 ghost use Rattle.c25_cmd.specs.View.{numeral_of};
 
 use crate::bytes::{behind, front};
-use c25_meaning::command_token::{Keyword, Kind};
-use c25_text::{are_digits, byte_at, digit, value_in};
+use c25_bytes::{are_digits, byte_at, digit, value_in};
+use c25_meaning_commands::command_token::{Keyword, Kind};
 use std::alloc::{AllocError, Global};
 
 /// The base and the digits of a number.
-#[derive(Clone, Copy, Debug)]
+#[derive(Clone, Copy)]
 pub(crate) struct Numeral<'a> {
     pub base: u8,
     pub digits: &'a [u8],
@@ -101,7 +101,7 @@ fn name_kind(keyword: Option<Keyword>) -> Kind
 }
 
 /// What a word is.
-#[tactic(auto, unfolding(c25_meaning::specs::CommandTokens::word_kind))]
+#[tactic(auto, unfolding(c25_meaning_commands::specs::CommandTokens::word_kind))]
 pub(crate) fn word_kind(alloc: Global, text: &[u8]) -> Result<Kind, AllocError>
     ensures { IfOk result (λ kind. kind ≡ word_kind text.now) }
 {

@@ -1,6 +1,6 @@
 -- What is said of a step that was not done.
 use Rattle.std.specs.Prelude.{ℕ, List, ◌++◌, codes}
-use Rattle.c25_meaning.specs.RunText.{stop_name}
+use Rattle.c25_meaning_processor.specs.RunText.{stop_name}
 use Rattle.c25_core.specs.declared.bus.Halt.{Halt}
 use Rattle.c25_core.specs.declared.bus.Halt.TheVariants as halt
 

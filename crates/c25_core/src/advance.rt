@@ -1,9 +1,9 @@
 //! The way of PC from one instruction to the next.
 
 ghost use Rattle.std.specs.Prelude.{◌≡◌};
-ghost use Rattle.c25_meaning.specs.Step.{advanced};
+ghost use Rattle.c25_meaning_processor.specs.Step.{advanced};
 
-use c25_meaning::registers::Registers;
+use c25_meaning_processor::registers::Registers;
 
 /// Moves PC behind an instruction of this size, or in a repeat counts the repetition and leaves PC
 /// until the last one; the shadow of `EINT` ends.

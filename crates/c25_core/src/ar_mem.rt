@@ -1,16 +1,16 @@
 //! The instructions with an auxiliary register and an operand in memory.
 
 ghost use Rattle.std.specs.Prelude.{◌≡◌, ◌<◌};
-ghost use Rattle.c25_meaning.specs.Effect.{ar_mem_effect, operand_word, to};
-ghost use Rattle.c25_meaning.specs.Operand.{address_of};
-ghost use Rattle.c25_meaning.specs.Table.{AddrInRange};
+ghost use Rattle.c25_meaning_processor.specs.Effect.{ar_mem_effect, operand_word, to};
+ghost use Rattle.c25_meaning_processor.specs.Operand.{address_of};
+ghost use Rattle.c25_meaning_instructions.specs.Table.{AddrInRange};
 
 use crate::bus::Bus;
 use crate::memory::{read_data, write_data};
 use crate::operand::{address_of, settle};
-use c25_meaning::insn::Addr;
-use c25_meaning::mnemonic::ArMemName;
-use c25_meaning::registers::Registers;
+use c25_meaning_instructions::insn::Addr;
+use c25_meaning_instructions::mnemonic::ArMemName;
+use c25_meaning_processor::registers::Registers;
 
 /// Either of the instructions, with the change of its operand: that comes before the load, so that
 /// `LAR` of the current register ends with the loaded word.

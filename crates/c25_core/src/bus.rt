@@ -1,16 +1,17 @@
 //! What the processor needs around it.
 
 ghost use Rattle.std.specs.Prelude.{◌≡◌, ◌∷◌, [], ◌++◌, ℕ, OnOk, OnErr, slice_get, OnSome, IfNone};
-ghost use Rattle.c25_meaning.specs.State.{World, is_code, size_at, taken};
-ghost use Rattle.c25_meaning.specs.Memory.{put};
+ghost use Rattle.c25_meaning_processor.specs.State.{World, taken};
+ghost use Rattle.c25_meaning_image.specs.Marks.{is_code, size_at};
+ghost use Rattle.c25_meaning_processor.specs.Memory.{put};
 ghost use Rattle.c25_core.specs.Sink.{HasFailed};
 
-use c25_meaning::stop::Stop;
+use c25_meaning_processor::stop::Stop;
 use std::error::Error;
 use std::fmt;
 
 /// Why a step was not done. Core and bus are then as before it, the sink's count of failures apart.
-#[derive(Clone, Copy, PartialEq, Eq, Debug)]
+#[derive(Clone, Copy, PartialEq, Debug)]
 pub enum Halt {
     /// The code was left.
     Stop(Stop),
@@ -35,7 +36,7 @@ impl fmt::Display for Halt {
 impl Error for Halt {}
 
 /// What a step did.
-#[derive(Clone, Copy, PartialEq, Eq, Debug)]
+#[derive(Clone, Copy, PartialEq, Debug)]
 pub enum Tick {
     /// It ran one instruction, or one repetition of one.
     Ran,
@@ -44,7 +45,7 @@ pub enum Tick {
 }
 
 /// The sink did not take a word.
-#[derive(Clone, Copy, PartialEq, Eq, Debug)]
+#[derive(Clone, Copy, Debug)]
 pub struct SinkFailed;
 
 impl fmt::Display for SinkFailed {

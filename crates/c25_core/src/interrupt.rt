@@ -1,14 +1,14 @@
 //! Interrupts (SPRU014, "Interrupts").
 
 ghost use Rattle.std.specs.Prelude.{◌≡◌, ◌&&◌};
-ghost use Rattle.c25_meaning.specs.Step.{begun, has, interrupted, latched, taken_under, vectored};
-ghost use Rattle.c25_meaning.specs.State.{state_of};
+ghost use Rattle.c25_meaning_processor.specs.Step.{begun, has, interrupted, latched, taken_under, vectored};
+ghost use Rattle.c25_meaning_processor.specs.State.{state_of};
 
 use crate::bus::Bus;
 use crate::stack::push;
 use bitflags::Flags;
-use c25_meaning::lines::Lines;
-use c25_meaning::registers::Registers;
+use c25_meaning_processor::lines::Lines;
+use c25_meaning_processor::registers::Registers;
 
 /// Latches the lines of a step.
 fn latch(registers: &mut Registers, lines: Lines)
@@ -36,7 +36,7 @@ pub fn asks(registers: &Registers, mask: u16, line: Lines) -> bool
 }
 
 /// Takes the interrupt of the lowest line that waits and has its bit in the mask.
-#[tactic(auto, unfolding(c25_meaning::specs::Step::taken_under))]
+#[tactic(auto, unfolding(c25_meaning_processor::specs::Step::taken_under))]
 fn take_under(registers: &mut Registers, mask: u16)
     ensures { registers.new ≡ taken_under mask registers.old }
 {

@@ -1,15 +1,15 @@
 //! Jumps.
 
 ghost use Rattle.std.specs.Prelude.{◌≡◌, true};
-ghost use Rattle.c25_meaning.specs.Effect.{branch, jump_effect};
-ghost use Rattle.c25_meaning.specs.Operand.{with_change, with_next};
-ghost use Rattle.c25_meaning.specs.Table.{NextInRange};
+ghost use Rattle.c25_meaning_processor.specs.Effect.{branch, jump_effect};
+ghost use Rattle.c25_meaning_processor.specs.Operand.{with_change, with_next};
+ghost use Rattle.c25_meaning_instructions.specs.Table.{NextInRange};
 
 use crate::operand::{change_indirect, current};
 use crate::stack::call;
-use c25_meaning::insn::Change;
-use c25_meaning::mnemonic::JumpName;
-use c25_meaning::registers::Registers;
+use c25_meaning_instructions::insn::Change;
+use c25_meaning_instructions::mnemonic::JumpName;
+use c25_meaning_processor::registers::Registers;
 
 /// Goes to the target where a condition holds.
 fn branch(registers: &mut Registers, holds: bool, target: u16)

@@ -1,13 +1,13 @@
 //! The instructions with a long number.
 
 ghost use Rattle.std.specs.Prelude.{◌≡◌, ◌<◌};
-ghost use Rattle.c25_meaning.specs.Effect.{long_effect};
-ghost use Rattle.c25_meaning.specs.Table.{high_limit};
+ghost use Rattle.c25_meaning_processor.specs.Effect.{long_effect};
+ghost use Rattle.c25_meaning_instructions.specs.Table.{high_limit};
 
 use crate::accumulator::{become_scaled, minus_scaled, plus_scaled};
 use c25_alu::shift_left;
-use c25_meaning::mnemonic::LongName;
-use c25_meaning::registers::Registers;
+use c25_meaning_instructions::mnemonic::LongName;
+use c25_meaning_processor::registers::Registers;
 
 /// Any of the instructions; `high` is the register of `LRLK`, or the shift.
 pub fn long(registers: &mut Registers, name: LongName, number: u16, high: u16)

@@ -1,18 +1,18 @@
 //! The instructions with a second word and an operand in memory.
 
 ghost use Rattle.std.specs.Prelude.{◌≡◌, ◌+◌, ◌%◌, ◌^◌};
-ghost use Rattle.c25_meaning.specs.Effect.{long_mem_effect, operand_word, plus_product, settle, to, word_product};
-ghost use Rattle.c25_meaning.specs.Operand.{address_of};
-ghost use Rattle.c25_meaning.specs.State.{data_at};
-ghost use Rattle.c25_meaning.specs.Table.{AddrInRange};
+ghost use Rattle.c25_meaning_processor.specs.Effect.{long_mem_effect, operand_word, plus_product, settle, to, word_product};
+ghost use Rattle.c25_meaning_processor.specs.Operand.{address_of};
+ghost use Rattle.c25_meaning_processor.specs.State.{data_at};
+ghost use Rattle.c25_meaning_instructions.specs.Table.{AddrInRange};
 
 use crate::accumulator::{plus_product, word_product};
 use crate::bus::Bus;
 use crate::memory::{read_data, read_program, write_data};
 use crate::operand::{address_of, settle};
-use c25_meaning::insn::Addr;
-use c25_meaning::mnemonic::LongMemName;
-use c25_meaning::registers::Registers;
+use c25_meaning_instructions::insn::Addr;
+use c25_meaning_instructions::mnemonic::LongMemName;
+use c25_meaning_processor::registers::Registers;
 
 /// A += p, T = m and P = m times the program word.
 fn multiply(registers: &mut Registers, word: u16, factor: u16)

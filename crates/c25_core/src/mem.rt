@@ -1,11 +1,11 @@
 //! The instructions with one word and an operand in memory. Those that are run most often come first.
 
 ghost use Rattle.std.specs.Prelude.{◌≡◌, ◌%◌, ◌^◌, ◌+◌, ◌-◌, ℕ, pos};
-ghost use Rattle.c25_meaning.specs.Arithmetic.{bit};
-ghost use Rattle.c25_meaning.specs.Effect.{become, mem_address, mem_effect, mem_operand, minus, minus_product, operand_word, plus_product, product_word, repeat, settle, to, word_product};
-ghost use Rattle.c25_meaning.specs.Operand.{address_of};
-ghost use Rattle.c25_meaning.specs.State.{World, data_at};
-ghost use Rattle.c25_meaning.specs.Table.{AddrInRange};
+ghost use Rattle.c25_meaning_processor.specs.Arithmetic.{bit};
+ghost use Rattle.c25_meaning_processor.specs.Effect.{become, mem_address, mem_effect, mem_operand, minus, minus_product, operand_word, plus_product, product_word, repeat, settle, to, word_product};
+ghost use Rattle.c25_meaning_processor.specs.Operand.{address_of};
+ghost use Rattle.c25_meaning_processor.specs.State.{World, data_at};
+ghost use Rattle.c25_meaning_instructions.specs.Table.{AddrInRange};
 ghost use Rattle.c25_core.specs.Groups.{IsRarer, IsRarerLoad, KeepsProgram};
 ghost use Rattle.c25_core.specs.Met.{IsMet};
 
@@ -19,9 +19,9 @@ use crate::operand::{address_of, settle, without_next};
 use crate::stack::{pop, push};
 use crate::status::{load_st0, load_st1, st0, st1};
 use c25_alu::{scaled, subc};
-use c25_meaning::insn::Addr;
-use c25_meaning::mnemonic::MemName;
-use c25_meaning::registers::{DataPage, Registers};
+use c25_meaning_instructions::insn::Addr;
+use c25_meaning_instructions::mnemonic::MemName;
+use c25_meaning_processor::registers::{DataPage, Registers};
 
 /// Begins a repeat of the next instruction.
 pub fn repeat(registers: &mut Registers, count: u8)

@@ -1,13 +1,13 @@
 //! Memory as the processor reads and writes it, with block B0 (SPRU014, "Memory Maps").
 
 ghost use Rattle.std.specs.Prelude.{◌≡◌};
-ghost use Rattle.c25_meaning.specs.State.{data_at, with_data, program_at, with_program, in_b0, in_program_b0};
-ghost use Rattle.c25_meaning.specs.Effect.{store_program};
+ghost use Rattle.c25_meaning_processor.specs.State.{data_at, with_data, program_at, with_program, in_b0, in_program_b0};
+ghost use Rattle.c25_meaning_processor.specs.Effect.{store_program};
 ghost use Rattle.c25_core.specs.Met.{IsMet};
 
 use crate::bus::{Bus, Halt};
-use c25_meaning::registers::Registers;
-use c25_meaning::stop::Stop;
+use c25_meaning_processor::registers::Registers;
+use c25_meaning_processor::stop::Stop;
 
 /// Whether a data address is one of B0.
 fn is_in_b0(address: u16) -> bool
@@ -24,7 +24,7 @@ fn is_in_program_b0(address: u16) -> bool
 }
 
 /// A data word. Under CNF 1 a word of B0 reads 0.
-#[tactic(auto, unfolding(c25_meaning::specs::State::data_at))]
+#[tactic(auto, unfolding(c25_meaning_processor::specs::State::data_at))]
 pub fn read_data<B: Bus>(bus: &B, cnf: bool, address: u16) -> u16
     ensures { result ≡ data_at cnf (B.world bus.now) address }
 {
@@ -35,7 +35,7 @@ pub fn read_data<B: Bus>(bus: &B, cnf: bool, address: u16) -> u16
 }
 
 /// Writes a data word. Under CNF 1 a write to B0 is lost.
-#[tactic(auto, unfolding(c25_meaning::specs::State::with_data))]
+#[tactic(auto, unfolding(c25_meaning_processor::specs::State::with_data))]
 pub fn write_data<B: Bus>(bus: &mut B, cnf: bool, address: u16, word: u16)
     ensures after { B.world bus.new ≡ with_data cnf (B.world bus.old) address word }
     ensures failures { B.failures bus.new ≡ B.failures bus.old }
@@ -47,7 +47,7 @@ pub fn write_data<B: Bus>(bus: &mut B, cnf: bool, address: u16, word: u16)
 }
 
 /// A program word. Under CNF 1 the highest 256 are those of B0.
-#[tactic(auto, unfolding(c25_meaning::specs::State::program_at))]
+#[tactic(auto, unfolding(c25_meaning_processor::specs::State::program_at))]
 pub fn read_program<B: Bus>(bus: &B, cnf: bool, address: u16) -> u16
     ensures { result ≡ program_at cnf (B.world bus.now) address }
 {
@@ -58,7 +58,7 @@ pub fn read_program<B: Bus>(bus: &B, cnf: bool, address: u16) -> u16
 }
 
 /// Writes a program word. Under CNF 1 the highest 256 are those of B0.
-#[tactic(auto, unfolding(c25_meaning::specs::State::with_program))]
+#[tactic(auto, unfolding(c25_meaning_processor::specs::State::with_program))]
 fn write_program<B: Bus>(bus: &mut B, cnf: bool, address: u16, word: u16)
     ensures after { B.world bus.new ≡ with_program cnf (B.world bus.old) address word }
     ensures failures { B.failures bus.new ≡ B.failures bus.old }

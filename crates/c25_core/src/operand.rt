@@ -2,12 +2,12 @@
 //! "Memory Addressing Modes").
 
 ghost use Rattle.std.specs.Prelude.{◌≡◌, ◌<◌, slice_index};
-ghost use Rattle.c25_meaning.specs.Operand.{address_of, changed, after_operand, with_change, with_next, without_next};
-ghost use Rattle.c25_meaning.specs.Table.{AddrInRange, NextInRange};
+ghost use Rattle.c25_meaning_processor.specs.Operand.{address_of, changed, after_operand, with_change, with_next, without_next};
+ghost use Rattle.c25_meaning_instructions.specs.Table.{AddrInRange, NextInRange};
 
 use c25_bits::{reverse_add, reverse_sub};
-use c25_meaning::insn::{Addr, Change};
-use c25_meaning::registers::{ArNumber, Registers};
+use c25_meaning_instructions::insn::{Addr, Change};
+use c25_meaning_processor::registers::{ArNumber, Registers};
 
 /// The current auxiliary register.
 pub fn current(registers: &Registers) -> u16

@@ -1,8 +1,8 @@
 //! The instructions without an address.
 
 ghost use Rattle.std.specs.Prelude.{◌≡◌, true, false, slice_index};
-ghost use Rattle.c25_meaning.specs.Effect.{compares, norm_effect, operand_change, operand_number, plain_effect};
-ghost use Rattle.c25_meaning.specs.Arithmetic.{normalized};
+ghost use Rattle.c25_meaning_processor.specs.Effect.{compares, norm_effect, operand_change, operand_number, plain_effect};
+ghost use Rattle.c25_meaning_processor.specs.Arithmetic.{normalized};
 
 use crate::accumulator::{low_half, minus_product, plus_product, product_word};
 use crate::operand::{change_ar, current};
@@ -11,9 +11,9 @@ use crate::status::shift_of_number;
 use c25_alu::{
     absolute, negate, norm, rotate_left, rotate_right, shift_left_once, shift_right_once,
 };
-use c25_meaning::insn::{Change, PlainOperand};
-use c25_meaning::mnemonic::PlainName;
-use c25_meaning::registers::Registers;
+use c25_meaning_instructions::insn::{Change, PlainOperand};
+use c25_meaning_instructions::mnemonic::PlainName;
+use c25_meaning_processor::registers::Registers;
 
 /// The number of an operand, or 0.
 fn operand_number(operand: &PlainOperand) -> u16

@@ -1,18 +1,18 @@
 //! The instructions with a port.
 
-ghost use Rattle.c25_meaning.specs.Effect.{operand_word, port_effect, settle};
-ghost use Rattle.c25_meaning.specs.Operand.{address_of};
-ghost use Rattle.c25_meaning.specs.State.{data_at};
-ghost use Rattle.c25_meaning.specs.Table.{AddrInRange};
+ghost use Rattle.c25_meaning_processor.specs.Effect.{operand_word, port_effect, settle};
+ghost use Rattle.c25_meaning_processor.specs.Operand.{address_of};
+ghost use Rattle.c25_meaning_processor.specs.State.{data_at};
+ghost use Rattle.c25_meaning_instructions.specs.Table.{AddrInRange};
 ghost use Rattle.c25_core.specs.Met.{IsMet};
 
 use crate::bus::{Bus, Halt};
 use crate::memory::{read_data, write_data};
 use crate::operand::{address_of, settle};
-use c25_meaning::insn::Addr;
-use c25_meaning::mnemonic::PortName;
-use c25_meaning::registers::Registers;
-use c25_meaning::stop::Stop;
+use c25_meaning_instructions::insn::Addr;
+use c25_meaning_instructions::mnemonic::PortName;
+use c25_meaning_processor::registers::Registers;
+use c25_meaning_processor::stop::Stop;
 
 /// Either of the instructions, with its operand at this address, before the operand's change.
 fn act<B: Bus>(

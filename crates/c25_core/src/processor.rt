@@ -1,11 +1,11 @@
 //! The processor.
 
 ghost use Rattle.std.specs.Prelude.{◌≡◌, ◌↔◌, ◌&&◌, not, true, OnErr, IfOk};
-ghost use Rattle.c25_meaning.specs.State.{StepResult, data_at, program_at, state_of};
-ghost use Rattle.c25_meaning.specs.Reset.{reset};
-ghost use Rattle.c25_meaning.specs.Status.{regs_of};
-ghost use Rattle.c25_meaning.specs.Step.{begun};
-ghost use Rattle.c25_meaning.specs.WordStep.{WordStep};
+ghost use Rattle.c25_meaning_processor.specs.State.{StepResult, data_at, program_at, state_of};
+ghost use Rattle.c25_meaning_processor.specs.Reset.{reset};
+ghost use Rattle.c25_meaning_processor.specs.Status.{regs_of};
+ghost use Rattle.c25_meaning_processor.specs.Step.{begun};
+ghost use Rattle.c25_meaning_processor.specs.WordStep.{WordStep};
 ghost use Rattle.c25_core.specs.Met.{IsMet};
 
 use crate::bus::{Bus, Halt, Tick};
@@ -15,8 +15,8 @@ use crate::memory::{read_data, read_program};
 use crate::status::regs_of;
 use crate::step::turn;
 use bitflags::Flags;
-use c25_meaning::lines::Lines;
-use c25_meaning::registers::{Acc, ArNumber, DataPage, ProductShift, Registers, Regs};
+use c25_meaning_processor::lines::Lines;
+use c25_meaning_processor::registers::{Acc, ArNumber, DataPage, ProductShift, Registers, Regs};
 use std::marker::Model;
 
 /// The processor: all that it holds between two steps. Memories and ports are the bus's.
@@ -26,7 +26,7 @@ pub struct Core {
 }
 
 impl Model for Core {
-    ghost use Rattle.c25_meaning.specs.declared.registers.Registers.{Registers};
+    ghost use Rattle.c25_meaning_processor.specs.declared.registers.Registers.{Registers};
 
     ghost Value = { Registers };
 
@@ -37,7 +37,7 @@ impl Model for Core {
 
 impl Core {
     /// A processor after reset: INTM, SXM, C, XF, HM and FSM are 1, all else is 0.
-    #[tactic(auto, unfolding(c25_meaning::specs::Reset::reset))]
+    #[tactic(auto, unfolding(c25_meaning_processor::specs::Reset::reset))]
     pub fn new() -> Core
         ensures { result ≡ reset }
     {
@@ -82,6 +82,14 @@ impl Core {
         ensures { result ≡ regs_of self.now }
     {
         regs_of(&self.registers)
+    }
+
+    /// The program counter: where the next instruction stands, unless an interrupt is taken first.
+    #[inline(always)]
+    pub fn pc(&self) -> u16
+        ensures { result ≡ self.now.pc }
+    {
+        self.registers.pc
     }
 
     /// Whether the next step begins an instruction: no repeat is running, and the processor is

@@ -1,19 +1,19 @@
 //! The instructions with an operand in memory and a shift.
 
 ghost use Rattle.std.specs.Prelude.{◌≡◌, ◌<◌};
-ghost use Rattle.c25_meaning.specs.Effect.{operand_word, settle, shifted_effect, to};
-ghost use Rattle.c25_meaning.specs.Operand.{address_of};
-ghost use Rattle.c25_meaning.specs.State.{data_at};
-ghost use Rattle.c25_meaning.specs.Table.{AddrInRange, shift_limit};
+ghost use Rattle.c25_meaning_processor.specs.Effect.{operand_word, settle, shifted_effect, to};
+ghost use Rattle.c25_meaning_processor.specs.Operand.{address_of};
+ghost use Rattle.c25_meaning_processor.specs.State.{data_at};
+ghost use Rattle.c25_meaning_instructions.specs.Table.{AddrInRange, shift_limit};
 
 use crate::accumulator::{become_scaled, high_half, low_half, minus_scaled, plus_scaled};
 use crate::bus::Bus;
 use crate::memory::{read_data, write_data};
 use crate::operand::{address_of, settle};
 use c25_alu::shift_left;
-use c25_meaning::insn::Addr;
-use c25_meaning::mnemonic::ShiftedName;
-use c25_meaning::registers::Registers;
+use c25_meaning_instructions::insn::Addr;
+use c25_meaning_instructions::mnemonic::ShiftedName;
+use c25_meaning_processor::registers::Registers;
 
 /// Any of the instructions, with its operand at this address, before the operand's change.
 #[inline(always)]

@@ -1,14 +1,14 @@
 //! The instructions with a short number.
 
 ghost use Rattle.std.specs.Prelude.{◌≡◌, pos, ◌≤ℤ◌};
-ghost use Rattle.c25_meaning.specs.Effect.{short_effect};
-ghost use Rattle.c25_meaning.specs.Table.{ShortInRange};
+ghost use Rattle.c25_meaning_processor.specs.Effect.{short_effect};
+ghost use Rattle.c25_meaning_instructions.specs.Table.{ShortInRange};
 
 use crate::accumulator::{minus_natural, plus_natural, signed_word};
 use crate::mem::repeat;
 use c25_alu::product;
-use c25_meaning::mnemonic::ShortName;
-use c25_meaning::registers::{DataPage, Registers};
+use c25_meaning_instructions::mnemonic::ShortName;
+use c25_meaning_processor::registers::{DataPage, Registers};
 
 /// A number that is not negative, as a word.
 fn natural(number: i16) -> u16

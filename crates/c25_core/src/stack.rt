@@ -1,9 +1,9 @@
 //! The hardware stack (SPRU014, "Hardware Stack").
 
 ghost use Rattle.std.specs.Prelude.{◌≡◌, slice_index};
-ghost use Rattle.c25_meaning.specs.Effect.{call, popped, push, pushed};
+ghost use Rattle.c25_meaning_processor.specs.Effect.{call, popped, push, pushed};
 
-use c25_meaning::registers::Registers;
+use c25_meaning_processor::registers::Registers;
 
 /// The stack after a push, which loses its bottom word.
 fn pushed(stack: [u16; 8], word: u16) -> [u16; 8]

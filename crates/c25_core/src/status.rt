@@ -1,10 +1,10 @@
 //! The status words (SPRU014, "Status Registers").
 
 ghost use Rattle.std.specs.Prelude.{◌≡◌, ◌*◌, ◌/◌, ◌%◌, ◌==◌, ◌<◌, ◌≤◌};
-ghost use Rattle.c25_meaning.specs.Arithmetic.{bit, shift_number, shift_of_number};
-ghost use Rattle.c25_meaning.specs.Status.{is_set, regs_of, st0, st1, with_st0, with_st1};
+ghost use Rattle.c25_meaning_processor.specs.Arithmetic.{bit, shift_number, shift_of_number};
+ghost use Rattle.c25_meaning_processor.specs.Status.{is_set, regs_of, st0, st1, with_st0, with_st1};
 
-use c25_meaning::registers::{ArNumber, DataPage, ProductShift, Registers, Regs};
+use c25_meaning_processor::registers::{ArNumber, DataPage, ProductShift, Registers, Regs};
 
 /// PM as a number of two bits.
 fn shift_number(shift: ProductShift) -> u16
@@ -48,7 +48,7 @@ fn flag(flag: bool, weight: u16) -> u16
 }
 
 /// ST0.
-#[tactic(auto, unfolding(c25_meaning::specs::Status::st0))]
+#[tactic(auto, unfolding(c25_meaning_processor::specs::Status::st0))]
 pub fn st0(registers: &Registers) -> u16
     ensures { result ≡ st0 registers.now }
 {
@@ -61,7 +61,7 @@ pub fn st0(registers: &Registers) -> u16
 }
 
 /// ST1.
-#[tactic(auto, unfolding(c25_meaning::specs::Status::st1))]
+#[tactic(auto, unfolding(c25_meaning_processor::specs::Status::st1))]
 pub fn st1(registers: &Registers) -> u16
     ensures { result ≡ st1 registers.now }
 {

@@ -2,16 +2,16 @@
 
 ghost use Rattle.std.specs.Prelude.{◌≡◌, ◌↔◌, true, IfOk};
 ghost use Rattle.std.specs.Option.{ForSome};
-ghost use Rattle.c25_meaning.specs.Step.{is_unrepeatable, stepped};
-ghost use Rattle.c25_meaning.specs.Table.{InRange};
+ghost use Rattle.c25_meaning_processor.specs.Step.{is_unrepeatable, stepped};
+ghost use Rattle.c25_meaning_instructions.specs.Table.{InRange};
 ghost use Rattle.c25_core.specs.Met.{IsMet};
 
 use crate::bus::{Bus, Halt, Tick};
 use crate::execute::execute;
-use c25_meaning::insn::Insn;
-use c25_meaning::mnemonic::{MemName, PlainName, ShortName};
-use c25_meaning::registers::Registers;
-use c25_meaning::stop::Stop;
+use c25_meaning_instructions::insn::Insn;
+use c25_meaning_instructions::mnemonic::{MemName, PlainName, ShortName};
+use c25_meaning_processor::registers::Registers;
+use c25_meaning_processor::stop::Stop;
 
 /// Whether an instruction may not be repeated.
 pub fn is_unrepeatable(insn: &Insn) -> bool
@@ -30,7 +30,7 @@ pub fn is_unrepeatable(insn: &Insn) -> bool
 }
 
 /// Runs the instruction, or stops where there is none, unless the processor sleeps.
-#[tactic(auto, unfolding(c25_meaning::specs::Step::stepped))]
+#[tactic(auto, unfolding(c25_meaning_processor::specs::Step::stepped))]
 pub fn turn<B: Bus>(
     registers: &mut Registers,
     bus: &mut B,

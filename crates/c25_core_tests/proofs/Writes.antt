@@ -3,7 +3,7 @@ use Rattle.std.proofs.Common.{◌≡◌, ℕ, ◌<◌, length, arith, get_or-set
 use Rattle.std.specs.Prelude.{slice_set, option_to_list}
 use Rattle.std.proofs.lemmas.Bool.Decides.{nat_tests}
 use mathlib.Core.Path.{fun_ext}
-use Rattle.c25_meaning.specs.State.{taken}
+use Rattle.c25_meaning_processor.specs.State.{taken}
 use Rattle.c25_core_tests.specs.Worlds.{samples_of}
 
 none_left : (sample : Option ℕ) → drop 1 (option_to_list sample) ≡ []

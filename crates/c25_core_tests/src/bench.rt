@@ -2,16 +2,16 @@
 //! a sink that can be closed.
 
 ghost use Rattle.std.specs.Prelude.{◌≡◌, IfOk, OnOk, OnErr, vec_len};
-ghost use Rattle.c25_meaning.specs.Table.{InRange};
+ghost use Rattle.c25_meaning_instructions.specs.Table.{InRange};
 
 use crate::generator::Generator;
 use crate::sum::Sum;
 use c25_core::{Bus, SinkFailed};
 use c25_isa::encode;
-use c25_meaning::insn::Insn;
-use c25_meaning::mark::Mark;
-use c25_meaning::marks::{is_code, size_at};
-use c25_meaning::no_memory::NoMemory;
+use c25_meaning_common::no_memory::NoMemory;
+use c25_meaning_image::mark::Mark;
+use c25_meaning_image::marks::{is_code, size_at};
+use c25_meaning_instructions::insn::Insn;
 use std::alloc::Global;
 
 /// What lies around the processor in a test.
@@ -118,7 +118,7 @@ impl Bench {
 }
 
 impl Bus for Bench {
-    ghost use Rattle.c25_meaning.specs.Memory.{memory_of};
+    ghost use Rattle.c25_meaning_processor.specs.Memory.{memory_of};
     ghost use Rattle.c25_core_tests.specs.Worlds.{samples_of};
 
     ghost world = { λ b. record { words = memory_of b.words.items; program = memory_of b.program.items; marks = b.marks.items; samples = samples_of b.samples; outputs = b.outputs.items } };
@@ -129,7 +129,7 @@ impl Bus for Bench {
         self.words[usize::from(address)]
     }
 
-    #[tactic(auto, using(c25_meaning::proofs::Memories::memory_of_set))]
+    #[tactic(auto, using(c25_meaning_processor::proofs::Memories::memory_of_set))]
     fn set_data(&mut self, address: u16, word: u16) {
         self.words[usize::from(address)] = word;
     }
@@ -138,7 +138,7 @@ impl Bus for Bench {
         self.program[usize::from(address)]
     }
 
-    #[tactic(auto, using(c25_meaning::proofs::Memories::memory_of_set))]
+    #[tactic(auto, using(c25_meaning_processor::proofs::Memories::memory_of_set))]
     fn set_program(&mut self, address: u16, word: u16) {
         self.program[usize::from(address)] = word;
     }

@@ -7,10 +7,10 @@ use crate::sum::Sum;
 use bitflags::Flags;
 use c25_core::{Bus, Halt, Tick};
 use c25_isa::{decode, size_of};
-use c25_meaning::lines::Lines;
-use c25_meaning::no_memory::NoMemory;
-use c25_meaning::registers::Regs;
-use c25_meaning::stop::Stop;
+use c25_meaning_common::no_memory::NoMemory;
+use c25_meaning_processor::lines::Lines;
+use c25_meaning_processor::registers::Regs;
+use c25_meaning_processor::stop::Stop;
 use std::fmt;
 
 /// An instruction in a state.

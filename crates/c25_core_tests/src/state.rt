@@ -1,16 +1,16 @@
 //! States of the processor, made by instructions.
 
 ghost use Rattle.std.specs.Prelude.{◌<◌};
-ghost use Rattle.c25_meaning.specs.Table.{InRange};
+ghost use Rattle.c25_meaning_instructions.specs.Table.{InRange};
 
 use crate::bench::Bench;
 use crate::generator::Generator;
 use bitflags::Flags;
 use c25_core::Core;
-use c25_meaning::insn::{Addr, Change, Insn, PlainOperand};
-use c25_meaning::lines::Lines;
-use c25_meaning::mnemonic::{ArMemName, JumpName, MemName, PlainName};
-use c25_meaning::no_memory::NoMemory;
+use c25_meaning_common::no_memory::NoMemory;
+use c25_meaning_instructions::insn::{Addr, Change, Insn, PlainOperand};
+use c25_meaning_instructions::mnemonic::{ArMemName, JumpName, MemName, PlainName};
+use c25_meaning_processor::lines::Lines;
 
 /// An instruction with a direct operand.
 pub fn mem(name: MemName, low: u16) -> Insn

@@ -1,18 +1,18 @@
 //! Single instructions in states made by instructions.
 
-ghost use Rattle.c25_meaning.specs.Table.{InRange};
+ghost use Rattle.c25_meaning_instructions.specs.Table.{InRange};
 
 use crate::bench::Bench;
 use crate::state::{State, mem};
 use bitflags::Flags;
 use c25_core::{Bus, Halt, Tick};
-use c25_meaning::insn::{Addr, Change, Insn, PlainOperand};
-use c25_meaning::lines::Lines;
-use c25_meaning::mnemonic::{
+use c25_meaning_instructions::insn::{Addr, Change, Insn, PlainOperand};
+use c25_meaning_instructions::mnemonic::{
     JumpName, LongName, MemName, PlainName, PortName, ShiftedName, ShortName,
 };
-use c25_meaning::registers::Regs;
-use c25_meaning::stop::Stop;
+use c25_meaning_processor::lines::Lines;
+use c25_meaning_processor::registers::Regs;
+use c25_meaning_processor::stop::Stop;
 use std::process::Abort;
 use std::test::Fail;
 

@@ -1,26 +1,26 @@
 //! Scripts: commands of the debugger, one a line.
 
 ghost use Rattle.std.specs.Prelude.{◌≡◌};
-ghost use Rattle.c25_meaning.specs.Script.{words_in_memory, plain_command, command_with_one, command_with_two, script_of};
-ghost use Rattle.c25_meaning.specs.Results.{MeetsBy};
+ghost use Rattle.c25_meaning_stimulus.specs.Script.{words_in_memory, plain_command, command_with_one, command_with_two, script_of};
+ghost use Rattle.c25_meaning_common.specs.Results.{MeetsBy};
 
 use c25_items::{LineFormat, decimal_of, hexadecimal_of, is_word, read_items};
-use c25_meaning::failure::Failure;
-use c25_meaning::script::Cmd;
+use c25_meaning_common::failure::Failure;
+use c25_meaning_stimulus::script::Cmd;
 use std::alloc::Global;
 use std::error::Error;
 use std::fmt;
 use std::marker::Model;
 
 /// The first line of a text, counted from 1, whose words are no command (95).
-#[derive(Clone, Copy, Debug, PartialEq, Eq)]
+#[derive(Clone, Copy, Debug)]
 pub struct BadCommand {
     pub line: usize,
 }
 
 impl fmt::Display for BadCommand {
     ghost use Rattle.std.specs.Prelude.{Some, codes};
-    ghost use Rattle.c25_meaning.specs.Faults.{line_text};
+    ghost use Rattle.c25_meaning_common.specs.Faults.{line_text};
 
     ghost output = { λ bad. Some (line_text bad.line (codes "BadCommand")) };
 
@@ -33,14 +33,14 @@ impl Error for BadCommand {}
 
 /// The commands of a script, in order; no `data` and no `prog` goes on past the memory. Contracts see
 /// it as their list.
-#[derive(Drop, Debug)]
+#[derive(Drop)]
 pub struct Script {
     commands: Vec<Cmd>,
 }
 
 impl Model for Script {
     ghost use Rattle.std.specs.Prelude.{List};
-    ghost use Rattle.c25_meaning.specs.declared.script.Cmd.{Cmd};
+    ghost use Rattle.c25_meaning_stimulus.specs.declared.script.Cmd.{Cmd};
     ghost use Rattle.c25_debug.specs.WithinMemory.{AreWithin};
 
     ghost Value = { List Cmd };
@@ -64,7 +64,7 @@ impl Script {
 }
 
 /// The command that is one word.
-#[tactic(auto, unfolding(c25_meaning::specs::Script::plain_command))]
+#[tactic(auto, unfolding(c25_meaning_stimulus::specs::Script::plain_command))]
 fn plain_command(word: &[u8]) -> Option<Cmd>
     ensures { result ≡ plain_command word.now }
 {
@@ -82,7 +82,7 @@ fn plain_command(word: &[u8]) -> Option<Cmd>
 }
 
 /// The command that is a word and a count or an address.
-#[tactic(auto, unfolding(c25_meaning::specs::Script::command_with_one))]
+#[tactic(auto, unfolding(c25_meaning_stimulus::specs::Script::command_with_one))]
 fn command_with_one(word: &[u8], number: &[u8]) -> Option<Cmd>
     ensures { result ≡ command_with_one word.now number.now }
 {
@@ -102,7 +102,7 @@ fn command_with_one(word: &[u8], number: &[u8]) -> Option<Cmd>
 }
 
 /// An address and a count of words from there on, which all lie in the memory.
-#[tactic(auto, unfolding(c25_meaning::specs::Script::words_in_memory))]
+#[tactic(auto, unfolding(c25_meaning_stimulus::specs::Script::words_in_memory))]
 fn words_in_memory(address: &[u8], count: &[u8]) -> Option<(u16, u32)>
     ensures { result ≡ words_in_memory address.now count.now }
 {
@@ -116,7 +116,7 @@ fn words_in_memory(address: &[u8], count: &[u8]) -> Option<(u16, u32)>
 }
 
 /// The command that is a word, an address and a count.
-#[tactic(auto, unfolding(c25_meaning::specs::Script::command_with_two))]
+#[tactic(auto, unfolding(c25_meaning_stimulus::specs::Script::command_with_two))]
 fn command_with_two(word: &[u8], address: &[u8], count: &[u8]) -> Option<Cmd>
     ensures { result ≡ command_with_two word.now address.now count.now }
 {
@@ -135,7 +135,7 @@ fn command_with_two(word: &[u8], address: &[u8], count: &[u8]) -> Option<Cmd>
 struct CommandLines;
 
 impl LineFormat for CommandLines {
-    ghost use Rattle.c25_meaning.specs.Script.{script_command_of};
+    ghost use Rattle.c25_meaning_stimulus.specs.Script.{script_command_of};
 
     type Item = Cmd;
 

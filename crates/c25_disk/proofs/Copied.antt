@@ -1,7 +1,7 @@
 -- Files that are copied one behind another.
 use Rattle.std.proofs.Common.{◌≡◌, ◌∙◌, sym, ap, ℕ, ◌+◌, ◌≤◌, List, [], ◌∷◌, ◌++◌, length, append_assoc, append-nil, length-append, arith}
 use Rattle.std.proofs.lemmas.List.Elements.{All-append, All-nil, All-cons}
-use Rattle.c25_meaning.specs.Files.{Files}
+use Rattle.c25_meaning_expansion.specs.Files.{Files}
 use Rattle.c25_disk.specs.Copies.{HasCopied}
 use Rattle.c25_disk.specs.Held.{Held, IsAllOf}
 

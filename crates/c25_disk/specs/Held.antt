@@ -3,9 +3,9 @@ use Rattle.std.specs.Prelude.{◌≡◌, ◌⊎◌, ⊤, ℕ, ◌≤◌, List, [
 use Rattle.std.specs.List.{All}
 use Rattle.std.specs.String.{string_bytes}
 use Rattle.std.specs.declared.alloc.Global.{Global}
-use Rattle.c25_meaning.specs.Files.{Files, text_named}
-use Rattle.c25_meaning.specs.declared.failure.Failure.{Failure}
-use Rattle.c25_meaning.specs.declared.failure.Failure.TheVariants.{NoMemory, Fault}
+use Rattle.c25_meaning_expansion.specs.Files.{Files, text_named}
+use Rattle.c25_meaning_common.specs.declared.failure.Failure.{Failure}
+use Rattle.c25_meaning_common.specs.declared.failure.Failure.TheVariants.{NoMemory, Fault}
 use Rattle.c25_disk.specs.declared.fault.FileFault.{FileFault}
 use Rattle.c25_disk.specs.declared.fault.FileFaultKind.{FileFaultKind}
 use Rattle.c25_disk.specs.declared.fault.FileFaultKind.TheVariants.{CannotRead, FileTwice}

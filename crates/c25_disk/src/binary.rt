@@ -7,7 +7,7 @@ ghost use Rattle.c25_disk.specs.Held.{IsAllOf, IsOfFile};
 use crate::disk::{Disk, Refused};
 use crate::fault::{FileFault, FileFaultKind, fault_of_file};
 use crate::reading::{CannotRead, read_bytes};
-use c25_meaning::failure::Failure;
+use c25_meaning_common::failure::Failure;
 use std::alloc::Global;
 
 /// The bytes of a file, or why there are none.

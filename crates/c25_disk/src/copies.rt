@@ -1,7 +1,7 @@
 //! Files that the work asks for.
 
 ghost use Rattle.std.specs.Prelude.{◌≡◌, false, is_some};
-ghost use Rattle.c25_meaning.specs.Files.{text_named};
+ghost use Rattle.c25_meaning_expansion.specs.Files.{text_named};
 ghost use Rattle.c25_disk.specs.Copies.{AddsCopy, EndsOver, IsEnd, IsFileFault};
 
 use crate::attempts::{Turn, attempt};
@@ -10,7 +10,7 @@ use crate::fault::{FileFault, FileFaultKind, fault_of_file};
 use crate::sources::{add_text, read_file};
 use crate::work::{CopyFault, Work};
 use c25_macro::files::Files;
-use c25_meaning::failure::Failure;
+use c25_meaning_common::failure::Failure;
 use std::alloc::Global;
 
 /// So many files may be copied.

@@ -6,7 +6,7 @@ ghost use Rattle.c25_disk.specs.Held.{Adds};
 use std::io::Read;
 
 /// The system refuses to open or to write a file.
-#[derive(Clone, Copy, PartialEq, Eq, Debug)]
+#[derive(Clone, Copy, PartialEq, Debug)]
 pub struct Refused;
 
 /// Files by their names.

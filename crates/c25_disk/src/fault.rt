@@ -3,13 +3,13 @@
 ghost use Rattle.std.specs.Prelude.{◌≡◌, IfOk, string_bytes};
 ghost use Rattle.c25_disk.specs.Held.{IsOfFile};
 
-use c25_meaning::failure::Failure;
-use c25_meaning::no_memory::NoMemory;
+use c25_meaning_common::failure::Failure;
+use c25_meaning_common::no_memory::NoMemory;
 use std::alloc::Global;
 use std::fmt;
 
 /// What is wrong with a file.
-#[derive(Clone, Copy, PartialEq, Eq, Debug)]
+#[derive(Clone, Copy, Debug)]
 pub enum FileFaultKind {
     /// It cannot be written (7).
     CannotWrite,

@@ -3,7 +3,7 @@
 ghost use Rattle.std.specs.Prelude.{◌≡◌, ◌≤◌, IfOk, IfSome, length, string_bytes};
 ghost use Rattle.c25_disk.specs.Held.{IsAllOf};
 
-use c25_meaning::failure::Failure;
+use c25_meaning_common::failure::Failure;
 use std::alloc::Global;
 use std::io::Read;
 
@@ -12,7 +12,7 @@ const LIMIT: usize = 16_777_216;
 
 /// A text that cannot be had: a read failed or there were too many, a byte past the limit came, or
 /// the bytes are not UTF-8 (8).
-#[derive(Clone, Copy, PartialEq, Eq, Debug)]
+#[derive(Clone, Copy, Debug)]
 pub struct CannotRead;
 
 /// All that a reader has left, up to the limit.

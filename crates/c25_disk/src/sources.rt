@@ -1,8 +1,8 @@
 //! Sources, read from a disk.
 
 ghost use Rattle.std.specs.Prelude.{◌≡◌, ◌++◌, ◌∷◌, [], IfErr, IfOk, OnOk, false, is_some, map, string_bytes};
-ghost use Rattle.c25_meaning.specs.Files.{text_named};
-ghost use Rattle.c25_meaning.specs.Results.{IsNoMemory};
+ghost use Rattle.c25_meaning_expansion.specs.Files.{text_named};
+ghost use Rattle.c25_meaning_common.specs.Results.{IsNoMemory};
 ghost use Rattle.c25_disk.specs.declared.fault.FileFaultKind.TheVariants as kind;
 ghost use Rattle.c25_disk.specs.Held.{AddsSource, IsAllOf, IsOfFile, ReadsSources};
 
@@ -10,7 +10,7 @@ use crate::disk::{Disk, Refused};
 use crate::fault::{FileFault, FileFaultKind, fault_of_file};
 use crate::reading::{CannotRead, read_text};
 use c25_macro::files::{FileTwice, Files};
-use c25_meaning::failure::Failure;
+use c25_meaning_common::failure::Failure;
 use std::alloc::Global;
 
 /// The text of a file, or why there is none.

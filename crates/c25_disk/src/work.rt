@@ -5,14 +5,14 @@ ghost use Rattle.std.specs.Option.{option_map};
 
 use crate::fault::FileFault;
 use c25_macro::files::Files;
-use c25_meaning::failure::Failure;
+use c25_meaning_common::failure::Failure;
 use std::alloc::Global;
 
 /// Work over the texts of files. It may ask for one that is not there.
 pub trait Work {
     ghost use Rattle.std.specs.Prelude.{ℕ, List, Option, Result};
-    ghost use Rattle.c25_meaning.specs.declared.failure.Failure.{Failure};
-    ghost use Rattle.c25_meaning.specs.Files.{Files};
+    ghost use Rattle.c25_meaning_common.specs.declared.failure.Failure.{Failure};
+    ghost use Rattle.c25_meaning_expansion.specs.Files.{Files};
 
     type Answer: Drop;
 
@@ -35,7 +35,7 @@ pub trait Work {
 }
 
 /// Why work over files that may be copied has no answer.
-#[derive(Debug, Drop)]
+#[derive(Drop)]
 pub enum CopyFault<F> {
     /// The file that the work asks for cannot be had.
     File(FileFault<String>),

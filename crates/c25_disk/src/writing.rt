@@ -6,7 +6,7 @@ ghost use Rattle.c25_disk.specs.Written.{contents_of, IsUnwritten};
 
 use crate::disk::{Disk, Refused};
 use crate::fault::{FileFault, FileFaultKind, fault_of_file};
-use c25_meaning::failure::Failure;
+use c25_meaning_common::failure::Failure;
 use std::alloc::Global;
 
 /// A file to be written, and all that it is to have.

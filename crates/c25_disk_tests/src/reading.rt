@@ -4,7 +4,7 @@ use crate::readers::Pieces;
 use crate::shelf::Shelf;
 use c25_disk::fault::FileFault;
 use c25_disk::{CannotRead, Output, read_file, read_sources, read_text, write_outputs};
-use c25_meaning::failure::Failure;
+use c25_meaning_common::failure::Failure;
 use std::alloc::Global;
 use std::io;
 use std::io::Read;

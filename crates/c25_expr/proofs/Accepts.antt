@@ -2,10 +2,10 @@
 use Rattle.std.proofs.Common.{◌≡◌, ℕ, suc, ◌+◌, Bool, true, false, cond, nat_le, List, [], ◌∷◌, Option, Some, None, is_some, refl, sym, ap, subst, ◌∙◌, arith}
 use Rattle.std.specs.Option.{is_none, option_and_then}
 use Rattle.std.proofs.lemmas.Bool.{ne_eqb, cond_both, le-leb}
-use Rattle.c25_meaning.specs.declared.expression.BinaryOperator.{BinaryOperator}
-use Rattle.c25_meaning.specs.declared.expression.UnaryOperator.{UnaryOperator}
-use Rattle.c25_meaning.specs.Tree.{Tree, Single, Group, Unary, Binary, Mark, Operand, Signed, Stray, level_of}
-use Rattle.c25_meaning.specs.Reading.{Item, Push, Wrap, Apply, Combine, Frame, Open, Pending, After, State, settle, reduced, loosest, step, step_by, opened, waiting_by, closed, followed, finished_by, whole, run, unary_of, binary_of, is_open, is_close}
+use Rattle.c25_meaning_language.specs.declared.expression.BinaryOperator.{BinaryOperator}
+use Rattle.c25_meaning_language.specs.declared.expression.UnaryOperator.{UnaryOperator}
+use Rattle.c25_meaning_language.specs.Tree.{Tree, Single, Group, Unary, Binary, Mark, Operand, Signed, Stray, level_of}
+use Rattle.c25_meaning_language.specs.Reading.{Item, Push, Wrap, Apply, Combine, Frame, Open, Pending, After, State, settle, reduced, loosest, step, step_by, opened, waiting_by, closed, followed, finished_by, whole, run, unary_of, binary_of, is_open, is_close}
 use Rattle.c25_expr.specs.Completes.{opens, completes, completes_on, behind_open, behind_close, behind_follow}
 use Rattle.c25_expr.proofs.Sound.{level_loosest}
 

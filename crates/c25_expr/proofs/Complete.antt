@@ -3,13 +3,13 @@ use Rattle.std.proofs.Common.{◌≡◌, ℕ, ◌<◌, ◌≤◌, true, cond, na
 use Rattle.std.specs.Option.{option_and_then}
 use Rattle.std.proofs.lemmas.List.{append-nil}
 use Rattle.std.proofs.lemmas.Bool.{le-leb, lt-leb}
-use Rattle.c25_meaning.specs.declared.line.Sign.TheVariants as sign
-use Rattle.c25_meaning.specs.declared.expression.BinaryOperator.{BinaryOperator}
-use Rattle.c25_meaning.specs.declared.expression.BinaryOperator.TheVariants as binary
-use Rattle.c25_meaning.specs.declared.expression.UnaryOperator.{UnaryOperator}
-use Rattle.c25_meaning.specs.declared.expression.UnaryOperator.TheVariants as unary
-use Rattle.c25_meaning.specs.Tree.{Tree, Single, Group, Unary, Binary, Mark, Signed, level_of, level, spelling, binary_sign, unary_sign, IsGrouped, IsTreeOf}
-use Rattle.c25_meaning.specs.Reading.{Item, Push, Wrap, Apply, Combine, Frame, Open, Pending, After, State, Found, start, settle, reduced, loosest, opened, waiting, closed, followed, step_by, finished_by, whole, run, unary_of, binary_of, is_open, is_close}
+use Rattle.c25_meaning_lines.specs.declared.line.Sign.TheVariants as sign
+use Rattle.c25_meaning_language.specs.declared.expression.BinaryOperator.{BinaryOperator}
+use Rattle.c25_meaning_language.specs.declared.expression.BinaryOperator.TheVariants as binary
+use Rattle.c25_meaning_language.specs.declared.expression.UnaryOperator.{UnaryOperator}
+use Rattle.c25_meaning_language.specs.declared.expression.UnaryOperator.TheVariants as unary
+use Rattle.c25_meaning_language.specs.Tree.{Tree, Single, Group, Unary, Binary, Mark, Signed, level_of, level, spelling, binary_sign, unary_sign, IsGrouped, IsTreeOf}
+use Rattle.c25_meaning_language.specs.Reading.{Item, Push, Wrap, Apply, Combine, Frame, Open, Pending, After, State, Found, start, settle, reduced, loosest, opened, waiting, closed, followed, step_by, finished_by, whole, run, unary_of, binary_of, is_open, is_close}
 use Rattle.c25_expr.proofs.Sound.{IsReady, level_positive, level_loosest, run_sound}
 
 -- a tree in postfix order, the last item first

@@ -2,8 +2,8 @@
 use Rattle.std.proofs.Common.{◌≡◌, ℕ, zero, suc, ◌<◌, Bool, true, false, ◌==◌, List, [], ◌∷◌, length, reverse, map, Some, None, refl, sym, ap, ◌∙◌, arith}
 use Rattle.std.proofs.lemmas.Bool.{false≢true, eqb-true}
 use Rattle.std.proofs.lemmas.List.{length-reverse, reverse-reverse}
-use Rattle.c25_meaning.specs.Tree.{Tree}
-use Rattle.c25_meaning.specs.Reading.{Item, State, Found, reduced, loosest, whole, whole_by, finished}
+use Rattle.c25_meaning_language.specs.Tree.{Tree}
+use Rattle.c25_meaning_language.specs.Reading.{Item, State, Found, reduced, loosest, whole, whole_by, finished}
 use Rattle.c25_expr.specs.Postfix.{item_of, last_tree, runs}
 use Rattle.c25_expr.specs.View.{woven, trees_of, items_of, behind, state_of, trees_before, operand_by}
 use Rattle.c25_expr.specs.declared.builder.Builder.{Builder}

@@ -4,13 +4,13 @@ use Rattle.std.specs.Option.{is_none, ok_or, option_map, option_and_then}
 use Rattle.std.specs.Result.{IfOk, IsErrOf}
 use Rattle.std.proofs.lemmas.List.{at_drop_more, drop_all}
 use Rattle.std.proofs.lemmas.Bool.{false≢true}
-use Rattle.c25_meaning.specs.Tree.{Tree, Mark, mark_of, IsTreeOf, depth}
-use Rattle.c25_meaning.specs.Reading.{State, Found, start, step, finished, run}
-use Rattle.c25_meaning.specs.Results.{Fails, Meets}
-use Rattle.c25_meaning.specs.declared.expression.ExpressionFault.{ExpressionFault}
-use Rattle.c25_meaning.specs.declared.expression.ExpressionFault.TheVariants.{BadExpression, TooDeep}
-use Rattle.c25_meaning.specs.declared.failure.Failure.{Failure}
-use Rattle.c25_meaning.specs.declared.failure.Failure.TheVariants.{NoMemory, Fault}
+use Rattle.c25_meaning_language.specs.Tree.{Tree, Mark, mark_of, IsTreeOf, depth}
+use Rattle.c25_meaning_language.specs.Reading.{State, Found, start, step, finished, run}
+use Rattle.c25_meaning_common.specs.Results.{Fails, Meets}
+use Rattle.c25_meaning_language.specs.declared.expression.ExpressionFault.{ExpressionFault}
+use Rattle.c25_meaning_language.specs.declared.expression.ExpressionFault.TheVariants.{BadExpression, TooDeep}
+use Rattle.c25_meaning_common.specs.declared.failure.Failure.{Failure}
+use Rattle.c25_meaning_common.specs.declared.failure.Failure.TheVariants.{NoMemory, Fault}
 use Rattle.c25_text.specs.View.{piece_of}
 use Rattle.c25_text.specs.declared.tokens.Token.{Token}
 use Rattle.c25_expr.specs.Completes.{nesting, opens, completes}

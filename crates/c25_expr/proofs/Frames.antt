@@ -2,9 +2,9 @@
 use Rattle.std.proofs.Common.{◌≡◌, ℕ, ◌+◌, Bool, true, false, ◌≤◌, List, [], ◌∷◌, refl, ap}
 use Rattle.std.specs.Option.{is_none}
 use Rattle.std.proofs.lemmas.Bool.{le-leb}
-use Rattle.c25_meaning.specs.declared.expression.BinaryOperator.{BinaryOperator}
-use Rattle.c25_meaning.specs.Tree.{Tree, level_of}
-use Rattle.c25_meaning.specs.Reading.{Item, Combine, reduced}
+use Rattle.c25_meaning_language.specs.declared.expression.BinaryOperator.{BinaryOperator}
+use Rattle.c25_meaning_language.specs.Tree.{Tree, level_of}
+use Rattle.c25_meaning_language.specs.Reading.{Item, Combine, reduced}
 use Rattle.c25_expr.specs.Completes.{nesting, opens}
 use Rattle.c25_expr.specs.Postfix.{built, last_tree, other_trees}
 use Rattle.c25_expr.specs.View.{woven, operand_by}

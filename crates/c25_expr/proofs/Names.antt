@@ -6,8 +6,8 @@ use Rattle.indexmap.specs.IndexMap.{insert_entry}
 use Rattle.std.proofs.lemmas.Bool.{false≢true}
 use Rattle.std.specs.Str.{bytes_eq}
 use Rattle.std.specs.Map.{lookup}
-use Rattle.c25_meaning.specs.declared.value.Value.{Value}
-use Rattle.c25_meaning.specs.Value.{Table, predefined, defined, value_named, named_by}
+use Rattle.c25_meaning_language.specs.declared.value.Value.{Value}
+use Rattle.c25_meaning_language.specs.Value.{Table, predefined, defined, value_named, named_by}
 use Rattle.c25_expr.specs.Symbols.{texts}
 
 -- the names by their bytes have the same entries

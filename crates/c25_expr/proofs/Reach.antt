@@ -2,10 +2,10 @@
 use Rattle.std.proofs.Common.{◌≡◌, ℕ, ◌+◌, ◌≤◌, max, Bool, true, false, nat_le, List, [], ◌∷◌, Option, Some, None, refl, ap, sym, subst, ◌∙◌, arith}
 use Rattle.std.specs.Option.{option_and_then}
 use Rattle.std.proofs.lemmas.Bool.{cond_both}
-use Rattle.c25_meaning.specs.declared.expression.BinaryOperator.{BinaryOperator}
-use Rattle.c25_meaning.specs.declared.expression.UnaryOperator.{UnaryOperator}
-use Rattle.c25_meaning.specs.Tree.{Tree, Single, Group, Unary, Binary, Mark, Operand, Signed, Stray, depth, level_of}
-use Rattle.c25_meaning.specs.Reading.{Item, Push, Wrap, Apply, Combine, Frame, Open, Pending, After, State, Found, settle, reduced, loosest, step, step_by, opened, waiting_by, closed_by, followed, finished_by, whole_by, run}
+use Rattle.c25_meaning_language.specs.declared.expression.BinaryOperator.{BinaryOperator}
+use Rattle.c25_meaning_language.specs.declared.expression.UnaryOperator.{UnaryOperator}
+use Rattle.c25_meaning_language.specs.Tree.{Tree, Single, Group, Unary, Binary, Mark, Operand, Signed, Stray, depth, level_of}
+use Rattle.c25_meaning_language.specs.Reading.{Item, Push, Wrap, Apply, Combine, Frame, Open, Pending, After, State, Found, settle, reduced, loosest, step, step_by, opened, waiting_by, closed_by, followed, finished_by, whole_by, run}
 use Rattle.c25_expr.specs.Completes.{nesting}
 
 -- how deep the frames, and the trees in them, nest

@@ -2,8 +2,8 @@
 use Rattle.std.proofs.Common.{◌≡◌, ℕ, ◌+◌, ◌-◌, ◌*◌, ◌≤◌, ◌<◌, max, true, ◌&&◌, nat_lt, nat_le, List, [], ◌∷◌, ◌++◌, reverse, refl, sym, ap, ◌∙◌, arith, append_assoc}
 use Rattle.std.proofs.lemmas.Bool.{lt-ltb, le-leb}
 use Rattle.std.proofs.lemmas.List.{append-nil, reverse-append}
-use Rattle.c25_meaning.specs.Tree.{Tree, Single, Group, Unary, Binary, level, depth, IsGrouped}
-use Rattle.c25_meaning.specs.Reading.{Item, Wrap, Apply, Combine}
+use Rattle.c25_meaning_language.specs.Tree.{Tree, Single, Group, Unary, Binary, level, depth, IsGrouped}
+use Rattle.c25_meaning_language.specs.Reading.{Item, Wrap, Apply, Combine}
 use Rattle.c25_expr.specs.Postfix.{runs, fits, height, most_waiting}
 use Rattle.c25_expr.proofs.Complete.{postfix, level_most}
 

@@ -3,14 +3,14 @@ use Rattle.std.proofs.Common.{◌≡◌, ℕ, ◌<◌, ◌≤◌, Bool, true, fa
 use Rattle.std.specs.Option.{option_and_then}
 use Rattle.std.proofs.lemmas.List.{append-nil}
 use Rattle.std.proofs.lemmas.Bool.{false≢true, cond_both, leb-true, leb-false}
-use Rattle.c25_meaning.specs.declared.line.Sign.{Sign}
-use Rattle.c25_meaning.specs.declared.line.Sign.TheVariants as sign
-use Rattle.c25_meaning.specs.declared.expression.BinaryOperator.{BinaryOperator}
-use Rattle.c25_meaning.specs.declared.expression.BinaryOperator.TheVariants as binary
-use Rattle.c25_meaning.specs.declared.expression.UnaryOperator.{UnaryOperator}
-use Rattle.c25_meaning.specs.declared.expression.UnaryOperator.TheVariants as unary
-use Rattle.c25_meaning.specs.Tree.{Tree, Single, Group, Unary, Binary, Mark, Operand, Signed, Stray, level_of, level, spelling, binary_sign, unary_sign, IsGrouped}
-use Rattle.c25_meaning.specs.Reading.{Item, Push, Wrap, Apply, Combine, Frame, Open, Pending, After, State, Found, settle, reduced, loosest, step, step_by, opened, waiting_by, closed_by, followed, finished_by, whole_by, run, unary_of, binary_of, is_open, is_close}
+use Rattle.c25_meaning_lines.specs.declared.line.Sign.{Sign}
+use Rattle.c25_meaning_lines.specs.declared.line.Sign.TheVariants as sign
+use Rattle.c25_meaning_language.specs.declared.expression.BinaryOperator.{BinaryOperator}
+use Rattle.c25_meaning_language.specs.declared.expression.BinaryOperator.TheVariants as binary
+use Rattle.c25_meaning_language.specs.declared.expression.UnaryOperator.{UnaryOperator}
+use Rattle.c25_meaning_language.specs.declared.expression.UnaryOperator.TheVariants as unary
+use Rattle.c25_meaning_language.specs.Tree.{Tree, Single, Group, Unary, Binary, Mark, Operand, Signed, Stray, level_of, level, spelling, binary_sign, unary_sign, IsGrouped}
+use Rattle.c25_meaning_language.specs.Reading.{Item, Push, Wrap, Apply, Combine, Frame, Open, Pending, After, State, Found, settle, reduced, loosest, step, step_by, opened, waiting_by, closed_by, followed, finished_by, whole_by, run, unary_of, binary_of, is_open, is_close}
 
 -- the tokens of what is open
 abbrev pub before : List Frame → List Mark

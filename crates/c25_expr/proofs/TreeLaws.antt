@@ -1,13 +1,13 @@
 -- Tokens with a tree are read as that tree, and tokens with none are not read.
 use Rattle.std.proofs.Common.{◌≡◌, ℕ, ◌<◌, ◌≤◌, true, false, cond, nat_le, List, [], ◌∷◌, map, Option, Some, None, Result, Ok, Err, refl, ◌∙◌, ap, arith, rules}
 use Rattle.std.specs.Result.{IsErrOf, IfOk}
-use Rattle.c25_meaning.specs.Tree.{Tree, Mark, IsTreeOf, depth, mark_of}
-use Rattle.c25_meaning.specs.Reading.{Found, run, start, tree_in, tree_within}
-use Rattle.c25_meaning.specs.Results.{Meets}
-use Rattle.c25_meaning.specs.declared.expression.ExpressionFault.{ExpressionFault}
-use Rattle.c25_meaning.specs.declared.expression.ExpressionFault.TheVariants.{BadExpression, TooDeep}
-use Rattle.c25_meaning.specs.declared.failure.Failure.{Failure}
-use Rattle.c25_meaning.specs.declared.failure.Failure.TheVariants.{NoMemory, Fault}
+use Rattle.c25_meaning_language.specs.Tree.{Tree, Mark, IsTreeOf, depth, mark_of}
+use Rattle.c25_meaning_language.specs.Reading.{Found, run, start, tree_in, tree_within}
+use Rattle.c25_meaning_common.specs.Results.{Meets}
+use Rattle.c25_meaning_language.specs.declared.expression.ExpressionFault.{ExpressionFault}
+use Rattle.c25_meaning_language.specs.declared.expression.ExpressionFault.TheVariants.{BadExpression, TooDeep}
+use Rattle.c25_meaning_common.specs.declared.failure.Failure.{Failure}
+use Rattle.c25_meaning_common.specs.declared.failure.Failure.TheVariants.{NoMemory, Fault}
 use Rattle.c25_text.specs.View.{piece_of}
 use Rattle.c25_text.specs.declared.tokens.Token.{Token}
 use Rattle.c25_expr.specs.View.{tree_of, marks_of}

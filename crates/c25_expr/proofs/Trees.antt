@@ -2,10 +2,10 @@
 use Rattle.std.proofs.Common.{◌≡◌, ◌<◌, ◌≤◌, Bool, true, false, cond, nat_le, List, Option, Some, None, Result, Ok, Err, refl, sym, ap, subst, ◌∙◌}
 use Rattle.std.specs.Prelude.{◌↔◌}
 use Rattle.std.proofs.lemmas.Bool.{le-leb, lt-leb, leb-true, leb-false}
-use Rattle.c25_meaning.specs.Tree.{Tree, Mark, IsTreeOf, depth}
-use Rattle.c25_meaning.specs.Reading.{Found, start, run, most_nested, tree_within, tree_in}
-use Rattle.c25_meaning.specs.declared.expression.ExpressionFault.{ExpressionFault}
-use Rattle.c25_meaning.specs.declared.expression.ExpressionFault.TheVariants.{BadExpression, TooDeep}
+use Rattle.c25_meaning_language.specs.Tree.{Tree, Mark, IsTreeOf, depth}
+use Rattle.c25_meaning_language.specs.Reading.{Found, start, run, most_nested, tree_within, tree_in}
+use Rattle.c25_meaning_language.specs.declared.expression.ExpressionFault.{ExpressionFault}
+use Rattle.c25_meaning_language.specs.declared.expression.ExpressionFault.TheVariants.{BadExpression, TooDeep}
 use Rattle.c25_expr.proofs.Complete.{run_complete, run_tree}
 use Rattle.c25_expr.proofs.Found.{no_tree}
 

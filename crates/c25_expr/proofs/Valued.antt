@@ -3,12 +3,12 @@ use Rattle.std.proofs.Common.{◌≡◌, ℕ, ◌+◌, ◌<◌, true, ◌&&◌, 
 use Rattle.std.proofs.lemmas.Bool.{and_parts, ltb-true, eqb-true}
 use Rattle.std.proofs.lemmas.List.{at_drop_more, append-nil, reverse-append, map-append, take-append-drop, take_more, length-reverse}
 use Rattle.c25_expr.proofs.Lasts.{reverse_pushed}
-use Rattle.c25_meaning.specs.Tree.{Tree}
-use Rattle.c25_meaning.specs.Reading.{Item, Push, Wrap, Apply, Combine}
-use Rattle.c25_meaning.specs.Results.{◌>>=◌}
-use Rattle.c25_meaning.specs.Value.{value_of, unary_value, binary_value}
-use Rattle.c25_meaning.specs.declared.value.Value.{Value}
-use Rattle.c25_meaning.specs.declared.value.ValueFault.{ValueFault}
+use Rattle.c25_meaning_language.specs.Tree.{Tree}
+use Rattle.c25_meaning_language.specs.Reading.{Item, Push, Wrap, Apply, Combine}
+use Rattle.c25_meaning_common.specs.Results.{◌>>=◌}
+use Rattle.c25_meaning_language.specs.Value.{value_of, unary_value, binary_value}
+use Rattle.c25_meaning_language.specs.declared.value.Value.{Value}
+use Rattle.c25_meaning_language.specs.declared.value.ValueFault.{ValueFault}
 use Rattle.c25_expr.specs.Postfix.{built, built_one, last_tree, fits, height, runs, most_waiting}
 use Rattle.c25_expr.specs.Stack.{onto, applied, values_of, last_value, other_values}
 

@@ -1,7 +1,7 @@
 -- Whether tokens complete an expression, by the parentheses that are open alone.
 use Rattle.std.specs.Prelude.{ℕ, zero, suc, ◌+◌, Bool, true, false, List, [], ◌∷◌, Option, Some, None, is_some, ◌&&◌, not, ◌==◌}
-use Rattle.c25_meaning.specs.Tree.{Mark, Operand, Signed, Stray}
-use Rattle.c25_meaning.specs.Reading.{Frame, Open, Pending, After, unary_of, binary_of, is_open, is_close}
+use Rattle.c25_meaning_language.specs.Tree.{Mark, Operand, Signed, Stray}
+use Rattle.c25_meaning_language.specs.Reading.{Frame, Open, Pending, After, unary_of, binary_of, is_open, is_close}
 
 -- how many parentheses and unary operators are open
 abbrev pub nesting : List Frame → ℕ

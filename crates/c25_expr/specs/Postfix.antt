@@ -1,10 +1,10 @@
 -- Expressions in postfix order: what items stand for, the trees that they build, and the operands that wait.
 use Rattle.std.specs.Prelude.{ℕ, ◌+◌, ◌-◌, Bool, ◌&&◌, ◌==◌, nat_lt, nat_le, List, [], ◌∷◌}
 use Rattle.std.specs.String.{string_bytes}
-use Rattle.c25_meaning.specs.Tree as tree
-use Rattle.c25_meaning.specs.Tree.{Tree}
-use Rattle.c25_meaning.specs.Reading as reading
-use Rattle.c25_meaning.specs.Reading.{Push, Wrap, Apply, Combine}
+use Rattle.c25_meaning_language.specs.Tree as tree
+use Rattle.c25_meaning_language.specs.Tree.{Tree}
+use Rattle.c25_meaning_language.specs.Reading as reading
+use Rattle.c25_meaning_language.specs.Reading.{Push, Wrap, Apply, Combine}
 use Rattle.c25_expr.specs.declared.tree.Item.{Item}
 use Rattle.c25_expr.specs.declared.tree.Item.TheVariants.{Constant, Name, Here, Group, Unary, Binary}
 

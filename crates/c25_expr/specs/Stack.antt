@@ -1,12 +1,12 @@
 -- How an expression in postfix order is valued: with a list of values, the last first.
 use Rattle.std.specs.Prelude.{ℕ, pos, List, [], ◌∷◌, Option, Result, Ok, Err}
-use Rattle.c25_meaning.specs.Reading.{Item, Push, Wrap, Apply, Combine}
-use Rattle.c25_meaning.specs.Tree.{Tree}
-use Rattle.c25_meaning.specs.Results.{◌>>=◌}
-use Rattle.c25_meaning.specs.Value.{leaf_value, unary_value, binary_value, value_of}
-use Rattle.c25_meaning.specs.declared.value.ValueFault.{ValueFault}
-use Rattle.c25_meaning.specs.declared.value.Base.TheVariants.{Absolute}
-use Rattle.c25_meaning.specs.declared.value.Value.{Value}
+use Rattle.c25_meaning_language.specs.Reading.{Item, Push, Wrap, Apply, Combine}
+use Rattle.c25_meaning_language.specs.Tree.{Tree}
+use Rattle.c25_meaning_common.specs.Results.{◌>>=◌}
+use Rattle.c25_meaning_language.specs.Value.{leaf_value, unary_value, binary_value, value_of}
+use Rattle.c25_meaning_language.specs.declared.value.ValueFault.{ValueFault}
+use Rattle.c25_meaning_language.specs.declared.value.Base.TheVariants.{Absolute}
+use Rattle.c25_meaning_language.specs.declared.value.Value.{Value}
 
 -- the last value; zero where there is none
 abbrev pub last_value : List Value → Value

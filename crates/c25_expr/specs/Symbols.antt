@@ -2,7 +2,7 @@
 use Rattle.std.specs.Prelude.{ℕ, List, map, String}
 use Rattle.std.specs.declared.alloc.Global.{Global}
 use Rattle.std.specs.String.{string_bytes}
-use Rattle.c25_meaning.specs.declared.value.Value.{Value}
+use Rattle.c25_meaning_language.specs.declared.value.Value.{Value}
 
 -- the names by their bytes
 abbrev pub texts : List (String Global × Value) → List (List ℕ × Value)

@@ -1,9 +1,9 @@
 -- What the types of expressions stand for.
 use Rattle.std.specs.Prelude.{Bool, true, false, List, [], ◌∷◌, map, reverse, Option, Some, None}
-use Rattle.c25_meaning.specs.Tree as tree
-use Rattle.c25_meaning.specs.Tree.{Tree, Mark, mark_of}
-use Rattle.c25_meaning.specs.Reading as reading
-use Rattle.c25_meaning.specs.Reading.{State}
+use Rattle.c25_meaning_language.specs.Tree as tree
+use Rattle.c25_meaning_language.specs.Tree.{Tree, Mark, mark_of}
+use Rattle.c25_meaning_language.specs.Reading as reading
+use Rattle.c25_meaning_language.specs.Reading.{State}
 use Rattle.c25_text.specs.View.{piece_of}
 use Rattle.c25_text.specs.declared.tokens.Token.{Token}
 use Rattle.c25_expr.specs.Postfix.{item_of, built, last_tree, other_trees}

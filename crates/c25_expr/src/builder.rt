@@ -2,9 +2,9 @@
 
 ghost use Rattle.std.specs.Prelude.{◌≡◌, ◌≢◌, ◌+◌, ◌<◌, ◌≤◌, ◌^◌, Some, None, Err, true, false, map, reverse, length, slice_index, OnOk, OnErr, IfOk, IsErrOf, is_none, vec_len};
 ghost use Rattle.std.specs.Option.{ok_or, option_map};
-ghost use Rattle.c25_meaning.specs.Results.{Meets};
-ghost use Rattle.c25_meaning.specs.Tree.{mark_of};
-ghost use Rattle.c25_meaning.specs.Reading.{Found, start, settle, reduced, step, opened, followed, closed, finished, unary_of, binary_of, is_open, is_close};
+ghost use Rattle.c25_meaning_common.specs.Results.{Meets};
+ghost use Rattle.c25_meaning_language.specs.Tree.{mark_of};
+ghost use Rattle.c25_meaning_language.specs.Reading.{Found, start, settle, reduced, step, opened, followed, closed, finished, unary_of, binary_of, is_open, is_close};
 ghost use Rattle.c25_text.specs.View.{piece_of};
 ghost use Rattle.c25_expr.specs.Completes.{nesting, opens, completes};
 ghost use Rattle.c25_expr.specs.Postfix.{item_of, runs, last_tree};
@@ -13,16 +13,16 @@ ghost use Rattle.c25_expr.specs.View.{tree_of, leaf_item, marks_of};
 use crate::completes::completes;
 use crate::signs::{LOOSEST, binary_of, level_of, unary_of};
 use crate::tree::{Expr, Item};
-use c25_meaning::expression::{BinaryOperator, ExpressionFault, UnaryOperator};
-use c25_meaning::failure::Failure;
-use c25_meaning::line::{Sign, TokenKind};
-use c25_meaning::no_memory::NoMemory;
+use c25_meaning_common::failure::Failure;
+use c25_meaning_common::no_memory::NoMemory;
+use c25_meaning_language::expression::{BinaryOperator, ExpressionFault, UnaryOperator};
+use c25_meaning_lines::line::{Sign, TokenKind};
 use c25_text::constant_value;
 use c25_text::tokens::Token;
 use std::alloc::Global;
 
 /// What is open before an operand.
-#[derive(Clone, Copy, Debug)]
+#[derive(Clone, Copy)]
 pub(crate) enum Frame {
     /// A parenthesis.
     Open,

@@ -1,14 +1,14 @@
 //! Whether tokens complete an expression, by the parentheses that are open alone.
 
 ghost use Rattle.std.specs.Prelude.{◌≡◌, ◌+◌, ◌-◌, ◌<◌, ◌≤◌, ◌^◌, Some, None, true, false, length, is_some, IfSome, if◌then◌else◌};
-ghost use Rattle.c25_meaning.specs.Tree.{mark_of};
-ghost use Rattle.c25_meaning.specs.Reading.{unary_of, binary_of, is_open, is_close};
+ghost use Rattle.c25_meaning_language.specs.Tree.{mark_of};
+ghost use Rattle.c25_meaning_language.specs.Reading.{unary_of, binary_of, is_open, is_close};
 ghost use Rattle.c25_text.specs.View.{piece_of};
 ghost use Rattle.c25_expr.specs.Completes.{behind, behind_open, behind_follow, completes};
 ghost use Rattle.c25_expr.specs.View.{marks_of};
 
 use crate::signs::{binary_of, unary_of};
-use c25_meaning::line::{Sign, TokenKind};
+use c25_meaning_lines::line::{Sign, TokenKind};
 use c25_text::tokens::Token;
 
 /// Whether an operand has to come, and how many parentheses are open, behind one more token.

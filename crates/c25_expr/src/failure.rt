@@ -1,13 +1,13 @@
 //! Faults of lines, expressions and values as faults of a source.
 
 ghost use Rattle.std.specs.Prelude.{◌≡◌};
-ghost use Rattle.c25_meaning.specs.Operands.{line_fault};
-ghost use Rattle.c25_meaning.specs.Statement.{expression_fault, value_fault};
+ghost use Rattle.c25_meaning_language.specs.Operands.{line_fault};
+ghost use Rattle.c25_meaning_language.specs.Statement.{expression_fault, value_fault};
 
-use c25_meaning::expression::ExpressionFault;
-use c25_meaning::line::LineFault;
-use c25_meaning::statement::FaultKind;
-use c25_meaning::value::ValueFault;
+use c25_meaning_language::expression::ExpressionFault;
+use c25_meaning_language::statement::FaultKind;
+use c25_meaning_language::value::ValueFault;
+use c25_meaning_lines::line::LineFault;
 
 /// A fault of a line's text as a fault of a source.
 pub fn line_fault(fault: LineFault) -> FaultKind

@@ -1,9 +1,9 @@
 //! Laws of expressions: what the definitions say, as facts about all tokens. The functions do nothing.
 
 ghost use Rattle.std.specs.Prelude.{◌≡◌, ◌↔◌, ◌<◌, ◌≤◌, List, Ok, Err};
-ghost use Rattle.c25_meaning.specs.Tree.{Mark, Tree, IsTreeOf, depth};
-ghost use Rattle.c25_meaning.specs.Reading.{tree_in};
-ghost use Rattle.c25_meaning.specs.declared.expression.ExpressionFault.{ExpressionFault};
+ghost use Rattle.c25_meaning_language.specs.Tree.{Mark, Tree, IsTreeOf, depth};
+ghost use Rattle.c25_meaning_language.specs.Reading.{tree_in};
+ghost use Rattle.c25_meaning_language.specs.declared.expression.ExpressionFault.{ExpressionFault};
 
 /// Tokens have one tree at most.
 pub fn one_tree()

@@ -1,14 +1,14 @@
 //! The tokens and operands of a line, and what each operand is by its tokens.
 
 ghost use Rattle.std.specs.Prelude.{◌≡◌, IfOk, map};
-ghost use Rattle.c25_meaning.specs.Operands.{is_comma, operands_of, is_star, is_zero, is_br0, by_one, by_ar0, by_reverse, by_two, change_behind, indirect, is_quoted, is_string, written_by, written_of};
+ghost use Rattle.c25_meaning_language.specs.Operands.{is_comma, operands_of, is_star, is_zero, is_br0, by_one, by_ar0, by_reverse, by_two, change_behind, indirect, is_quoted, is_string, written_by, written_of};
 ghost use Rattle.c25_text.specs.View.{piece_of, parts_of};
 ghost use Rattle.c25_expr.specs.Pieces.{pieces_of};
 
-use c25_meaning::insn::Change;
-use c25_meaning::line::{Sign, TokenKind};
-use c25_meaning::no_memory::NoMemory;
-use c25_meaning::statement::Written;
+use c25_meaning_common::no_memory::NoMemory;
+use c25_meaning_instructions::insn::Change;
+use c25_meaning_language::statement::Written;
+use c25_meaning_lines::line::{Sign, TokenKind};
 use c25_text::line::Line;
 use c25_text::tokens::Token;
 use std::alloc::Global;

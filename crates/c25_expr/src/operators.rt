@@ -1,10 +1,10 @@
 //! Operators on values.
 
 ghost use Rattle.std.specs.Prelude.{◌≡◌, ◌<◌, ◌≤◌, ◌^◌, ◌*ℤ◌, IfSome};
-ghost use Rattle.c25_meaning.specs.Value.{in_range, count_of, number_of, truth, base_of, absolute, unary_value, binary_value, plain_value};
+ghost use Rattle.c25_meaning_language.specs.Value.{in_range, count_of, number_of, truth, base_of, absolute, unary_value, binary_value, plain_value};
 
-use c25_meaning::expression::{BinaryOperator, UnaryOperator};
-use c25_meaning::value::{Base, Value, ValueFault};
+use c25_meaning_language::expression::{BinaryOperator, UnaryOperator};
+use c25_meaning_language::value::{Base, Value, ValueFault};
 
 /// A number of 32 signed bits.
 fn in_range(number: i64) -> Result<i32, ValueFault>

@@ -1,16 +1,16 @@
 //! Reading expressions.
 
 ghost use Rattle.std.specs.Prelude.{◌<◌, ◌≤◌, IfOk, IsErrOf, map};
-ghost use Rattle.c25_meaning.specs.Reading.{tree_in};
-ghost use Rattle.c25_meaning.specs.Results.{Meets};
-ghost use Rattle.c25_meaning.specs.Tree.{Tree, IsTreeOf, depth, mark_of};
+ghost use Rattle.c25_meaning_language.specs.Reading.{tree_in};
+ghost use Rattle.c25_meaning_common.specs.Results.{Meets};
+ghost use Rattle.c25_meaning_language.specs.Tree.{Tree, IsTreeOf, depth, mark_of};
 ghost use Rattle.c25_expr.specs.Pieces.{pieces_of};
 ghost use Rattle.c25_expr.specs.View.{tree_of, marks_of};
 
 use crate::builder::Builder;
 use crate::tree::Expr;
-use c25_meaning::expression::ExpressionFault;
-use c25_meaning::failure::Failure;
+use c25_meaning_common::failure::Failure;
+use c25_meaning_language::expression::ExpressionFault;
 use c25_text::tokens::Token;
 use std::alloc::Global;
 

@@ -1,11 +1,11 @@
 //! The operators that signs are.
 
 ghost use Rattle.std.specs.Prelude.{◌≡◌};
-ghost use Rattle.c25_meaning.specs.Tree.{level_of};
-ghost use Rattle.c25_meaning.specs.Reading.{unary_of, binary_of};
+ghost use Rattle.c25_meaning_language.specs.Tree.{level_of};
+ghost use Rattle.c25_meaning_language.specs.Reading.{unary_of, binary_of};
 
-use c25_meaning::expression::{BinaryOperator, UnaryOperator};
-use c25_meaning::line::Sign;
+use c25_meaning_language::expression::{BinaryOperator, UnaryOperator};
+use c25_meaning_lines::line::Sign;
 
 /// The loosest level of operators.
 pub(crate) const LOOSEST: u8 = 8;

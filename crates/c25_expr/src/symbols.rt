@@ -2,10 +2,10 @@
 
 ghost use Rattle.std.specs.Prelude.{◌≡◌, ◌↔◌, [], ◌∷◌, ◌++◌, length, slice_get, is_some, IsSome, IsErrOf, OnOk, OnErr};
 ghost use Rattle.std.specs.Option.{option_map};
-ghost use Rattle.c25_meaning.specs.Value.{predefined};
+ghost use Rattle.c25_meaning_language.specs.Value.{predefined};
 
-use c25_meaning::failure::Failure;
-use c25_meaning::value::{Base, Value};
+use c25_meaning_common::failure::Failure;
+use c25_meaning_language::value::{Base, Value};
 use indexmap::IndexMap;
 use std::alloc::Global;
 use std::error::Error;
@@ -13,7 +13,7 @@ use std::fmt;
 use std::marker::Model;
 
 /// A name stands for something already (26).
-#[derive(Clone, Copy, PartialEq, Eq, Debug)]
+#[derive(Clone, Copy, PartialEq, Debug)]
 pub struct Defined;
 
 impl fmt::Display for Defined {
@@ -38,7 +38,7 @@ pub struct Symbols {
 }
 
 impl Model for Symbols {
-    ghost use Rattle.c25_meaning.specs.Value.{Table};
+    ghost use Rattle.c25_meaning_language.specs.Value.{Table};
     ghost use Rattle.c25_expr.specs.Symbols.{texts};
 
     ghost Value = { Table };
@@ -47,7 +47,7 @@ impl Model for Symbols {
 }
 
 impl Symbols {
-    ghost use Rattle.c25_meaning.specs.Value.{value_named, start_of_text};
+    ghost use Rattle.c25_meaning_language.specs.Value.{value_named, start_of_text};
 
     /// No names but the predefined ones, at the start of `.text`.
     pub fn new(alloc: Global) -> Self

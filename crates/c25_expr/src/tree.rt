@@ -3,10 +3,10 @@
 ghost use Rattle.std.specs.Prelude.{◌≡◌, true, map};
 ghost use Rattle.c25_expr.specs.Postfix.{item_of, runs};
 
-use c25_meaning::expression::{BinaryOperator, UnaryOperator};
+use c25_meaning_language::expression::{BinaryOperator, UnaryOperator};
 
 /// One step of an expression in postfix order.
-#[derive(Debug, Drop)]
+#[derive(Drop)]
 pub(crate) enum Item {
     /// A constant. One above 2,147,483,647 stands as 2,147,483,648, which has no value.
     Constant(u32),
@@ -24,7 +24,7 @@ pub(crate) enum Item {
 
 /// An expression. It is kept in postfix order, so that neither its value nor its end takes a
 /// recursion that is as deep as the expression is long.
-#[derive(Debug, Drop)]
+#[derive(Drop)]
 pub struct Expr {
     pub(crate) items: Vec<Item>,
     ghost whole: { runs (map item_of items.items) 0 ≡ true },

@@ -2,7 +2,7 @@
 
 ghost use Rattle.std.specs.Prelude.{◌≡◌, ◌+◌, ◌<◌, ◌∷◌, Ok, Err, true, reverse, MatchResult};
 ghost use Rattle.arrayvec.specs.ArrayVec.{array_vec_len};
-ghost use Rattle.c25_meaning.specs.Value.{value_of, value_named};
+ghost use Rattle.c25_meaning_language.specs.Value.{value_of, value_named};
 ghost use Rattle.c25_expr.specs.Postfix.{item_of, fits};
 ghost use Rattle.c25_expr.specs.Stack.{applied};
 ghost use Rattle.c25_expr.specs.View.{tree_of};
@@ -11,7 +11,7 @@ use crate::operators::{binary_value, plain_value, unary_value};
 use crate::symbols::Symbols;
 use crate::tree::{Expr, Item};
 use arrayvec::ArrayVec;
-use c25_meaning::value::{Value, ValueFault};
+use c25_meaning_language::value::{Value, ValueFault};
 
 /// The operands that wait, the last last. There is room for those of the deepest expression.
 type Waiting = ArrayVec<Value, 521>;

@@ -3,7 +3,7 @@ use Rattle.std.proofs.Common.{◌≡◌, ℕ, ◌+◌, ◌<◌, T, List, [], ◌
 use Rattle.std.specs.Ordering.{nat_cmp}
 use Rattle.std.specs.FinMap as map
 use Rattle.std.specs.FinMap.Entries.{find, below_all, is_sorted}
-use Rattle.c25_meaning.specs.WordMap.{IsWordMap}
+use Rattle.c25_meaning_image.specs.WordMap.{IsWordMap}
 use Rattle.c25_hex.proofs.Entries.{first, second, AllFrom, all_above, found_behind, found_first}
 use Rattle.c25_hex.proofs.Stretches.{Ascends}
 

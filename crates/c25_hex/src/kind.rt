@@ -1,10 +1,10 @@
 //! The kinds of lines.
 
 ghost use Rattle.std.specs.Prelude.{◌≡◌, ◌<◌, MatchOption};
-ghost use Rattle.c25_meaning.specs.Hex as spec;
+ghost use Rattle.c25_meaning_intel_hex.specs.Hex as spec;
 
 /// What a line gives, by its fourth byte.
-#[derive(Clone, Copy, Debug, PartialEq, Eq)]
+#[derive(Clone, Copy)]
 pub(crate) enum Kind {
     /// Bytes at an address under the base.
     Data,

@@ -3,9 +3,9 @@
 ghost use Rattle.std.specs.Prelude.{◌≡◌, ◌≢◌, ℕ, List, [], ◌∷◌, ◌++◌};
 ghost use Rattle.std.specs.Ordering.{nat_cmp};
 ghost use Rattle.std.specs.FinMap as map;
-ghost use Rattle.c25_meaning.specs.Hex.{SpellsWords};
-ghost use Rattle.c25_meaning.specs.HexText.{written};
-ghost use Rattle.c25_meaning.specs.WordMap.{IsWordMap};
+ghost use Rattle.c25_meaning_intel_hex.specs.Hex.{SpellsWords};
+ghost use Rattle.c25_meaning_intel_hex.specs.HexText.{written};
+ghost use Rattle.c25_meaning_image.specs.WordMap.{IsWordMap};
 
 /// What is written for words is read back as these words.
 pub fn written_texts_are_read_back()

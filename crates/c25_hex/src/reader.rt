@@ -2,17 +2,17 @@
 
 ghost use Rattle.std.specs.Prelude.{◌≡◌, ◌≤◌, ◌<◌, ◌+◌, ◌^◌, length, slice_index, is_some, IsTrue, OnOk, MatchResult, Ok, Err, vec_len};
 ghost use Rattle.std.specs.List.{list_any};
-ghost use Rattle.c25_meaning.specs.Hex as spec;
+ghost use Rattle.c25_meaning_intel_hex.specs.Hex as spec;
 ghost use Rattle.c25_hex.specs.Cells.{cells_map, has_odd_pair, same_given};
-ghost use Rattle.c25_meaning.specs.Results.{Meets};
+ghost use Rattle.c25_meaning_common.specs.Results.{Meets};
 ghost use Rattle.c25_hex.specs.View.{code_of, hex_state};
 
 use crate::kind::Kind;
 use crate::line::{bytes_of, kind_of};
 use crate::state::Reader;
-use c25_meaning::failure::Failure;
-use c25_meaning::hex_fault::HexFault;
-use c25_text::all_blank;
+use c25_bytes::all_blank;
+use c25_meaning_common::failure::Failure;
+use c25_meaning_intel_hex::hex_fault::HexFault;
 use std::alloc::Global;
 
 fn any_given(cells: &[Option<u8>]) -> bool
@@ -77,7 +77,7 @@ fn pair_at(bytes: &[u8], at: usize) -> usize
 
 impl Reader {
     /// Takes the bytes of a line of data.
-    #[tactic(auto, unfolding(c25_meaning::specs::Hex::with_bytes))]
+    #[tactic(auto, unfolding(c25_meaning_intel_hex::specs::Hex::with_bytes))]
     fn take_bytes(&mut self, address: usize, bytes: &[u8]) -> Result<(), HexFault>
         requires address_in { address < 2 ^ 16 }
         requires short { length bytes.now < 2 ^ 8 }
@@ -101,7 +101,7 @@ impl Reader {
     }
 
     /// Takes a line whose form is right.
-    #[tactic(auto, unfolding(c25_meaning::specs::Hex::after_bytes))]
+    #[tactic(auto, unfolding(c25_meaning_intel_hex::specs::Hex::after_bytes))]
     fn take_checked_line(&mut self, kind: Kind, bytes: &[u8]) -> Result<(), HexFault>
         requires long { 5 ≤ length bytes.now }
         requires counted { length bytes.now ≡ slice_index bytes.now 0 + 5 }
@@ -134,7 +134,7 @@ impl Reader {
     }
 
     /// Reads one line more.
-    #[tactic(auto, unfolding(c25_meaning::specs::Hex::after_line))]
+    #[tactic(auto, unfolding(c25_meaning_intel_hex::specs::Hex::after_line))]
     pub(crate) fn take_line(&mut self, alloc: Global, line: &[u8]) -> Result<(), Failure<HexFault>>
         ensures { Meets (λ _. hex_state self.new) (spec.after_line (hex_state self.old) line.now) result }
     {

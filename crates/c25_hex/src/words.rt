@@ -1,11 +1,11 @@
 //! The words of the bytes that a text gives.
 
 ghost use Rattle.std.specs.Prelude.{◌≡◌, ◌+◌, ◌<◌, ◌^◌, length, IfOk, slice_index_or, None};
-ghost use Rattle.c25_meaning.specs.Hex as spec;
+ghost use Rattle.c25_meaning_intel_hex.specs.Hex as spec;
 ghost use Rattle.c25_hex.specs.Cells.{cells_map};
 
-use c25_meaning::no_memory::NoMemory;
-use c25_meaning::word_map::WordMap;
+use c25_meaning_common::no_memory::NoMemory;
+use c25_meaning_image::word_map::WordMap;
 use std::alloc::Global;
 
 fn word_of(high: Option<u8>, low: Option<u8>) -> Option<u16>

@@ -1,13 +1,13 @@
 //! The hex text of words.
 
 ghost use Rattle.std.specs.Prelude.{◌≡◌, IfOk, string_bytes};
-ghost use Rattle.c25_meaning.specs.Hex.{SpellsWords};
-ghost use Rattle.c25_meaning.specs.HexText.{written};
+ghost use Rattle.c25_meaning_intel_hex.specs.Hex.{SpellsWords};
+ghost use Rattle.c25_meaning_intel_hex.specs.HexText.{written};
 
 use crate::stretch::alone;
 use crate::writer::Writer;
-use c25_meaning::no_memory::NoMemory;
-use c25_meaning::word_map::WordMap;
+use c25_meaning_common::no_memory::NoMemory;
+use c25_meaning_image::word_map::WordMap;
 use std::alloc::Global;
 
 /// The Intel hex text of words: lines of at most eight words, ascending, the line of the base before

@@ -2,8 +2,8 @@
 
 use crate::command_cases::CASES;
 use c25_cmd::{Command, Target, read_command};
-use c25_meaning::command_fault::{CommandFault, FaultyCommand};
-use c25_meaning::failure::Failure;
+use c25_meaning_commands::command_fault::{CommandFault, FaultyCommand};
+use c25_meaning_common::failure::Failure;
 use std::alloc::{AllocError, Global};
 use std::test::Fail;
 

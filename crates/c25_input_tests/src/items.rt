@@ -1,7 +1,7 @@
 //! Words, numbers and items.
 
 use c25_items::{LineFormat, decimal_of, hexadecimal_of, is_word, read_items};
-use c25_meaning::failure::Failure;
+use c25_meaning_common::failure::Failure;
 use std::test::Fail;
 
 #[test]

@@ -2,8 +2,8 @@
 //! `spelled` reads it.
 
 use c25_debug::script::{BadCommand, Script, read_script};
-use c25_meaning::failure::Failure;
-use c25_meaning::script::Cmd;
+use c25_meaning_common::failure::Failure;
+use c25_meaning_stimulus::script::Cmd;
 use std::alloc::{AllocError, Global};
 use std::test::Fail;
 

@@ -14,11 +14,11 @@ use Rattle.std.proofs.lemmas.Cmp.{nat_list_cmp_total, tied_itself}
 use Rattle.std.proofs.lemmas.List.{get_or-map}
 use Rattle.std.proofs.lemmas.List.Sorted.{searchable_from_sorted}
 use Rattle.c25_isa.specs.Letters.{letters_of}
-use Rattle.c25_meaning.specs.Spellings.{spellings}
-use Rattle.c25_meaning.specs.Table.{SameLetters, spelling_text}
-use Rattle.c25_meaning.specs.declared.mnemonic.Spelling.{Spelling}
-use Rattle.c25_meaning.proofs.Keys.{found_by, found_in}
-use Rattle.c25_meaning.proofs.Spellings.{letters, found}
+use Rattle.c25_meaning_instructions.specs.Spellings.{spellings}
+use Rattle.c25_meaning_instructions.specs.Table.{SameLetters, spelling_text}
+use Rattle.c25_meaning_instructions.specs.declared.mnemonic.Spelling.{Spelling}
+use Rattle.c25_meaning_instructions.proofs.Keys.{found_by, found_in}
+use Rattle.c25_meaning_instructions.proofs.Spellings.{letters, found}
 
 -- ---- a list in order
 

@@ -1,9 +1,9 @@
 -- How many first words each row spans, from its own on.
 use Rattle.std.specs.Prelude.{ℕ}
-use Rattle.c25_meaning.specs.declared.mnemonic.ShortName.{ShortName}
-use Rattle.c25_meaning.specs.declared.mnemonic.ShortName.TheVariants as short
-use Rattle.c25_meaning.specs.declared.mnemonic.PlainName.{PlainName}
-use Rattle.c25_meaning.specs.declared.mnemonic.PlainName.TheVariants as plain
+use Rattle.c25_meaning_instructions.specs.declared.mnemonic.ShortName.{ShortName}
+use Rattle.c25_meaning_instructions.specs.declared.mnemonic.ShortName.TheVariants as short
+use Rattle.c25_meaning_instructions.specs.declared.mnemonic.PlainName.{PlainName}
+use Rattle.c25_meaning_instructions.specs.declared.mnemonic.PlainName.TheVariants as plain
 
 -- those of a row with a short number: 256 for each 8 bits, and 8 times as many with a register
 abbrev pub extent : ShortName → ℕ

@@ -1,12 +1,12 @@
 //! The operand byte: where an instruction finds its data word (SPRU014, "Memory Addressing Modes").
 
 ghost use Rattle.std.specs.Prelude.{◌≡◌, ◌+◌, ◌*◌, ◌<◌, ◌≤◌, ◌^◌, Some, IfSome, Option, ℕ};
-ghost use Rattle.c25_meaning.specs.Table.{operand_byte, indirect_byte, change_number, AddrInRange, NextInRange};
-ghost use Rattle.c25_meaning.specs.declared.insn.Addr.{Addr};
-ghost use Rattle.c25_meaning.specs.declared.insn.Change.{Change};
+ghost use Rattle.c25_meaning_instructions.specs.Table.{operand_byte, indirect_byte, change_number, AddrInRange, NextInRange};
+ghost use Rattle.c25_meaning_instructions.specs.declared.insn.Addr.{Addr};
+ghost use Rattle.c25_meaning_instructions.specs.declared.insn.Change.{Change};
 
 use c25_bits::Field;
-use c25_meaning::insn::{Addr, Change};
+use c25_meaning_instructions::insn::{Addr, Change};
 
 /// The bits of the change of an auxiliary register.
 type ChangeField = Field<4, 3>;

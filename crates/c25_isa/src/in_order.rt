@@ -6,13 +6,13 @@ ghost use Rattle.std.specs.List.Sorted.{IsSortedByKey};
 ghost use Rattle.std.specs.Ordering.{nat_cmp};
 ghost use Rattle.std.specs.Cmp.Lexicographic.{slice_cmp};
 ghost use Rattle.c25_isa.specs.Letters.{letters_of};
-ghost use Rattle.c25_meaning.specs.declared.mnemonic.Spelling.{Spelling};
+ghost use Rattle.c25_meaning_instructions.specs.declared.mnemonic.Spelling.{Spelling};
 
-use c25_meaning::mnemonic::Mnemonic::{
+use c25_meaning_instructions::mnemonic::Mnemonic::{
     ArMem, Bit, Jump, Long, LongMem, Mem, Plain, Port, Shifted, Short,
 };
-use c25_meaning::mnemonic::Spelling::{Larp, Nop, Row, Zac};
-use c25_meaning::mnemonic::{
+use c25_meaning_instructions::mnemonic::Spelling::{Larp, Nop, Row, Zac};
+use c25_meaning_instructions::mnemonic::{
     ArMemName, BitName, JumpName, LongMemName, LongName, MemName, PlainName, PortName, ShiftedName,
     ShortName, Spelling,
 };

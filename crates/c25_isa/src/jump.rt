@@ -1,18 +1,18 @@
 //! Jumps: two words, the first with an indirect operand byte below a high byte of the row's own.
 
 ghost use Rattle.std.specs.Prelude.{◌≡◌, ℕ, Option, ◌+◌, ◌*◌, ◌++◌, ◌≤◌, ◌^◌, Some, IfSome, OnOk, string_bytes};
-ghost use Rattle.c25_meaning.specs.Table.{jump_row, size, opcode_word, Reads, NextInRange};
-ghost use Rattle.c25_meaning.specs.Show.{show};
-ghost use Rattle.c25_meaning.specs.declared.mnemonic.JumpName.{JumpName};
-ghost use Rattle.c25_meaning.specs.declared.mnemonic.Mnemonic.TheVariants as family;
-ghost use Rattle.c25_meaning.specs.declared.insn.Change.{Change};
-ghost use Rattle.c25_meaning.specs.declared.insn.Insn.TheVariants as insn;
+ghost use Rattle.c25_meaning_instructions.specs.Table.{jump_row, size, opcode_word, Reads, NextInRange};
+ghost use Rattle.c25_meaning_instructions.specs.Show.{show};
+ghost use Rattle.c25_meaning_instructions.specs.declared.mnemonic.JumpName.{JumpName};
+ghost use Rattle.c25_meaning_instructions.specs.declared.mnemonic.Mnemonic.TheVariants as family;
+ghost use Rattle.c25_meaning_instructions.specs.declared.insn.Change.{Change};
+ghost use Rattle.c25_meaning_instructions.specs.declared.insn.Insn.TheVariants as insn;
 
 use crate::{addr, rows, text};
 use c25_bits::Field;
-use c25_meaning::insn::{Change, Insn};
-use c25_meaning::mnemonic::JumpName;
-use c25_meaning::no_memory::NoMemory;
+use c25_meaning_common::no_memory::NoMemory;
+use c25_meaning_instructions::insn::{Change, Insn};
+use c25_meaning_instructions::mnemonic::JumpName;
 
 macro_rules! jump_rows {
     ($what:ident $value:expr) => {

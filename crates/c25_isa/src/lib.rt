@@ -6,8 +6,8 @@
 #![tactic(auto)]
 
 ghost use Rattle.std.specs.Prelude.{◌≡◌, Some, IfSome};
-ghost use Rattle.c25_meaning.specs.Table.{words, size, InRange, Reads};
-ghost use Rattle.c25_meaning.specs.declared.insn.Insn.{Insn};
+ghost use Rattle.c25_meaning_instructions.specs.Table.{words, size, InRange, Reads};
+ghost use Rattle.c25_meaning_instructions.specs.declared.insn.Insn.{Insn};
 
 mod addr;
 mod ar_mem;
@@ -26,8 +26,8 @@ mod short;
 mod text;
 
 use arrayvec::ArrayVec;
-use c25_meaning::insn::Insn;
-use c25_meaning::mnemonic::Mnemonic;
+use c25_meaning_instructions::insn::Insn;
+use c25_meaning_instructions::mnemonic::Mnemonic;
 pub use names::mnemonic;
 pub use text::show;
 

@@ -2,17 +2,17 @@
 //! byte.
 
 ghost use Rattle.std.specs.Prelude.{◌≡◌, ℕ, ◌+◌, ◌*◌, ◌++◌, ◌<◌, ◌^◌, Some, IfSome, OnOk, string_bytes};
-ghost use Rattle.c25_meaning.specs.Table.{long_row, size, high_limit, opcode_word, Reads};
-ghost use Rattle.c25_meaning.specs.Show.{show};
-ghost use Rattle.c25_meaning.specs.declared.mnemonic.LongName.{LongName};
-ghost use Rattle.c25_meaning.specs.declared.mnemonic.Mnemonic.TheVariants as family;
-ghost use Rattle.c25_meaning.specs.declared.insn.Insn.TheVariants as insn;
+ghost use Rattle.c25_meaning_instructions.specs.Table.{long_row, size, high_limit, opcode_word, Reads};
+ghost use Rattle.c25_meaning_instructions.specs.Show.{show};
+ghost use Rattle.c25_meaning_instructions.specs.declared.mnemonic.LongName.{LongName};
+ghost use Rattle.c25_meaning_instructions.specs.declared.mnemonic.Mnemonic.TheVariants as family;
+ghost use Rattle.c25_meaning_instructions.specs.declared.insn.Insn.TheVariants as insn;
 
 use crate::{rows, text};
 use c25_bits::Field;
-use c25_meaning::insn::Insn;
-use c25_meaning::mnemonic::LongName;
-use c25_meaning::no_memory::NoMemory;
+use c25_meaning_common::no_memory::NoMemory;
+use c25_meaning_instructions::insn::Insn;
+use c25_meaning_instructions::mnemonic::LongName;
 
 macro_rules! long_rows {
     ($what:ident $value:expr) => {

@@ -2,18 +2,18 @@
 //! memory operand alone.
 
 ghost use Rattle.std.specs.Prelude.{◌≡◌, ℕ, ◌+◌, ◌*◌, ◌++◌, ◌≤◌, ◌^◌, Some, IfSome, OnOk, string_bytes};
-ghost use Rattle.c25_meaning.specs.Table.{long_mem_row, size, opcode_word, Reads, AddrInRange};
-ghost use Rattle.c25_meaning.specs.Show.{show};
-ghost use Rattle.c25_meaning.specs.declared.mnemonic.LongMemName.{LongMemName};
-ghost use Rattle.c25_meaning.specs.declared.mnemonic.Mnemonic.TheVariants as family;
-ghost use Rattle.c25_meaning.specs.declared.insn.Addr.{Addr};
-ghost use Rattle.c25_meaning.specs.declared.insn.Insn.TheVariants as insn;
+ghost use Rattle.c25_meaning_instructions.specs.Table.{long_mem_row, size, opcode_word, Reads, AddrInRange};
+ghost use Rattle.c25_meaning_instructions.specs.Show.{show};
+ghost use Rattle.c25_meaning_instructions.specs.declared.mnemonic.LongMemName.{LongMemName};
+ghost use Rattle.c25_meaning_instructions.specs.declared.mnemonic.Mnemonic.TheVariants as family;
+ghost use Rattle.c25_meaning_instructions.specs.declared.insn.Addr.{Addr};
+ghost use Rattle.c25_meaning_instructions.specs.declared.insn.Insn.TheVariants as insn;
 
 use crate::{addr, rows, text};
 use c25_bits::Field;
-use c25_meaning::insn::{Addr, Insn};
-use c25_meaning::mnemonic::LongMemName;
-use c25_meaning::no_memory::NoMemory;
+use c25_meaning_common::no_memory::NoMemory;
+use c25_meaning_instructions::insn::{Addr, Insn};
+use c25_meaning_instructions::mnemonic::LongMemName;
 
 macro_rules! long_mem_rows {
     ($what:ident $value:expr) => {

@@ -4,12 +4,12 @@ ghost use Rattle.std.specs.Prelude.{◌≡◌, Some, IfSome};
 ghost use Rattle.std.specs.Ordering.{nat_cmp};
 ghost use Rattle.std.specs.Cmp.Lexicographic.{slice_cmp};
 ghost use Rattle.std.specs.Str.{str_to_ascii_lowercase};
-ghost use Rattle.c25_meaning.specs.Table.{SameLetters, row_of, spelling_text};
-ghost use Rattle.c25_meaning.specs.declared.mnemonic.Spelling.{Spelling};
+ghost use Rattle.c25_meaning_instructions.specs.Table.{SameLetters, row_of, spelling_text};
+ghost use Rattle.c25_meaning_instructions.specs.declared.mnemonic.Spelling.{Spelling};
 
 use crate::in_order::spellings;
 use crate::{ar_mem, bit, jump, long, long_mem, mem, plain, port, shifted, short};
-use c25_meaning::mnemonic::{Mnemonic, Spelling};
+use c25_meaning_instructions::mnemonic::{Mnemonic, Spelling};
 use std::cmp::Ordering;
 
 /// A row's mnemonic.

@@ -3,17 +3,17 @@
 
 ghost use Rattle.std.specs.Prelude.{◌≡◌, ℕ, ◌+◌, ◌++◌, ◌≤◌, ◌<◌, ◌^◌, Some, IfSome, OnOk, string_bytes};
 ghost use Rattle.c25_isa.specs.Extent.{plain_extent};
-ghost use Rattle.c25_meaning.specs.Table.{plain_row, size, plain_number, PlainInRange, opcode_word, Reads};
-ghost use Rattle.c25_meaning.specs.Show.{show};
-ghost use Rattle.c25_meaning.specs.declared.mnemonic.PlainName.{PlainName};
-ghost use Rattle.c25_meaning.specs.declared.insn.PlainOperand.{PlainOperand};
-ghost use Rattle.c25_meaning.specs.declared.insn.Insn.TheVariants as insn;
-ghost use Rattle.c25_meaning.specs.declared.mnemonic.Mnemonic.TheVariants as family;
+ghost use Rattle.c25_meaning_instructions.specs.Table.{plain_row, size, plain_number, PlainInRange, opcode_word, Reads};
+ghost use Rattle.c25_meaning_instructions.specs.Show.{show};
+ghost use Rattle.c25_meaning_instructions.specs.declared.mnemonic.PlainName.{PlainName};
+ghost use Rattle.c25_meaning_instructions.specs.declared.insn.PlainOperand.{PlainOperand};
+ghost use Rattle.c25_meaning_instructions.specs.declared.insn.Insn.TheVariants as insn;
+ghost use Rattle.c25_meaning_instructions.specs.declared.mnemonic.Mnemonic.TheVariants as family;
 
 use crate::{addr, rows, text};
-use c25_meaning::insn::{Insn, PlainOperand};
-use c25_meaning::mnemonic::PlainName;
-use c25_meaning::no_memory::NoMemory;
+use c25_meaning_common::no_memory::NoMemory;
+use c25_meaning_instructions::insn::{Insn, PlainOperand};
+use c25_meaning_instructions::mnemonic::PlainName;
 
 macro_rules! plain_rows {
     ($what:ident $value:expr) => {

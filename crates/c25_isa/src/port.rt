@@ -1,18 +1,18 @@
 //! Instructions with a memory operand and a port: one word, the port in the high byte.
 
 ghost use Rattle.std.specs.Prelude.{◌≡◌, ℕ, pos, ◌+◌, ◌*◌, ◌%◌, ◌++◌, ◌<◌, ◌≤◌, ◌^◌, Some, IfSome, OnOk, string_bytes};
-ghost use Rattle.c25_meaning.specs.Table.{port_row, size, placed, opcode_word, Reads, AddrInRange};
-ghost use Rattle.c25_meaning.specs.Show.{show};
-ghost use Rattle.c25_meaning.specs.declared.mnemonic.PortName.{PortName};
-ghost use Rattle.c25_meaning.specs.declared.mnemonic.Mnemonic.TheVariants as family;
-ghost use Rattle.c25_meaning.specs.declared.insn.Addr.{Addr};
-ghost use Rattle.c25_meaning.specs.declared.insn.Insn.TheVariants as insn;
+ghost use Rattle.c25_meaning_instructions.specs.Table.{port_row, size, placed, opcode_word, Reads, AddrInRange};
+ghost use Rattle.c25_meaning_instructions.specs.Show.{show};
+ghost use Rattle.c25_meaning_instructions.specs.declared.mnemonic.PortName.{PortName};
+ghost use Rattle.c25_meaning_instructions.specs.declared.mnemonic.Mnemonic.TheVariants as family;
+ghost use Rattle.c25_meaning_instructions.specs.declared.insn.Addr.{Addr};
+ghost use Rattle.c25_meaning_instructions.specs.declared.insn.Insn.TheVariants as insn;
 
 use crate::{addr, rows, text};
 use c25_bits::Field;
-use c25_meaning::insn::{Addr, Insn};
-use c25_meaning::mnemonic::PortName;
-use c25_meaning::no_memory::NoMemory;
+use c25_meaning_common::no_memory::NoMemory;
+use c25_meaning_instructions::insn::{Addr, Insn};
+use c25_meaning_instructions::mnemonic::PortName;
 
 macro_rules! port_rows {
     ($what:ident $value:expr) => {

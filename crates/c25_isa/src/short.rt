@@ -3,17 +3,17 @@
 ghost use Rattle.std.specs.Prelude.{◌≡◌, ℕ, ℤ, ◌+◌, ◌*◌, ◌++◌, ◌<◌, ◌≤◌, ◌^◌, Some, IfSome, OnOk, string_bytes};
 ghost use Rattle.c25_bits.specs.Cut.{cut};
 ghost use Rattle.c25_isa.specs.Extent.{extent};
-ghost use Rattle.c25_meaning.specs.Table.{short_row, size, short_width, ShortInRange, opcode_word, Reads};
-ghost use Rattle.c25_meaning.specs.Show.{show};
-ghost use Rattle.c25_meaning.specs.declared.mnemonic.ShortName.{ShortName};
-ghost use Rattle.c25_meaning.specs.declared.mnemonic.Mnemonic.TheVariants as family;
-ghost use Rattle.c25_meaning.specs.declared.insn.Insn.TheVariants as insn;
+ghost use Rattle.c25_meaning_instructions.specs.Table.{short_row, size, short_width, ShortInRange, opcode_word, Reads};
+ghost use Rattle.c25_meaning_instructions.specs.Show.{show};
+ghost use Rattle.c25_meaning_instructions.specs.declared.mnemonic.ShortName.{ShortName};
+ghost use Rattle.c25_meaning_instructions.specs.declared.mnemonic.Mnemonic.TheVariants as family;
+ghost use Rattle.c25_meaning_instructions.specs.declared.insn.Insn.TheVariants as insn;
 
 use crate::rows;
 use c25_bits::Field;
-use c25_meaning::insn::Insn;
-use c25_meaning::mnemonic::ShortName;
-use c25_meaning::no_memory::NoMemory;
+use c25_meaning_common::no_memory::NoMemory;
+use c25_meaning_instructions::insn::Insn;
+use c25_meaning_instructions::mnemonic::ShortName;
 
 macro_rules! short_rows {
     ($what:ident $value:expr) => {

@@ -1,11 +1,12 @@
 //! The printed text of an instruction, as the assembler reads it.
 
 ghost use Rattle.std.specs.Prelude.{◌≡◌, ◌++◌, ◌<◌, IfOk, OnOk, string_bytes};
-ghost use Rattle.c25_meaning.specs.Show.{show, hex_digit, two_digits, four_digits, long_text, change_text, place_text, next_text, tail_text};
+ghost use Rattle.c25_meaning_instructions.specs.Show.{show, long_text, change_text, place_text, next_text, tail_text};
+ghost use Rattle.c25_meaning_common.specs.Digits.{hex_digit, two_digits, four_digits};
 
 use crate::{ar_mem, bit, jump, long, long_mem, mem, plain, port, shifted, short};
-use c25_meaning::insn::{Addr, Change, Insn};
-use c25_meaning::no_memory::NoMemory;
+use c25_meaning_common::no_memory::NoMemory;
+use c25_meaning_instructions::insn::{Addr, Change, Insn};
 use std::alloc::Global;
 
 /// Appends a word as a hexadecimal constant of four digits.

@@ -1,11 +1,11 @@
 //! Instructions and their words.
 
-ghost use Rattle.c25_meaning.specs.Table.{InRange};
+ghost use Rattle.c25_meaning_instructions.specs.Table.{InRange};
 
 use crate::cases::READINGS;
 use c25_isa::{decode, encode, show};
-use c25_meaning::insn::{Addr, Change, Insn};
-use c25_meaning::mnemonic::{LongMemName, MemName, ShiftedName, ShortName};
+use c25_meaning_instructions::insn::{Addr, Change, Insn};
+use c25_meaning_instructions::mnemonic::{LongMemName, MemName, ShiftedName, ShortName};
 use std::alloc::Global;
 use std::process::Abort;
 use std::test::Fail;

@@ -2,7 +2,7 @@
 use Rattle.std.proofs.Common.{◌≡◌, ℕ, ◌+◌, ◌*◌, ◌^◌, ◌<◌, ◌≤◌, arith, List, [], ◌∷◌, length, fold, nat_lt, true, lit≤}
 use Rattle.std.specs.List.{list_all}
 use Rattle.std.proofs.lemmas.Bool.{and_parts, ltb-true}
-use Rattle.c25_meaning.specs.Digits.{digit, value_in}
+use Rattle.c25_meaning_common.specs.Digits.{digit, value_in}
 
 -- what digits behind a number up to m are at most
 most_behind : ℕ → List ℕ → ℕ

@@ -2,8 +2,8 @@
 use Rattle.std.proofs.Common.{◌≡◌, ℕ, zero, suc, map, arith, ◌+◌, ◌<◌, ◌≤◌, List, [], ◌∷◌, length, get_or, drop, Option, Some, None, Ok, Err, refl, ap, sym, ◌∙◌}
 use Rattle.std.specs.Option.{ok_or}
 use Rattle.std.proofs.lemmas.List.{at_drop_more, drop_all}
-use Rattle.c25_meaning.specs.Items.{items, with_line, line_words}
-use Rattle.c25_meaning.specs.Results.{◌>>=◌}
+use Rattle.c25_meaning_common.specs.Items.{items, with_line, line_words}
+use Rattle.c25_meaning_common.specs.Results.{◌>>=◌}
 
 map_len : {X Y : Type 0} (f : X → Y) (xs : List X) → length (map f xs) ≡ length xs
 map_len f [] = refl

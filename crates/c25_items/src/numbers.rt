@@ -1,16 +1,16 @@
 //! Words that are numbers.
 
 ghost use Rattle.std.specs.Prelude.{◌≡◌, ◌≤◌, IfSome};
-ghost use Rattle.c25_meaning.specs.Digits.{decimal_of, hexadecimal_of};
+ghost use Rattle.c25_meaning_common.specs.Digits.{decimal_of, hexadecimal_of};
 
-use c25_text::{are_digits, value_in};
+use c25_bytes::{are_digits, value_in};
 
 /// The digits of the largest 16-bit word.
 const MOST_DIGITS: usize = 4;
 
 /// The number that a word of decimal digits is, where it is at most this large. Leading zeros are
 /// free.
-#[tactic(auto, unfolding(c25_meaning::specs::Digits::decimal_of))]
+#[tactic(auto, unfolding(c25_meaning_common::specs::Digits::decimal_of))]
 pub fn decimal_of(most: u32, word: &[u8]) -> Option<u32>
     ensures value { result ≡ decimal_of most word.now }
     ensures at_most { IfSome result (λ n. n ≤ most) }
@@ -24,7 +24,7 @@ pub fn decimal_of(most: u32, word: &[u8]) -> Option<u32>
 }
 
 /// The number that a word of at least so many hexadecimal digits, and at most four, is.
-#[tactic(auto, unfolding(c25_meaning::specs::Digits::hexadecimal_of))]
+#[tactic(auto, unfolding(c25_meaning_common::specs::Digits::hexadecimal_of))]
 pub fn hexadecimal_of(least: usize, word: &[u8]) -> Option<u16>
     ensures { result ≡ hexadecimal_of least word.now }
 {

@@ -1,12 +1,12 @@
 //! Items, one a line.
 
 ghost use Rattle.std.specs.Prelude.{◌≡◌, ℕ, List, [], Some, None, map, IfOk, if◌then◌else◌};
-ghost use Rattle.c25_meaning.specs.Items.{ItemOf, items, items_of, with_line, line_words};
-ghost use Rattle.c25_meaning.specs.Results.{MeetsBy};
+ghost use Rattle.c25_meaning_common.specs.Items.{ItemOf, items, items_of, with_line, line_words};
+ghost use Rattle.c25_meaning_common.specs.Results.{MeetsBy};
 
 use crate::words::{line_words, lines_of};
-use c25_meaning::failure::Failure;
-use c25_meaning::no_memory::NoMemory;
+use c25_meaning_common::failure::Failure;
+use c25_meaning_common::no_memory::NoMemory;
 use std::alloc::Global;
 
 /// What the lines of a text are read as.

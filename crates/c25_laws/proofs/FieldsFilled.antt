@@ -3,28 +3,28 @@ use Rattle.std.proofs.Common.{◌≡◌, ℕ, zero, suc, ◌+◌, ◌%◌, ◌�
 use Rattle.std.specs.List.{Contains, fold}
 use Rattle.std.proofs.lemmas.Bool.{eq-eqb, ne_eqb}
 use Rattle.std.proofs.lemmas.List.{get_or-set_other, length-set}
-use Rattle.c25_meaning.proofs.RelocatedFields.{filled_zero, low_reads, page_reads, word_reads}
-use Rattle.c25_meaning.specs.Addresses.{word_of}
-use Rattle.c25_meaning.specs.Fields.{filled}
-use Rattle.c25_meaning.specs.Module.{field_values}
-use Rattle.c25_meaning.specs.RelocatedInsn.{HasField}
-use Rattle.c25_meaning.specs.Statement.{form_field, insn_of, relocation_of}
-use Rattle.c25_meaning.specs.Table.{Reads, words}
-use Rattle.c25_meaning.specs.declared.assembly.Address.{Address}
-use Rattle.c25_meaning.specs.declared.assembly.Target.TheVariants as target
-use Rattle.c25_meaning.specs.declared.insn.Insn.{Insn}
-use Rattle.c25_meaning.specs.declared.insn.Insn.TheVariants as insn
-use Rattle.c25_meaning.specs.declared.mnemonic.LongMemName.{LongMemName}
-use Rattle.c25_meaning.specs.declared.relocation.RelocationKind.{RelocationKind}
-use Rattle.c25_meaning.specs.declared.relocation.RelocationKind.TheVariants as kind
-use Rattle.c25_meaning.specs.declared.statement.AddrForm.{AddrForm}
-use Rattle.c25_meaning.specs.declared.statement.Form.{Form}
-use Rattle.c25_meaning.specs.declared.statement.Form.TheVariants as form
-use Rattle.c25_laws.proofs.AddressFields.{IsAlone, IsField, alone, field_word, form_fields, long_mem_first}
-use Rattle.c25_laws.proofs.Chains.{Chain, chain_bound}
-use Rattle.c25_laws.proofs.Counted.{FitForm}
+use Rattle.c25_instruction_laws.proofs.RelocatedFields.{filled_zero, low_reads, page_reads, word_reads}
+use Rattle.c25_meaning_assembly.specs.OperandFields.{word_of}
+use Rattle.c25_meaning_common.specs.Fields.{filled}
+use Rattle.c25_meaning_common.specs.Fields.{field_values}
+use Rattle.c25_meaning_instructions.specs.RelocatedInsn.{HasField}
+use Rattle.c25_meaning_language.specs.Statement.{form_field, insn_of, relocation_of}
+use Rattle.c25_meaning_instructions.specs.Table.{Reads, words}
+use Rattle.c25_meaning_assembly.specs.declared.assembly.Address.{Address}
+use Rattle.c25_meaning_assembly.specs.declared.assembly.Target.TheVariants as target
+use Rattle.c25_meaning_instructions.specs.declared.insn.Insn.{Insn}
+use Rattle.c25_meaning_instructions.specs.declared.insn.Insn.TheVariants as insn
+use Rattle.c25_meaning_instructions.specs.declared.mnemonic.LongMemName.{LongMemName}
+use Rattle.c25_meaning_common.specs.declared.relocation.RelocationKind.{RelocationKind}
+use Rattle.c25_meaning_common.specs.declared.relocation.RelocationKind.TheVariants as kind
+use Rattle.c25_meaning_language.specs.declared.statement.AddrForm.{AddrForm}
+use Rattle.c25_meaning_language.specs.declared.statement.Form.{Form}
+use Rattle.c25_meaning_language.specs.declared.statement.Form.TheVariants as form
+use Rattle.c25_module_laws.proofs.AddressFields.{IsAlone, IsField, alone, field_word, form_fields, long_mem_first}
+use Rattle.c25_module_laws.proofs.Chains.{Chain, chain_bound}
+use Rattle.c25_module_laws.proofs.Counted.{FitForm}
 use Rattle.c25_laws.proofs.Members.{behind_in, in_front, nothing_in}
-use Rattle.c25_laws.proofs.OperandSheets.{IsAddress}
+use Rattle.c25_module_laws.proofs.OperandSheets.{IsAddress}
 
 -- addresses of these numbers, whatever they count from
 abbrev pub Ascend : Form → List ℕ → ℕ → List Address → Type 0

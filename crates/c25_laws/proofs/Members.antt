@@ -5,7 +5,7 @@ use Rattle.std.specs.List.{AllByRecursion, Contains}
 use Rattle.std.specs.List.Sorted.{IsPermutation}
 use Rattle.std.proofs.lemmas.List.Elements.{All-contains, All-contains_itself, All-from_recursion, Contains-append_cases, Contains-append_right}
 use Rattle.std.proofs.lemmas.List.Sorted.{All-permutation, IsPermutation-reverse, IsPermutation-sym}
-use Rattle.c25_meaning.specs.Module.{each_fits}
+use Rattle.c25_meaning_objects.specs.Module.{each_fits}
 
 pub nothing_in : {X : Type 0} (x : X) → Contains [] x → ⊥
 nothing_in x h = let l = h.1 in omega (arith, l)

@@ -9,15 +9,15 @@ use Rattle.std.proofs.lemmas.Bool.{eqb-true}
 use Rattle.std.proofs.lemmas.Bool.Decides.{nat_tests}
 use Rattle.std.proofs.lemmas.List.Elements.{All-contains}
 use Rattle.std.proofs.lemmas.List.Sorted.{IsPermutation-sym}
-use Rattle.c25_meaning.specs.FirstState.{first_of_pages, memory_of_map}
-use Rattle.c25_meaning.specs.Marks.{fit_from, fits_behind}
-use Rattle.c25_meaning.specs.State.{is_code, size_at}
-use Rattle.c25_meaning.specs.Statements.{IsImageOf, Statement, marks_of, statement_at}
-use Rattle.c25_meaning.specs.Statements as statements
-use Rattle.c25_meaning.specs.Table.{Reads, size_of}
-use Rattle.c25_meaning.specs.declared.insn.Insn.{Insn}
-use Rattle.c25_meaning.specs.declared.insn.Insn.TheVariants as insn
-use Rattle.c25_meaning.specs.declared.mark.Mark.{Mark}
+use Rattle.c25_meaning_processor.specs.FirstState.{first_of_pages, memory_of_map}
+use Rattle.c25_meaning_image.specs.Marks.{fit_from, fits_behind}
+use Rattle.c25_meaning_image.specs.Marks.{is_code, size_at}
+use Rattle.c25_meaning_processor.specs.Statements.{IsImageOf, Statement, marks_of, statement_at}
+use Rattle.c25_meaning_processor.specs.Statements as statements
+use Rattle.c25_meaning_instructions.specs.Table.{Reads, size_of}
+use Rattle.c25_meaning_instructions.specs.declared.insn.Insn.{Insn}
+use Rattle.c25_meaning_instructions.specs.declared.insn.Insn.TheVariants as insn
+use Rattle.c25_meaning_image.specs.declared.mark.Mark.{Mark}
 use Rattle.c25_laws.proofs.Members.{behind_in, first_in, found_in, in_front, in_map, in_permuted, none_found, nothing_in}
 use Rattle.c25_laws.specs.ProgramStatements.{AreMarksOf, ReadsAs}
 

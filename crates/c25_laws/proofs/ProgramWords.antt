@@ -9,25 +9,25 @@ use Rattle.std.proofs.lemmas.Bool.{eq-eqb, eqb-true}
 use Rattle.std.proofs.lemmas.Bool.Decides.{nat_tests}
 use Rattle.std.proofs.lemmas.List.Elements.{All-contains, All-from_recursion}
 use Rattle.std.proofs.lemmas.Option.{slice_get-get_or}
-use Rattle.c25_meaning.proofs.Placing.{some_word}
-use Rattle.c25_meaning.proofs.RelocatedFields.{number_below}
-use Rattle.c25_meaning.specs.Addresses.{ends_first, in_order, relocation_at}
-use Rattle.c25_meaning.specs.Command.{CommandData}
-use Rattle.c25_meaning.specs.Fields.{field_number}
-use Rattle.c25_meaning.specs.Files.{Files}
-use Rattle.c25_meaning.specs.InstructionStatements.{Instruction, insn_with_zeros}
-use Rattle.c25_meaning.specs.Linking.{ImageData, IsProgram, HasWords}
-use Rattle.c25_meaning.specs.Module.{Contents, IsModule, SectionData, body_words, each_fits, has_sections, last_of, lists_fit, mark_after, mark_fits, section_fits}
-use Rattle.c25_meaning.specs.Module as contents
-use Rattle.c25_meaning.specs.Place.{Place, page_of, part_base}
-use Rattle.c25_meaning.specs.Statement.{insn_of}
-use Rattle.c25_meaning.specs.Table.{Reads}
-use Rattle.c25_meaning.specs.Words.{is_relocation_at, linked_word, relocated, section_base, section_page}
-use Rattle.c25_meaning.specs.declared.assembly.Address.{Address}
-use Rattle.c25_meaning.specs.declared.assembly.Target.TheVariants as target
-use Rattle.c25_meaning.specs.declared.object.ModuleMark.{ModuleMark}
-use Rattle.c25_meaning.specs.declared.object.Relocation.{Relocation}
-use Rattle.c25_meaning.specs.declared.statement.Form.{Form}
+use Rattle.c25_run_laws.proofs.Sizes.{some_word}
+use Rattle.c25_instruction_laws.proofs.RelocatedFields.{number_below}
+use Rattle.c25_meaning_assembly.specs.Addresses.{ends_first, in_order, relocation_at}
+use Rattle.c25_meaning_commands.specs.Command.{CommandData}
+use Rattle.c25_meaning_common.specs.Fields.{field_number}
+use Rattle.c25_meaning_expansion.specs.Files.{Files}
+use Rattle.c25_meaning_assembly.specs.InstructionStatements.{Instruction, insn_with_zeros}
+use Rattle.c25_meaning_linking.specs.Linking.{ImageData, IsProgram, HasWords}
+use Rattle.c25_meaning_objects.specs.Module.{Contents, IsModule, SectionData, body_words, each_fits, has_sections, last_of, lists_fit, mark_after, mark_fits, section_fits}
+use Rattle.c25_meaning_objects.specs.Module as contents
+use Rattle.c25_meaning_linking.specs.Place.{Place, page_of, part_base}
+use Rattle.c25_meaning_language.specs.Statement.{insn_of}
+use Rattle.c25_meaning_instructions.specs.Table.{Reads}
+use Rattle.c25_meaning_linking.specs.Words.{is_relocation_at, linked_word, relocated, section_base, section_page}
+use Rattle.c25_meaning_assembly.specs.declared.assembly.Address.{Address}
+use Rattle.c25_meaning_assembly.specs.declared.assembly.Target.TheVariants as target
+use Rattle.c25_meaning_objects.specs.declared.object.ModuleMark.{ModuleMark}
+use Rattle.c25_meaning_objects.specs.declared.object.Relocation.{Relocation}
+use Rattle.c25_meaning_language.specs.declared.statement.Form.{Form}
 use Rattle.c25_laws.proofs.FieldsFilled.{AreApart, apart, fill, fill_none, fill_one, filled_reads, place}
 use Rattle.c25_laws.proofs.Members.{behind_in, each_in, first_in, fits_in, found_in, from_filter, from_map, from_reversed, in_filter, in_map, in_reversed, none_found}
 use Rattle.c25_laws.proofs.ProgramMarks.{size_of_form}
@@ -35,7 +35,9 @@ use Rattle.c25_laws.proofs.SourcesRead.{AreRead, IsRead, sources_read}
 use Rattle.c25_laws.proofs.StatementWords.{both_hold}
 use Rattle.c25_laws.proofs.StatementsOfSources.{HasOperands}
 use Rattle.c25_laws.specs.ModuleStatements.{AreStatements, IsAssembled, IsWithin, mark_of, relocations_in, word_at, words_of_statement}
-use Rattle.c25_laws.specs.ProgramStatements.{AreModulesOf, ReadsAs, program_statements, statements_in, address_value, module_statements, operand_numbers, placed_statement, stands_on_program, statements_from}
+use Rattle.c25_laws.proofs.SheetStatements.{sheet_statements, statements_in, address_value, module_statements, operand_numbers, placed_statement, stands_on, statements_by}
+use Rattle.c25_laws.proofs.StatementsUnder.{statements_are}
+use Rattle.c25_laws.specs.ProgramStatements.{AreModulesOf, ReadsAs, page_statements, program_statements}
 
 -- the words of a section, if there is one
 abbrev words_by : Option SectionData → List ℕ
@@ -149,9 +151,9 @@ has_room m is i module_is h c = by (slice_get m.sections i.section) refl (room_i
 
 -- ---- where a statement stands in the program
 
-module _ (modules : List Contents) (places : List Place) (page : finite.FinMap nat_cmp ℕ) (has : HasWords modules places 0 page) where
+module _ (modules : List Contents) (places : List Place) (q : ℕ) (page : finite.FinMap nat_cmp ℕ) (has : HasWords modules places q page) where
   -- a word of a statement in the program
-  word_there : (number : ℕ) (m : Contents) (i : Instruction) (k : ℕ) → slice_get modules number ≡ Some m → stands_on_program places m i ≡ true → HasRoom m i → k < words_of_statement i
+  word_there : (number : ℕ) (m : Contents) (i : Instruction) (k : ℕ) → slice_get modules number ≡ Some m → stands_on q places m i ≡ true → HasRoom m i → k < words_of_statement i
       → finite.get page (section_base modules places number m i.section + i.offset + k) ≡ Some (linked_word modules places number m i.section (i.offset + k) (word_at m i.section (i.offset + k)))
   word_there number m i k owner on h l =
       let s = h.section in
@@ -159,7 +161,7 @@ module _ (modules : List Contents) (places : List Place) (page : finite.FinMap n
       let below : i.offset + k < length (body_words s.body) = omega (arith, l, room) in
       let base : section_base modules places number m i.section ≡ part_base modules places number s.name = ap (λ (o : Option SectionData). option_map_or (λ x. part_base modules places number x.name) o 0) h.section_is in
       let page_is : section_page places m i.section ≡ page_of s.name places = ap (λ (o : Option SectionData). option_map_or (λ x. page_of x.name places) o 0) h.section_is in
-      let zero_is = eqb-true (section_page places m i.section) 0 on in
+      let zero_is = eqb-true (section_page places m i.section) q on in
       let ws : contents.words_at m.sections i.section ≡ body_words s.body = ap words_by h.section_is in
       (has (section_base modules places number m i.section + i.offset + k) (linked_word modules places number m i.section (i.offset + k) (word_at m i.section (i.offset + k)))).1
       (record {
@@ -176,7 +178,7 @@ module _ (modules : List Contents) (places : List Place) (page : finite.FinMap n
         linked = refl;
       })
 
-  pub statement_reads : (number : ℕ) (m : Contents) (is : List Instruction) (i : Instruction) → slice_get modules number ≡ Some m → IsRead m is → Contains is i → stands_on_program places m i ≡ true → ReadsAs page (placed_statement modules places number m i)
+  pub statement_reads : (number : ℕ) (m : Contents) (is : List Instruction) (i : Instruction) → slice_get modules number ≡ Some m → IsRead m is → Contains is i → stands_on q places m i ≡ true → ReadsAs page (placed_statement modules places number m i)
   statement_reads number m is i owner h c on =
       let assembled = All-contains (IsAssembled m) is i (h.said).each c in
       let operands = each_in HasOperands is i h.operands c in
@@ -201,13 +203,13 @@ module _ (modules : List Contents) (places : List Place) (page : finite.FinMap n
   -- ---- all statements
 
   pub all_read : (number : ℕ) (ms : List Contents) (all : List (List Instruction)) → ((k : ℕ) (m : Contents) → slice_get ms k ≡ Some m → slice_get modules (number + k) ≡ Some m) → AreRead ms all
-      → AllByRecursion (ReadsAs page) (statements_from modules places number ms all)
+      → AllByRecursion (ReadsAs page) (statements_by modules places q number ms all)
   all_read number [] [] at h = tt
   all_read number [] (is ∷ all) at h = absurd h
   all_read number (m ∷ ms) [] at h = absurd h
   all_read number (m ∷ ms) (is ∷ all) at h =
-      both_hold (ReadsAs page) (module_statements modules places number m is) (statements_from modules places (number + 1) ms all)
-      (own (filter (stands_on_program places m) is) (λ i c. from_filter (stands_on_program places m) is i c))
+      both_hold (ReadsAs page) (module_statements modules places q number m is) (statements_by modules places q (number + 1) ms all)
+      (own (filter (stands_on q places m) is) (λ i c. from_filter (stands_on q places m) is i c))
       (all_read (number + 1) ms all (λ k c e. ap (slice_get modules) (next k) ∙ at (suc k) c e) h.1)
     where
       next : (k : ℕ) → number + 1 + k ≡ number + suc k
@@ -216,13 +218,29 @@ module _ (modules : List Contents) (places : List Place) (page : finite.FinMap n
       here : slice_get modules number ≡ Some m
       here = let z : number ≡ number + 0 = omega arith in ap (slice_get modules) z ∙ at 0 m refl
 
-      own : (some : List Instruction) → ((i : Instruction) → Contains some i → Contains is i × (stands_on_program places m i ≡ true)) → AllByRecursion (ReadsAs page) (map (placed_statement modules places number m) some)
+      own : (some : List Instruction) → ((i : Instruction) → Contains some i → Contains is i × (stands_on q places m i ≡ true)) → AllByRecursion (ReadsAs page) (map (placed_statement modules places number m) some)
       own [] f = tt
       own (i ∷ some) f = let g = f i (first_in i some) in (statement_reads number m is i here h.0 g.0 g.1, own some (λ j c. f j (behind_in i j some c)))
 
+sheet_words : (files : Files) (names : List (List ℕ)) (modules : List Contents) (places : List Place) (q : ℕ) (page : finite.FinMap nat_cmp ℕ) → AreModulesOf files names modules → HasWords modules places q page
+    → All (ReadsAs page) (sheet_statements q files names modules places)
+sheet_words files names modules places q page of has =
+    All-from_recursion (ReadsAs page) (sheet_statements q files names modules places)
+    (all_read modules places q page has 0 modules (map (statements_in files) names)
+    (λ k m at. (let z : 0 + k ≡ k = omega arith in ap (slice_get modules) z) ∙ at) (sources_read files names modules of))
+
+-- the words of a page read as its sources' statements
+pub page_words_are : (files : Files) (names : List (List ℕ)) (modules : List Contents) (places : List Place) (q : ℕ) (page : finite.FinMap nat_cmp ℕ) → AreModulesOf files names modules → HasWords modules places q page
+    → All (ReadsAs page) (page_statements q files names modules places)
+page_words_are files names modules places q page of has =
+    subst (All (ReadsAs page)) (sym (statements_are q files names modules places of)) (sheet_words files names modules places q page of has)
+
+-- the words of a program do
 pub words_are : (files : Files) (names : List (List ℕ)) (modules : List Contents) (command : CommandData) (image : ImageData) → AreModulesOf files names modules → (p : IsProgram modules command image)
     → All (ReadsAs image.program) (program_statements files names modules p.places)
-words_are files names modules command image of p =
-    All-from_recursion (ReadsAs image.program) (program_statements files names modules p.places)
-    (all_read modules p.places image.program p.program 0 modules (map (statements_in files) names)
-    (λ k m at. (let z : 0 + k ≡ k = omega arith in ap (slice_get modules) z) ∙ at) (sources_read files names modules of))
+words_are files names modules command image of p = page_words_are files names modules p.places 0 image.program of p.program
+
+-- and those of its other page
+pub stored_words_are : (files : Files) (names : List (List ℕ)) (modules : List Contents) (command : CommandData) (image : ImageData) → AreModulesOf files names modules → (p : IsProgram modules command image)
+    → All (ReadsAs image.store) (page_statements 1 files names modules p.places)
+stored_words_are files names modules command image of p = page_words_are files names modules p.places 1 image.store of p.store

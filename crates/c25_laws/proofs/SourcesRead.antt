@@ -2,16 +2,20 @@
 use Rattle.std.proofs.Common.{◌≡◌, ℕ, List, [], ◌∷◌, ◌++◌, map, Result, Ok, refl, ap, sym, ◌∙◌, subst}
 use Rattle.std.specs.List.{AllByRecursion}
 use Rattle.std.proofs.lemmas.List.{append-nil, append_assoc}
-use Rattle.c25_meaning.specs.Files.{Files}
-use Rattle.c25_meaning.specs.InstructionStatements.{Instruction}
-use Rattle.c25_meaning.specs.Module.{Contents, IsModule}
-use Rattle.c25_meaning.specs.ModuleOfSource.{Assembled, assembled}
-use Rattle.c25_meaning.specs.Results.{fold_ok}
-use Rattle.c25_laws.proofs.ModulesOfSources.{source_good}
-use Rattle.c25_laws.proofs.ResultSteps.{bound}
+use Rattle.c25_meaning_expansion.specs.Files.{Files}
+use Rattle.c25_meaning_assembly.specs.InstructionStatements.{Instruction}
+use Rattle.c25_meaning_objects.specs.Module.{Contents, IsModule}
+use Rattle.c25_meaning_language.specs.ExpansionFault.{ExpansionFault}
+use Rattle.c25_meaning_expansion.specs.ExpansionRuns.{start_of}
+use Rattle.c25_meaning_sources.specs.ModuleOfSource.{Assembled, Passed, assembled, completed, passed_from}
+use Rattle.c25_meaning_common.specs.Results.{◌>>=◌, fold_ok}
+use Rattle.c25_module_laws.proofs.ModulesOfSources.{source_good}
+use Rattle.c25_module_laws.proofs.ResultSteps.{bound}
 use Rattle.c25_laws.proofs.StatementsOfSources.{HasOperands, source_read}
-use Rattle.c25_laws.specs.ModuleStatements.{AreStatements, instructions_in}
-use Rattle.c25_laws.specs.ProgramStatements.{AreModulesOf, statements_in, without_fault}
+use Rattle.c25_laws.specs.ModuleStatements.{AreStatements}
+use Rattle.c25_laws.proofs.SheetStatements.{statements_in, without_fault}
+use Rattle.c25_laws.specs.ProgramStatements as program
+use Rattle.c25_laws.specs.ProgramStatements.{AreModulesOf, lines_in, lines_of}
 
 -- a module and its statements
 pub record IsRead (m : Contents) (statements : List Instruction) : Type 0 where
@@ -32,9 +36,13 @@ one_read files name a e =
     let same : statements_in files name ≡ r.0 = ap without_fault r.1 in
     subst (IsRead a.contents) (sym same) (record { module_is = source_good files name a e; said = r.2; operands = r.3 })
 
--- a source that has a module has statements
-pub source_statements : (files : Files) (name : List ℕ) (a : Assembled) → assembled files name ≡ Ok a → instructions_in files name ≡ Ok (statements_in files name)
-source_statements files name a e = let r = source_read files name a e in r.1 ∙ ap Ok (sym (ap without_fault r.1))
+-- the lines of a source that has a module have no fault
+pub source_lines : (files : Files) (name : List ℕ) (a : Assembled) → assembled files name ≡ Ok a → lines_of files name ≡ Ok (lines_in files name)
+unfolding assembled
+source_lines files name a e =
+    let b = bound (passed_from files name (start_of files name)) (λ b. completed b) a e in
+    let made : lines_of files name ≡ Ok (b.0).progress = ap (λ (r : Result Passed ExpansionFault). r >>= λ (x : Passed). Ok x.progress) b.1 in
+    made ∙ ap Ok (sym (ap program.without_fault made))
 
 pub sources_read : (files : Files) (names : List (List ℕ)) (modules : List Contents) → AreModulesOf files names modules → AreRead modules (map (statements_in files) names)
 sources_read files [] [] h = tt

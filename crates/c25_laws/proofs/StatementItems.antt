@@ -4,23 +4,24 @@ use Rattle.std.specs.List.{AllByRecursion, flat_map}
 use Rattle.std.proofs.lemmas.Bool.{eq-eqb, eqb-true, false≢true, ne_eqb}
 use Rattle.std.proofs.lemmas.List.{append-nil, append_assoc, map-append}
 use Rattle.std.proofs.lemmas.List.Elements.{filter-append}
-use Rattle.c25_meaning.specs.Addresses.{FitsTarget, Sheet, relocations_of, sheet_of, words_of}
-use Rattle.c25_meaning.specs.Emission.{at_origin, table_at}
-use Rattle.c25_meaning.specs.ExpansionAnswers.{ExpansionFault}
-use Rattle.c25_meaning.specs.InstructionStatements.{Instruction, insn_with_zeros, statement_by, with_statement}
-use Rattle.c25_meaning.specs.Results.{◌>>=◌, fold_ok}
-use Rattle.c25_meaning.specs.Sections.{Content, Definitions, Exported, Item, Operands, Section, Words, Zeros}
-use Rattle.c25_meaning.specs.Table.{words}
-use Rattle.c25_meaning.specs.declared.assembly.Target.TheVariants as target
-use Rattle.c25_meaning.specs.declared.object.ModuleMark.{ModuleMark}
-use Rattle.c25_meaning.specs.declared.statement.FaultKind.{FaultKind}
-use Rattle.c25_meaning.specs.declared.statement.Form.{Form}
-use Rattle.c25_meaning.specs.declared.value.Base.{Base}
-use Rattle.c25_laws.proofs.Counted.{FitForm}
-use Rattle.c25_laws.proofs.Emitted.{Give, Made, filled_from, made_by}
-use Rattle.c25_laws.proofs.Kept.{Head, heads, is_code, mark_by, mark_there, marks_in, marks_part}
-use Rattle.c25_laws.proofs.ModuleFits.{AllFrom}
-use Rattle.c25_laws.proofs.OperandSheets.{AreAddresses}
+use Rattle.c25_meaning_assembly.specs.Addresses.{Sheet, relocations_of, sheet_of, words_of}
+use Rattle.c25_meaning_assembly.specs.OperandFields.{FitsTarget}
+use Rattle.c25_meaning_assembly.specs.Emission.{at_origin, table_at}
+use Rattle.c25_meaning_language.specs.ExpansionFault.{ExpansionFault}
+use Rattle.c25_meaning_assembly.specs.InstructionStatements.{Instruction, insn_with_zeros, statement_by, with_statement}
+use Rattle.c25_meaning_common.specs.Results.{◌>>=◌, fold_ok}
+use Rattle.c25_meaning_assembly.specs.Sections.{Content, Definitions, Exported, Item, Operands, Section, Words, Zeros}
+use Rattle.c25_meaning_instructions.specs.Table.{words}
+use Rattle.c25_meaning_assembly.specs.declared.assembly.Target.TheVariants as target
+use Rattle.c25_meaning_objects.specs.declared.object.ModuleMark.{ModuleMark}
+use Rattle.c25_meaning_language.specs.declared.statement.FaultKind.{FaultKind}
+use Rattle.c25_meaning_language.specs.declared.statement.Form.{Form}
+use Rattle.c25_meaning_language.specs.declared.value.Base.{Base}
+use Rattle.c25_module_laws.proofs.Counted.{FitForm}
+use Rattle.c25_module_laws.proofs.Emitted.{Give, Made, filled_from, made_by}
+use Rattle.c25_module_laws.proofs.Kept.{Head, heads, is_code, mark_by, mark_there, marks_in, marks_part}
+use Rattle.c25_module_laws.proofs.ModuleFits.{AllFrom}
+use Rattle.c25_module_laws.proofs.OperandSheets.{AreAddresses}
 use Rattle.c25_laws.specs.ModuleStatements.{mark_of, relocations_in}
 
 -- ---- statements

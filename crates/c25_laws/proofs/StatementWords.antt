@@ -5,39 +5,40 @@ use Rattle.std.specs.Option.{option_to_list}
 use Rattle.std.proofs.lemmas.Bool.{eqb-true}
 use Rattle.std.proofs.lemmas.List.{append_assoc, length-append, get_or-append-add}
 use Rattle.std.proofs.lemmas.List.Elements.{Contains-append_cases, Contains-append_left, Contains-append_right}
-use Rattle.c25_meaning.proofs.Numbers.{in_range}
-use Rattle.c25_meaning.specs.Addresses.{Sheet, relocation_at, relocations_of, sheet_of, words_of, field_of}
-use Rattle.c25_meaning.specs.Emission.{is_here, table_at}
-use Rattle.c25_meaning.specs.InstructionStatements.{Instruction, insn_with_zeros}
-use Rattle.c25_meaning.specs.Place.{Covers}
-use Rattle.c25_meaning.specs.Results.{◌>>=◌}
-use Rattle.c25_meaning.specs.Sections.{Content, Definitions, Exported, Item, Operands, Words, Zeros, place}
-use Rattle.c25_meaning.specs.Statement.{relocation_of}
-use Rattle.c25_meaning.specs.Table.{Reads, opcode_word, second_word, words}
-use Rattle.c25_meaning.specs.Tree.{Tree}
-use Rattle.c25_meaning.specs.Value.{defined, named_by, predefined}
-use Rattle.c25_meaning.specs.declared.assembly.Address.{Address}
-use Rattle.c25_meaning.specs.declared.assembly.Target.TheVariants as target
-use Rattle.c25_meaning.specs.declared.object.Relocation.{Relocation}
-use Rattle.c25_meaning.specs.declared.relocation.RelocationKind.{RelocationKind}
-use Rattle.c25_meaning.specs.declared.relocation.RelocationKind.TheVariants.{Word16}
-use Rattle.c25_meaning.specs.declared.statement.FaultKind.{FaultKind}
-use Rattle.c25_meaning.specs.declared.statement.FaultKind.TheVariants as fault
-use Rattle.c25_meaning.specs.declared.statement.Form.{Form}
-use Rattle.c25_meaning.specs.declared.value.Base.{Base}
-use Rattle.c25_meaning.specs.declared.value.Base.TheVariants.{Absolute}
-use Rattle.c25_meaning.specs.declared.value.Value.{Value}
-use Rattle.c25_laws.proofs.AddressFields.{form_size}
-use Rattle.c25_laws.proofs.Chains.{Chain, chain_bound}
-use Rattle.c25_laws.proofs.Counted.{FitForm, IsCount}
-use Rattle.c25_laws.proofs.Emitted.{Give, Made, made_by, relocations_at, relocations_here, relocations_part, words_at, words_here, words_part}
-use Rattle.c25_laws.proofs.Kept.{AreLaid, IsGoodContent, part, part_here, total, words_in}
-use Rattle.c25_laws.proofs.LineWords.{IsFilled}
-use Rattle.c25_laws.proofs.OperandSheets.{IsAddress, sheet_made}
-use Rattle.c25_laws.proofs.ResultSteps.{bound, permitted}
-use Rattle.c25_laws.proofs.SectionsFilled.{AreMadeOf, section_filled, zero_count}
+use Rattle.c25_meaning_language.proofs.Numbers.{in_range}
+use Rattle.c25_meaning_assembly.specs.Addresses.{Sheet, relocation_at, relocations_of, sheet_of, words_of}
+use Rattle.c25_meaning_assembly.specs.OperandFields.{field_of}
+use Rattle.c25_meaning_assembly.specs.Emission.{is_here, table_at}
+use Rattle.c25_meaning_assembly.specs.InstructionStatements.{Instruction, insn_with_zeros}
+use Rattle.c25_meaning_linking.specs.Place.{Covers}
+use Rattle.c25_meaning_common.specs.Results.{◌>>=◌}
+use Rattle.c25_meaning_assembly.specs.Sections.{Content, Definitions, Exported, Item, Operands, Words, Zeros, place}
+use Rattle.c25_meaning_language.specs.Statement.{relocation_of}
+use Rattle.c25_meaning_instructions.specs.Table.{Reads, opcode_word, second_word, words}
+use Rattle.c25_meaning_language.specs.Tree.{Tree}
+use Rattle.c25_meaning_language.specs.Value.{defined, named_by, predefined}
+use Rattle.c25_meaning_assembly.specs.declared.assembly.Address.{Address}
+use Rattle.c25_meaning_assembly.specs.declared.assembly.Target.TheVariants as target
+use Rattle.c25_meaning_objects.specs.declared.object.Relocation.{Relocation}
+use Rattle.c25_meaning_common.specs.declared.relocation.RelocationKind.{RelocationKind}
+use Rattle.c25_meaning_common.specs.declared.relocation.RelocationKind.TheVariants.{Word16}
+use Rattle.c25_meaning_language.specs.declared.statement.FaultKind.{FaultKind}
+use Rattle.c25_meaning_language.specs.declared.statement.FaultKind.TheVariants as fault
+use Rattle.c25_meaning_language.specs.declared.statement.Form.{Form}
+use Rattle.c25_meaning_language.specs.declared.value.Base.{Base}
+use Rattle.c25_meaning_language.specs.declared.value.Base.TheVariants.{Absolute}
+use Rattle.c25_meaning_language.specs.declared.value.Value.{Value}
+use Rattle.c25_module_laws.proofs.AddressFields.{form_size}
+use Rattle.c25_module_laws.proofs.Chains.{Chain, chain_bound}
+use Rattle.c25_module_laws.proofs.Counted.{FitForm, IsCount}
+use Rattle.c25_module_laws.proofs.Emitted.{Give, Made, made_by, relocations_at, relocations_here, relocations_part, words_at, words_here, words_part}
+use Rattle.c25_module_laws.proofs.Kept.{AreLaid, IsGoodContent, part, part_here, total, words_in}
+use Rattle.c25_module_laws.proofs.LineWords.{IsFilled}
+use Rattle.c25_module_laws.proofs.OperandSheets.{IsAddress, sheet_made}
+use Rattle.c25_module_laws.proofs.ResultSteps.{bound, permitted}
+use Rattle.c25_module_laws.proofs.SectionsFilled.{AreMadeOf, section_filled, zero_count}
 use Rattle.c25_laws.proofs.StatementItems.{IsStatementOf, said_by, said_in, with_operands}
-use Rattle.c25_laws.proofs.Valued.{IsGoodValue}
+use Rattle.c25_module_laws.proofs.Valued.{IsGoodValue}
 use Rattle.c25_laws.specs.ModuleStatements.{relocations_in, words_of_statement}
 
 -- ---- what items give, by their statements

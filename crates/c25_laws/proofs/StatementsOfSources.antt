@@ -2,38 +2,38 @@
 use Rattle.std.proofs.Common.{◌≡◌, ℕ, zero, suc, ◌+◌, ◌<◌, true, List, [], ◌∷◌, ◌++◌, length, slice_index, Some, Result, Ok, refl, sym, ap, ◌∙◌, subst, arith, ◌⊎◌, inl, inr}
 use Rattle.std.specs.List.{AllByRecursion, Contains, flat_map, slice_get}
 use Rattle.std.proofs.lemmas.List.Elements.{All-contains_itself, All-from_recursion, All-weaker, Contains-append_cases, Contains-append_left, Contains-append_right}
-use Rattle.c25_meaning.specs.Emission.{all_names, finished, module_with}
-use Rattle.c25_meaning.specs.ExpansionAnswers.{ExpansionFault}
-use Rattle.c25_meaning.specs.ExpansionRuns.{start_of}
-use Rattle.c25_meaning.specs.Files.{Files}
-use Rattle.c25_meaning.specs.InstructionStatements.{Instruction, insn_with_zeros, instructions_of}
-use Rattle.c25_meaning.specs.Module as modules
-use Rattle.c25_meaning.specs.Module.{Contents}
-use Rattle.c25_meaning.specs.ModuleOfSource.{Assembled, Passed, assembled, completed, passed_from}
-use Rattle.c25_meaning.specs.Results.{◌>>=◌}
-use Rattle.c25_meaning.specs.Sections.{Definitions, Item, Progress, Section}
-use Rattle.c25_meaning.specs.Table.{Reads}
-use Rattle.c25_meaning.specs.declared.assembly.Address.{Address}
-use Rattle.c25_meaning.specs.declared.assembly.Target.TheVariants as target
-use Rattle.c25_meaning.specs.declared.object.Relocation.{Relocation}
-use Rattle.c25_meaning.specs.declared.relocation.RelocationKind.TheVariants.{Word16}
-use Rattle.c25_meaning.specs.declared.value.Base.{Base}
-use Rattle.c25_laws.proofs.AddressFields.{form_fields}
-use Rattle.c25_laws.proofs.Chains.{Chain, chain_bound, chain_weaker}
-use Rattle.c25_laws.proofs.Counted.{FitForm}
-use Rattle.c25_laws.proofs.Emitted.{Give, Made, filled_from, relocations_at, words_at}
-use Rattle.c25_laws.proofs.Kept.{Head, heads, is_code, marks_in, total}
-use Rattle.c25_laws.proofs.KeptActs.{code_section}
-use Rattle.c25_laws.proofs.KeptLines.{IsMade, source_made}
-use Rattle.c25_laws.proofs.LineWords.{IsFilled}
-use Rattle.c25_laws.proofs.ModuleFits.{AllFrom, all_sections}
-use Rattle.c25_laws.proofs.ModulesOfSources.{base_in, finished_is, items_placed, made_good, words_in_module}
-use Rattle.c25_laws.proofs.OperandSheets.{AreAddresses, IsAddress}
-use Rattle.c25_laws.proofs.ResultSteps.{bound}
-use Rattle.c25_laws.proofs.SectionsFilled.{AreMadeOf, laid_within, section_filled}
+use Rattle.c25_meaning_assembly.specs.Emission.{all_names, finished, module_with}
+use Rattle.c25_meaning_language.specs.ExpansionFault.{ExpansionFault}
+use Rattle.c25_meaning_expansion.specs.ExpansionRuns.{start_of}
+use Rattle.c25_meaning_expansion.specs.Files.{Files}
+use Rattle.c25_meaning_assembly.specs.InstructionStatements.{Instruction, insn_with_zeros, instructions_of}
+use Rattle.c25_meaning_objects.specs.Module as modules
+use Rattle.c25_meaning_objects.specs.Module.{Contents}
+use Rattle.c25_meaning_sources.specs.ModuleOfSource.{Assembled, Passed, assembled, completed, passed_from}
+use Rattle.c25_meaning_common.specs.Results.{◌>>=◌}
+use Rattle.c25_meaning_assembly.specs.Sections.{Definitions, Item, Progress, Section}
+use Rattle.c25_meaning_instructions.specs.Table.{Reads}
+use Rattle.c25_meaning_assembly.specs.declared.assembly.Address.{Address}
+use Rattle.c25_meaning_assembly.specs.declared.assembly.Target.TheVariants as target
+use Rattle.c25_meaning_objects.specs.declared.object.Relocation.{Relocation}
+use Rattle.c25_meaning_common.specs.declared.relocation.RelocationKind.TheVariants.{Word16}
+use Rattle.c25_meaning_language.specs.declared.value.Base.{Base}
+use Rattle.c25_module_laws.proofs.AddressFields.{form_fields}
+use Rattle.c25_module_laws.proofs.Chains.{Chain, chain_bound, chain_weaker}
+use Rattle.c25_module_laws.proofs.Counted.{FitForm}
+use Rattle.c25_module_laws.proofs.Emitted.{Give, Made, filled_from, relocations_at, words_at}
+use Rattle.c25_module_laws.proofs.Kept.{Head, heads, is_code, marks_in, total}
+use Rattle.c25_module_laws.proofs.KeptActs.{code_section}
+use Rattle.c25_module_laws.proofs.KeptLines.{IsMade, source_made}
+use Rattle.c25_module_laws.proofs.LineWords.{IsFilled}
+use Rattle.c25_module_laws.proofs.ModuleFits.{AllFrom, all_sections}
+use Rattle.c25_module_laws.proofs.ModulesOfSources.{base_in, finished_is, items_placed, made_good, words_in_module}
+use Rattle.c25_module_laws.proofs.OperandSheets.{AreAddresses, IsAddress}
+use Rattle.c25_module_laws.proofs.ResultSteps.{bound}
+use Rattle.c25_module_laws.proofs.SectionsFilled.{AreMadeOf, laid_within, section_filled}
 use Rattle.c25_laws.proofs.StatementItems.{IsStatementOf, all_said, marks_of_section, marks_said, said_by, said_in}
 use Rattle.c25_laws.proofs.StatementWords.{AreSaid, HasOwn, ReadsAt, all_said_of, both_facts, both_hold, chain_has, each_holds, own_relocations, relocations_are_of, relocations_there_are, words_read}
-use Rattle.c25_laws.proofs.Symbols.{all_known}
+use Rattle.c25_module_laws.proofs.Symbols.{all_known}
 use Rattle.c25_laws.specs.ModuleStatements.{AreStatements, HasAddress, IsAssembled, instructions_in, relocations_in}
 
 -- ---- the fields of addresses
@@ -107,33 +107,33 @@ of_module j (s ∷ ss) ms r none c =
 -- ---- the statements of all lines
 
 module _ (p : Progress) (ms : List Made) (made : IsMade p) (give : Give (all_names p) p.items ms) where
-  good : AreMadeOf (base_in p) p.items ms
+  pub good : AreMadeOf (base_in p) p.items ms
   good = made_good p ms made.kept give
 
   said : AreSaid (base_in p) (all_names p) p.items ms
   said = all_said_of (base_in p) tt (all_names p) (all_known (length p.sections) p.names p.declared p.exported (made.kept).names.symbols) p.items ms (made.kept).items.good
       (items_placed p p.items made.kept (made.kept).items.codes (laid_within (λ k. 0) p.items (made.kept).items.laid)) give
 
-  abbrev contents : Contents
+  abbrev pub contents : Contents
   contents = module_with (filled_from 0 p.sections ms) (all_names p) p.exported
 
   no_relocations : AllFrom (λ n s. s.relocations ≡ []) 0 p.sections
   no_relocations = all_sections (λ n s. s.relocations ≡ []) p.sections (λ k s at. ((made.kept).items.each k s at).relocations)
 
   -- a relocation of the module is one of its section
-  of_section : (r : Relocation) → Contains contents.relocations r → Contains (relocations_at r.section ms) r
+  pub of_section : (r : Relocation) → Contains contents.relocations r → Contains (relocations_at r.section ms) r
   of_section r c =
       let f = of_module 0 p.sections ms r no_relocations c in
       let g = chain_has (λ (x : Relocation). x.offset) (IsFilled (base_in p) f.0 0 (words_at f.0 ms)) 0 (0 + total f.0 p.items) (relocations_at f.0 ms) r (section_filled (base_in p) f.0 (λ k. 0) [] p.items ms refl (made.kept).items.laid good) f.1 in
       subst (λ (n : ℕ). Contains (relocations_at n ms) r) (sym (g.2).section_is) f.1
 
-  to_module : (x : Instruction) (r : Relocation) → is_code (heads p.sections) x.section ≡ true → Contains (relocations_at x.section ms) r → Contains contents.relocations r
+  pub to_module : (x : Instruction) (r : Relocation) → is_code (heads p.sections) x.section ≡ true → Contains (relocations_at x.section ms) r → Contains contents.relocations r
   to_module x r code c =
       let s = code_section p.sections x.section code in
       let z : x.section ≡ 0 + x.section = omega arith in
       in_module 0 x.section p.sections ms s.0 r s.1 (subst (λ (n : ℕ). Contains (relocations_at n ms) r) z c)
 
-  words_same : (k : ℕ) → is_code (heads p.sections) k ≡ true → words_at k ms ≡ modules.words_at contents.sections k
+  pub words_same : (k : ℕ) → is_code (heads p.sections) k ≡ true → words_at k ms ≡ modules.words_at contents.sections k
   words_same k code = let s = code_section p.sections k code in sym (words_in_module p ms k s.0 made.kept good s.1)
 
   one_assembled : (x : Instruction) → IsGoodStatement (heads p.sections) x → ReadsAt (λ k. words_at k ms) x → ((r : Relocation) → Contains (relocations_in x) r → Contains (relocations_at x.section ms) r) → HasOwn ms x → IsAssembled contents x

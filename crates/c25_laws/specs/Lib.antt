@@ -1,2 +1,4 @@
 pub mod ModuleStatements
 pub mod ProgramStatements
+pub mod SourceValues
+pub mod SourceWords

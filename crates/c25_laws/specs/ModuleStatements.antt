@@ -2,24 +2,25 @@
 -- relocation; SPRU014, instruction set).
 use Rattle.std.specs.Prelude.{◌≡◌, ◌<◌, ◌⊎◌, ℕ, ◌+◌, ◌==◌, List, filter, map, set, Result, slice_index}
 use Rattle.std.specs.List.{All, Contains}
-use Rattle.c25_meaning.specs.Addresses.{relocations_of}
-use Rattle.c25_meaning.specs.ExpansionAnswers.{ExpansionFault}
-use Rattle.c25_meaning.specs.ExpansionRuns.{start_of}
-use Rattle.c25_meaning.specs.Files.{Files}
-use Rattle.c25_meaning.specs.InstructionStatements.{Instruction, insn_with_zeros, instructions_of}
-use Rattle.c25_meaning.specs.Module.{Contents, field_values, words_at}
-use Rattle.c25_meaning.specs.ModuleOfSource.{passed_from}
-use Rattle.c25_meaning.specs.Place.{Covers}
-use Rattle.c25_meaning.specs.RelocatedInsn.{HasField, with_field}
-use Rattle.c25_meaning.specs.Results.{◌>>=◌}
-use Rattle.c25_meaning.specs.Statement.{form_row, insn_of}
-use Rattle.c25_meaning.specs.Table.{Reads, size}
-use Rattle.c25_meaning.specs.declared.assembly.Address.{Address}
-use Rattle.c25_meaning.specs.declared.assembly.Target.TheVariants as target
-use Rattle.c25_meaning.specs.declared.insn.Insn.{Insn}
-use Rattle.c25_meaning.specs.declared.object.ModuleMark.{ModuleMark}
-use Rattle.c25_meaning.specs.declared.object.Relocation.{Relocation}
-use Rattle.c25_meaning.specs.declared.relocation.RelocationKind.TheVariants.{Word16}
+use Rattle.c25_meaning_assembly.specs.Addresses.{relocations_of}
+use Rattle.c25_meaning_language.specs.ExpansionFault.{ExpansionFault}
+use Rattle.c25_meaning_expansion.specs.ExpansionRuns.{start_of}
+use Rattle.c25_meaning_expansion.specs.Files.{Files}
+use Rattle.c25_meaning_assembly.specs.InstructionStatements.{Instruction, insn_with_zeros, instructions_of}
+use Rattle.c25_meaning_objects.specs.Module.{Contents, words_at}
+use Rattle.c25_meaning_common.specs.Fields.{field_values}
+use Rattle.c25_meaning_sources.specs.ModuleOfSource.{passed_from}
+use Rattle.c25_meaning_linking.specs.Place.{Covers}
+use Rattle.c25_meaning_instructions.specs.RelocatedInsn.{HasField, with_field}
+use Rattle.c25_meaning_common.specs.Results.{◌>>=◌}
+use Rattle.c25_meaning_language.specs.Statement.{form_row, insn_of}
+use Rattle.c25_meaning_instructions.specs.Table.{Reads, size}
+use Rattle.c25_meaning_assembly.specs.declared.assembly.Address.{Address}
+use Rattle.c25_meaning_assembly.specs.declared.assembly.Target.TheVariants as target
+use Rattle.c25_meaning_instructions.specs.declared.insn.Insn.{Insn}
+use Rattle.c25_meaning_objects.specs.declared.object.ModuleMark.{ModuleMark}
+use Rattle.c25_meaning_objects.specs.declared.object.Relocation.{Relocation}
+use Rattle.c25_meaning_common.specs.declared.relocation.RelocationKind.TheVariants.{Word16}
 
 -- the instruction with a number in the field of an address
 abbrev pub insn_with : Address → ℕ → Instruction → Insn

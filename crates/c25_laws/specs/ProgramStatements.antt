@@ -1,25 +1,29 @@
--- The instruction statements of a program: those of its sources on page 0, each at its address and with the numbers of its
--- operands under the map (SPRU018, linker description, relocation; SPRU014, instruction set).
-use Rattle.std.specs.Prelude.{◌≡◌, ℕ, ◌+◌, ◌==◌, ℤ, ◌+ℤ◌, Bool, true, List, [], ◌∷◌, ◌++◌, filter, map, set, Some, Result, Ok, Err}
-use Rattle.std.specs.List.{fold}
+-- The instruction statements of a program: those of its sources on a page, each at its address and with the numbers of its
+-- operands under the map (SPRU018, source statement format, linker description; SPRU014, instruction set).
+use Rattle.std.specs.Prelude.{◌≡◌, ℕ, ◌+◌, ◌==◌, true, List, [], ◌∷◌, ◌++◌, map, Some, Result, Ok, Err, if◌then◌else◌}
+use Rattle.std.specs.List.{flat_map}
 use Rattle.std.specs.List.Sorted.{IsPermutation}
 use Rattle.std.specs.FinMap as finite
 use Rattle.std.specs.Ordering.{nat_cmp}
-use Rattle.c25_meaning.specs.ExpansionAnswers.{ExpansionFault}
-use Rattle.c25_meaning.specs.Fields.{field_number}
-use Rattle.c25_meaning.specs.Files.{Files}
-use Rattle.c25_meaning.specs.InstructionStatements.{Instruction}
-use Rattle.c25_meaning.specs.Marks.{fit_from}
-use Rattle.c25_meaning.specs.Module.{Contents}
-use Rattle.c25_meaning.specs.ModuleOfSource.{Assembled, assembled}
-use Rattle.c25_meaning.specs.Place.{Place}
-use Rattle.c25_meaning.specs.Statement.{insn_of}
-use Rattle.c25_meaning.specs.Statements.{Statement, marks_of}
-use Rattle.c25_meaning.specs.Table.{Reads, size_of}
-use Rattle.c25_meaning.specs.Words.{base_value, section_base, section_page}
-use Rattle.c25_meaning.specs.declared.assembly.Address.{Address}
-use Rattle.c25_meaning.specs.declared.mark.Mark.{Mark}
-use Rattle.c25_laws.specs.ModuleStatements.{instructions_in}
+use Rattle.c25_meaning_assembly.specs.OperandFields.{field_of}
+use Rattle.c25_meaning_language.specs.ExpansionFault.{ExpansionFault}
+use Rattle.c25_meaning_expansion.specs.ExpansionRuns.{start_of}
+use Rattle.c25_meaning_expansion.specs.Files.{Files}
+use Rattle.c25_meaning_image.specs.Marks.{fit_from}
+use Rattle.c25_meaning_objects.specs.Module.{Contents}
+use Rattle.c25_meaning_sources.specs.ModuleOfSource.{Assembled, assembled, passed_from}
+use Rattle.c25_meaning_linking.specs.Place.{Place}
+use Rattle.c25_meaning_common.specs.Results.{◌>>=◌}
+use Rattle.c25_meaning_assembly.specs.Sections.{Content, Definitions, Item, Operands, Progress, start}
+use Rattle.c25_meaning_language.specs.Statement.{insn_of}
+use Rattle.c25_meaning_processor.specs.Statements.{Statement, marks_of}
+use Rattle.c25_meaning_instructions.specs.Table.{Reads, size_of}
+use Rattle.c25_meaning_language.specs.Tree.{Tree}
+use Rattle.c25_meaning_linking.specs.Words.{section_base, section_page}
+use Rattle.c25_meaning_assembly.specs.declared.assembly.Target.{Target}
+use Rattle.c25_meaning_assembly.specs.declared.assembly.Target.TheVariants as target
+use Rattle.c25_meaning_image.specs.declared.mark.Mark.{Mark}
+use Rattle.c25_laws.specs.SourceValues.{counted_from, operand_number}
 
 -- ---- sources
 
@@ -31,55 +35,55 @@ AreModulesOf files (name ∷ names) [] = ⊥
 AreModulesOf files (name ∷ names) (m ∷ modules) =
     ((a : Assembled) × (assembled files name ≡ Ok a) × (a.contents ≡ m)) × AreModulesOf files names modules
 
--- statements, none where there is a fault
-abbrev pub without_fault : Result (List Instruction) ExpansionFault → List Instruction
-without_fault (Ok statements) = statements
-without_fault (Err fault) = []
+-- what the lines of the source of a name make, or their fault
+abbrev pub lines_of : Files → List ℕ → Result Progress ExpansionFault
+lines_of files name = passed_from files name (start_of files name) >>= λ a. Ok a.progress
 
--- the instruction statements of the source of a name; a source that has a module has no fault
-abbrev pub statements_in : Files → List ℕ → List Instruction
-statements_in files name = without_fault (instructions_in files name)
+-- what lines make, nothing where there is a fault
+abbrev pub without_fault : Result Progress ExpansionFault → Progress
+without_fault (Ok p) = p
+without_fault (Err fault) = start
 
--- ---- operands
-
--- the value of an address under the map: the address or value of its base, and its addend
-abbrev pub address_value : List Contents → List Place → ℕ → Contents → Address → ℤ
-address_value modules places number m a = base_value modules places number m a.base +ℤ a.addend
-
--- numbers with that of an address: what a field of its kind holds of its value
-abbrev pub with_address : List Contents → List Place → ℕ → Contents → List ℕ → Address → List ℕ
-with_address modules places number m ns a = set ns a.operand (field_number a.kind (address_value modules places number m a))
-
--- the numbers of a statement's operands under the map
-abbrev pub operand_numbers : List Contents → List Place → ℕ → Contents → Instruction → List ℕ
-operand_numbers modules places number m i = fold (with_address modules places number m) i.sheet.numbers i.sheet.addresses
+-- what the lines of the source of a name make; a source that has a module has no fault
+abbrev pub lines_in : Files → List ℕ → Progress
+lines_in files name = without_fault (lines_of files name)
 
 -- ---- statements
 
--- a statement of a module: the address of its section's part and its offset, and its instruction with these numbers
-abbrev pub placed_statement : List Contents → List Place → ℕ → Contents → Instruction → Statement
-placed_statement modules places number m i = record {
-  address = section_base modules places number m i.section + i.offset;
-  insn = insn_of i.form (operand_numbers modules places number m i);
-}
+-- the numbers of the operands of a line that begins at this offset of this section
+abbrev pub numbers_under : List Contents → List Place → ℕ → Contents → Definitions → ℕ → ℕ → Target → List Tree → List ℕ
+numbers_under modules places number m names section offset t trees =
+    counted_from (λ k e. operand_number modules places number m names section offset (field_of t k) e) 0 trees
 
--- whether its section stands on page 0
-abbrev pub stands_on_program : List Place → Contents → Instruction → Bool
-stands_on_program places m i = section_page places m i.section == 0
+-- the statement of an item on this page, if it is one of an instruction: the address of its section's part and its offset,
+-- and its mnemonic with the numbers of its operands
+abbrev pub item_statements : List Contents → List Place → ℕ → ℕ → Contents → Definitions → Item → Content → List Statement
+item_statements modules places page number m names i (Operands (target.Instruction f) trees) =
+    if section_page places m i.section == page
+    then record {
+      address = section_base modules places number m i.section + i.offset;
+      insn = insn_of f (numbers_under modules places number m names i.section i.offset (target.Instruction f) trees);
+    } ∷ []
+    else []
+item_statements modules places page number m names i _ = []
 
--- the statements of a module on page 0
-abbrev pub module_statements : List Contents → List Place → ℕ → Contents → List Instruction → List Statement
-module_statements modules places number m statements = map (placed_statement modules places number m) (filter (stands_on_program places m) statements)
+-- those of the lines of a module
+abbrev pub line_statements : List Contents → List Place → ℕ → ℕ → Contents → Progress → List Statement
+line_statements modules places page number m p = flat_map (λ i. item_statements modules places page number m p.names i i.content) p.items
 
 -- those of modules, one module after the other; they are counted from a number
-abbrev pub statements_from : List Contents → List Place → ℕ → List Contents → List (List Instruction) → List Statement
-statements_from modules places number (m ∷ ms) (statements ∷ others) =
-    module_statements modules places number m statements ++ statements_from modules places (number + 1) ms others
-statements_from modules places number _ _ = []
+abbrev pub statements_from : List Contents → List Place → ℕ → ℕ → List Contents → List Progress → List Statement
+statements_from modules places page number (m ∷ ms) (p ∷ ps) =
+    line_statements modules places page number m p ++ statements_from modules places page (number + 1) ms ps
+statements_from modules places page number _ _ = []
 
--- the instruction statements of the sources of these names, whose modules stand at these places
+-- the instruction statements on a page of the sources of these names, whose modules stand at these places
+abbrev pub page_statements : ℕ → Files → List (List ℕ) → List Contents → List Place → List Statement
+page_statements page files names modules places = statements_from modules places page 0 modules (map (lines_in files) names)
+
+-- those on page 0, which are run
 abbrev pub program_statements : Files → List (List ℕ) → List Contents → List Place → List Statement
-program_statements files names modules places = statements_from modules places 0 modules (map (statements_in files) names)
+program_statements files names modules places = page_statements 0 files names modules places
 
 -- ---- programs
 

@@ -1,17 +1,16 @@
 //! Laws of the definitions of assembling, each the contract of a function that does nothing.
 
-ghost use Rattle.std.specs.Prelude.{◌≡◌, List, ℕ, Ok};
-ghost use Rattle.c25_meaning.specs.Files.{Files};
-ghost use Rattle.c25_meaning.specs.InstructionStatements.{Instruction};
-ghost use Rattle.c25_meaning.specs.Module.{IsModule};
-ghost use Rattle.c25_meaning.specs.ModuleOfSource.{Assembled, assembled};
+ghost use Rattle.std.specs.Prelude.{◌≡◌, List, ◌∷◌, ◌++◌, length, ℕ, Ok};
+ghost use Rattle.c25_meaning_expansion.specs.Files.{Files};
+ghost use Rattle.c25_meaning_assembly.specs.InstructionStatements.{Instruction};
+ghost use Rattle.c25_meaning_objects.specs.Module.{Contents};
+ghost use Rattle.c25_meaning_sources.specs.ModuleOfSource.{Assembled, assembled};
+ghost use Rattle.c25_meaning_linking.specs.Place.{Place};
+ghost use Rattle.c25_meaning_assembly.specs.Sections.{Definitions, Item};
+ghost use Rattle.c25_meaning_assembly.specs.ItemPlaces.{total, words_in};
 ghost use Rattle.c25_laws.specs.ModuleStatements.{instructions_in, AreStatements};
-
-/// The module of a source is a module: its sections, marks, symbols and relocations are in order
-/// and in their ranges.
-pub fn sources_make_modules()
-    ensures { (files : Files) (name : List ℕ) (a : Assembled) → assembled files name ≡ Ok a → IsModule a.contents }
-{}
+ghost use Rattle.c25_laws.specs.ProgramStatements.{lines_in};
+ghost use Rattle.c25_laws.specs.SourceWords.{item_words};
 
 /// A source that has a module has instruction statements: the module's marks are their places, its
 /// words there read as them, and its relocations of these words are those of their fields. Every
@@ -19,4 +18,13 @@ pub fn sources_make_modules()
 pub fn modules_are_their_statements()
     ensures { (files : Files) (name : List ℕ) (a : Assembled) → assembled files name ≡ Ok a
         → (statements : List Instruction) × (instructions_in files name ≡ Ok statements) × AreStatements a.contents statements }
+{}
+
+/// Each item of the lines of a source that has a module begins where the items before it in its
+/// section end, and has as many words as it was laid with.
+pub fn items_stand_behind_one_another()
+    ensures places { (files : Files) (name : List ℕ) (a : Assembled) → assembled files name ≡ Ok a
+        → (before after : List Item) (i : Item) → (lines_in files name).items ≡ before ++ i ∷ after → i.offset ≡ total i.section before }
+    ensures sizes { (modules : List Contents) (places : List Place) (number : ℕ) (m : Contents) (names : Definitions) (i : Item)
+        → length (item_words modules places number m names i i.content) ≡ words_in i.content }
 {}

@@ -1,12 +1,12 @@
 //! Lines, from outside.
 
-use c25_meaning::line::{LineFault, Sign, TokenKind};
-use c25_text::line::{first_word, split_line};
-use c25_text::{
-    all_blank, all_go_on_name, all_space, are_digits, begins_name, byte_at, constant_run,
-    constant_value, digit, goes_on_name, is_blank, is_digit, is_letter, is_space, name_run,
-    past_blanks, past_field, quoted_len, value_in,
+use c25_bytes::{
+    all_blank, all_go_on_name, all_space, are_digits, begins_name, byte_at, constant_run, digit,
+    goes_on_name, is_blank, is_digit, is_letter, is_space, name_run, value_in,
 };
+use c25_meaning_lines::line::{LineFault, Sign, TokenKind};
+use c25_text::line::{first_word, split_line};
+use c25_text::{constant_value, past_blanks, past_field, quoted_len};
 use std::process::Abort;
 use std::test::Fail;
 

@@ -3,15 +3,15 @@ use Rattle.std.proofs.Common.{◌≡◌, ◌+◌, ◌<◌, ◌≤◌, List, Resu
 use Rattle.std.specs.Str.{bytes_eq}
 use Rattle.std.specs.declared.alloc.Global.{Global}
 use Rattle.std.proofs.lemmas.List.Elements.{All-map}
-use Rattle.c25_meaning.specs.Command.{CommandData}
-use Rattle.c25_meaning.specs.GoodMap.{IsGoodMap, ranges_for, placings_for}
-use Rattle.c25_meaning.specs.Linking.{ImageData, names_checked}
-use Rattle.c25_meaning.specs.Module.{Contents}
-use Rattle.c25_meaning.specs.Place.{Place}
-use Rattle.c25_meaning.specs.declared.failure.Failure.{Failure}
-use Rattle.c25_meaning.specs.declared.failure.Failure.TheVariants.{NoMemory, Fault}
-use Rattle.c25_meaning.specs.declared.link_fault.FaultyLink.{FaultyLink}
-use Rattle.c25_meaning.proofs.Parts.{part_in_place, one_part}
+use Rattle.c25_meaning_commands.specs.Command.{CommandData}
+use Rattle.c25_meaning_linking.specs.GoodMap.{IsGoodMap, ranges_for, placings_for}
+use Rattle.c25_meaning_linking.specs.Linking.{ImageData, names_checked}
+use Rattle.c25_meaning_objects.specs.Module.{Contents}
+use Rattle.c25_meaning_linking.specs.Place.{Place}
+use Rattle.c25_meaning_common.specs.declared.failure.Failure.{Failure}
+use Rattle.c25_meaning_common.specs.declared.failure.Failure.TheVariants.{NoMemory, Fault}
+use Rattle.c25_meaning_linking.specs.declared.link_fault.FaultyLink.{FaultyLink}
+use Rattle.c25_meaning_linking.proofs.Parts.{part_in_place, one_part}
 use Rattle.c25_place.specs.Placement.{IsWithin}
 use Rattle.c25_place.specs.View.{place_view, places_view}
 use Rattle.c25_place.specs.declared.placement.Place as code

@@ -3,10 +3,10 @@ use Rattle.std.proofs.Common.{◌≡◌, ℕ, suc, ◌+◌, ◌<◌, ◌≤◌, 
 use Rattle.std.specs.List.{slice_get}
 use Rattle.std.proofs.lemmas.List.Elements.{All-nil, All-append, All-map, All-filter}
 use Rattle.std.proofs.lemmas.Option.{slice_get-get_or}
-use Rattle.c25_meaning.specs.Linking.{section_part, section_parts, section_place}
-use Rattle.c25_meaning.specs.MapText.{PartData, HasDigits}
-use Rattle.c25_meaning.specs.Module.{SectionData, Contents}
-use Rattle.c25_meaning.specs.Place.{Place, by_modules, is_section_named, part_base}
+use Rattle.c25_meaning_linking.specs.Linking.{section_part, section_parts, section_place}
+use Rattle.c25_meaning_linking.specs.MapText.{PartData, HasDigits}
+use Rattle.c25_meaning_objects.specs.Module.{SectionData, Contents}
+use Rattle.c25_meaning_linking.specs.Place.{Place, by_modules, is_section_named, part_base}
 use Rattle.c25_link.specs.Bases.{HasRoom}
 
 pub all_by_modules : {A : Type 0} (P : A → Type 0) (g : ℕ → Contents → List A) (number : ℕ) (modules : List Contents) → ((k : ℕ) (m : Contents) → slice_get modules k ≡ Some m → All P (g (number + k) m)) → All P (by_modules g number modules)

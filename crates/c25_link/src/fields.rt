@@ -2,10 +2,10 @@
 
 ghost use Rattle.std.specs.Prelude.{◌≡◌, ◌<◌, ◌^◌, negsuc, pos, ◌≤ℤ◌};
 ghost use Rattle.c25_bits.specs.Cut.{cut};
-ghost use Rattle.c25_meaning.specs.Fields.{field_number, takes, filled, is_within};
-ghost use Rattle.c25_meaning.specs.Module.{field_values};
+ghost use Rattle.c25_meaning_common.specs.Fields.{field_number, takes, filled, is_within};
+ghost use Rattle.c25_meaning_common.specs.Fields.{field_values};
 
-use c25_meaning::relocation::RelocationKind;
+use c25_meaning_common::relocation::RelocationKind;
 
 /// The low sixteen bits of a value.
 fn low16(value: i64) -> u16

@@ -2,12 +2,12 @@
 
 ghost use Rattle.std.specs.Prelude.{◌≡◌, ◌≤◌, All, IfOk, map, string_bytes, if◌then◌else◌, ◌==◌};
 ghost use Rattle.c25_map.specs.View.{map_data, symbol_data};
-ghost use Rattle.c25_meaning.specs.MapText.{map_text, HasDigits};
+ghost use Rattle.c25_meaning_linking.specs.MapText.{map_text, HasDigits};
 
 use c25_map::{GlobalSymbol, Map, write_map};
-use c25_meaning::mark::Mark;
-use c25_meaning::no_memory::NoMemory;
-use c25_meaning::word_map::WordMap;
+use c25_meaning_common::no_memory::NoMemory;
+use c25_meaning_image::mark::Mark;
+use c25_meaning_image::word_map::WordMap;
 use std::alloc::Global;
 use std::marker::Model;
 
@@ -26,8 +26,8 @@ impl Model for Image {
     ghost use Rattle.std.specs.Ordering.{nat_cmp};
     ghost use Rattle.std.specs.Prelude.{All};
     ghost use Rattle.c25_map.specs.View.{map_data};
-    ghost use Rattle.c25_meaning.specs.Linking.{ImageData};
-    ghost use Rattle.c25_meaning.specs.MapText.{HasDigits};
+    ghost use Rattle.c25_meaning_linking.specs.Linking.{ImageData};
+    ghost use Rattle.c25_meaning_linking.specs.MapText.{HasDigits};
 
     ghost Value = { ImageData };
 

@@ -2,10 +2,10 @@
 
 ghost use Rattle.std.specs.Prelude.{◌≡◌, IfOk, option_map};
 ghost use Rattle.c25_cmd.specs.View.{command_data};
-ghost use Rattle.c25_meaning.specs.Command.{IsCommand};
-ghost use Rattle.c25_meaning.specs.Linking.{names_checked};
-ghost use Rattle.c25_meaning.specs.Results.{MeetsBy};
-ghost use Rattle.c25_meaning.specs.Words.{definitions};
+ghost use Rattle.c25_meaning_commands.specs.Command.{IsCommand};
+ghost use Rattle.c25_meaning_linking.specs.Linking.{names_checked};
+ghost use Rattle.c25_meaning_common.specs.Results.{MeetsBy};
+ghost use Rattle.c25_meaning_linking.specs.Words.{definitions};
 ghost use Rattle.c25_link.specs.Layout.{IsLaidOut, places_in};
 ghost use Rattle.c25_link.specs.Link.{Links, LinksAt};
 ghost use Rattle.c25_link.specs.View.{HasDefinitions};
@@ -20,8 +20,8 @@ use crate::loading::load;
 use crate::marks::program_marks;
 use crate::uses::{first_spilled, first_unresolved, is_missing};
 use c25_cmd::Command;
-use c25_meaning::failure::Failure;
-use c25_meaning::link_fault::LinkFault;
+use c25_meaning_common::failure::Failure;
+use c25_meaning_linking::link_fault::LinkFault;
 use c25_obj::Module;
 use c25_place::{Refused, good_places, refusal};
 use std::alloc::Global;

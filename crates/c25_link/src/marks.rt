@@ -2,13 +2,13 @@
 
 ghost use Rattle.std.specs.Prelude.{◌≡◌, ◌++◌, true, IfOk, OnOk};
 ghost use Rattle.std.specs.List.Sorted.{IsPermutation, IsNonDecreasingBy};
-ghost use Rattle.c25_meaning.specs.Linking.{HasMarks};
-ghost use Rattle.c25_meaning.specs.Words.{module_marks, program_marks};
+ghost use Rattle.c25_meaning_linking.specs.Linking.{HasMarks};
+ghost use Rattle.c25_meaning_linking.specs.Words.{module_marks, program_marks};
 ghost use Rattle.c25_obj.specs.View.{contents};
 ghost use Rattle.c25_link.specs.Layout.{IsLaidOut, IsOwner, places_in};
 
 use crate::layout::Layout;
-use c25_meaning::mark::Mark;
+use c25_meaning_image::mark::Mark;
 use c25_obj::Parts;
 use std::alloc::{AllocError, Global};
 

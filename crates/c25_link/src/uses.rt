@@ -3,9 +3,9 @@
 
 ghost use Rattle.std.specs.Prelude.{◌≡◌, ℕ, List, find, true, false, MatchOption};
 ghost use Rattle.std.specs.Option.{option_map};
-ghost use Rattle.c25_meaning.specs.Linking.{is_missing, missing_base, base_name, is_unresolved, module_uses, first_unresolved, spills, first_spilled};
-ghost use Rattle.c25_meaning.specs.Words.{section_name, symbol_name};
-ghost use Rattle.c25_meaning.specs.Words as words;
+ghost use Rattle.c25_meaning_linking.specs.Linking.{is_missing, missing_base, base_name, is_unresolved, module_uses, first_unresolved, spills, first_spilled};
+ghost use Rattle.c25_meaning_linking.specs.Words.{section_name, symbol_name};
+ghost use Rattle.c25_meaning_linking.specs.Words as words;
 ghost use Rattle.c25_obj.specs.View.{contents};
 ghost use Rattle.c25_link.specs.Layout.{IsLaidOut, IsOwner, places_in};
 ghost use Rattle.c25_link.specs.View.{HasDefinitions};
@@ -14,7 +14,7 @@ use crate::definitions::Definitions;
 use crate::fields::takes;
 use crate::layout::Layout;
 use crate::values::relocated_value;
-use c25_meaning::object::RelocationBase;
+use c25_meaning_objects::object::RelocationBase;
 use c25_obj::{Module, Parts};
 
 /// The name of a module's section by its number, empty where there is none.

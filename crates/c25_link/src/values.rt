@@ -1,8 +1,8 @@
 //! What symbols stand for and relocated fields hold.
 
 ghost use Rattle.std.specs.Prelude.{◌≡◌, ◌^◌, Some, pos, negsuc, ◌≤ℤ◌, ◌+ℤ◌};
-ghost use Rattle.c25_meaning.specs.Module.{Contents};
-ghost use Rattle.c25_meaning.specs.Words.{section_base, kind_value, definition_value, name_value, base_value, relocated_value};
+ghost use Rattle.c25_meaning_objects.specs.Module.{Contents};
+ghost use Rattle.c25_meaning_linking.specs.Words.{section_base, kind_value, definition_value, name_value, base_value, relocated_value};
 ghost use Rattle.c25_obj.specs.View.{contents};
 ghost use Rattle.c25_link.specs.Layout.{IsLaidOut, IsOwner, places_in};
 ghost use Rattle.c25_link.specs.View.{definition_view};
@@ -10,7 +10,7 @@ ghost use Rattle.c25_link.specs.View.{definition_view};
 use crate::definitions::Definition;
 use crate::layout::Layout;
 use crate::uses::symbol_name;
-use c25_meaning::object::{Relocation, RelocationBase, SymbolKind};
+use c25_meaning_objects::object::{Relocation, RelocationBase, SymbolKind};
 use c25_obj::Parts;
 
 /// A sum.

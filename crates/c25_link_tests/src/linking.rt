@@ -1,16 +1,16 @@
 //! Programs from outside: what each comes to, or the first refusal.
 
 ghost use Rattle.c25_cmd.specs.View.{command_data};
-ghost use Rattle.c25_meaning.specs.Command.{IsCommand};
+ghost use Rattle.c25_meaning_commands.specs.Command.{IsCommand};
 
 use crate::cases::CASES;
 use crate::modules::module_of;
 use c25_cmd::{Command, read_command};
 use c25_link::{Image, link};
-use c25_meaning::failure::Failure;
-use c25_meaning::link_fault::FaultyLink;
-use c25_meaning::mark::Mark;
-use c25_meaning::word_map::WordMap;
+use c25_meaning_common::failure::Failure;
+use c25_meaning_image::mark::Mark;
+use c25_meaning_image::word_map::WordMap;
+use c25_meaning_linking::link_fault::FaultyLink;
 use c25_obj::Module;
 use std::alloc::Global;
 use std::test::Fail;

@@ -5,9 +5,9 @@ use Rattle.std.proofs.lemmas.Str.{encode_ascii}
 use Rattle.std.specs.Fmt.{decimal, padded_integral, format_spec, char_count}
 use Rattle.std.specs.List.{repeat}
 use Rattle.std.proofs.Math.Utf8.{encode}
-use Rattle.c25_meaning.specs.Listing.{blanks, entry_by, further, number_column, word_line, Entry}
-use Rattle.c25_meaning.specs.Module.{Contents}
-use Rattle.c25_meaning.specs.Show.{four_digits}
+use Rattle.c25_meaning_assembly.specs.Listing.{blanks, entry_by, further, number_column, word_line, Entry}
+use Rattle.c25_meaning_objects.specs.Module.{Contents}
+use Rattle.c25_meaning_common.specs.Digits.{four_digits}
 
 repeat_blanks : (k : ℕ) → repeat {A = ℕ} k (32 ∷ []) ≡ replicate k 32
 repeat_blanks zero = refl

@@ -2,9 +2,9 @@
 use Rattle.std.proofs.Common.{◌≡◌, ℕ, zero, suc, Bool, true, false, cond, ◌||◌, ◌&&◌, ◌==◌, nat_lt, List, [], ◌∷◌, length, set, replicate, fold, slice_get, Option, Some, None, is_some, refl, ap, sym, ◌∙◌, arith}
 use Rattle.std.specs.List.{list_any}
 use Rattle.std.proofs.lemmas.Bool.Decides.{same_from_decides, Decides-eqb, Decides-like}
-use Rattle.c25_meaning.specs.Listing.{is_at, is_relocated}
-use Rattle.c25_meaning.specs.Module.{Contents, SectionData, words_at, body_words}
-use Rattle.c25_meaning.specs.declared.object.Relocation.{Relocation}
+use Rattle.c25_meaning_assembly.specs.Listing.{is_at, is_relocated}
+use Rattle.c25_meaning_objects.specs.Module.{Contents, SectionData, words_at, body_words}
+use Rattle.c25_meaning_objects.specs.declared.object.Relocation.{Relocation}
 use Rattle.c25_listing.specs.Flags.{flag_at, flag_in, flag_by, raised, raised_by, with_flag, with_flag_by, no_flags}
 
 -- ---- lists with one element changed

@@ -1,7 +1,7 @@
 -- A flag for each word of each section.
 use Rattle.std.specs.Prelude.{ℕ, Bool, true, false, List, length, map, set, replicate, slice_get, Option, Some, None}
-use Rattle.c25_meaning.specs.Module.{SectionData, body_words}
-use Rattle.c25_meaning.specs.declared.object.Relocation.{Relocation}
+use Rattle.c25_meaning_objects.specs.Module.{SectionData, body_words}
+use Rattle.c25_meaning_objects.specs.declared.object.Relocation.{Relocation}
 use Rattle.c25_listing.specs.declared.flags.Flags.{Flags}
 
 -- a flag, if there is one

@@ -1,7 +1,7 @@
 -- What a listing's entries stand for.
 use Rattle.std.specs.Prelude.{List, map}
 use Rattle.std.specs.String.{string_bytes}
-use Rattle.c25_meaning.specs.Listing as listing
+use Rattle.c25_meaning_assembly.specs.Listing as listing
 use Rattle.c25_listing.specs.declared.listing.Entry.{Entry}
 
 -- a line of the listing

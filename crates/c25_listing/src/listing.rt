@@ -3,7 +3,7 @@
 ghost use Rattle.std.specs.Prelude.{◌≤◌, ◌+◌};
 
 /// A line, and where its words are.
-#[derive(Debug, Drop)]
+#[derive(Drop)]
 pub struct Entry {
     /// Its number in its file.
     pub line: usize,
@@ -19,7 +19,7 @@ pub struct Entry {
 }
 
 /// The lines of a module and the places of their words.
-#[derive(Debug, Drop)]
+#[derive(Drop)]
 pub struct Listing {
     /// One for each line.
     pub entries: Vec<Entry>,

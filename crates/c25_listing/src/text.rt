@@ -2,12 +2,12 @@
 
 ghost use Rattle.std.specs.Prelude.{◌≡◌, IfOk};
 ghost use Rattle.std.specs.String.{string_bytes};
-ghost use Rattle.c25_meaning.specs.Listing as listing;
+ghost use Rattle.c25_meaning_assembly.specs.Listing as listing;
 ghost use Rattle.c25_listing.specs.View.{entries_of};
 
 use crate::listing::Listing;
 use crate::printing::with_flags;
-use c25_meaning::no_memory::NoMemory;
+use c25_meaning_common::no_memory::NoMemory;
 use c25_obj::Module;
 use std::alloc::Global;
 

@@ -1,15 +1,15 @@
 -- A line whose order can't be read is refused.
 use Rattle.std.proofs.Common.{Result, Err, ap}
-use Rattle.c25_meaning.specs.Files.{Files}
-use Rattle.c25_meaning.specs.Value.{Table}
-use Rattle.c25_meaning.specs.Acts as acts
-use Rattle.c25_meaning.specs.Expansion.{Config}
-use Rattle.c25_meaning.specs.ExpansionRules.{consumed}
-use Rattle.c25_meaning.specs.declared.expansion.Place.{Place}
-use Rattle.c25_meaning.specs.declared.statement.FaultKind.{FaultKind}
-use Rattle.c25_meaning.specs.Results.{Meets}
-use Rattle.c25_meaning.specs.declared.failure.Failure.{Failure}
-use Rattle.c25_meaning.specs.declared.failure.Failure.TheVariants.{NoMemory, Fault}
+use Rattle.c25_meaning_expansion.specs.Files.{Files}
+use Rattle.c25_meaning_language.specs.Value.{Table}
+use Rattle.c25_meaning_expansion.specs.Acts as acts
+use Rattle.c25_meaning_expansion.specs.Expansion.{Config}
+use Rattle.c25_meaning_expansion.specs.ExpansionRules.{consumed}
+use Rattle.c25_meaning_expansion.specs.declared.expansion.Place.{Place}
+use Rattle.c25_meaning_language.specs.declared.statement.FaultKind.{FaultKind}
+use Rattle.c25_meaning_common.specs.Results.{Meets}
+use Rattle.c25_meaning_common.specs.declared.failure.Failure.{Failure}
+use Rattle.c25_meaning_common.specs.declared.failure.Failure.TheVariants.{NoMemory, Fault}
 use Rattle.c25_macro.specs.Acts.{order_of}
 use Rattle.c25_macro.specs.Config.{Refuses}
 use Rattle.c25_macro.specs.Refusals.{at_place}

@@ -1,12 +1,12 @@
 -- A line that is given was read, so fewer may be read behind it.
 use Rattle.std.proofs.Common.{◌≡◌, ℕ, ◌<◌, List, Option, Some, None, Result, Ok, Err, IfOk, IfSome, refl, ap, subst}
-use Rattle.c25_meaning.specs.Files.{Files}
-use Rattle.c25_meaning.specs.Value.{Table}
-use Rattle.c25_meaning.specs.Expansion.{Config, Rewriting, Gives, Goes, Finishes, Faults, Misses}
-use Rattle.c25_meaning.specs.ExpansionAnswers.{ExpandedLine, given_by}
-use Rattle.c25_meaning.specs.ExpansionRuns.{first}
-use Rattle.c25_meaning.specs.declared.failure.Failure.{Failure}
-use Rattle.c25_meaning.proofs.ExpansionFirst.{first_giving}
+use Rattle.c25_meaning_expansion.specs.Files.{Files}
+use Rattle.c25_meaning_language.specs.Value.{Table}
+use Rattle.c25_meaning_expansion.specs.Expansion.{Config, Rewriting, Gives, Goes, Finishes, Faults, Misses}
+use Rattle.c25_meaning_expansion.specs.ExpansionAnswers.{ExpandedLine, given_by}
+use Rattle.c25_meaning_expansion.specs.ExpansionRuns.{first}
+use Rattle.c25_meaning_common.specs.declared.failure.Failure.{Failure}
+use Rattle.c25_meaning_expansion.proofs.ExpansionFirst.{first_giving}
 use Rattle.c25_macro.specs.Expander.{Stage, Stands, Absent, Failed, shown, IsNextAt, left_of}
 use Rattle.c25_macro.specs.declared.answer.ExpLine.{ExpLine}
 use Rattle.c25_macro.specs.declared.answer.ExpandFault.{ExpandFault}

@@ -2,11 +2,11 @@ use Rattle.std.proofs.Common.{◌≡◌, List, [], ◌∷◌, ◌++◌, map, ref
 use Rattle.std.proofs.lemmas.List.Sorted.{sum_by-IsPermutation, IsPermutation-reverse, list_any-IsPermutation}
 use Rattle.std.proofs.lemmas.List.Sums.{sum_by-cons}
 use Rattle.std.specs.List.{list_any}
-use Rattle.c25_meaning.specs.Expansion.{Scope, Kind}
+use Rattle.c25_meaning_expansion.specs.Expansion.{Scope, Kind}
 use Rattle.c25_macro.specs.Scopes.{scopes, scope_of, kind_of}
 use Rattle.c25_macro.specs.declared.scope.Source.{Source}
-use Rattle.c25_meaning.specs.Expansion.{Item, Read, Close, after_close}
-use Rattle.c25_meaning.specs.Rows.{Row}
+use Rattle.c25_meaning_expansion.specs.Expansion.{Item, Read, Close, after_close}
+use Rattle.c25_meaning_expansion.specs.Rows.{Row}
 
 -- past the lines of a source and its end
 pub after_close-append : (lines : List Row) (items : List Item) → after_close (map Read lines ++ Close ∷ items) ≡ items

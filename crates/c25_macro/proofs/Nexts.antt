@@ -1,16 +1,16 @@
 -- What the first rewriting that does not merely go on says of the next line.
 use Rattle.std.proofs.Common.{◌≡◌, ℕ, false, List, [], ◌∷◌, sym, subst}
 use Rattle.std.specs.String.{string_bytes}
-use Rattle.c25_meaning.specs.Files.{Files}
-use Rattle.c25_meaning.specs.Value.{Table}
-use Rattle.c25_meaning.specs.Expansion.{Config, Finishes, Faults, Misses}
-use Rattle.c25_meaning.specs.ExpansionBounds.{IsBounded}
-use Rattle.c25_meaning.specs.ExpansionRuns.{rewrite, Leads, first, front, is_closed}
-use Rattle.c25_meaning.specs.declared.failure.Failure.{Failure}
-use Rattle.c25_meaning.specs.declared.failure.Failure.TheVariants.{NoMemory, Fault}
-use Rattle.c25_meaning.specs.declared.statement.FaultKind.TheVariants.{OpenBlock}
-use Rattle.c25_meaning.proofs.ExpansionFalls.{same_finishing}
-use Rattle.c25_meaning.proofs.ExpansionFirst.{comes_to_first}
+use Rattle.c25_meaning_expansion.specs.Files.{Files}
+use Rattle.c25_meaning_language.specs.Value.{Table}
+use Rattle.c25_meaning_expansion.specs.Expansion.{Config, Finishes, Faults, Misses}
+use Rattle.c25_meaning_expansion.specs.ExpansionBounds.{IsBounded}
+use Rattle.c25_meaning_expansion.specs.ExpansionRuns.{rewrite, Leads, first, front, is_closed}
+use Rattle.c25_meaning_common.specs.declared.failure.Failure.{Failure}
+use Rattle.c25_meaning_common.specs.declared.failure.Failure.TheVariants.{NoMemory, Fault}
+use Rattle.c25_meaning_language.specs.declared.statement.FaultKind.TheVariants.{OpenBlock}
+use Rattle.c25_meaning_expansion.proofs.ExpansionFalls.{same_finishing}
+use Rattle.c25_meaning_expansion.proofs.ExpansionFirst.{comes_to_first}
 use Rattle.c25_macro.specs.Config.{Refuses}
 use Rattle.c25_macro.specs.Scopes.{after}
 use Rattle.c25_macro.specs.declared.scope.Source.{Source}

@@ -3,7 +3,7 @@ use Rattle.std.specs.Prelude.{ℕ, List, map, String}
 use Rattle.std.specs.Option.{option_map}
 use Rattle.std.specs.String.{string_bytes}
 use Rattle.std.specs.declared.alloc.Global.{Global}
-use Rattle.c25_meaning.specs.Acts as acts
+use Rattle.c25_meaning_expansion.specs.Acts as acts
 use Rattle.c25_expr.specs.View.{tree_of}
 use Rattle.c25_macro.specs.declared.act.Act.{Act}
 use Rattle.c25_macro.specs.declared.act.Act.TheVariants as act

@@ -1,11 +1,11 @@
 -- The configuration that an expander stands for, and what its rules say of their answers.
 use Rattle.std.specs.Prelude.{◌≡◌, ◌++◌, Option, Some, None, Result, Ok, Err, map}
 use Rattle.std.specs.String.{string_bytes}
-use Rattle.c25_meaning.specs.Rows.{Row}
-use Rattle.c25_meaning.specs.Expansion as exp
-use Rattle.c25_meaning.specs.Expansion.{Read, Config, Rewriting, Gives, Goes, Finishes, Faults, Misses}
-use Rattle.c25_meaning.specs.declared.failure.Failure.{Failure}
-use Rattle.c25_meaning.specs.declared.failure.Failure.TheVariants.{NoMemory, Fault}
+use Rattle.c25_meaning_expansion.specs.Rows.{Row}
+use Rattle.c25_meaning_expansion.specs.Expansion as exp
+use Rattle.c25_meaning_expansion.specs.Expansion.{Read, Config, Rewriting, Gives, Goes, Finishes, Faults, Misses}
+use Rattle.c25_meaning_common.specs.declared.failure.Failure.{Failure}
+use Rattle.c25_meaning_common.specs.declared.failure.Failure.TheVariants.{NoMemory, Fault}
 use Rattle.c25_macro.specs.Acts.{act_of, bytes_of_names}
 use Rattle.c25_macro.specs.Dictionary.{dictionary_of}
 use Rattle.c25_macro.specs.Scopes.{scope_of, after, scopes}

@@ -1,5 +1,5 @@
 -- What the names of an expander stand for.
-use Rattle.c25_meaning.specs.Expansion as exp
+use Rattle.c25_meaning_expansion.specs.Expansion as exp
 use Rattle.c25_macro.specs.declared.dictionary.Dictionary.{Dictionary}
 
 -- what names stand for

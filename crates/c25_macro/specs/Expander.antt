@@ -1,15 +1,16 @@
 -- What callers see of an expander, and of its answers.
 use Rattle.std.specs.Prelude.{◌≡◌, ℕ, List, Option, Some, None, Result, Ok, Err}
 use Rattle.std.specs.String.{string_bytes}
-use Rattle.c25_meaning.specs.Expansion.{Config, Rewriting, Finishes}
-use Rattle.c25_meaning.specs.ExpansionAnswers.{ExpandedLine, ExpansionFault, Faulty, Missing, given_by, fault_by}
-use Rattle.c25_meaning.specs.ExpansionBounds.{IsBounded}
-use Rattle.c25_meaning.specs.ExpansionRuns.{first, start_of}
-use Rattle.c25_meaning.specs.Files.{Files}
-use Rattle.c25_meaning.specs.Value.{Table}
-use Rattle.c25_meaning.specs.declared.failure.Failure.{Failure}
-use Rattle.c25_meaning.specs.declared.failure.Failure.TheVariants.{NoMemory, Fault}
-use Rattle.c25_meaning.specs.declared.statement.FaultKind.TheVariants as fault
+use Rattle.c25_meaning_expansion.specs.Expansion.{Config, Rewriting, Finishes}
+use Rattle.c25_meaning_expansion.specs.ExpansionAnswers.{ExpandedLine, given_by, fault_by}
+use Rattle.c25_meaning_language.specs.ExpansionFault.{ExpansionFault, Faulty, Missing}
+use Rattle.c25_meaning_expansion.specs.ExpansionBounds.{IsBounded}
+use Rattle.c25_meaning_expansion.specs.ExpansionRuns.{first, start_of}
+use Rattle.c25_meaning_expansion.specs.Files.{Files}
+use Rattle.c25_meaning_language.specs.Value.{Table}
+use Rattle.c25_meaning_common.specs.declared.failure.Failure.{Failure}
+use Rattle.c25_meaning_common.specs.declared.failure.Failure.TheVariants.{NoMemory, Fault}
+use Rattle.c25_meaning_language.specs.declared.statement.FaultKind.TheVariants as fault
 use Rattle.c25_macro.specs.declared.answer.ExpLine.{ExpLine}
 use Rattle.c25_macro.specs.declared.answer.ExpandFault.{ExpandFault}
 

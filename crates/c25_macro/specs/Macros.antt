@@ -2,9 +2,9 @@
 use Rattle.std.specs.Prelude.{List, [], ◌∷◌, map, String, Option, Some, None}
 use Rattle.std.specs.declared.alloc.Global.{Global}
 use Rattle.std.specs.String.{string_bytes}
-use Rattle.c25_meaning.specs.Acts as acts
-use Rattle.c25_meaning.specs.Texts.{Named}
-use Rattle.c25_meaning.specs.Expansion as exp
+use Rattle.c25_meaning_expansion.specs.Acts as acts
+use Rattle.c25_meaning_language.specs.Texts.{Named}
+use Rattle.c25_meaning_expansion.specs.Expansion as exp
 use Rattle.c25_macro.specs.Acts.{macro_of}
 use Rattle.c25_macro.specs.declared.macros.Macro.{Macro}
 

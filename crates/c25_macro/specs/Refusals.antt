@@ -1,8 +1,8 @@
 -- Why no line is given.
-use Rattle.c25_meaning.specs.declared.expansion.Place.{Place}
-use Rattle.c25_meaning.specs.declared.failure.Failure.{Failure}
-use Rattle.c25_meaning.specs.declared.failure.Failure.TheVariants.{NoMemory, Fault}
-use Rattle.c25_meaning.specs.declared.statement.FaultKind.{FaultKind}
+use Rattle.c25_meaning_expansion.specs.declared.expansion.Place.{Place}
+use Rattle.c25_meaning_common.specs.declared.failure.Failure.{Failure}
+use Rattle.c25_meaning_common.specs.declared.failure.Failure.TheVariants.{NoMemory, Fault}
+use Rattle.c25_meaning_language.specs.declared.statement.FaultKind.{FaultKind}
 use Rattle.c25_macro.specs.declared.refusal.Refusal.{Refusal}
 use Rattle.c25_macro.specs.declared.refusal.Refusal.TheVariants.{Faulty}
 

@@ -2,9 +2,9 @@
 use Rattle.c25_macro.specs.declared.scope.Block.{Block}
 use Rattle.c25_macro.specs.declared.scope.Block.TheVariants as blocks
 use Rattle.std.specs.Prelude.{Bool, List, [], ◌∷◌, ◌++◌, map}
-use Rattle.c25_meaning.specs.Expansion as exp
-use Rattle.c25_meaning.specs.Expansion.{Item, Read, Close}
-use Rattle.c25_meaning.specs.declared.expansion.Branch.{Branch}
+use Rattle.c25_meaning_expansion.specs.Expansion as exp
+use Rattle.c25_meaning_expansion.specs.Expansion.{Item, Read, Close}
+use Rattle.c25_meaning_expansion.specs.declared.expansion.Branch.{Branch}
 use Rattle.c25_macro.specs.declared.scope.Kind.{Kind}
 use Rattle.c25_macro.specs.declared.scope.Kind.TheVariants as kinds
 use Rattle.c25_macro.specs.declared.scope.Scope.{Scope}

@@ -1,11 +1,11 @@
 -- Where an expander stands.
 use Rattle.std.specs.Prelude.{◌≡◌, ℕ, List, Option, Result, Ok, Err}
 use Rattle.std.specs.String.{string_bytes}
-use Rattle.c25_meaning.specs.ExpansionAnswers.{ExpansionFault, Faulty, Missing}
-use Rattle.c25_meaning.specs.ExpansionRuns.{start_of}
-use Rattle.c25_meaning.specs.Files.{Files, file_name}
-use Rattle.c25_meaning.specs.declared.failure.Failure.{Failure}
-use Rattle.c25_meaning.specs.declared.failure.Failure.TheVariants.{NoMemory, Fault}
+use Rattle.c25_meaning_language.specs.ExpansionFault.{ExpansionFault, Faulty, Missing}
+use Rattle.c25_meaning_expansion.specs.ExpansionRuns.{start_of}
+use Rattle.c25_meaning_expansion.specs.Files.{Files, file_name}
+use Rattle.c25_meaning_common.specs.declared.failure.Failure.{Failure}
+use Rattle.c25_meaning_common.specs.declared.failure.Failure.TheVariants.{NoMemory, Fault}
 use Rattle.c25_macro.specs.Config.{config}
 use Rattle.c25_macro.specs.Expander as exp
 use Rattle.c25_macro.specs.Expander.{begun_at, Tells}

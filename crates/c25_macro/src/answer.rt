@@ -1,11 +1,11 @@
 //! What an expander answers.
 
-use c25_meaning::statement::FaultKind;
+use c25_meaning_language::statement::FaultKind;
 use std::error::Error;
 use std::fmt;
 
 /// A line of an expansion.
-#[derive(Debug, Drop)]
+#[derive(Drop)]
 pub struct ExpLine<'a> {
     /// The name of the file in which it stands; a line of a macro stands where its body does.
     pub file: &'a str,
@@ -17,7 +17,7 @@ pub struct ExpLine<'a> {
 
 /// The line of this number in this file is wrong, or a file that it asks for is not there (10 to 13,
 /// 20 to 25, 30 to 36, 38, 51, 52); line 0 where the module itself is not there (30).
-#[derive(Clone, Copy, PartialEq, Eq, Debug)]
+#[derive(Clone, Copy, Debug)]
 pub struct ExpandFault<'a> {
     pub file: &'a str,
     pub line: usize,
@@ -26,7 +26,8 @@ pub struct ExpandFault<'a> {
 
 impl fmt::Display for ExpandFault<'_> {
     ghost use Rattle.std.specs.Prelude.{Some};
-    ghost use Rattle.c25_meaning.specs.Faults.{fault_name, placed_text};
+    ghost use Rattle.c25_meaning_language.specs.Faults.{fault_name};
+    ghost use Rattle.c25_meaning_common.specs.Faults.{placed_text};
 
     ghost output = { λ fault. Some (placed_text fault.file.now fault.line (fault_name fault.kind)) };
 

@@ -3,9 +3,9 @@
 ghost use Rattle.std.specs.Prelude.{◌≡◌, ◌<◌, ◌^◌, ◌||◌, is_some};
 ghost use Rattle.std.specs.Option.{option_map};
 ghost use Rattle.std.specs.String.{string_bytes};
-ghost use Rattle.c25_meaning.specs.Expansion as exp;
-ghost use Rattle.c25_meaning.specs.ExpansionRules as rule;
-ghost use Rattle.c25_meaning.specs.Spellings.{spelling_of};
+ghost use Rattle.c25_meaning_expansion.specs.Expansion as exp;
+ghost use Rattle.c25_meaning_expansion.specs.ExpansionRules as rule;
+ghost use Rattle.c25_meaning_instructions.specs.Spellings.{spelling_of};
 ghost use Rattle.c25_expr.specs.View.{tree_of};
 ghost use Rattle.c25_macro.specs.Acts.{bytes_of_names};
 ghost use Rattle.c25_macro.specs.Config.{config, GoesOn};
@@ -20,9 +20,9 @@ use crate::values::{is_zero, number};
 use c25_expr::symbols::Symbols;
 use c25_expr::tree::Expr;
 use c25_isa::mnemonic;
-use c25_meaning::expansion::Place;
-use c25_meaning::failure::Failure;
-use c25_meaning::statement::FaultKind;
+use c25_meaning_common::failure::Failure;
+use c25_meaning_expansion::expansion::Place;
+use c25_meaning_language::statement::FaultKind;
 use c25_substitution::parameters::Arguments;
 
 /// How many turns a loop without a count has.
@@ -51,7 +51,7 @@ impl State {
     }
 
     /// `.macro`
-    #[tactic(auto, unfolding(c25_meaning::specs::ExpansionRules::begins_macro))]
+    #[tactic(auto, unfolding(c25_meaning_expansion::specs::ExpansionRules::begins_macro))]
     pub(crate) fn begin_macro(
         &mut self,
         place: Place,
@@ -73,7 +73,7 @@ impl State {
     }
 
     /// A call of a macro.
-    #[tactic(auto, unfolding(c25_meaning::specs::ExpansionRules::begins_expansion))]
+    #[tactic(auto, unfolding(c25_meaning_expansion::specs::ExpansionRules::begins_expansion))]
     pub(crate) fn begin_expansion(
         &mut self,
         place: Place,
@@ -119,7 +119,7 @@ impl State {
     }
 
     /// `.loop`
-    #[tactic(auto, unfolding(c25_meaning::specs::ExpansionRules::begins_loop))]
+    #[tactic(auto, unfolding(c25_meaning_expansion::specs::ExpansionRules::begins_loop))]
     pub(crate) fn begin_loop(
         &mut self,
         symbols: &Symbols,
@@ -155,7 +155,7 @@ impl State {
     }
 
     /// `.break`
-    #[tactic(auto, unfolding(c25_meaning::specs::ExpansionRules::breaks))]
+    #[tactic(auto, unfolding(c25_meaning_expansion::specs::ExpansionRules::breaks))]
     pub(crate) fn break_loop(
         &mut self,
         symbols: &Symbols,
@@ -185,7 +185,7 @@ impl State {
     }
 
     /// `.eval`
-    #[tactic(auto, unfolding(c25_meaning::specs::ExpansionRules::evaluates))]
+    #[tactic(auto, unfolding(c25_meaning_expansion::specs::ExpansionRules::evaluates))]
     pub(crate) fn evaluate(
         &mut self,
         symbols: &Symbols,
@@ -205,7 +205,7 @@ impl State {
     }
 
     /// `.copy`
-    #[tactic(auto, unfolding(c25_meaning::specs::ExpansionRules::copies))]
+    #[tactic(auto, unfolding(c25_meaning_expansion::specs::ExpansionRules::copies))]
     pub(crate) fn copy(
         &mut self,
         files: &Files,
@@ -229,7 +229,7 @@ impl State {
     }
 
     /// `.end`
-    #[tactic(auto, unfolding(c25_meaning::specs::ExpansionRules::ends_all))]
+    #[tactic(auto, unfolding(c25_meaning_expansion::specs::ExpansionRules::ends_all))]
     pub(crate) fn end_all(&mut self, place: Place) -> Result<(), Failure<Refusal>>
         ensures { GoesOn (rule.ends_all place (config self.old)) result (config self.new) }
     {

@@ -2,8 +2,8 @@
 
 ghost use Rattle.std.specs.Prelude.{◌≡◌, ◌<◌, ◌^◌};
 ghost use Rattle.std.specs.String.{string_bytes};
-ghost use Rattle.c25_meaning.specs.Line.{first_word};
-ghost use Rattle.c25_meaning.specs.ExpansionRules as rule;
+ghost use Rattle.c25_meaning_lines.specs.Line.{first_word};
+ghost use Rattle.c25_meaning_expansion.specs.ExpansionRules as rule;
 ghost use Rattle.c25_macro.specs.Acts.{bytes_of_names};
 ghost use Rattle.c25_macro.specs.Config.{config, GoesOn};
 
@@ -13,12 +13,12 @@ use crate::refusal::Refusal;
 use crate::rows::{Row, Rows};
 use crate::scope::Kind;
 use crate::state::{Mode, State};
-use c25_meaning::expansion::{Directive, Place};
-use c25_meaning::failure::Failure;
+use c25_meaning_common::failure::Failure;
+use c25_meaning_expansion::expansion::{Directive, Place};
 
 impl State {
     /// A line of a macro's body, or its end.
-    #[tactic(auto, unfolding(c25_meaning::specs::ExpansionRules::in_macro))]
+    #[tactic(auto, unfolding(c25_meaning_expansion::specs::ExpansionRules::in_macro))]
     pub(crate) fn collect_macro(
         &mut self,
         row: Row,
@@ -72,7 +72,7 @@ impl State {
     }
 
     /// A line of a loop's body, or its end.
-    #[tactic(auto, unfolding(c25_meaning::specs::ExpansionRules::in_loop))]
+    #[tactic(auto, unfolding(c25_meaning_expansion::specs::ExpansionRules::in_loop))]
     pub(crate) fn collect_loop(
         &mut self,
         row: Row,

@@ -10,7 +10,7 @@ use crate::expander::Expander;
 use crate::files::Files;
 use crate::stage::{Stage, advance};
 use c25_expr::symbols::Symbols;
-use c25_meaning::failure::Failure;
+use c25_meaning_common::failure::Failure;
 use std::alloc::Global;
 use std::mem;
 

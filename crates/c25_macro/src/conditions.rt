@@ -1,7 +1,7 @@
 //! Conditional lines: `.if`, `.elseif`, `.else`, `.endif`.
 
 ghost use Rattle.std.specs.Prelude.{◌≡◌};
-ghost use Rattle.c25_meaning.specs.ExpansionRules as rule;
+ghost use Rattle.c25_meaning_expansion.specs.ExpansionRules as rule;
 ghost use Rattle.c25_expr.specs.View.{tree_of};
 ghost use Rattle.c25_macro.specs.Config.{config, GoesOn};
 ghost use Rattle.c25_macro.specs.Scopes.{other_branches};
@@ -11,9 +11,9 @@ use crate::state::State;
 use crate::values::{is_zero, number};
 use c25_expr::symbols::Symbols;
 use c25_expr::tree::Expr;
-use c25_meaning::expansion::{Branch, Phase, Place};
-use c25_meaning::failure::Failure;
-use c25_meaning::statement::FaultKind;
+use c25_meaning_common::failure::Failure;
+use c25_meaning_expansion::expansion::{Branch, Phase, Place};
+use c25_meaning_language::statement::FaultKind;
 
 /// Whether the lines of an `.if` are taken.
 pub(crate) fn takes_lines(phase: Phase) -> bool
@@ -38,7 +38,7 @@ fn phase_of(number: i32) -> Phase
 
 impl State {
     /// `.if`
-    #[tactic(auto, unfolding(c25_meaning::specs::ExpansionRules::begins_if))]
+    #[tactic(auto, unfolding(c25_meaning_expansion::specs::ExpansionRules::begins_if))]
     pub(crate) fn begin_if(
         &mut self,
         symbols: &Symbols,

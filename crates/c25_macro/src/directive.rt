@@ -1,12 +1,12 @@
 //! The directives of expansion by their names.
 
 ghost use Rattle.std.specs.Prelude.{◌≡◌, ◌==◌, slice_index};
-ghost use Rattle.c25_meaning.specs.Acts.{directive_of};
-ghost use Rattle.c25_meaning.specs.ExpansionRules.{directive_in};
-ghost use Rattle.c25_meaning.specs.Line.{first_word};
+ghost use Rattle.c25_meaning_expansion.specs.Acts.{directive_of};
+ghost use Rattle.c25_meaning_expansion.specs.ExpansionRules.{directive_in};
+ghost use Rattle.c25_meaning_lines.specs.Line.{first_word};
 
-use c25_meaning::expansion::Directive;
-use c25_text::byte_at;
+use c25_bytes::byte_at;
+use c25_meaning_expansion::expansion::Directive;
 use c25_text::line::first_word;
 
 fn is_dotted(word: &str) -> bool
@@ -16,7 +16,7 @@ fn is_dotted(word: &str) -> bool
 }
 
 /// The directive that a word is, if it is one that expansion takes, in either case.
-#[tactic(auto, unfolding(c25_meaning::specs::Acts::directive_of))]
+#[tactic(auto, unfolding(c25_meaning_expansion::specs::Acts::directive_of))]
 pub(crate) fn find_directive(word: &str) -> Option<Directive>
     ensures { result ≡ directive_of word.now }
 {

@@ -5,10 +5,10 @@ ghost use Rattle.std.specs.Map.{lookup};
 ghost use Rattle.std.specs.Option.{option_map};
 ghost use Rattle.std.specs.Str.{bytes_eq};
 ghost use Rattle.std.specs.String.{string_bytes};
-ghost use Rattle.c25_meaning.specs.Texts.{with_name};
+ghost use Rattle.c25_meaning_language.specs.Texts.{with_name};
 ghost use Rattle.c25_macro.specs.Macros.{innermost};
 
-use c25_meaning::no_memory::NoMemory;
+use c25_meaning_common::no_memory::NoMemory;
 use c25_substitution::parameters::Arguments;
 use std::alloc::Global;
 use std::marker::Model;
@@ -21,7 +21,7 @@ pub(crate) struct Expansion {
 }
 
 impl Model for Expansion {
-    ghost use Rattle.c25_meaning.specs.Expansion as exp;
+    ghost use Rattle.c25_meaning_expansion.specs.Expansion as exp;
 
     ghost Value = { exp.Expansion };
 
@@ -67,7 +67,7 @@ pub(crate) struct Expansions {
 
 impl Model for Expansions {
     ghost use Rattle.std.specs.Prelude.{List, reverse};
-    ghost use Rattle.c25_meaning.specs.Expansion as exp;
+    ghost use Rattle.c25_meaning_expansion.specs.Expansion as exp;
 
     ghost Value = { List exp.Expansion };
 

@@ -2,10 +2,10 @@
 
 ghost use Rattle.std.specs.Prelude.{◌≡◌, ◌↔◌, [], ◌∷◌, ◌++◌, IsSome, IfSome, IsErrOf, OnOk, OnErr};
 ghost use Rattle.std.specs.Option.{option_map};
-ghost use Rattle.c25_meaning.specs.Files.{text_named, file_name};
-ghost use Rattle.c25_meaning.specs.Rows.{file_number};
+ghost use Rattle.c25_meaning_expansion.specs.Files.{text_named, file_name};
+ghost use Rattle.c25_meaning_expansion.specs.Rows.{file_number};
 
-use c25_meaning::failure::Failure;
+use c25_meaning_common::failure::Failure;
 use indexmap::IndexMap;
 use std::alloc::Global;
 use std::error::Error;
@@ -13,7 +13,7 @@ use std::fmt;
 use std::marker::Model;
 
 /// The name is there already (37).
-#[derive(Clone, Copy, PartialEq, Eq, Debug)]
+#[derive(Clone, Copy, PartialEq, Debug)]
 pub struct FileTwice;
 
 impl fmt::Display for FileTwice {

@@ -2,12 +2,12 @@
 
 ghost use Rattle.std.specs.Prelude.{◌≡◌, ◌<◌, ◌^◌, Result};
 ghost use Rattle.std.specs.String.{string_bytes};
-ghost use Rattle.c25_meaning.specs.Line.{first_word};
-ghost use Rattle.c25_meaning.specs.Acts as acts;
-ghost use Rattle.c25_meaning.specs.ExpansionBounds.{nesting};
-ghost use Rattle.c25_meaning.specs.ExpansionRules as rule;
-ghost use Rattle.c25_meaning.specs.declared.statement.FaultKind.{FaultKind};
-ghost use Rattle.c25_meaning.specs.Results.{Meets};
+ghost use Rattle.c25_meaning_lines.specs.Line.{first_word};
+ghost use Rattle.c25_meaning_expansion.specs.Acts as acts;
+ghost use Rattle.c25_meaning_expansion.specs.ExpansionBounds.{nesting};
+ghost use Rattle.c25_meaning_expansion.specs.ExpansionRules as rule;
+ghost use Rattle.c25_meaning_language.specs.declared.statement.FaultKind.{FaultKind};
+ghost use Rattle.c25_meaning_common.specs.Results.{Meets};
 ghost use Rattle.c25_macro.specs.Acts.{act_of, order_of};
 ghost use Rattle.c25_macro.specs.Config.{config, Follows, GoesOn};
 ghost use Rattle.c25_macro.specs.Dictionary.{dictionary_of};
@@ -23,15 +23,16 @@ use crate::rows::Row;
 use crate::scope::Block;
 use crate::state::{Mode, Progress, State};
 use c25_expr::symbols::Symbols;
-use c25_meaning::expansion::{Branch, Directive, LongLine, Phase, Place};
-use c25_meaning::failure::Failure;
-use c25_meaning::statement::FaultKind;
+use c25_meaning_common::failure::Failure;
+use c25_meaning_expansion::expansion::{Branch, Directive, Phase, Place};
+use c25_meaning_language::long_line::LongLine;
+use c25_meaning_language::statement::FaultKind;
 use c25_substitution::substitution::{substitute, substitute_before_comma, unsubstituted};
 use c25_text::line::first_word;
 
 impl State {
     /// What a line asks for is done.
-    #[tactic(auto, unfolding(c25_meaning::specs::ExpansionRules::acts))]
+    #[tactic(auto, unfolding(c25_meaning_expansion::specs::ExpansionRules::acts))]
     pub(crate) fn act(
         &mut self,
         files: &Files,
@@ -165,7 +166,7 @@ impl State {
     }
 
     /// A line that is used, with this first word: neither skipped nor collected.
-    #[tactic(auto, unfolding(c25_meaning::specs::ExpansionRules::used))]
+    #[tactic(auto, unfolding(c25_meaning_expansion::specs::ExpansionRules::used))]
     fn use_line(
         &mut self,
         files: &Files,
@@ -200,7 +201,7 @@ impl State {
     }
 
     /// A line that ends or goes on with an `.if` whose lines are skipped.
-    #[tactic(auto, unfolding(c25_meaning::specs::ExpansionRules::resumes))]
+    #[tactic(auto, unfolding(c25_meaning_expansion::specs::ExpansionRules::resumes))]
     fn resume(
         &mut self,
         files: &Files,
@@ -308,7 +309,7 @@ impl State {
     }
 
     /// A line that is skipped.
-    #[tactic(auto, unfolding(c25_meaning::specs::ExpansionRules::skips))]
+    #[tactic(auto, unfolding(c25_meaning_expansion::specs::ExpansionRules::skips))]
     fn skip(
         &mut self,
         files: &Files,

@@ -5,11 +5,11 @@ ghost use Rattle.std.specs.Map.{lookup};
 ghost use Rattle.std.specs.Option.{option_map};
 ghost use Rattle.std.specs.Str.{bytes_eq};
 ghost use Rattle.std.specs.String.{string_bytes};
-ghost use Rattle.c25_meaning.specs.Texts.{with_name};
+ghost use Rattle.c25_meaning_language.specs.Texts.{with_name};
 ghost use Rattle.c25_macro.specs.Acts.{macro_of};
 
 use crate::rows::Rows;
-use c25_meaning::no_memory::NoMemory;
+use c25_meaning_common::no_memory::NoMemory;
 use indexmap::IndexMap;
 use std::alloc::Global;
 use std::marker::Model;
@@ -28,8 +28,8 @@ pub(crate) struct Macros {
 }
 
 impl Model for Macros {
-    ghost use Rattle.c25_meaning.specs.Acts as acts;
-    ghost use Rattle.c25_meaning.specs.Texts.{Named};
+    ghost use Rattle.c25_meaning_expansion.specs.Acts as acts;
+    ghost use Rattle.c25_meaning_language.specs.Texts.{Named};
     ghost use Rattle.c25_macro.specs.Macros.{named_macros};
 
     ghost Value = { Named acts.Macro };

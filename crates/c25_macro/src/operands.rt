@@ -3,17 +3,18 @@
 ghost use Rattle.std.specs.Prelude.{Option};
 ghost use Rattle.std.specs.String.{string_bytes};
 ghost use Rattle.std.specs.Option.{option_map};
-ghost use Rattle.c25_meaning.specs.Tree.{Tree};
-ghost use Rattle.c25_meaning.specs.Acts as acts;
-ghost use Rattle.c25_meaning.specs.Acts.{name_in, names_in, with_condition, with_option};
+ghost use Rattle.c25_meaning_language.specs.Tree.{Tree};
+ghost use Rattle.c25_meaning_expansion.specs.Acts as acts;
+ghost use Rattle.c25_meaning_language.specs.DirectiveOperands.{name_in, names_in};
+ghost use Rattle.c25_meaning_expansion.specs.Acts.{with_condition, with_option};
 ghost use Rattle.c25_expr.specs.Pieces.{pieces_of, operands_view};
-ghost use Rattle.c25_meaning.specs.Results.{Meets};
+ghost use Rattle.c25_meaning_common.specs.Results.{Meets};
 ghost use Rattle.c25_expr.specs.View.{tree_of};
 ghost use Rattle.c25_macro.specs.Acts.{bytes_of_names};
 
 use c25_expr::tree::Expr;
-use c25_meaning::failure::Failure;
-use c25_meaning::statement::FaultKind;
+use c25_meaning_common::failure::Failure;
+use c25_meaning_language::statement::FaultKind;
 use c25_operands::expression_in;
 use c25_text::tokens::Token;
 use std::alloc::Global;

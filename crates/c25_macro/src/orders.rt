@@ -3,26 +3,27 @@
 ghost use Rattle.std.specs.Prelude.{◌≡◌, [], ◌∷◌, IfOk};
 ghost use Rattle.std.specs.Option.{option_map};
 ghost use Rattle.std.specs.String.{string_bytes};
-ghost use Rattle.c25_meaning.specs.Acts as acts;
+ghost use Rattle.c25_meaning_expansion.specs.Acts as acts;
+ghost use Rattle.c25_meaning_language.specs.DirectiveOperands as directiveoperands;
 ghost use Rattle.c25_text.specs.View.{parts_of};
 ghost use Rattle.c25_expr.specs.Pieces.{pieces_of, operands_view};
-ghost use Rattle.c25_meaning.specs.Results.{Meets};
+ghost use Rattle.c25_meaning_common.specs.Results.{Meets};
 ghost use Rattle.c25_macro.specs.Acts as view;
 
 use crate::act::{Act, Order};
 use crate::macros::Macro;
 use crate::operands::{condition_in, name_in, names_in, option_in};
+use c25_bytes::{byte_at, is_blank};
 use c25_expr::failure::line_fault;
 use c25_expr::operands::{operands_of, tokens_of, written_of};
-use c25_meaning::expansion::Directive;
-use c25_meaning::failure::Failure;
-use c25_meaning::no_memory::NoMemory;
-use c25_meaning::statement::{FaultKind, Written};
+use c25_meaning_common::failure::Failure;
+use c25_meaning_common::no_memory::NoMemory;
+use c25_meaning_expansion::expansion::Directive;
+use c25_meaning_language::statement::{FaultKind, Written};
 use c25_operands::{expression_in, string_in};
 use c25_substitution::arguments::{arguments, assigned_text};
 use c25_text::line::{Line, split_line};
 use c25_text::tokens::Token;
-use c25_text::{byte_at, is_blank};
 use std::alloc::Global;
 
 /// How many parameters a macro can have.
@@ -121,7 +122,7 @@ fn copy_in(alloc: Global, operands: &[&[Token<'_>]]) -> Result<Act, Failure<Faul
 }
 
 /// What a directive with these operands asks for.
-#[tactic(auto, unfolding(c25_meaning::specs::Acts::act_of))]
+#[tactic(auto, unfolding(c25_meaning_expansion::specs::Acts::act_of))]
 fn act_of(
     alloc: Global,
     directive: Directive,
@@ -150,7 +151,7 @@ fn act_of(
 
 /// The parts of a line.
 fn parts_in(text: &str) -> Result<Line<'_>, Failure<FaultKind>>
-    ensures { Meets parts_of (acts.parts_in text.now) result }
+    ensures { Meets parts_of (directiveoperands.parts_in text.now) result }
 {
     match split_line(text) {
         Ok(line) => Ok(line),
@@ -195,7 +196,7 @@ fn label_for(
 }
 
 /// What a line with a directive asks for.
-#[tactic(auto, unfolding(c25_meaning::specs::Acts::order_of))]
+#[tactic(auto, unfolding(c25_meaning_expansion::specs::Acts::order_of))]
 pub(crate) fn read_order(
     alloc: Global,
     directive: Directive,
@@ -212,7 +213,7 @@ pub(crate) fn read_order(
 }
 
 /// What a line that calls a macro asks for.
-#[tactic(auto, unfolding(c25_meaning::specs::Acts::call_of))]
+#[tactic(auto, unfolding(c25_meaning_expansion::specs::Acts::call_of))]
 pub(crate) fn read_call(
     alloc: Global,
     called: &Macro,

@@ -3,9 +3,9 @@
 ghost use Rattle.std.specs.Prelude.{◌≡◌};
 ghost use Rattle.c25_macro.specs.Refusals.{at_place};
 
-use c25_meaning::expansion::Place;
-use c25_meaning::failure::Failure;
-use c25_meaning::statement::FaultKind;
+use c25_meaning_common::failure::Failure;
+use c25_meaning_expansion::expansion::Place;
+use c25_meaning_language::statement::FaultKind;
 
 /// Why no line is given.
 #[derive(Drop)]

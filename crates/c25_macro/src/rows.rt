@@ -3,12 +3,12 @@
 ghost use Rattle.std.specs.Prelude.{◌≡◌, ◌∷◌, ◌++◌, [], IfOk, OnOk, option_to_list, IfNone, map};
 ghost use Rattle.std.specs.Str.Lines.{lines};
 ghost use Rattle.std.specs.String.{string_bytes};
-ghost use Rattle.c25_meaning.specs.Rows.{last_place, rows_of, rows_from};
-ghost use Rattle.c25_meaning.specs.ExpansionRuns.{is_empty};
+ghost use Rattle.c25_meaning_expansion.specs.Rows.{last_place, rows_of, rows_from};
+ghost use Rattle.c25_meaning_expansion.specs.ExpansionRuns.{is_empty};
 ghost use Rattle.c25_macro.specs.Views.{texts_of};
 
-use c25_meaning::expansion::Place;
-use c25_meaning::no_memory::NoMemory;
+use c25_meaning_common::no_memory::NoMemory;
+use c25_meaning_expansion::expansion::Place;
 use std::alloc::Global;
 use std::collections::VecDeque;
 use std::marker::Model;
@@ -22,7 +22,7 @@ pub(crate) struct Row {
 
 impl Model for Row {
     ghost use Rattle.std.specs.String.{string_bytes};
-    ghost use Rattle.c25_meaning.specs.Rows.{Row};
+    ghost use Rattle.c25_meaning_expansion.specs.Rows.{Row};
 
     ghost Value = { Row };
 
@@ -74,7 +74,7 @@ pub(crate) struct Rows {
 
 impl Model for Rows {
     ghost use Rattle.std.specs.Prelude.{List};
-    ghost use Rattle.c25_meaning.specs.Rows.{Row};
+    ghost use Rattle.c25_meaning_expansion.specs.Rows.{Row};
 
     ghost Value = { List Row };
 

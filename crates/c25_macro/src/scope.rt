@@ -2,12 +2,12 @@
 
 ghost use Rattle.std.specs.Prelude.{MatchOption, ◌≡◌, ◌∷◌, ◌<◌, OnOk, option_to_list, IfNone, length, ◌++◌, [], false, min, sum_by, ◌+◌};
 ghost use Rattle.std.specs.List.{list_any};
-ghost use Rattle.c25_meaning.specs.ExpansionRuns.{is_empty};
+ghost use Rattle.c25_meaning_expansion.specs.ExpansionRuns.{is_empty};
 ghost use Rattle.c25_macro.specs.Scopes.{scopes, kind_of, test_of, other_branches};
 
 use crate::rows::Rows;
-use c25_meaning::expansion::{Branch, Place};
-use c25_meaning::no_memory::NoMemory;
+use c25_meaning_common::no_memory::NoMemory;
+use c25_meaning_expansion::expansion::{Branch, Place};
 use std::alloc::Global;
 use std::marker::Model;
 
@@ -19,7 +19,7 @@ pub(crate) struct Branches {
 
 impl Model for Branches {
     ghost use Rattle.std.specs.Prelude.{List, reverse};
-    ghost use Rattle.c25_meaning.specs.declared.expansion.Branch.{Branch};
+    ghost use Rattle.c25_meaning_expansion.specs.declared.expansion.Branch.{Branch};
 
     ghost Value = { List Branch };
 

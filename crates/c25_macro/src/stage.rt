@@ -1,9 +1,9 @@
 //! Where an expansion stands, and its next line.
 
 ghost use Rattle.std.specs.Prelude.{◌≡◌};
-ghost use Rattle.c25_meaning.specs.ExpansionAnswers.{expanded_line};
-ghost use Rattle.c25_meaning.specs.ExpansionBounds.{IsBounded};
-ghost use Rattle.c25_meaning.specs.ExpansionRuns.{first, start_of};
+ghost use Rattle.c25_meaning_expansion.specs.ExpansionAnswers.{expanded_line};
+ghost use Rattle.c25_meaning_expansion.specs.ExpansionBounds.{IsBounded};
+ghost use Rattle.c25_meaning_expansion.specs.ExpansionRuns.{first, start_of};
 ghost use Rattle.c25_macro.specs.Config.{config};
 ghost use Rattle.c25_macro.specs.Expander.{shown, begun_at, Comes, IsNextAt, IsKept};
 ghost use Rattle.c25_macro.specs.Stages.{stage_of, IsRefused};
@@ -15,10 +15,10 @@ use crate::rows::Row;
 use crate::standing::Standing;
 use crate::state::State;
 use c25_expr::symbols::Symbols;
-use c25_meaning::expansion::Place;
-use c25_meaning::failure::Failure;
-use c25_meaning::no_memory::NoMemory;
-use c25_meaning::statement::FaultKind;
+use c25_meaning_common::failure::Failure;
+use c25_meaning_common::no_memory::NoMemory;
+use c25_meaning_expansion::expansion::Place;
+use c25_meaning_language::statement::FaultKind;
 use std::alloc::Global;
 
 /// Where an expansion stands.

@@ -1,6 +1,6 @@
 //! A state within its bounds.
 
-ghost use Rattle.c25_meaning.specs.ExpansionBounds.{IsBounded};
+ghost use Rattle.c25_meaning_expansion.specs.ExpansionBounds.{IsBounded};
 ghost use Rattle.c25_macro.specs.Config.{config};
 
 use crate::state::State;

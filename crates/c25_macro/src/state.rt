@@ -1,8 +1,8 @@
 //! What an expander works on: the sources that are open, and how the next line is looked at.
 
 ghost use Rattle.std.specs.Prelude.{◌≡◌, ◌<◌, ◌^◌, ◌++◌, Some, None, OnOk, IfOk, MatchBool};
-ghost use Rattle.c25_meaning.specs.Expansion as exp;
-ghost use Rattle.c25_meaning.specs.ExpansionRuns.{start};
+ghost use Rattle.c25_meaning_expansion.specs.Expansion as exp;
+ghost use Rattle.c25_meaning_expansion.specs.ExpansionRuns.{start};
 ghost use Rattle.c25_macro.specs.Config.{config, mode_of};
 ghost use Rattle.c25_macro.specs.Scopes.{kind_of, test_of};
 
@@ -10,8 +10,8 @@ use crate::act::Act;
 use crate::dictionary::Dictionary;
 use crate::rows::{Row, Rows, rows_of};
 use crate::scope::{Block, Branches, Kind, Scope, Source, Stack};
-use c25_meaning::expansion::Place;
-use c25_meaning::no_memory::NoMemory;
+use c25_meaning_common::no_memory::NoMemory;
+use c25_meaning_expansion::expansion::Place;
 use std::alloc::Global;
 use std::mem;
 

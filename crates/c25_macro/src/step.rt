@@ -1,11 +1,11 @@
 //! Rewriting the lines still to come until one is given.
 
 ghost use Rattle.std.specs.Prelude.{◌≡◌, ◌<◌, ◌^◌, [], OnOk};
-ghost use Rattle.c25_meaning.specs.Expansion as exp;
-ghost use Rattle.c25_meaning.specs.ExpansionBounds.{IsBounded, nested_of, nesting};
-ghost use Rattle.c25_meaning.specs.ExpansionRuns as runs;
-ghost use Rattle.c25_meaning.specs.Files as meaning;
-ghost use Rattle.c25_meaning.specs.Value.{Table};
+ghost use Rattle.c25_meaning_expansion.specs.Expansion as exp;
+ghost use Rattle.c25_meaning_expansion.specs.ExpansionBounds.{IsBounded, nested_of, nesting};
+ghost use Rattle.c25_meaning_expansion.specs.ExpansionRuns as runs;
+ghost use Rattle.c25_meaning_expansion.specs.Files as meaning;
+ghost use Rattle.c25_meaning_language.specs.Value.{Table};
 ghost use Rattle.c25_macro.specs.Config.{config, mode_of, Follows, Answers};
 
 use crate::files::Files;
@@ -14,8 +14,8 @@ use crate::rows::Row;
 use crate::scope::Kind;
 use crate::state::{Mode, Progress, State};
 use c25_expr::symbols::Symbols;
-use c25_meaning::failure::Failure;
-use c25_meaning::statement::FaultKind;
+use c25_meaning_common::failure::Failure;
+use c25_meaning_language::statement::FaultKind;
 use std::mem;
 
 impl State {
@@ -119,7 +119,7 @@ impl State {
     }
 
     /// One rewriting.
-    #[tactic(auto, unfolding(c25_meaning::specs::ExpansionRuns::rewrite))]
+    #[tactic(auto, unfolding(c25_meaning_expansion::specs::ExpansionRuns::rewrite))]
     fn step(&mut self, files: &Files, symbols: &Symbols) -> Result<Progress, Failure<Refusal>>
         requires { IsBounded (config self.old) }
         ensures { Follows (runs.rewrite files.now symbols.now (config self.old)) result (config self.new) }

@@ -1,17 +1,17 @@
 //! Values that are needed now.
 
 ghost use Rattle.std.specs.Prelude.{◌≡◌};
-ghost use Rattle.c25_meaning.specs.Statement.{valued};
-ghost use Rattle.c25_meaning.specs.ExpansionRules.{absolute, number_by};
-ghost use Rattle.c25_meaning.specs.Value.{is_zero};
+ghost use Rattle.c25_meaning_language.specs.Statement.{valued};
+ghost use Rattle.c25_meaning_expansion.specs.ExpansionRules.{absolute, number_by};
+ghost use Rattle.c25_meaning_language.specs.Value.{is_zero};
 ghost use Rattle.c25_expr.specs.View.{tree_of};
 
 use c25_expr::failure::value_fault;
 use c25_expr::symbols::Symbols;
 use c25_expr::tree::Expr;
 use c25_expr::value::value;
-use c25_meaning::statement::FaultKind;
-use c25_meaning::value::{Base, Value};
+use c25_meaning_language::statement::FaultKind;
+use c25_meaning_language::value::{Base, Value};
 
 /// The number of a value that counts from nothing.
 fn absolute(value: Value) -> Result<i32, FaultKind>

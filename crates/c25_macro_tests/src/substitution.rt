@@ -1,7 +1,7 @@
 //! Substitution and arguments against an independent model of the expander.
 
-use c25_meaning::expansion::LongLine;
-use c25_meaning::failure::Failure;
+use c25_meaning_common::failure::Failure;
+use c25_meaning_language::long_line::LongLine;
 use c25_substitution::arguments::{arguments, assigned_text};
 use c25_substitution::parameters::Arguments;
 use c25_substitution::strings::string_text;

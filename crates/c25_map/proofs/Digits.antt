@@ -9,13 +9,13 @@ use Rattle.std.proofs.lemmas.List.{take-append-drop}
 use Rattle.std.proofs.lemmas.Fmt.{decimal_digit as decimal_digit_text}
 use Rattle.std.specs.Fmt.{decimal}
 use Rattle.std.proofs.lemmas.List.Folds.{list_all-append}
-use Rattle.c25_meaning.specs.Results.{◌>>=◌}
+use Rattle.c25_meaning_common.specs.Results.{◌>>=◌}
 use Rattle.std.proofs.lemmas.Bool.Decides.{nat_tests}
 use Rattle.std.proofs.lemmas.Slice.Eq.{bytes_eq-Decides}
-use Rattle.c25_meaning.specs.Bytes.{is_digit}
-use Rattle.c25_meaning.specs.Digits.{digit, value_in, decimal_of, hexadecimal_of}
-use Rattle.c25_meaning.specs.Show.{hex_digit, four_digits}
-use Rattle.c25_meaning.specs.MapText.{address_text, decimal_digit, five_digits, eight_digits}
+use Rattle.c25_meaning_common.specs.Bytes.{is_digit}
+use Rattle.c25_meaning_common.specs.Digits.{digit, value_in, decimal_of, hexadecimal_of}
+use Rattle.c25_meaning_common.specs.Digits.{hex_digit, four_digits}
+use Rattle.c25_meaning_linking.specs.MapText.{address_text, decimal_digit, five_digits, eight_digits}
 use Rattle.c25_map.specs.Reading.{is_upper_digit, word_of, address_of, long_of, size_of, page_of}
 use Rattle.c25_map.specs.declared.map_fault.MapFault.TheVariants.{BadMap}
 use Rattle.c25_map.proofs.Steps.{tested, stepped, given, some_tested}

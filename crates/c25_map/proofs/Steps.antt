@@ -1,7 +1,7 @@
 -- What a reading did that answered.
 use Rattle.std.proofs.Common.{◌≡◌, Bool, true, false, Option, Some, None, Result, Ok, Err, if◌then◌else◌, refl}
 use Rattle.std.specs.Option.{ok_or}
-use Rattle.c25_meaning.specs.Results.{◌>>=◌}
+use Rattle.c25_meaning_common.specs.Results.{◌>>=◌}
 
 -- its test held
 pub tested : {A E : Type 0} (b : Bool) (r : Result A E) (e : E) (v : A) → (if b then r else Err e) ≡ Ok v → (b ≡ true) × (r ≡ Ok v)

@@ -3,12 +3,12 @@
 use Rattle.std.specs.Prelude.{ℕ, ◌+◌, ◌*◌, ◌==◌, ◌||◌, ◌&&◌, Bool, not, nat_le, List, [], ◌∷◌, ◌++◌, length, take, drop, codes, Option, Some, None, option_map, is_some, ok_or, Result, Ok, Err, if◌then◌else◌}
 use Rattle.std.specs.List.{list_all, slice_split}
 use Rattle.std.specs.Str.{bytes_eq}
-use Rattle.c25_meaning.specs.Bytes.{is_digit}
-use Rattle.c25_meaning.specs.Digits.{decimal_of, hexadecimal_of}
-use Rattle.c25_meaning.specs.MapText.{PartData, SectionPlace, NamedValue, MapData, is_number}
-use Rattle.c25_meaning.specs.Module.{is_section_name, is_symbol_name}
-use Rattle.c25_meaning.specs.Place.{Place}
-use Rattle.c25_meaning.specs.Results.{◌>>=◌}
+use Rattle.c25_meaning_common.specs.Bytes.{is_digit}
+use Rattle.c25_meaning_common.specs.Digits.{decimal_of, hexadecimal_of}
+use Rattle.c25_meaning_linking.specs.MapText.{PartData, SectionPlace, NamedValue, MapData, is_number}
+use Rattle.c25_meaning_objects.specs.Module.{is_section_name, is_symbol_name}
+use Rattle.c25_meaning_linking.specs.Place.{Place}
+use Rattle.c25_meaning_common.specs.Results.{◌>>=◌}
 use Rattle.c25_map.specs.declared.map_fault.MapFault.{MapFault}
 use Rattle.c25_map.specs.declared.map_fault.MapFault.TheVariants.{BadMap}
 

@@ -1,14 +1,14 @@
 //! What the fields of a map's line say.
 
 ghost use Rattle.std.specs.Prelude.{◌≡◌, [], IfOk};
-ghost use Rattle.c25_meaning.specs.Results.{Meets};
+ghost use Rattle.c25_meaning_common.specs.Results.{Meets};
 ghost use Rattle.c25_map.specs.Reading.{part_of, place_of, value_of};
 ghost use Rattle.c25_map.specs.View.{part_data, section_data, symbol_data};
 
 use crate::map::{GlobalSymbol, OutputSection, Part};
 use crate::map_fault::MapFault;
 use crate::numbers::{address_of, is_number, long_of, page_of, size_of, word_of};
-use c25_meaning::failure::Failure;
+use c25_meaning_common::failure::Failure;
 use c25_obj::{is_section_name, is_symbol_name};
 use std::alloc::Global;
 

@@ -13,4 +13,4 @@ mod writing;
 pub use map::{GlobalSymbol, Map, OutputSection, Part};
 pub use map_fault::MapFault;
 pub use reading::read_map;
-pub use writing::write_map;
+pub use writing::{push_symbols, write_map};

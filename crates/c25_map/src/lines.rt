@@ -1,7 +1,7 @@
 //! A map, and what one line more says.
 
 ghost use Rattle.std.specs.Prelude.{◌≡◌, [], ◌∷◌, IfOk, map, ok_or};
-ghost use Rattle.c25_meaning.specs.Results.{Meets};
+ghost use Rattle.c25_meaning_common.specs.Results.{Meets};
 ghost use Rattle.c25_map.specs.Reading as reading;
 ghost use Rattle.c25_map.specs.declared.map_fault.MapFault.TheVariants.{BadMap};
 ghost use Rattle.c25_map.specs.View.{part_data, section_data, symbol_data, map_data};
@@ -9,7 +9,7 @@ ghost use Rattle.c25_map.specs.View.{part_data, section_data, symbol_data, map_d
 use crate::fields::{part_of, section_of, symbol_of};
 use crate::map::{GlobalSymbol, Map, OutputSection, Part};
 use crate::map_fault::MapFault;
-use c25_meaning::failure::Failure;
+use c25_meaning_common::failure::Failure;
 use std::alloc::{AllocError, Global};
 
 /// Whether neither symbols nor an entry have come yet.

@@ -1,7 +1,7 @@
 //! What a map of a linked program says.
 
 /// The part of a section that a module has.
-#[derive(Debug, Drop)]
+#[derive(Drop)]
 pub struct Part {
     /// The decimal digits of the module's number, counted from 0: a map may have a number of any size.
     pub number: String,
@@ -12,7 +12,7 @@ pub struct Part {
 }
 
 /// A section of the program: the modules' sections of one name.
-#[derive(Debug, Drop)]
+#[derive(Drop)]
 pub struct OutputSection {
     pub name: String,
     /// 0 for program memory, 1 for data memory.
@@ -26,14 +26,14 @@ pub struct OutputSection {
 }
 
 /// A global symbol, with the low 32 bits of its value.
-#[derive(Debug, Drop)]
+#[derive(Drop)]
 pub struct GlobalSymbol {
     pub name: String,
     pub value: u32,
 }
 
 /// The map of a linked program.
-#[derive(Debug, Drop)]
+#[derive(Drop)]
 pub struct Map {
     /// The sections in the order of placement.
     pub sections: Vec<OutputSection>,

@@ -4,7 +4,7 @@ use std::error::Error;
 use std::fmt;
 
 /// Why a text is not read as a map. The number is that of the fault lines.
-#[derive(Clone, Copy, Debug, PartialEq, Eq)]
+#[derive(Clone, Copy, Debug)]
 pub enum MapFault {
     /// The text is that of no map (77).
     BadMap,

@@ -2,15 +2,15 @@
 
 ghost use Rattle.std.specs.Prelude.{◌≡◌};
 ghost use Rattle.std.specs.List.{list_all};
-ghost use Rattle.c25_meaning.specs.Bytes.{is_digit};
-ghost use Rattle.c25_meaning.specs.MapText.{is_number};
-ghost use Rattle.c25_meaning.specs.Results.{Meets};
+ghost use Rattle.c25_meaning_common.specs.Bytes.{is_digit};
+ghost use Rattle.c25_meaning_linking.specs.MapText.{is_number};
+ghost use Rattle.c25_meaning_common.specs.Results.{Meets};
 ghost use Rattle.c25_map.specs.Reading.{is_upper_digit, word_of, address_of, long_of, size_of, page_of};
 
 use crate::map_fault::MapFault;
+use c25_bytes::is_digit;
 use c25_items::{decimal_of, hexadecimal_of};
-use c25_meaning::failure::Failure;
-use c25_text::is_digit;
+use c25_meaning_common::failure::Failure;
 
 /// How many digits a size has.
 const SIZE_DIGITS: usize = 5;

@@ -1,8 +1,8 @@
 //! The text of a map, read.
 
 ghost use Rattle.std.specs.Prelude.{◌≡◌, IfOk, IfErr, All, map};
-ghost use Rattle.c25_meaning.specs.MapText.{IsMapOf, HasDigits};
-ghost use Rattle.c25_meaning.specs.Results.{Meets};
+ghost use Rattle.c25_meaning_linking.specs.MapText.{IsMapOf, HasDigits};
+ghost use Rattle.c25_meaning_common.specs.Results.{Meets};
 ghost use Rattle.c25_map.specs.Answer.{IsRefused};
 ghost use Rattle.c25_map.specs.Reading as reading;
 ghost use Rattle.c25_map.specs.View.{map_data};
@@ -10,7 +10,7 @@ ghost use Rattle.c25_map.specs.View.{map_data};
 use crate::lines::add_line;
 use crate::map::Map;
 use crate::map_fault::MapFault;
-use c25_meaning::failure::Failure;
+use c25_meaning_common::failure::Failure;
 use std::alloc::{AllocError, Global};
 
 /// A map that says nothing.

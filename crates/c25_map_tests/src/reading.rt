@@ -1,7 +1,7 @@
 //! Texts of maps that were written out by hand, and texts that are no map's.
 
 use c25_map::{GlobalSymbol, MapFault, OutputSection, Part, read_map, write_map};
-use c25_meaning::failure::Failure;
+use c25_meaning_common::failure::Failure;
 use std::alloc::Global;
 use std::process::Abort;
 use std::test::Fail;

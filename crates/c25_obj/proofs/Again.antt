@@ -8,19 +8,19 @@ use Rattle.std.proofs.lemmas.Bool.Decides.{nat_tests}
 use Rattle.std.proofs.lemmas.List.{append-nil, length-append, nil_from_length}
 use Rattle.std.proofs.lemmas.Option.{slice_get_within}
 use Rattle.std.proofs.lemmas.List.Concat.{flat_map-cons}
-use Rattle.c25_meaning.specs.declared.object.ObjectFault.{ObjectFault}
-use Rattle.c25_meaning.specs.declared.object.ObjectFault.TheVariants.{BadMagic, BadVersion, BadTag, BadField, Trailing}
-use Rattle.c25_meaning.specs.declared.object.ModuleMark.{ModuleMark}
-use Rattle.c25_meaning.specs.declared.object.Relocation.{Relocation}
-use Rattle.c25_meaning.specs.declared.object.RelocationBase.{RelocationBase}
-use Rattle.c25_meaning.specs.declared.object.RelocationBase.TheVariants as base
-use Rattle.c25_meaning.specs.declared.object.SymbolKind.{SymbolKind}
-use Rattle.c25_meaning.specs.declared.object.SymbolKind.TheVariants.{Absolute, InSection, External}
-use Rattle.c25_meaning.specs.Module.{IsModule, SectionBody, Uninitialised, Initialised, SectionData, SymbolData, Contents, body_words, body_size, section_fits, mark_fits, symbol_fits, relocation_fits, each_fits, lists_fit, has_sections, is_module, IsSized, has_section, begins_sections, is_section_name, is_section_byte, words_at, mark_after, last_of, place_fits, has_symbol, is_symbol_name, is_external, base_fits, relocation_after, field_is_clear}
-use Rattle.c25_meaning.specs.Bytes.{begins_name, goes_on_name}
-use Rattle.c25_meaning.specs.Records.{section_payload, mark_payload, symbol_payload, relocation_payload, section_entry, mark_entry, symbol_entry, relocation_entry, entry, body_bytes, records, last_entry, spelling, kind_section, base_index}
-use Rattle.c25_meaning.specs.Results.{◌>>=◌}
-use Rattle.c25_meaning.specs.RecordReading.{checked, latest, is_in_order, with_section, with_mark, with_symbol, with_relocation, with_record, Record, ended, read_from, read_all, nothing_read, module_of, section_of, mark_of, symbol_of, relocation_of}
+use Rattle.c25_meaning_objects.specs.declared.object.ObjectFault.{ObjectFault}
+use Rattle.c25_meaning_objects.specs.declared.object.ObjectFault.TheVariants.{BadMagic, BadVersion, BadTag, BadField, Trailing}
+use Rattle.c25_meaning_objects.specs.declared.object.ModuleMark.{ModuleMark}
+use Rattle.c25_meaning_objects.specs.declared.object.Relocation.{Relocation}
+use Rattle.c25_meaning_objects.specs.declared.object.RelocationBase.{RelocationBase}
+use Rattle.c25_meaning_objects.specs.declared.object.RelocationBase.TheVariants as base
+use Rattle.c25_meaning_objects.specs.declared.object.SymbolKind.{SymbolKind}
+use Rattle.c25_meaning_objects.specs.declared.object.SymbolKind.TheVariants.{Absolute, InSection, External}
+use Rattle.c25_meaning_objects.specs.Module.{IsModule, SectionBody, Uninitialised, Initialised, SectionData, SymbolData, Contents, body_words, body_size, section_fits, mark_fits, symbol_fits, relocation_fits, each_fits, lists_fit, has_sections, is_module, IsSized, has_section, begins_sections, is_section_name, is_section_byte, words_at, mark_after, last_of, place_fits, has_symbol, is_symbol_name, is_external, base_fits, relocation_after, field_is_clear}
+use Rattle.c25_meaning_common.specs.Bytes.{begins_name, goes_on_name}
+use Rattle.c25_meaning_objects.specs.Records.{section_payload, mark_payload, symbol_payload, relocation_payload, section_entry, mark_entry, symbol_entry, relocation_entry, entry, body_bytes, records, last_entry, spelling, kind_section, base_index}
+use Rattle.c25_meaning_common.specs.Results.{◌>>=◌}
+use Rattle.c25_meaning_objects.specs.RecordReading.{checked, latest, is_in_order, with_section, with_mark, with_symbol, with_relocation, with_record, Record, ended, read_from, read_all, nothing_read, module_of, section_of, mark_of, symbol_of, relocation_of}
 use Rattle.c25_obj.proofs.Texts.{both}
 use Rattle.c25_obj.proofs.Loop.{next_turn, after_record}
 use Rattle.c25_obj.proofs.Taken.{mark_again, symbol_again, relocation_again, IsSmall}

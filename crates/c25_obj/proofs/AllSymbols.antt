@@ -10,7 +10,7 @@ use Rattle.std.proofs.lemmas.List.Folds.{list_any-append}
 use Rattle.std.proofs.lemmas.Map.Text.{is_eq-slice_cmp}
 use Rattle.std.proofs.lemmas.List.{append-nil, length-append}
 use Rattle.std.proofs.lemmas.Slice.Eq.{bytes_eq-Decides}
-use Rattle.c25_meaning.specs.Module.{SectionData, SymbolData, symbol_stands, symbol_fits, has_symbol, each_fits}
+use Rattle.c25_meaning_objects.specs.Module.{SectionData, SymbolData, symbol_stands, symbol_fits, has_symbol, each_fits}
 use Rattle.c25_obj.specs.Differing.{name_at, NamesDiffer, HasNames}
 use Rattle.c25_obj.proofs.Texts.{both}
 use Rattle.c25_obj.proofs.Found.{and_true}

@@ -5,14 +5,14 @@ use Rattle.std.proofs.lemmas.Bool.{lt-ltb, cases_lt, eqb-true}
 use Rattle.std.proofs.lemmas.Bool.Decides.{nat_tests}
 use Rattle.std.proofs.lemmas.List.{append-nil, nil_from_length, length-append}
 use Rattle.std.proofs.lemmas.List.Concat.{flat_map-cons, flat_map-append}
-use Rattle.c25_meaning.specs.declared.object.ObjectFault.{ObjectFault}
-use Rattle.c25_meaning.specs.declared.object.ObjectFault.TheVariants.{BadMagic, BadVersion, BadTag, BadField, Trailing}
-use Rattle.c25_meaning.specs.declared.object.ModuleMark.{ModuleMark}
-use Rattle.c25_meaning.specs.declared.object.Relocation.{Relocation}
-use Rattle.c25_meaning.specs.Module.{SectionData, SymbolData, Contents, section_fits, mark_fits, symbol_fits, relocation_fits, each_fits, lists_fit, has_sections, is_module}
-use Rattle.c25_meaning.specs.Records.{section_payload, mark_payload, symbol_payload, relocation_payload, section_entry, mark_entry, symbol_entry, relocation_entry, entry, records, last_entry, head, spelling}
-use Rattle.c25_meaning.specs.Results.{◌>>=◌}
-use Rattle.c25_meaning.specs.RecordReading.{checked, latest, is_in_order, with_section, with_mark, with_symbol, with_relocation, with_record, record_at, ended, read_from, nothing_read, module_of, has_magic, section_of, mark_of, symbol_of, relocation_of}
+use Rattle.c25_meaning_objects.specs.declared.object.ObjectFault.{ObjectFault}
+use Rattle.c25_meaning_objects.specs.declared.object.ObjectFault.TheVariants.{BadMagic, BadVersion, BadTag, BadField, Trailing}
+use Rattle.c25_meaning_objects.specs.declared.object.ModuleMark.{ModuleMark}
+use Rattle.c25_meaning_objects.specs.declared.object.Relocation.{Relocation}
+use Rattle.c25_meaning_objects.specs.Module.{SectionData, SymbolData, Contents, section_fits, mark_fits, symbol_fits, relocation_fits, each_fits, lists_fit, has_sections, is_module}
+use Rattle.c25_meaning_objects.specs.Records.{section_payload, mark_payload, symbol_payload, relocation_payload, section_entry, mark_entry, symbol_entry, relocation_entry, entry, records, last_entry, head, spelling}
+use Rattle.c25_meaning_common.specs.Results.{◌>>=◌}
+use Rattle.c25_meaning_objects.specs.RecordReading.{checked, latest, is_in_order, with_section, with_mark, with_symbol, with_relocation, with_record, record_at, ended, read_from, nothing_read, module_of, has_magic, section_of, mark_of, symbol_of, relocation_of}
 use Rattle.c25_obj.proofs.Texts.{both}
 use Rattle.c25_obj.proofs.Loop.{next_turn, after_record}
 use Rattle.c25_obj.proofs.Taken.{IsBytes, IsBytes-drop, mark_takes, symbol_takes, relocation_takes, not_false, one}

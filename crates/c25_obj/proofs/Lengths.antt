@@ -4,10 +4,10 @@ use Rattle.std.specs.List.{flat_map}
 use Rattle.std.specs.Int.{w16, w32, to_be_bytes}
 use Rattle.std.proofs.lemmas.List.{length-append}
 use Rattle.std.proofs.lemmas.List.Concat.{flat_map-cons}
-use Rattle.c25_meaning.specs.declared.object.ModuleMark.{ModuleMark}
-use Rattle.c25_meaning.specs.declared.object.Relocation.{Relocation}
-use Rattle.c25_meaning.specs.Module.{SectionBody, Uninitialised, Initialised, SectionData, SymbolData, body_words}
-use Rattle.c25_meaning.specs.Records.{body_bytes, section_payload, mark_payload, symbol_payload, relocation_payload, entry}
+use Rattle.c25_meaning_objects.specs.declared.object.ModuleMark.{ModuleMark}
+use Rattle.c25_meaning_objects.specs.declared.object.Relocation.{Relocation}
+use Rattle.c25_meaning_objects.specs.Module.{SectionBody, Uninitialised, Initialised, SectionData, SymbolData, body_words}
+use Rattle.c25_meaning_objects.specs.Records.{body_bytes, section_payload, mark_payload, symbol_payload, relocation_payload, entry}
 
 pub length-words : (words : List ℕ) → length (flat_map (to_be_bytes w16) words) ≡ 2 * length words
 length-words [] = refl

@@ -1,12 +1,12 @@
 -- Reading records one after the other, as a loop does.
 use Rattle.std.proofs.Common.{◌≡◌, ℕ, suc, ◌-◌, ◌+◌, ◌<◌, true, false, not, cond, eqb, List, Result, Ok, Err, refl, sym, ap, ◌∙◌, arith}
-use Rattle.c25_meaning.specs.declared.object.ObjectFault.{ObjectFault}
-use Rattle.c25_meaning.specs.declared.object.ObjectFault.TheVariants.{BadTag}
-use Rattle.c25_meaning.specs.declared.failure.Failure.{Failure}
-use Rattle.c25_meaning.specs.declared.failure.Failure.TheVariants.{NoMemory, Fault}
-use Rattle.c25_meaning.specs.Module.{Contents}
-use Rattle.c25_meaning.specs.Results.{◌>>=◌, Fails}
-use Rattle.c25_meaning.specs.RecordReading.{Record, record_at, is_in_order, ended, with_record, read_from}
+use Rattle.c25_meaning_objects.specs.declared.object.ObjectFault.{ObjectFault}
+use Rattle.c25_meaning_objects.specs.declared.object.ObjectFault.TheVariants.{BadTag}
+use Rattle.c25_meaning_common.specs.declared.failure.Failure.{Failure}
+use Rattle.c25_meaning_common.specs.declared.failure.Failure.TheVariants.{NoMemory, Fault}
+use Rattle.c25_meaning_objects.specs.Module.{Contents}
+use Rattle.c25_meaning_common.specs.Results.{◌>>=◌, Fails}
+use Rattle.c25_meaning_objects.specs.RecordReading.{Record, record_at, is_in_order, ended, with_record, read_from}
 
 -- what is done with a record
 abbrev pub after_record : ℕ → Contents → Record × List ℕ → Result Contents ObjectFault

@@ -1,12 +1,12 @@
 -- What a reading of a module says of the bytes.
 use Rattle.std.proofs.Common.{◌≡◌, ℕ, List, Result, Ok, Err}
 use Rattle.std.specs.Prelude.{IfOk}
-use Rattle.c25_meaning.specs.Records.{spelling}
-use Rattle.c25_meaning.specs.RecordReading.{module_of}
-use Rattle.c25_meaning.specs.declared.failure.Failure.{Failure}
-use Rattle.c25_meaning.specs.declared.object.ObjectFault.{ObjectFault}
-use Rattle.c25_meaning.specs.Module.{Contents}
-use Rattle.c25_meaning.specs.Results.{Meets}
+use Rattle.c25_meaning_objects.specs.Records.{spelling}
+use Rattle.c25_meaning_objects.specs.RecordReading.{module_of}
+use Rattle.c25_meaning_common.specs.declared.failure.Failure.{Failure}
+use Rattle.c25_meaning_objects.specs.declared.object.ObjectFault.{ObjectFault}
+use Rattle.c25_meaning_objects.specs.Module.{Contents}
+use Rattle.c25_meaning_common.specs.Results.{Meets}
 use Rattle.c25_obj.proofs.Taken.{IsBytes}
 use Rattle.c25_obj.proofs.Found.{module_takes}
 

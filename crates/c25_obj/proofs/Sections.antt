@@ -7,11 +7,11 @@ use Rattle.std.proofs.lemmas.Bool.{ltb-false, le-ltb, eqb-true, eq-eqb}
 use Rattle.std.proofs.lemmas.List.{take_at, drop_at, take-append-drop, length-append, length-take}
 use Rattle.std.proofs.lemmas.List.Concat.{flat_map-cons}
 use Rattle.std.proofs.lemmas.Nat.{be_bytes_2, from_be_bytes-to_be_bytes_2, from_be_bytes-to_be_bytes_4}
-use Rattle.c25_meaning.specs.declared.object.ObjectFault.{ObjectFault}
-use Rattle.c25_meaning.specs.declared.object.ObjectFault.TheVariants.{Short}
-use Rattle.c25_meaning.specs.Module.{SectionBody, Uninitialised, Initialised, SectionData, body_words, body_size}
-use Rattle.c25_meaning.specs.Records.{body_flag, body_bytes, section_payload, entry}
-use Rattle.c25_meaning.specs.RecordReading.{long_at, words_in, body_of, section_of, Record, record_at}
+use Rattle.c25_meaning_objects.specs.declared.object.ObjectFault.{ObjectFault}
+use Rattle.c25_meaning_objects.specs.declared.object.ObjectFault.TheVariants.{Short}
+use Rattle.c25_meaning_objects.specs.Module.{SectionBody, Uninitialised, Initialised, SectionData, body_words, body_size}
+use Rattle.c25_meaning_objects.specs.Records.{body_flag, body_bytes, section_payload, entry}
+use Rattle.c25_meaning_objects.specs.RecordReading.{long_at, words_in, body_of, section_of, Record, record_at}
 use Rattle.c25_obj.proofs.Taken.{IsBytes, IsBytes-drop, IsBytes-take, one, four, drop_whole, and_then_some, mapped_some, guarded, unguarded, some_is, pair_fits}
 
 chosen : {A : Type 0} (b : Bool) (x y z : A) → cond b x y ≡ z → ((b ≡ true) × (x ≡ z)) ⊎ ((b ≡ false) × (y ≡ z))

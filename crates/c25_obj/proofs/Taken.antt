@@ -9,19 +9,19 @@ use Rattle.std.proofs.Math.Facts.{Fits-of_z}
 use Rattle.std.proofs.lemmas.Int.{of_z-to_z, to_z-of_z}
 use Rattle.std.proofs.lemmas.List.{length-take, length-drop, get_or-drop, get_or-take, get_or_past, nil_from_length}
 use Rattle.std.proofs.lemmas.Nat.{be_bytes_2, be_bytes_4, from_be_bytes-to_be_bytes_2, from_be_bytes-to_be_bytes_4}
-use Rattle.c25_meaning.specs.declared.object.SymbolKind.{SymbolKind}
-use Rattle.c25_meaning.specs.declared.object.SymbolKind.TheVariants.{Absolute, InSection, External}
-use Rattle.c25_meaning.specs.declared.object.Scope.{Scope}
-use Rattle.c25_meaning.specs.declared.object.Scope.TheVariants.{Local, Global}
-use Rattle.c25_meaning.specs.declared.relocation.RelocationKind.{RelocationKind}
-use Rattle.c25_meaning.specs.declared.relocation.RelocationKind.TheVariants.{Word16, Low7, Page9}
-use Rattle.c25_meaning.specs.declared.object.RelocationBase.{RelocationBase}
-use Rattle.c25_meaning.specs.declared.object.RelocationBase.TheVariants as base
-use Rattle.c25_meaning.specs.declared.object.ModuleMark.{ModuleMark}
-use Rattle.c25_meaning.specs.declared.object.Relocation.{Relocation}
-use Rattle.c25_meaning.specs.Module.{SymbolData}
-use Rattle.c25_meaning.specs.Records.{mark_payload, symbol_payload, relocation_payload, kind_code, kind_section, scope_code, field_code, base_code, base_index, counted}
-use Rattle.c25_meaning.specs.RecordReading.{short_at, long_at, mark_of, kind_of, scope_of, symbol_with, symbol_of, field_of, base_of, relocation_with, relocation_of}
+use Rattle.c25_meaning_objects.specs.declared.object.SymbolKind.{SymbolKind}
+use Rattle.c25_meaning_objects.specs.declared.object.SymbolKind.TheVariants.{Absolute, InSection, External}
+use Rattle.c25_meaning_objects.specs.declared.object.Scope.{Scope}
+use Rattle.c25_meaning_objects.specs.declared.object.Scope.TheVariants.{Local, Global}
+use Rattle.c25_meaning_common.specs.declared.relocation.RelocationKind.{RelocationKind}
+use Rattle.c25_meaning_common.specs.declared.relocation.RelocationKind.TheVariants.{Word16, Low7, Page9}
+use Rattle.c25_meaning_objects.specs.declared.object.RelocationBase.{RelocationBase}
+use Rattle.c25_meaning_objects.specs.declared.object.RelocationBase.TheVariants as base
+use Rattle.c25_meaning_objects.specs.declared.object.ModuleMark.{ModuleMark}
+use Rattle.c25_meaning_objects.specs.declared.object.Relocation.{Relocation}
+use Rattle.c25_meaning_objects.specs.Module.{SymbolData}
+use Rattle.c25_meaning_objects.specs.Records.{mark_payload, symbol_payload, relocation_payload, kind_code, kind_section, scope_code, field_code, base_code, base_index, counted}
+use Rattle.c25_meaning_objects.specs.RecordReading.{short_at, long_at, mark_of, kind_of, scope_of, symbol_with, symbol_of, field_of, base_of, relocation_with, relocation_of}
 
 abbrev pub IsBytes : List ℕ → Type 0
 IsBytes bytes = (i : ℕ) → get_or bytes i 0 < 256

@@ -4,7 +4,7 @@ use Rattle.std.specs.List.{slice_get}
 use Rattle.std.specs.Ordering.{is_lt, nat_cmp}
 use Rattle.std.specs.Cmp.Lexicographic.{slice_cmp}
 use Rattle.std.specs.BTreeSet.{BTreeSet, contains}
-use Rattle.c25_meaning.specs.Module.{SymbolData, has_symbol}
+use Rattle.c25_meaning_objects.specs.Module.{SymbolData, has_symbol}
 
 -- the name of a symbol, empty where there is none
 abbrev pub name_of : Option SymbolData → List ℕ

@@ -1,6 +1,6 @@
 -- How the lists of a module are seen: texts and vectors as lists.
 use Rattle.std.specs.Prelude.{List, map, string_bytes}
-use Rattle.c25_meaning.specs.Module.{SectionBody, Uninitialised, Initialised, SectionData, SymbolData, Contents}
+use Rattle.c25_meaning_objects.specs.Module.{SectionBody, Uninitialised, Initialised, SectionData, SymbolData, Contents}
 use Rattle.c25_obj.specs.declared.parts.Body.{Body}
 use Rattle.c25_obj.specs.declared.parts.Body.TheVariants as body
 use Rattle.c25_obj.specs.declared.parts.Section.{Section}

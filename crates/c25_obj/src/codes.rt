@@ -1,11 +1,11 @@
 //! The numbers that stand for kinds, scopes, fields and bases in a record.
 
 ghost use Rattle.std.specs.Prelude.{◌≡◌};
-ghost use Rattle.c25_meaning.specs.RecordReading as reading;
-ghost use Rattle.c25_meaning.specs.Records as bytes;
+ghost use Rattle.c25_meaning_objects.specs.RecordReading as reading;
+ghost use Rattle.c25_meaning_objects.specs.Records as bytes;
 
-use c25_meaning::object::{RelocationBase, Scope, SymbolKind};
-use c25_meaning::relocation::RelocationKind;
+use c25_meaning_common::relocation::RelocationKind;
+use c25_meaning_objects::object::{RelocationBase, Scope, SymbolKind};
 
 /// The kind of a symbol by its code and its two bytes for a section.
 pub(crate) fn kind_of(code: u8, section: u16) -> Option<SymbolKind>

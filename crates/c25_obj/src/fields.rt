@@ -2,7 +2,7 @@
 
 ghost use Rattle.std.specs.Prelude.{◌≡◌, ◌+◌, ◌≤◌, length};
 ghost use Rattle.std.specs.Int.{w32, cast_signed};
-ghost use Rattle.c25_meaning.specs.RecordReading.{short_at, long_at};
+ghost use Rattle.c25_meaning_objects.specs.RecordReading.{short_at, long_at};
 
 /// The two bytes at a place.
 pub(crate) fn short_at(bytes: &[u8], at: usize) -> u16

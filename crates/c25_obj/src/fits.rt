@@ -2,13 +2,14 @@
 
 ghost use Rattle.std.specs.Prelude.{◌≡◌, ◌+◌};
 ghost use Rattle.std.specs.List.{slice_get};
-ghost use Rattle.c25_meaning.specs.Module as spec;
+ghost use Rattle.c25_meaning_objects.specs.Module as spec;
+ghost use Rattle.c25_meaning_common.specs.Fields as fields;
 ghost use Rattle.c25_obj.specs.View.{body_data, section_data, symbol_data, sections_data, symbols_data};
 
 use crate::names::{is_section_name, is_symbol_name};
 use crate::parts::{Body, Section, Symbol};
-use c25_meaning::object::{ModuleMark, Relocation, RelocationBase, Scope, SymbolKind};
-use c25_meaning::relocation::RelocationKind;
+use c25_meaning_common::relocation::RelocationKind;
+use c25_meaning_objects::object::{ModuleMark, Relocation, RelocationBase, Scope, SymbolKind};
 
 fn is_text(section: &Section) -> bool
     ensures { result ≡ spec.is_text (section_data section.now) }
@@ -137,7 +138,7 @@ fn base_fits(sections: &[Section], symbols: &[Symbol], base: RelocationBase) -> 
 }
 
 fn field_values(kind: RelocationKind) -> u32
-    ensures { result ≡ spec.field_values kind }
+    ensures { result ≡ fields.field_values kind }
 {
     match kind {
         RelocationKind::Word16 => 65_536,

@@ -1,7 +1,7 @@
 //! A module: lists that spell one.
 
 ghost use Rattle.std.specs.Prelude.{◌≡◌};
-ghost use Rattle.c25_meaning.specs.Module.{IsModule};
+ghost use Rattle.c25_meaning_objects.specs.Module.{IsModule};
 ghost use Rattle.c25_obj.specs.View.{contents};
 
 use crate::parts::Parts;
@@ -9,13 +9,13 @@ use std::marker::Model;
 
 /// Lists that are those of a module: [`module`](crate::module) makes one, and so does
 /// [`read_module`](crate::read_module).
-#[derive(Debug, Drop)]
+#[derive(Drop)]
 pub struct Module {
     pub(crate) parts: Parts,
 }
 
 impl Model for Module {
-    ghost use Rattle.c25_meaning.specs.Module.{Contents, IsModule};
+    ghost use Rattle.c25_meaning_objects.specs.Module.{Contents, IsModule};
     ghost use Rattle.c25_obj.specs.View.{contents};
 
     ghost Value = { Contents };

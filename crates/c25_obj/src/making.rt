@@ -1,7 +1,7 @@
 //! Lists taken as a module.
 
 ghost use Rattle.std.specs.Prelude.{◌≡◌, true};
-ghost use Rattle.c25_meaning.specs.Module.{is_module};
+ghost use Rattle.c25_meaning_objects.specs.Module.{is_module};
 ghost use Rattle.c25_obj.specs.View.{contents};
 
 use crate::made::Module;

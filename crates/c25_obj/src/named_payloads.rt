@@ -3,10 +3,10 @@
 ghost use Rattle.std.specs.Prelude.{◌≡◌, ◌&&◌, not, nat_lt, true, length, ◌++◌, [], ◌∷◌, IfOk, IfErr};
 ghost use Rattle.std.specs.Option.{ok_or, option_map};
 ghost use Rattle.std.specs.Str.{IsUtf8};
-ghost use Rattle.c25_meaning.specs.Module as spec;
-ghost use Rattle.c25_meaning.specs.RecordReading as reading;
+ghost use Rattle.c25_meaning_objects.specs.Module as spec;
+ghost use Rattle.c25_meaning_objects.specs.RecordReading as reading;
 ghost use Rattle.c25_obj.specs.Differing.{HasNames};
-ghost use Rattle.c25_meaning.specs.Results.{IsNoMemory, Meets};
+ghost use Rattle.c25_meaning_common.specs.Results.{IsNoMemory, Meets};
 ghost use Rattle.c25_obj.specs.View.{body_data, section_data, symbol_data, sections_data, symbols_data};
 
 use crate::codes::{kind_of, scope_of};
@@ -15,8 +15,8 @@ use crate::fields::{long_at, short_at, signed_at};
 use crate::fits::{section_fits, symbol_stands};
 use crate::names::{is_section_name, is_symbol_name};
 use crate::parts::{Body, Section, Symbol};
-use c25_meaning::failure::Failure;
-use c25_meaning::object::{ObjectFault, Scope, SymbolKind};
+use c25_meaning_common::failure::Failure;
+use c25_meaning_objects::object::{ObjectFault, Scope, SymbolKind};
 use std::alloc::Global;
 use std::collections::BTreeSet;
 
@@ -31,7 +31,7 @@ fn text_of(bytes: &[u8]) -> &str
 }
 
 /// What a symbol's payload says, with the bytes of its name.
-#[derive(Clone, Copy, Debug)]
+#[derive(Clone, Copy)]
 struct SymbolRecord<'a> {
     kind: SymbolKind,
     scope: Scope,
@@ -39,7 +39,7 @@ struct SymbolRecord<'a> {
     name: &'a [u8],
 }
 
-#[tactic(auto, unfolding(c25_meaning::specs::RecordReading::symbol_of))]
+#[tactic(auto, unfolding(c25_meaning_objects::specs::RecordReading::symbol_of))]
 fn symbol_of(bytes: &[u8]) -> Option<SymbolRecord<'_>>
     ensures { option_map (λ r. record { kind = r.kind; scope = r.scope; value = r.value; name = r.name.now }) result ≡ reading.symbol_of bytes.now }
 {
@@ -109,7 +109,7 @@ pub(crate) fn symbol_after<'a>(
     Ok(symbol)
 }
 
-#[tactic(auto, unfolding(c25_meaning::specs::RecordReading::words_in))]
+#[tactic(auto, unfolding(c25_meaning_objects::specs::RecordReading::words_in))]
 fn words_in(alloc: Global, bytes: &[u8]) -> Result<Vec<u16>, Failure<ObjectFault>>
     ensures { Meets (λ words. words.items) (ok_or (reading.words_in bytes.now) ObjectFault.BadField) result }
 {
@@ -146,7 +146,7 @@ fn body_of(alloc: Global, flag: u8, bytes: &[u8]) -> Result<Body, Failure<Object
 }
 
 /// The section that a payload says, where it may follow these.
-#[tactic(auto, unfolding(c25_meaning::specs::RecordReading::section_of))]
+#[tactic(auto, unfolding(c25_meaning_objects::specs::RecordReading::section_of))]
 pub(crate) fn section_after(
     alloc: Global,
     before: &[Section],

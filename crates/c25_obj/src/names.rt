@@ -2,9 +2,9 @@
 
 ghost use Rattle.std.specs.Prelude.{◌≡◌};
 ghost use Rattle.std.specs.List.{list_all};
-ghost use Rattle.c25_meaning.specs.Module as spec;
+ghost use Rattle.c25_meaning_objects.specs.Module as spec;
 
-use c25_text::{all_go_on_name, begins_name};
+use c25_bytes::{all_go_on_name, begins_name};
 
 fn is_section_byte(byte: u8) -> bool
     ensures { result ≡ spec.is_section_byte byte }

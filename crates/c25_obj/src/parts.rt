@@ -1,9 +1,9 @@
 //! The lists that a module consists of.
 
-use c25_meaning::object::{ModuleMark, Relocation, Scope, SymbolKind};
+use c25_meaning_objects::object::{ModuleMark, Relocation, Scope, SymbolKind};
 
 /// What a section has: a number of reserved words, or its words.
-#[derive(Debug, Drop)]
+#[derive(Drop)]
 pub enum Body {
     /// So many words are reserved, and nothing is loaded there.
     Uninitialised(u32),
@@ -12,7 +12,7 @@ pub enum Body {
 }
 
 /// A section: its name, and what it has.
-#[derive(Debug, Drop)]
+#[derive(Drop)]
 pub struct Section {
     pub name: String,
     pub body: Body,
@@ -20,7 +20,7 @@ pub struct Section {
 
 /// A symbol. Its value is an offset in words where its kind is [`SymbolKind::InSection`], which may
 /// lie outside the section; it is 0 where its kind is [`SymbolKind::External`].
-#[derive(Debug, Drop)]
+#[derive(Drop)]
 pub struct Symbol {
     pub kind: SymbolKind,
     pub scope: Scope,
@@ -30,7 +30,7 @@ pub struct Symbol {
 
 /// The lists of a module, each in the order in which its records are written. Sections and symbols
 /// are named by their numbers from 0; marks and relocations ascend by section and offset.
-#[derive(Debug, Drop)]
+#[derive(Drop)]
 pub struct Parts {
     pub sections: Vec<Section>,
     pub marks: Vec<ModuleMark>,

@@ -1,19 +1,19 @@
 //! What the payloads of marks and relocations say, each behind the items before it.
 
 ghost use Rattle.std.specs.Prelude.{◌≡◌};
-ghost use Rattle.c25_meaning.specs.Module as spec;
-ghost use Rattle.c25_meaning.specs.RecordReading as reading;
-ghost use Rattle.c25_meaning.specs.Results.{Meets};
+ghost use Rattle.c25_meaning_objects.specs.Module as spec;
+ghost use Rattle.c25_meaning_objects.specs.RecordReading as reading;
+ghost use Rattle.c25_meaning_common.specs.Results.{Meets};
 ghost use Rattle.c25_obj.specs.View.{sections_data, symbols_data};
 
 use crate::codes::{base_of, field_of};
 use crate::fields::{short_at, signed_at};
 use crate::fits::{mark_fits, relocation_fits};
 use crate::parts::{Section, Symbol};
-use c25_meaning::failure::Failure;
-use c25_meaning::object::{ModuleMark, ObjectFault, Relocation};
+use c25_meaning_common::failure::Failure;
+use c25_meaning_objects::object::{ModuleMark, ObjectFault, Relocation};
 
-#[tactic(auto, unfolding(c25_meaning::specs::RecordReading::mark_of))]
+#[tactic(auto, unfolding(c25_meaning_objects::specs::RecordReading::mark_of))]
 fn mark_of(bytes: &[u8]) -> Option<ModuleMark>
     ensures { result ≡ reading.mark_of bytes.now }
 {
@@ -44,7 +44,7 @@ pub(crate) fn mark_after(
     Ok(mark)
 }
 
-#[tactic(auto, unfolding(c25_meaning::specs::RecordReading::relocation_of))]
+#[tactic(auto, unfolding(c25_meaning_objects::specs::RecordReading::relocation_of))]
 fn relocation_of(bytes: &[u8]) -> Option<Relocation>
     ensures { result ≡ reading.relocation_of bytes.now }
 {

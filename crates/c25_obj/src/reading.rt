@@ -1,11 +1,11 @@
 //! Bytes read as a module, front to back.
 
 ghost use Rattle.std.specs.Prelude.{◌≡◌, true, IfOk, OnOk, Ok};
-ghost use Rattle.c25_meaning.specs.Module.{Contents, IsSized, is_module};
-ghost use Rattle.c25_meaning.specs.Records.{spelling};
-ghost use Rattle.c25_meaning.specs.RecordReading as reading;
+ghost use Rattle.c25_meaning_objects.specs.Module.{Contents, IsSized, is_module};
+ghost use Rattle.c25_meaning_objects.specs.Records.{spelling};
+ghost use Rattle.c25_meaning_objects.specs.RecordReading as reading;
 ghost use Rattle.c25_obj.specs.Differing.{HasNames};
-ghost use Rattle.c25_meaning.specs.Results.{Meets};
+ghost use Rattle.c25_meaning_common.specs.Results.{Meets};
 ghost use Rattle.c25_obj.specs.View.{contents, symbols_data};
 
 use crate::fields::long_at;
@@ -14,20 +14,20 @@ use crate::making::module;
 use crate::named_payloads::{section_after, symbol_after};
 use crate::parts::Parts;
 use crate::payloads::{mark_after, relocation_after};
-use c25_meaning::failure::Failure;
-use c25_meaning::object::ObjectFault;
+use c25_meaning_common::failure::Failure;
+use c25_meaning_objects::object::ObjectFault;
 use std::alloc::Global;
 use std::collections::BTreeSet;
 
 /// A record: its tag, its payload, and the bytes behind it.
-#[derive(Clone, Copy, Debug)]
+#[derive(Clone, Copy)]
 struct Record<'a> {
     tag: u8,
     payload: &'a [u8],
     rest: &'a [u8],
 }
 
-#[tactic(auto, unfolding(c25_meaning::specs::RecordReading::record_at))]
+#[tactic(auto, unfolding(c25_meaning_objects::specs::RecordReading::record_at))]
 fn record_at(bytes: &[u8]) -> Result<Record<'_>, Failure<ObjectFault>>
     ensures { Meets (λ x. (record { tag = x.tag; payload = x.payload.now }, x.rest.now)) (reading.record_at bytes.now) result }
 {
@@ -74,7 +74,7 @@ struct Reader<'a> {
     names: BTreeSet<&'a str>,
 }
 
-#[tactic(auto, unfolding(c25_meaning::specs::RecordReading::with_section))]
+#[tactic(auto, unfolding(c25_meaning_objects::specs::RecordReading::with_section))]
 fn add_section(alloc: Global, parts: &mut Parts, payload: &[u8]) -> Result<(), Failure<ObjectFault>>
     ensures given { Meets (λ _. contents parts.new) (reading.with_section (contents parts.old) payload.now) result }
     ensures symbols { parts.new.symbols ≡ parts.old.symbols }
@@ -84,7 +84,7 @@ fn add_section(alloc: Global, parts: &mut Parts, payload: &[u8]) -> Result<(), F
     Ok(())
 }
 
-#[tactic(auto, unfolding(c25_meaning::specs::RecordReading::with_mark))]
+#[tactic(auto, unfolding(c25_meaning_objects::specs::RecordReading::with_mark))]
 fn add_mark(parts: &mut Parts, payload: &[u8]) -> Result<(), Failure<ObjectFault>>
     ensures given { Meets (λ _. contents parts.new) (reading.with_mark (contents parts.old) payload.now) result }
     ensures symbols { parts.new.symbols ≡ parts.old.symbols }
@@ -94,7 +94,7 @@ fn add_mark(parts: &mut Parts, payload: &[u8]) -> Result<(), Failure<ObjectFault
     Ok(())
 }
 
-#[tactic(auto, unfolding(c25_meaning::specs::RecordReading::with_symbol))]
+#[tactic(auto, unfolding(c25_meaning_objects::specs::RecordReading::with_symbol))]
 fn add_symbol<'a>(
     alloc: Global,
     reader: &mut Reader<'a>,
@@ -116,7 +116,7 @@ fn add_symbol<'a>(
     Ok(())
 }
 
-#[tactic(auto, unfolding(c25_meaning::specs::RecordReading::with_relocation))]
+#[tactic(auto, unfolding(c25_meaning_objects::specs::RecordReading::with_relocation))]
 fn add_relocation(parts: &mut Parts, payload: &[u8]) -> Result<(), Failure<ObjectFault>>
     ensures given { Meets (λ _. contents parts.new) (reading.with_relocation (contents parts.old) payload.now) result }
     ensures symbols { parts.new.symbols ≡ parts.old.symbols }
@@ -131,7 +131,7 @@ fn add_relocation(parts: &mut Parts, payload: &[u8]) -> Result<(), Failure<Objec
     Ok(())
 }
 
-#[tactic(auto, unfolding(c25_meaning::specs::RecordReading::with_record))]
+#[tactic(auto, unfolding(c25_meaning_objects::specs::RecordReading::with_record))]
 fn add_record<'a>(
     alloc: Global,
     reader: &mut Reader<'a>,
@@ -156,7 +156,7 @@ fn add_record<'a>(
     }
 }
 
-#[tactic(auto, unfolding(c25_meaning::specs::RecordReading::ended))]
+#[tactic(auto, unfolding(c25_meaning_objects::specs::RecordReading::ended))]
 fn ended(parts: Parts, payload: &[u8], rest: &[u8]) -> Result<Parts, Failure<ObjectFault>>
     ensures { Meets contents (reading.ended (contents parts) payload.now rest.now) result }
 {
@@ -169,7 +169,7 @@ fn ended(parts: Parts, payload: &[u8], rest: &[u8]) -> Result<Parts, Failure<Obj
     Ok(parts)
 }
 
-#[tactic(auto, unfolding(c25_meaning::specs::RecordReading::read_from))]
+#[tactic(auto, unfolding(c25_meaning_objects::specs::RecordReading::read_from))]
 fn read_all(alloc: Global, bytes: &[u8]) -> Result<Parts, Failure<ObjectFault>>
     ensures { Meets contents (reading.read_all bytes.now) result }
 {
@@ -197,7 +197,7 @@ fn read_all(alloc: Global, bytes: &[u8]) -> Result<Parts, Failure<ObjectFault>>
     Err(Failure::Fault(ObjectFault::Short))
 }
 
-#[tactic(auto, unfolding(c25_meaning::specs::RecordReading::module_of))]
+#[tactic(auto, unfolding(c25_meaning_objects::specs::RecordReading::module_of))]
 fn parts_of(alloc: Global, bytes: &[u8]) -> Result<Parts, Failure<ObjectFault>>
     ensures { Meets contents (reading.module_of bytes.now) result }
 {

@@ -4,11 +4,11 @@
 ghost use Rattle.std.specs.Prelude.{◌<◌, ◌^◌, FitsSigned};
 ghost use Rattle.std.specs.Int.{w32};
 ghost use Rattle.std.specs.List.{AllByRecursion};
-ghost use Rattle.c25_meaning.specs.Module.{IsSized, body_words};
+ghost use Rattle.c25_meaning_objects.specs.Module.{IsSized, body_words};
 ghost use Rattle.c25_obj.specs.View.{body_data, sections_data, symbols_data, contents};
 
 use crate::parts::{Body, Parts, Section, Symbol};
-use c25_meaning::object::Relocation;
+use c25_meaning_objects::object::Relocation;
 
 fn sized_words(words: &[u16])
     ensures { AllByRecursion (λ w. w < 2 ^ 16) words.now }

@@ -2,13 +2,13 @@
 
 ghost use Rattle.std.specs.Prelude.{◌≡◌, []};
 ghost use Rattle.std.specs.List.{list_all};
-ghost use Rattle.c25_meaning.specs.Module as spec;
+ghost use Rattle.c25_meaning_objects.specs.Module as spec;
 ghost use Rattle.c25_obj.specs.View.{sections_data, symbols_data, contents};
 
 use crate::differing::{MAX_SYMBOLS, names_differ};
 use crate::fits::{mark_fits, relocation_fits, section_fits, symbol_stands};
 use crate::parts::{Parts, Section, Symbol};
-use c25_meaning::object::{ModuleMark, Relocation};
+use c25_meaning_objects::object::{ModuleMark, Relocation};
 
 fn sections_fit(sections: &[Section]) -> bool
     ensures { result ≡ spec.each_fits spec.section_fits [] (sections_data sections.now) }

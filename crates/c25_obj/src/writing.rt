@@ -3,16 +3,16 @@
 ghost use Rattle.std.specs.Prelude.{◌≡◌, ◌++◌, ◌≤◌, ◌∷◌, length, IfOk, OnOk, string_bytes, [], true, All};
 ghost use Rattle.std.specs.List.{flat_map};
 ghost use Rattle.std.specs.Int.{w16, w32, to_be_bytes};
-ghost use Rattle.c25_meaning.specs.Module.{body_size, each_fits, section_fits};
-ghost use Rattle.c25_meaning.specs.Records as bytes;
+ghost use Rattle.c25_meaning_objects.specs.Module.{body_size, each_fits, section_fits};
+ghost use Rattle.c25_meaning_objects.specs.Records as bytes;
 ghost use Rattle.c25_obj.specs.View.{body_data, section_data, symbol_data, sections_data, symbols_data};
 
 use crate::codes::{base_code, base_index, field_code, kind_code, kind_section, scope_code};
 use crate::made::Module;
 use crate::parts::{Body, Section, Symbol};
-use c25_meaning::no_memory::NoMemory;
-use c25_meaning::object::{ModuleMark, Relocation, RelocationBase};
-use c25_meaning::relocation::RelocationKind;
+use c25_meaning_common::no_memory::NoMemory;
+use c25_meaning_common::relocation::RelocationKind;
+use c25_meaning_objects::object::{ModuleMark, Relocation, RelocationBase};
 use std::alloc::Global;
 
 /// What stands before a payload: its tag and its length.

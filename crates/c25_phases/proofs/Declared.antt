@@ -9,11 +9,11 @@ use Rattle.std.proofs.lemmas.List.{append_assoc, append-nil, length-append}
 use Rattle.std.proofs.lemmas.List.Elements.{filter_more}
 use Rattle.std.proofs.lemmas.Option.{slice_get_within, get_or_from_slice_get, slice_get-get_or}
 use Rattle.std.proofs.lemmas.Slice.Eq.{bytes_eq-Decides}
-use Rattle.c25_meaning.specs.Emission.{numbered, names_with}
-use Rattle.c25_meaning.specs.Sections.{Definitions, stands, is_in, once, are_distinct, imports, name_count}
-use Rattle.c25_meaning.specs.Value.{predefined, defined, named_by}
-use Rattle.c25_meaning.specs.declared.value.Value.{Value}
-use Rattle.c25_meaning.specs.declared.value.Base.TheVariants.{External}
+use Rattle.c25_meaning_assembly.specs.Emission.{numbered, names_with}
+use Rattle.c25_meaning_assembly.specs.Sections.{Definitions, stands, is_in, once, are_distinct, imports, name_count}
+use Rattle.c25_meaning_language.specs.Value.{predefined, defined, named_by}
+use Rattle.c25_meaning_language.specs.declared.value.Value.{Value}
+use Rattle.c25_meaning_language.specs.declared.value.Base.TheVariants.{External}
 use Rattle.c25_phases.specs.Imports.{imported}
 
 -- ---- texts

@@ -5,7 +5,7 @@ use Rattle.std.specs.List.{list_any}
 use Rattle.std.specs.Str.{bytes_eq}
 use Rattle.std.specs.String.{string_bytes, string_eq}
 use Rattle.indexmap.specs.IndexSet.{insert_key}
-use Rattle.c25_meaning.specs.Sections.{is_in}
+use Rattle.c25_meaning_assembly.specs.Sections.{is_in}
 use Rattle.c25_phases.specs.Names.{bytes_of_names}
 
 -- a name is found by its bytes

@@ -3,31 +3,32 @@ use Rattle.std.proofs.Common.{◌≡◌, ℕ, zero, suc, ◌+◌, ◌<◌, ℤ, 
 use Rattle.std.specs.List.{All}
 use Rattle.std.proofs.lemmas.List.{length-append}
 use Rattle.std.proofs.lemmas.List.Elements.{All-nil, All-push, All-weaker}
-use Rattle.c25_meaning.proofs.Numbers.{each_push, holds_zero-form, holds_number}
-use Rattle.c25_meaning.specs.Addresses.{Sheet, no_operands, with_number, with_address, with_value, taken, sheet_of, field_of, word_of, target_size, FitsTarget, AreWithin}
-use Rattle.c25_meaning.specs.Fits.{Holds}
-use Rattle.c25_meaning.specs.Results.{◌>>=◌, fold_ok}
-use Rattle.c25_meaning.specs.Statement.{form_field, form_row, number_in, relocation_of, valued, with_number as with_number_field, addr_field}
-use Rattle.c25_meaning.specs.Table.{size}
-use Rattle.c25_meaning.specs.Tree.{Tree}
-use Rattle.c25_meaning.specs.Value.{Table}
-use Rattle.c25_meaning.specs.declared.assembly.Address.{Address}
-use Rattle.c25_meaning.specs.declared.assembly.Target.{Target}
-use Rattle.c25_meaning.specs.declared.assembly.Target.TheVariants as target
-use Rattle.c25_meaning.specs.declared.mnemonic.ShortName.TheVariants as short
-use Rattle.c25_meaning.specs.declared.mnemonic.LongName.TheVariants as long
-use Rattle.c25_meaning.specs.declared.mnemonic.PlainName.TheVariants as plain
-use Rattle.c25_meaning.specs.declared.object.RelocationBase.{RelocationBase}
-use Rattle.c25_meaning.specs.declared.object.RelocationBase.TheVariants as relocated
-use Rattle.c25_meaning.specs.declared.relocation.RelocationKind.{RelocationKind}
-use Rattle.c25_meaning.specs.declared.statement.AddrForm.{AddrForm}
-use Rattle.c25_meaning.specs.declared.statement.AddrForm.TheVariants.{Direct, Indirect}
-use Rattle.c25_meaning.specs.declared.statement.FaultKind.{FaultKind}
-use Rattle.c25_meaning.specs.declared.statement.Form.{Form}
-use Rattle.c25_meaning.specs.declared.statement.Form.TheVariants as form
-use Rattle.c25_meaning.specs.declared.value.Base.{Base}
-use Rattle.c25_meaning.specs.declared.value.Base.TheVariants.{Absolute, Section, External}
-use Rattle.c25_meaning.specs.declared.value.Value.{Value}
+use Rattle.c25_meaning_language.proofs.Numbers.{each_push, holds_zero-form, holds_number}
+use Rattle.c25_meaning_assembly.specs.Addresses.{Sheet, no_operands, with_number, with_address, with_value, taken, sheet_of, AreWithin}
+use Rattle.c25_meaning_assembly.specs.OperandFields.{field_of, word_of, target_size, FitsTarget}
+use Rattle.c25_meaning_language.specs.Fits.{Holds}
+use Rattle.c25_meaning_common.specs.Results.{◌>>=◌, fold_ok}
+use Rattle.c25_meaning_language.specs.Statement.{form_field, form_row, number_in, relocation_of, valued, with_number as with_number_field, addr_field}
+use Rattle.c25_meaning_instructions.specs.Table.{size}
+use Rattle.c25_meaning_language.specs.Tree.{Tree}
+use Rattle.c25_meaning_language.specs.Value.{Table}
+use Rattle.c25_meaning_assembly.specs.declared.assembly.Address.{Address}
+use Rattle.c25_meaning_assembly.specs.declared.assembly.Target.{Target}
+use Rattle.c25_meaning_assembly.specs.declared.assembly.Target.TheVariants as target
+use Rattle.c25_meaning_instructions.specs.declared.mnemonic.ShortName.TheVariants as short
+use Rattle.c25_meaning_instructions.specs.declared.mnemonic.LongName.TheVariants as long
+use Rattle.c25_meaning_instructions.specs.declared.mnemonic.PlainName.TheVariants as plain
+use Rattle.c25_meaning_objects.specs.declared.object.RelocationBase.{RelocationBase}
+use Rattle.c25_meaning_objects.specs.declared.object.RelocationBase.TheVariants as relocated
+use Rattle.c25_meaning_common.specs.declared.relocation.RelocationKind.{RelocationKind}
+use Rattle.c25_meaning_language.specs.declared.statement.AddrForm.{AddrForm}
+use Rattle.c25_meaning_language.specs.declared.statement.AddrForm.TheVariants.{Direct, Indirect}
+use Rattle.c25_meaning_language.specs.declared.statement.FaultKind.{FaultKind}
+use Rattle.c25_meaning_language.specs.declared.statement.Form.{Form}
+use Rattle.c25_meaning_language.specs.declared.statement.Form.TheVariants as form
+use Rattle.c25_meaning_language.specs.declared.value.Base.{Base}
+use Rattle.c25_meaning_language.specs.declared.value.Base.TheVariants.{Absolute, Section, External}
+use Rattle.c25_meaning_language.specs.declared.value.Value.{Value}
 
 -- an address is of an operand before the n-th, whose field takes it
 Takes : Target → ℕ → Address → Type 0

@@ -1,6 +1,7 @@
 -- What the assembler's faults say.
 use Rattle.std.specs.Prelude.{ℕ, List, codes}
-use Rattle.c25_meaning.specs.Faults.{fault_name, placed_text}
+use Rattle.c25_meaning_language.specs.Faults.{fault_name}
+use Rattle.c25_meaning_common.specs.Faults.{placed_text}
 use Rattle.c25_phases.specs.declared.fault.AsmFault.{AsmFault}
 use Rattle.c25_phases.specs.declared.fault.AsmFault.TheVariants.{Line, NoFile}
 

@@ -1,7 +1,7 @@
 -- One name of another module more.
 use Rattle.std.specs.Prelude.{ℕ, List, [], ◌∷◌, ◌++◌, length, if◌then◌else◌, pos}
-use Rattle.c25_meaning.specs.Sections.{Definitions, stands}
-use Rattle.c25_meaning.specs.declared.value.Base.TheVariants.{External}
+use Rattle.c25_meaning_assembly.specs.Sections.{Definitions, stands}
+use Rattle.c25_meaning_language.specs.declared.value.Base.TheVariants.{External}
 
 -- a name that stands for nothing is another module's, by its number among all
 abbrev pub imported : Definitions → List ℕ → Definitions

@@ -1,8 +1,8 @@
 -- How many words what waits will have.
 use Rattle.std.specs.Prelude.{ℕ, ◌<◌, ◌≤◌, length}
-use Rattle.c25_meaning.specs.Addresses.{target_size}
-use Rattle.c25_meaning.specs.declared.assembly.Target.{Target}
-use Rattle.c25_meaning.specs.declared.assembly.Target.TheVariants as target
+use Rattle.c25_meaning_assembly.specs.OperandFields.{target_size}
+use Rattle.c25_meaning_assembly.specs.declared.assembly.Target.{Target}
+use Rattle.c25_meaning_assembly.specs.declared.assembly.Target.TheVariants as target
 use Rattle.c25_phases.specs.declared.item.Content.{Content}
 use Rattle.c25_phases.specs.declared.item.Content.TheVariants as content
 

@@ -2,9 +2,9 @@
 use Rattle.std.specs.Prelude.{map}
 use Rattle.std.specs.String.{string_bytes}
 use Rattle.c25_statements.specs.View.{trees_of}
-use Rattle.c25_meaning.specs.ExpansionAnswers as answer
-use Rattle.c25_meaning.specs.Sections as sections
-use Rattle.c25_meaning.specs.Value.{Table}
+use Rattle.c25_meaning_language.specs.ExpansionFault as answer
+use Rattle.c25_meaning_assembly.specs.Sections as sections
+use Rattle.c25_meaning_language.specs.Value.{Table}
 use Rattle.c25_phases.specs.Names.{bytes_of_names}
 use Rattle.c25_phases.specs.declared.fault.AsmFault.{AsmFault}
 use Rattle.c25_phases.specs.declared.fault.AsmFault.TheVariants as fault

@@ -3,8 +3,8 @@
 ghost use Rattle.std.specs.Prelude.{◌≡◌, ◌≤◌, ◌+◌, OnOk, IfOk};
 ghost use Rattle.std.specs.List.{list_any};
 ghost use Rattle.std.specs.Option.{option_map};
-ghost use Rattle.c25_meaning.specs.Results.{Meets};
-ghost use Rattle.c25_meaning.specs.Sections as meaning;
+ghost use Rattle.c25_meaning_common.specs.Results.{Meets};
+ghost use Rattle.c25_meaning_assembly.specs.Sections as meaning;
 ghost use Rattle.c25_expr.specs.View.{tree_of};
 ghost use Rattle.c25_statements.specs.View.{act_of, count_of, statement_of, texts_of, trees_of};
 ghost use Rattle.c25_phases.specs.Sizes.{IsSize};
@@ -16,11 +16,11 @@ use crate::progress::Progress;
 use crate::targets::target_size;
 use c25_expr::symbols::is_predefined;
 use c25_expr::tree::Expr;
-use c25_meaning::assembly::Target;
-use c25_meaning::failure::Failure;
-use c25_meaning::no_memory::NoMemory;
-use c25_meaning::statement::FaultKind;
-use c25_meaning::value::{Base, Value};
+use c25_meaning_assembly::assembly::Target;
+use c25_meaning_common::failure::Failure;
+use c25_meaning_common::no_memory::NoMemory;
+use c25_meaning_language::statement::FaultKind;
+use c25_meaning_language::value::{Base, Value};
 use c25_statements::statement::{Act, Statement};
 use std::alloc::Global;
 
@@ -96,7 +96,7 @@ impl<'a> Progress<'a> {
     }
 
     /// Words for a name.
-    #[tactic(auto, unfolding(c25_meaning::specs::Sections::reserve))]
+    #[tactic(auto, unfolding(c25_meaning_assembly::specs::Sections::reserve))]
     fn reserve(&mut self, section: &str, name: &str, words: usize) -> Result<(), Failure<FaultKind>>
         ensures { Meets (λ _. progress_of self.new) (meaning.reserve section.now name.now words (progress_of self.old)) result }
     {
@@ -256,7 +256,7 @@ impl<'a> Progress<'a> {
     }
 
     /// `.mmregs`
-    #[tactic(auto, unfolding(c25_meaning::specs::Sections::registers))]
+    #[tactic(auto, unfolding(c25_meaning_assembly::specs::Sections::registers))]
     fn name_registers(&mut self) -> Result<(), Failure<FaultKind>>
         ensures { Meets (λ _. progress_of self.new) (meaning.registers (progress_of self.old)) result }
     {
@@ -298,7 +298,7 @@ impl<'a> Progress<'a> {
     }
 
     /// One line more.
-    #[tactic(auto, unfolding(c25_meaning::specs::Sections::pass))]
+    #[tactic(auto, unfolding(c25_meaning_assembly::specs::Sections::pass))]
     pub(crate) fn pass(
         &mut self,
         origin: Origin<'a>,

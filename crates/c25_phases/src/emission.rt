@@ -2,10 +2,11 @@
 
 ghost use Rattle.std.specs.Prelude.{◌≡◌, ◌≤◌, ◌<◌, ◌+◌, length, replicate, OnOk, IfOk, map};
 ghost use Rattle.std.specs.List.{All, list_all};
-ghost use Rattle.c25_meaning.specs.Addresses as spec;
-ghost use Rattle.c25_meaning.specs.Emission as emission;
-ghost use Rattle.c25_meaning.specs.Results.{Meets, MeetsBy};
-ghost use Rattle.c25_meaning.specs.Sections.{name_count};
+ghost use Rattle.c25_meaning_assembly.specs.Addresses as spec;
+ghost use Rattle.c25_meaning_assembly.specs.OperandFields as fields;
+ghost use Rattle.c25_meaning_assembly.specs.Emission as emission;
+ghost use Rattle.c25_meaning_common.specs.Results.{Meets, MeetsBy};
+ghost use Rattle.c25_meaning_assembly.specs.Sections.{name_count};
 ghost use Rattle.c25_phases.specs.Imports.{imported};
 ghost use Rattle.c25_phases.specs.Names.{bytes_of_names};
 ghost use Rattle.c25_phases.specs.View.{content_of, fault_of, item_of};
@@ -20,12 +21,12 @@ use crate::sheet::Sheet;
 use crate::targets::{ends_first, field_of, word_of};
 use c25_expr::symbols::{Defined, Symbols};
 use c25_isa::encode;
-use c25_meaning::assembly::{Address, Target};
-use c25_meaning::failure::Failure;
-use c25_meaning::no_memory::NoMemory;
-use c25_meaning::object::Relocation;
-use c25_meaning::statement::FaultKind;
-use c25_meaning::value::{Base, Value};
+use c25_meaning_assembly::assembly::{Address, Target};
+use c25_meaning_common::failure::Failure;
+use c25_meaning_common::no_memory::NoMemory;
+use c25_meaning_language::statement::FaultKind;
+use c25_meaning_language::value::{Base, Value};
+use c25_meaning_objects::object::Relocation;
 use c25_statements::forms::insn_of;
 use std::alloc::Global;
 
@@ -89,7 +90,7 @@ fn are_here(symbols: &Symbols, names: &[String]) -> bool
 
 /// The relocation of an address of a line that begins at an offset of a section.
 fn relocation_at(target: Target, section: u16, offset: u32, address: &Address) -> Relocation
-    requires { offset + spec.word_of (spec.field_of target address.now.operand) address.now.operand < 65536 }
+    requires { offset + fields.word_of (fields.field_of target address.now.operand) address.now.operand < 65536 }
     ensures { result ≡ spec.relocation_at target section offset address.now }
 {
     let word = word_of(field_of(target, address.operand), address.operand);
@@ -110,7 +111,7 @@ fn relocations_at(
     offset: u32,
     addresses: &[Address],
 ) -> Result<Vec<Relocation>, NoMemory>
-    requires { All (λ a. offset + spec.word_of (spec.field_of target a.operand) a.operand < 65536) addresses.now }
+    requires { All (λ a. offset + fields.word_of (fields.field_of target a.operand) a.operand < 65536) addresses.now }
     ensures { IfOk result (λ v. v.items ≡ map (spec.relocation_at target section offset) addresses.now) }
 {
     let mut relocations = Vec::new(alloc);
@@ -129,7 +130,7 @@ fn relocations_of(
     offset: u32,
     addresses: &[Address],
 ) -> Result<Vec<Relocation>, NoMemory>
-    requires { All (λ a. offset + spec.word_of (spec.field_of target a.operand) a.operand < 65536) addresses.now }
+    requires { All (λ a. offset + fields.word_of (fields.field_of target a.operand) a.operand < 65536) addresses.now }
     ensures { IfOk result (λ v. v.items ≡ spec.relocations_of target section offset addresses.now) }
 {
     let mut relocations = relocations_at(alloc, target, section, offset, addresses)?;
@@ -142,7 +143,7 @@ fn relocations_of(
 }
 
 /// The words and relocations of a line's operands.
-#[tactic(auto, using(c25_meaning::proofs::Numbers::in_range))]
+#[tactic(auto, using(c25_meaning_language::proofs::Numbers::in_range))]
 fn put_sheet(
     alloc: Global,
     sections: &mut Sections,
@@ -151,8 +152,8 @@ fn put_sheet(
     target: Target,
     sheet: &Sheet,
 ) -> Result<(), NoMemory>
-    requires fits { spec.FitsTarget target sheet.now.numbers }
-    requires within { All (λ a. offset + spec.word_of (spec.field_of target a.operand) a.operand < 65536) sheet.now.addresses }
+    requires fits { fields.FitsTarget target sheet.now.numbers }
+    requires within { All (λ a. offset + fields.word_of (fields.field_of target a.operand) a.operand < 65536) sheet.now.addresses }
     ensures { OnOk result (sections.new ≡ emission.with_sheet target section offset sections.old sheet.now) }
 {
     let relocations = relocations_of(alloc, target, section, offset, sheet.addresses())?;

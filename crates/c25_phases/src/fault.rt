@@ -1,11 +1,11 @@
 //! Why a source has no module.
 
-use c25_meaning::statement::FaultKind;
+use c25_meaning_language::statement::FaultKind;
 use std::error::Error;
 use std::fmt;
 
 /// Why a source has no module.
-#[derive(PartialEq, Eq, Debug, Drop)]
+#[derive(Debug, Drop)]
 pub enum AsmFault<'a> {
     /// The line of this number in this file is wrong (10 to 13, 20 to 26, 31 to 36, 38, 50 to 55).
     Line {

@@ -4,7 +4,7 @@ ghost use Rattle.std.specs.Prelude.{◌≤◌, ◌+◌};
 ghost use Rattle.c25_phases.specs.Sizes.{content_size};
 
 use c25_expr::tree::Expr;
-use c25_meaning::assembly::Target;
+use c25_meaning_assembly::assembly::Target;
 
 /// A line.
 #[derive(Clone, Copy)]

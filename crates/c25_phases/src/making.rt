@@ -1,9 +1,9 @@
 //! The module that the lines have made.
 
 ghost use Rattle.std.specs.Prelude.{◌≡◌, ◌≤◌, IfOk, map};
-ghost use Rattle.c25_meaning.specs.Emission as emission;
-ghost use Rattle.c25_meaning.specs.Results.{MeetsBy};
-ghost use Rattle.c25_meaning.specs.Sections.{name_count};
+ghost use Rattle.c25_meaning_assembly.specs.Emission as emission;
+ghost use Rattle.c25_meaning_common.specs.Results.{MeetsBy};
+ghost use Rattle.c25_meaning_assembly.specs.Sections.{name_count};
 ghost use Rattle.c25_obj.specs.View.{contents, symbol_data, symbols_data};
 ghost use Rattle.c25_phases.specs.View.{fault_of, progress_of};
 
@@ -13,10 +13,10 @@ use crate::names::Names;
 use crate::progress::Progress;
 use crate::sheet::Sheet;
 use c25_expr::symbols::Symbols;
-use c25_meaning::failure::Failure;
-use c25_meaning::no_memory::NoMemory;
-use c25_meaning::object::{Scope, SymbolKind};
-use c25_meaning::value::{Base, Value};
+use c25_meaning_common::failure::Failure;
+use c25_meaning_common::no_memory::NoMemory;
+use c25_meaning_language::value::{Base, Value};
+use c25_meaning_objects::object::{Scope, SymbolKind};
 use c25_obj::{Parts, Symbol};
 use std::alloc::Global;
 
@@ -67,7 +67,7 @@ fn symbols_of(alloc: Global, symbols: &Symbols, exported: &Names) -> Result<Vec<
 }
 
 /// The module that the lines have made, or the first fault of their operands.
-#[tactic(auto, unfolding(c25_meaning::specs::Emission::finished))]
+#[tactic(auto, unfolding(c25_meaning_assembly::specs::Emission::finished))]
 pub fn finish(progress: Progress<'_>) -> Result<Parts, Failure<AsmFault<'_>>>
     requires { name_count (progress_of progress).names (progress_of progress).declared ≤ 65535 }
     ensures { MeetsBy fault_of contents (emission.finished (progress_of progress.entry)) result }

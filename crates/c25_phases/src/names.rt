@@ -2,10 +2,10 @@
 
 ghost use Rattle.std.specs.Prelude.{◌≡◌, ◌<◌, ◌^◌, [], true, length, slice_get, OnOk, OnErr};
 ghost use Rattle.std.specs.Option.{option_map};
-ghost use Rattle.c25_meaning.specs.Sections.{all_once, are_distinct, is_in, once};
+ghost use Rattle.c25_meaning_assembly.specs.Sections.{all_once, are_distinct, is_in, once};
 ghost use Rattle.c25_statements.specs.View.{texts_of};
 
-use c25_meaning::no_memory::NoMemory;
+use c25_meaning_common::no_memory::NoMemory;
 use indexmap::IndexSet;
 use std::alloc::Global;
 use std::marker::Model;
@@ -19,7 +19,7 @@ pub(crate) struct Names {
 
 impl Model for Names {
     ghost use Rattle.std.specs.Prelude.{◌≡◌, true, List, ℕ};
-    ghost use Rattle.c25_meaning.specs.Sections.{are_distinct};
+    ghost use Rattle.c25_meaning_assembly.specs.Sections.{are_distinct};
     ghost use Rattle.c25_phases.specs.Names.{bytes_of_names};
 
     ghost Value = { List (List ℕ) };

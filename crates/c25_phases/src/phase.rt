@@ -1,9 +1,9 @@
 //! The first phase: names, counts and sections.
 
 ghost use Rattle.std.specs.Prelude.{◌≡◌, ◌≤◌, ◌<◌, ◌+◌, Ok, OnOk, IfOk};
-ghost use Rattle.c25_meaning.specs.Results.{Meets};
-ghost use Rattle.c25_meaning.specs.Sections as meaning;
-ghost use Rattle.c25_meaning.specs.Statement.{valued};
+ghost use Rattle.c25_meaning_common.specs.Results.{Meets};
+ghost use Rattle.c25_meaning_assembly.specs.Sections as meaning;
+ghost use Rattle.c25_meaning_language.specs.Statement.{valued};
 ghost use Rattle.c25_expr.specs.View.{tree_of};
 ghost use Rattle.c25_phases.specs.Sizes.{content_size};
 ghost use Rattle.c25_phases.specs.View.{content_of, origin_of, progress_of, symbols_of};
@@ -16,11 +16,11 @@ use crate::sections::Sections;
 use crate::sheet::valued;
 use c25_expr::symbols::{Defined, Symbols};
 use c25_expr::tree::Expr;
-use c25_meaning::failure::Failure;
-use c25_meaning::no_memory::NoMemory;
-use c25_meaning::object::ModuleMark;
-use c25_meaning::statement::FaultKind;
-use c25_meaning::value::{Base, Value};
+use c25_meaning_common::failure::Failure;
+use c25_meaning_common::no_memory::NoMemory;
+use c25_meaning_language::statement::FaultKind;
+use c25_meaning_language::value::{Base, Value};
+use c25_meaning_objects::object::ModuleMark;
 use std::alloc::Global;
 
 /// How many words a section can have.
@@ -118,7 +118,7 @@ impl<'a> Progress<'a> {
     }
 
     /// A name that stands for nothing yet stands for a value from now on.
-    #[tactic(auto, using(crate::proofs::Declared::define_counts), unfolding(c25_meaning::specs::Sections::define))]
+    #[tactic(auto, using(crate::proofs::Declared::define_counts), unfolding(c25_meaning_assembly::specs::Sections::define))]
     pub(crate) fn define(&mut self, name: &str, value: Value) -> Result<(), Failure<FaultKind>>
         ensures { Meets (λ _. progress_of self.new) (meaning.define name.now value (progress_of self.old)) result }
     {
@@ -148,7 +148,7 @@ impl<'a> Progress<'a> {
     }
 
     /// A count that is needed now.
-    #[tactic(auto, unfolding(c25_meaning::specs::Sections::count_in))]
+    #[tactic(auto, unfolding(c25_meaning_assembly::specs::Sections::count_in))]
     pub(crate) fn count_in(&mut self, expr: &Expr) -> Result<u32, FaultKind>
         ensures value { result ≡ meaning.count_in (meaning.table (progress_of self.old)) (tree_of expr.now) }
         ensures same { progress_of self.new ≡ progress_of self.old }
@@ -160,7 +160,7 @@ impl<'a> Progress<'a> {
     }
 
     /// The number of the section of a name; a new one comes last.
-    #[tactic(auto, unfolding(c25_meaning::specs::Sections::opened))]
+    #[tactic(auto, unfolding(c25_meaning_assembly::specs::Sections::opened))]
     pub(crate) fn open(&mut self, name: &str, initialised: bool) -> Result<u16, Failure<FaultKind>>
         ensures { Meets (λ i. (i, progress_of self.new)) (meaning.opened name.now initialised (progress_of self.old)) result }
     {
@@ -177,7 +177,7 @@ impl<'a> Progress<'a> {
     }
 
     /// So many words more in a section.
-    #[tactic(auto, unfolding(c25_meaning::specs::Sections::grow))]
+    #[tactic(auto, unfolding(c25_meaning_assembly::specs::Sections::grow))]
     pub(crate) fn grow(&mut self, section: u16, words: usize) -> Result<(), Failure<FaultKind>>
         ensures told { Meets (λ _. progress_of self.new) (meaning.grow section words (progress_of self.old)) result }
         ensures room { OnOk result (meaning.size_at (progress_of self.old).sections section + words ≤ 65536) }
@@ -191,7 +191,7 @@ impl<'a> Progress<'a> {
     }
 
     /// Content of so many words at the current place.
-    #[tactic(auto, unfolding(c25_meaning::specs::Sections::lay, c25_meaning::specs::Sections::grow))]
+    #[tactic(auto, unfolding(c25_meaning_assembly::specs::Sections::lay, c25_meaning_assembly::specs::Sections::grow))]
     pub(crate) fn lay(
         &mut self,
         origin: Origin<'a>,

@@ -1,7 +1,7 @@
 //! What the lines so far have made.
 
 ghost use Rattle.std.specs.Prelude.{◌≡◌, length};
-ghost use Rattle.c25_meaning.specs.Sections.{imports};
+ghost use Rattle.c25_meaning_assembly.specs.Sections.{imports};
 
 use crate::item::Item;
 use crate::names::Names;

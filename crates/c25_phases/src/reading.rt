@@ -1,15 +1,15 @@
 //! A line's text, read and passed.
 
 ghost use Rattle.std.specs.Prelude.{◌≤◌, OnOk};
-ghost use Rattle.c25_meaning.specs.Results.{Meets};
-ghost use Rattle.c25_meaning.specs.Sections.{name_count};
+ghost use Rattle.c25_meaning_common.specs.Results.{Meets};
+ghost use Rattle.c25_meaning_assembly.specs.Sections.{name_count};
 ghost use Rattle.c25_phases.specs.Steps.{text_passed};
 ghost use Rattle.c25_phases.specs.View.{origin_of, progress_of};
 
 use crate::item::Origin;
 use crate::progress::Progress;
-use c25_meaning::failure::Failure;
-use c25_meaning::statement::FaultKind;
+use c25_meaning_common::failure::Failure;
+use c25_meaning_language::statement::FaultKind;
 use c25_statements::read_statement;
 
 /// The first phase of one line: its text read, and what it says done.

@@ -5,8 +5,8 @@ ghost use Rattle.c25_phases.specs.Refusals.{at_origin};
 
 use crate::fault::AsmFault;
 use crate::item::Origin;
-use c25_meaning::failure::Failure;
-use c25_meaning::statement::FaultKind;
+use c25_meaning_common::failure::Failure;
+use c25_meaning_language::statement::FaultKind;
 
 /// Why a line is refused, as why the source is.
 pub fn at_origin<'a>(origin: Origin<'a>, failure: Failure<FaultKind>) -> Failure<AsmFault<'a>>

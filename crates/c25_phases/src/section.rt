@@ -1,12 +1,12 @@
 //! A section as far as the lines have made it.
 
 ghost use Rattle.std.specs.Prelude.{◌≡◌, ◌≤◌, ◌+◌, OnOk, IfOk};
-ghost use Rattle.c25_meaning.specs.Emission.{extended, section_of};
-ghost use Rattle.c25_meaning.specs.Sections.{empty_section, is_called, longer, with_mark};
+ghost use Rattle.c25_meaning_assembly.specs.Emission.{extended, section_of};
+ghost use Rattle.c25_meaning_assembly.specs.Sections.{empty_section, is_called, longer, with_mark};
 ghost use Rattle.c25_obj.specs.View.{section_data};
 
-use c25_meaning::no_memory::NoMemory;
-use c25_meaning::object::{ModuleMark, Relocation};
+use c25_meaning_common::no_memory::NoMemory;
+use c25_meaning_objects::object::{ModuleMark, Relocation};
 use c25_obj::Body;
 use std::alloc::Global;
 use std::marker::Model;
@@ -25,7 +25,7 @@ pub(crate) struct Section {
 impl Model for Section {
     ghost use Rattle.std.specs.Prelude.{◌≤◌};
     ghost use Rattle.std.specs.String.{string_bytes};
-    ghost use Rattle.c25_meaning.specs.Sections.{Section};
+    ghost use Rattle.c25_meaning_assembly.specs.Sections.{Section};
 
     ghost Value = { Section };
 

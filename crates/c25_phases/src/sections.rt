@@ -3,13 +3,13 @@
 ghost use Rattle.std.specs.Prelude.{◌≡◌, ◌≤◌, ◌<◌, ◌+◌, ◌∷◌, ◌++◌, [], length, OnOk, IfOk, IfSome, map};
 ghost use Rattle.std.specs.List.{position, find, flat_map};
 ghost use Rattle.std.specs.Option.{option_copied};
-ghost use Rattle.c25_meaning.specs.Emission.{extended, section_of};
-ghost use Rattle.c25_meaning.specs.Sections.{changed, is_called, longer, same_kind, size_at, with_mark};
+ghost use Rattle.c25_meaning_assembly.specs.Emission.{extended, section_of};
+ghost use Rattle.c25_meaning_assembly.specs.Sections.{changed, is_called, longer, same_kind, size_at, with_mark};
 ghost use Rattle.c25_obj.specs.View.{sections_data};
 
 use crate::section::Section;
-use c25_meaning::no_memory::NoMemory;
-use c25_meaning::object::{ModuleMark, Relocation};
+use c25_meaning_common::no_memory::NoMemory;
+use c25_meaning_objects::object::{ModuleMark, Relocation};
 use std::alloc::Global;
 use std::marker::Model;
 
@@ -22,7 +22,7 @@ pub(crate) struct Sections {
 
 impl Model for Sections {
     ghost use Rattle.std.specs.Prelude.{List, length, ◌≤◌};
-    ghost use Rattle.c25_meaning.specs.Sections.{Section};
+    ghost use Rattle.c25_meaning_assembly.specs.Sections.{Section};
 
     ghost Value = { List Section };
 

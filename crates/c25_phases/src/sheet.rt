@@ -1,9 +1,10 @@
 //! The operands of a line under all names.
 
 ghost use Rattle.std.specs.Prelude.{◌≡◌, length, OnOk};
-ghost use Rattle.c25_meaning.specs.Addresses.{no_operands, with_number, with_address, with_value, taken, sheet_of, target_size, AreWithin, FitsTarget};
-ghost use Rattle.c25_meaning.specs.Results.{Meets};
-ghost use Rattle.c25_meaning.specs.Statement.{valued};
+ghost use Rattle.c25_meaning_assembly.specs.Addresses.{no_operands, with_number, with_address, with_value, taken, sheet_of, AreWithin};
+ghost use Rattle.c25_meaning_assembly.specs.OperandFields.{target_size, FitsTarget};
+ghost use Rattle.c25_meaning_common.specs.Results.{Meets};
+ghost use Rattle.c25_meaning_language.specs.Statement.{valued};
 ghost use Rattle.c25_expr.specs.View.{tree_of};
 ghost use Rattle.c25_statements.specs.View.{trees_of};
 
@@ -12,13 +13,13 @@ use c25_expr::failure::value_fault;
 use c25_expr::symbols::Symbols;
 use c25_expr::tree::Expr;
 use c25_expr::value::value;
-use c25_meaning::assembly::{Address, Target};
-use c25_meaning::failure::Failure;
-use c25_meaning::no_memory::NoMemory;
-use c25_meaning::object::RelocationBase;
-use c25_meaning::relocation::RelocationKind;
-use c25_meaning::statement::{FaultKind, Field};
-use c25_meaning::value::{Base, Value};
+use c25_meaning_assembly::assembly::{Address, Target};
+use c25_meaning_common::failure::Failure;
+use c25_meaning_common::no_memory::NoMemory;
+use c25_meaning_common::relocation::RelocationKind;
+use c25_meaning_language::statement::{FaultKind, Field};
+use c25_meaning_language::value::{Base, Value};
+use c25_meaning_objects::object::RelocationBase;
 use c25_statements::fields::{number_in, relocation_of};
 use std::alloc::Global;
 use std::marker::Model;
@@ -31,7 +32,7 @@ pub(crate) struct Sheet {
 }
 
 impl Model for Sheet {
-    ghost use Rattle.c25_meaning.specs.Addresses.{Sheet};
+    ghost use Rattle.c25_meaning_assembly.specs.Addresses.{Sheet};
 
     ghost Value = { Sheet };
 
@@ -131,7 +132,7 @@ impl Sheet {
     }
 
     /// One operand more.
-    #[tactic(auto, unfolding(c25_meaning::specs::Addresses::taken))]
+    #[tactic(auto, unfolding(c25_meaning_assembly::specs::Addresses::taken))]
     fn take(
         &mut self,
         target: Target,

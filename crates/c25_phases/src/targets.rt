@@ -1,12 +1,13 @@
 //! What the operands of a line fill, and how many words they make.
 
 ghost use Rattle.std.specs.Prelude.{◌≡◌};
-ghost use Rattle.c25_meaning.specs.Addresses.{field_of, word_of, target_size, ends_first};
+ghost use Rattle.c25_meaning_assembly.specs.Addresses.{ends_first};
+ghost use Rattle.c25_meaning_assembly.specs.OperandFields.{field_of, word_of, target_size};
 ghost use Rattle.c25_phases.specs.Sizes.{IsSize};
 
 use c25_isa::size_of;
-use c25_meaning::assembly::Target;
-use c25_meaning::statement::{Field, Form};
+use c25_meaning_assembly::assembly::Target;
+use c25_meaning_language::statement::{Field, Form};
 use c25_statements::fields::form_field;
 use c25_statements::forms::form_row;
 

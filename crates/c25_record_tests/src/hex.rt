@@ -2,7 +2,7 @@
 //! one place.
 
 use c25_hex::{read_hex, write_hex};
-use c25_meaning::word_map::WordMap;
+use c25_meaning_image::word_map::WordMap;
 use std::alloc::{AllocError, Global};
 use std::process::Abort;
 use std::test::Fail;

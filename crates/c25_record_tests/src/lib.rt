@@ -1,5 +1,5 @@
 //! Tests of object records (`c25_obj`) and Intel hex texts (`c25_hex`), and of the words and marks that
-//! they are made of (`c25_meaning`).
+//! they are made of (`c25_meaning_image`).
 #![tactic(auto)]
 
 #[cfg(test)]

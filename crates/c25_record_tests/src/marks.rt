@@ -1,7 +1,7 @@
 //! Lists of marks.
 
-use c25_meaning::mark::Mark;
-use c25_meaning::marks::marks_fit;
+use c25_meaning_image::mark::Mark;
+use c25_meaning_image::marks::marks_fit;
 
 fn marks_of_three(sizes: [u16; 3], addresses: [u16; 3]) -> [Mark; 3] {
     [0, 1, 2].map(|i: usize| Mark {

@@ -3,9 +3,11 @@
 ghost use Rattle.std.specs.Prelude.{◌<◌};
 
 use crate::object_cases::CASES;
-use c25_meaning::failure::Failure;
-use c25_meaning::object::{ModuleMark, ObjectFault, Relocation, RelocationBase, Scope, SymbolKind};
-use c25_meaning::relocation::RelocationKind;
+use c25_meaning_common::failure::Failure;
+use c25_meaning_common::relocation::RelocationKind;
+use c25_meaning_objects::object::{
+    ModuleMark, ObjectFault, Relocation, RelocationBase, Scope, SymbolKind,
+};
 use c25_obj::{Body, Module, Parts, Section, Symbol, module, read_module, spells, write_module};
 use std::alloc::{AllocError, Global};
 use std::process::Abort;

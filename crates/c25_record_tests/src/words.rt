@@ -1,6 +1,6 @@
 //! Words by their addresses.
 
-use c25_meaning::word_map::WordMap;
+use c25_meaning_image::word_map::WordMap;
 use std::test::Fail;
 
 #[test]

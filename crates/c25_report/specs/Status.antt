@@ -3,7 +3,7 @@ use Rattle.std.specs.Prelude.{◌≡◌, ◌⊎◌, ℕ}
 use Rattle.clap.specs.declared.error.Error.{Error}
 use Rattle.c25_board.specs.declared.board.Outcome.{Outcome}
 use Rattle.c25_board.specs.declared.board.Outcome.TheVariants as outcome
-use Rattle.c25_meaning.specs.declared.failure.Failure.{Failure}
+use Rattle.c25_meaning_common.specs.declared.failure.Failure.{Failure}
 use Rattle.c25_words.specs.Task.{IsWantOfMemory}
 
 -- the status of a run: 0 where all steps were done, 3 where the code was left

@@ -5,7 +5,7 @@ ghost use Rattle.c25_disk.specs.Written.{contents_of};
 ghost use Rattle.c25_report.specs.ProgramFiles.{AreNames, files_of, listing_name, listing_names};
 
 use c25_disk::Output;
-use c25_meaning::no_memory::NoMemory;
+use c25_meaning_common::no_memory::NoMemory;
 use std::alloc::Global;
 
 /// The names of the files of a program.

@@ -7,9 +7,9 @@ use c25_board::board::Board;
 use c25_board::ports::Sink;
 use c25_board::samples::{Samples, read_samples};
 use c25_board::schedule::read_schedule;
-use c25_meaning::mark::Mark;
-use c25_meaning::marks::marks_fit;
-use c25_meaning::word_map::WordMap;
+use c25_meaning_image::mark::Mark;
+use c25_meaning_image::marks::marks_fit;
+use c25_meaning_image::word_map::WordMap;
 use std::alloc::Global;
 use std::test::Fail;
 

@@ -3,7 +3,7 @@
 use crate::bench::{Program, board_of};
 use c25_board::board::Outcome;
 use c25_board::ports::ListSink;
-use c25_meaning::stop::Stop;
+use c25_meaning_processor::stop::Stop;
 use std::alloc::Global;
 use std::process::Abort;
 use std::test::Fail;

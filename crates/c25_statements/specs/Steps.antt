@@ -1,12 +1,12 @@
 -- Parts of the rules of lines that functions of their own follow.
 use Rattle.std.specs.Prelude.{ℕ, List, codes, Result, Ok}
-use Rattle.c25_meaning.specs.Acts.{name_in}
-use Rattle.c25_meaning.specs.AssemblyLine.{Act, Put, Reserve, expressions_in, later_in, section_in}
-use Rattle.c25_meaning.specs.Line.{Piece}
-use Rattle.c25_meaning.specs.Results.{◌>>=◌}
-use Rattle.c25_meaning.specs.StatementLine.{Operation, operation_of, spelled}
-use Rattle.c25_meaning.specs.declared.assembly.Target.{Target}
-use Rattle.c25_meaning.specs.declared.statement.FaultKind.{FaultKind}
+use Rattle.c25_meaning_language.specs.DirectiveOperands.{name_in}
+use Rattle.c25_meaning_assembly.specs.AssemblyLine.{Act, Put, Reserve, expressions_in, later_in, section_in}
+use Rattle.c25_meaning_lines.specs.Line.{Piece}
+use Rattle.c25_meaning_common.specs.Results.{◌>>=◌}
+use Rattle.c25_meaning_assembly.specs.StatementLine.{Operation, operation_of, spelled}
+use Rattle.c25_meaning_assembly.specs.declared.assembly.Target.{Target}
+use Rattle.c25_meaning_language.specs.declared.statement.FaultKind.{FaultKind}
 
 -- the instruction of a line's first word and operands
 abbrev pub operation_with : List ℕ → List (List Piece) → Result Operation FaultKind

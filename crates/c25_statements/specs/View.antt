@@ -3,10 +3,10 @@ use Rattle.std.specs.Prelude.{ℕ, List, map, String, Result, Ok, Err}
 use Rattle.std.specs.Option.{option_map}
 use Rattle.std.specs.String.{string_bytes}
 use denote.Ref.{Bor}
-use Rattle.c25_meaning.specs.Tree.{Tree}
-use Rattle.c25_meaning.specs.StatementLine as line
-use Rattle.c25_meaning.specs.AssemblyLine as says
-use Rattle.c25_meaning.specs.declared.statement.FaultKind.{FaultKind}
+use Rattle.c25_meaning_language.specs.Tree.{Tree}
+use Rattle.c25_meaning_assembly.specs.StatementLine as line
+use Rattle.c25_meaning_assembly.specs.AssemblyLine as says
+use Rattle.c25_meaning_language.specs.declared.statement.FaultKind.{FaultKind}
 use Rattle.c25_expr.specs.View.{tree_of}
 use Rattle.c25_expr.specs.declared.tree.Expr.{Expr}
 use Rattle.c25_statements.specs.declared.statement.Operation.{Operation}

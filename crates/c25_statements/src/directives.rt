@@ -1,7 +1,7 @@
 //! What directives do.
 
-ghost use Rattle.c25_meaning.specs.AssemblyLine as says;
-ghost use Rattle.c25_meaning.specs.Results.{Meets};
+ghost use Rattle.c25_meaning_assembly.specs.AssemblyLine as says;
+ghost use Rattle.c25_meaning_common.specs.Results.{Meets};
 ghost use Rattle.c25_statements.specs.Steps as steps;
 ghost use Rattle.c25_expr.specs.Pieces.{pieces_of, operands_view};
 ghost use Rattle.c25_statements.specs.View.{act_of};
@@ -10,9 +10,9 @@ use crate::operands::{expressions_in, later_in, some, some_names};
 use crate::sections::section_in;
 use crate::statement::Act;
 use crate::strings::strings_in;
-use c25_meaning::assembly::{Directive, Target};
-use c25_meaning::failure::Failure;
-use c25_meaning::statement::FaultKind;
+use c25_meaning_assembly::assembly::{Directive, Target};
+use c25_meaning_common::failure::Failure;
+use c25_meaning_language::statement::FaultKind;
 use c25_operands::{expression_in, name_in};
 use c25_text::tokens::Token;
 use std::alloc::Global;
@@ -162,7 +162,7 @@ fn putting<'a>(
 }
 
 /// What a directive does on a line with this label and these operands.
-#[tactic(auto, unfolding(c25_meaning::specs::AssemblyLine::act_of))]
+#[tactic(auto, unfolding(c25_meaning_assembly::specs::AssemblyLine::act_of))]
 pub(crate) fn act_of<'a>(
     alloc: Global,
     directive: Directive,

@@ -2,12 +2,12 @@
 
 ghost use Rattle.std.specs.Prelude.{◌≡◌, pos, negsuc};
 ghost use Rattle.c25_bits.specs.Cut.{cut};
-ghost use Rattle.c25_meaning.specs.Table.{shift_limit};
-ghost use Rattle.c25_meaning.specs.Statement.{form_field, with_number, field_of_short, short_field, field_of_long, plain_field, addr_field, number_in, within, below, relocation_of};
+ghost use Rattle.c25_meaning_instructions.specs.Table.{shift_limit};
+ghost use Rattle.c25_meaning_language.specs.Statement.{form_field, with_number, field_of_short, short_field, field_of_long, plain_field, addr_field, number_in, within, below, relocation_of};
 
-use c25_meaning::mnemonic::{LongName, PlainName, ShiftedName, ShortName};
-use c25_meaning::relocation::RelocationKind;
-use c25_meaning::statement::{AddrForm, FaultKind, Field, Form};
+use c25_meaning_common::relocation::RelocationKind;
+use c25_meaning_instructions::mnemonic::{LongName, PlainName, ShiftedName, ShortName};
+use c25_meaning_language::statement::{AddrForm, FaultKind, Field, Form};
 
 fn addr_field(addr: AddrForm) -> Field
     ensures { result ≡ addr_field addr }
@@ -138,7 +138,7 @@ fn below(limit: u16, value: i32, number: u16) -> Result<u16, FaultKind>
 
 /// The number that an absolute value gives a field, or `FieldRange` where the field does not take it
 /// (53).
-#[tactic(auto, unfolding(c25_meaning::specs::Statement::number_in))]
+#[tactic(auto, unfolding(c25_meaning_language::specs::Statement::number_in))]
 pub fn number_in(field: Field, value: i32) -> Result<u16, FaultKind>
     ensures { result ≡ number_in field value }
 {

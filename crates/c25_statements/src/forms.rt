@@ -1,11 +1,11 @@
 //! The instruction of a form and its numbers.
 
 ghost use Rattle.std.specs.Prelude.{◌≡◌, slice_get, slice_index};
-ghost use Rattle.c25_meaning.specs.Statement.{insn_of, addr_of, addr_beside, number_beside, short_of, long_of, plain_of, form_row};
+ghost use Rattle.c25_meaning_language.specs.Statement.{insn_of, addr_of, addr_beside, number_beside, short_of, long_of, plain_of, form_row};
 
-use c25_meaning::insn::{Addr, Change, Insn, PlainOperand};
-use c25_meaning::mnemonic::{LongName, Mnemonic, PlainName, ShortName};
-use c25_meaning::statement::{AddrForm, Form};
+use c25_meaning_instructions::insn::{Addr, Change, Insn, PlainOperand};
+use c25_meaning_instructions::mnemonic::{LongName, Mnemonic, PlainName, ShortName};
+use c25_meaning_language::statement::{AddrForm, Form};
 
 fn number_at(numbers: &[u16], index: usize) -> u16
     ensures { result ≡ slice_index numbers.now index }

@@ -1,11 +1,11 @@
 //! The directives of the assembler by their names.
 
 ghost use Rattle.std.specs.Prelude.{◌≡◌, ◌==◌, slice_index};
-ghost use Rattle.c25_meaning.specs.AssemblyLine.{directive_of, directive_in, is_ignored};
-ghost use Rattle.c25_meaning.specs.Line.{first_word};
+ghost use Rattle.c25_meaning_assembly.specs.AssemblyLine.{directive_of, directive_in, is_ignored};
+ghost use Rattle.c25_meaning_lines.specs.Line.{first_word};
 
-use c25_meaning::assembly::Directive;
-use c25_text::byte_at;
+use c25_bytes::byte_at;
+use c25_meaning_assembly::assembly::Directive;
 use c25_text::line::first_word;
 
 fn is_dotted(word: &str) -> bool
@@ -15,7 +15,7 @@ fn is_dotted(word: &str) -> bool
 }
 
 /// Whether a word is a directive without effect, in either case.
-#[tactic(auto, unfolding(c25_meaning::specs::AssemblyLine::is_ignored))]
+#[tactic(auto, unfolding(c25_meaning_assembly::specs::AssemblyLine::is_ignored))]
 fn is_ignored(word: &str) -> bool
     ensures { result ≡ is_ignored word.now }
 {
@@ -51,7 +51,7 @@ fn is_ignored(word: &str) -> bool
 }
 
 /// The directive that a word is, if it is one that the assembler takes, in either case.
-#[tactic(auto, unfolding(c25_meaning::specs::AssemblyLine::directive_of))]
+#[tactic(auto, unfolding(c25_meaning_assembly::specs::AssemblyLine::directive_of))]
 fn find_directive(word: &str) -> Option<Directive>
     ensures { result ≡ directive_of word.now }
 {
@@ -95,7 +95,7 @@ fn find_directive(word: &str) -> Option<Directive>
 }
 
 /// The same, where most words are mnemonics.
-#[tactic(auto, unfolding(c25_meaning::specs::AssemblyLine::directive_of, c25_meaning::specs::AssemblyLine::is_ignored))]
+#[tactic(auto, unfolding(c25_meaning_assembly::specs::AssemblyLine::directive_of, c25_meaning_assembly::specs::AssemblyLine::is_ignored))]
 fn directive_of(word: &str) -> Option<Directive>
     ensures { result ≡ directive_of word.now }
 {

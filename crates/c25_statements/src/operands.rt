@@ -1,9 +1,9 @@
 //! Lists of operands of the directives of the assembler.
 
 ghost use Rattle.std.specs.Prelude.{◌≡◌};
-ghost use Rattle.c25_meaning.specs.Acts as acts;
-ghost use Rattle.c25_meaning.specs.AssemblyLine as says;
-ghost use Rattle.c25_meaning.specs.Results.{Meets};
+ghost use Rattle.c25_meaning_language.specs.DirectiveOperands as acts;
+ghost use Rattle.c25_meaning_assembly.specs.AssemblyLine as says;
+ghost use Rattle.c25_meaning_common.specs.Results.{Meets};
 ghost use Rattle.c25_expr.specs.Pieces.{pieces_of, operands_view};
 ghost use Rattle.c25_expr.specs.View.{tree_of};
 ghost use Rattle.c25_statements.specs.View.{texts_of, trees_of, count_of};
@@ -11,8 +11,8 @@ ghost use Rattle.c25_statements.specs.View.{texts_of, trees_of, count_of};
 use crate::trees::exprs_of;
 use c25_expr::operands::written_of;
 use c25_expr::tree::Expr;
-use c25_meaning::failure::Failure;
-use c25_meaning::statement::{FaultKind, Written};
+use c25_meaning_common::failure::Failure;
+use c25_meaning_language::statement::{FaultKind, Written};
 use c25_operands::{name_in, tree_in};
 use c25_text::tokens::Token;
 use std::alloc::Global;

@@ -1,9 +1,9 @@
 //! The instruction of a line.
 
 ghost use Rattle.std.specs.Prelude.{◌≡◌, IfOk, map};
-ghost use Rattle.c25_meaning.specs.StatementLine.{spelled, operation_of};
-ghost use Rattle.c25_meaning.specs.Operands.{written_of};
-ghost use Rattle.c25_meaning.specs.Results.{Meets};
+ghost use Rattle.c25_meaning_assembly.specs.StatementLine.{spelled, operation_of};
+ghost use Rattle.c25_meaning_language.specs.Operands.{written_of};
+ghost use Rattle.c25_meaning_common.specs.Results.{Meets};
 ghost use Rattle.c25_statements.specs.Steps.{operation_with};
 ghost use Rattle.c25_expr.specs.Pieces.{operands_view};
 ghost use Rattle.c25_statements.specs.View as view;
@@ -13,10 +13,10 @@ use crate::statement::Operation;
 use crate::trees::exprs_of;
 use c25_expr::operands::written_of;
 use c25_isa::mnemonic;
-use c25_meaning::failure::Failure;
-use c25_meaning::mnemonic::Spelling;
-use c25_meaning::no_memory::NoMemory;
-use c25_meaning::statement::{FaultKind, Written};
+use c25_meaning_common::failure::Failure;
+use c25_meaning_common::no_memory::NoMemory;
+use c25_meaning_instructions::mnemonic::Spelling;
+use c25_meaning_language::statement::{FaultKind, Written};
 use c25_text::tokens::Token;
 use std::alloc::Global;
 
@@ -39,7 +39,7 @@ fn kinds_of(alloc: Global, operands: &[&[Token<'_>]]) -> Result<Vec<Written>, No
 
 /// The instruction of these operands, or its first fault: too few or too many (51), one of another form
 /// than the instruction takes (52), one that is no expression (20), one that nests too deep (21).
-#[tactic(auto, unfolding(c25_meaning::specs::StatementLine::operation_of))]
+#[tactic(auto, unfolding(c25_meaning_assembly::specs::StatementLine::operation_of))]
 pub fn operation_of(
     alloc: Global,
     spelling: Spelling,

@@ -2,9 +2,9 @@
 
 ghost use Rattle.std.specs.Prelude.{◌≡◌};
 ghost use Rattle.std.specs.Option.{option_map};
-ghost use Rattle.c25_meaning.specs.Acts.{parts_in};
-ghost use Rattle.c25_meaning.specs.AssemblyLine as says;
-ghost use Rattle.c25_meaning.specs.Results.{Meets};
+ghost use Rattle.c25_meaning_language.specs.DirectiveOperands.{parts_in};
+ghost use Rattle.c25_meaning_assembly.specs.AssemblyLine as says;
+ghost use Rattle.c25_meaning_common.specs.Results.{Meets};
 ghost use Rattle.c25_text.specs.View.{part_of, parts_of};
 ghost use Rattle.c25_expr.specs.Pieces.{operands_view};
 ghost use Rattle.c25_statements.specs.View.{act_of, statement_of};
@@ -13,14 +13,14 @@ use crate::directives::act_of;
 use crate::names::directive_in;
 use crate::operations::operation_in;
 use crate::statement::{Act, Operation, Statement};
+use c25_bytes::{byte_at, is_blank};
 use c25_expr::failure::line_fault;
 use c25_expr::operands::{operands_of, tokens_of};
-use c25_meaning::assembly::{Directive, Target};
-use c25_meaning::failure::Failure;
-use c25_meaning::statement::FaultKind;
+use c25_meaning_assembly::assembly::{Directive, Target};
+use c25_meaning_common::failure::Failure;
+use c25_meaning_language::statement::FaultKind;
 use c25_text::line::{Line, Word, split_line};
 use c25_text::tokens::Token;
-use c25_text::{byte_at, is_blank};
 use std::alloc::Global;
 
 /// An instruction's line.
@@ -99,7 +99,7 @@ fn label_for(directive: Option<Directive>, label: Option<&str>) -> Option<&str>
 }
 
 /// What a line says by its directive, if it has one.
-#[tactic(auto, unfolding(c25_meaning::specs::AssemblyLine::statement_by))]
+#[tactic(auto, unfolding(c25_meaning_assembly::specs::AssemblyLine::statement_by))]
 fn statement_by(
     alloc: Global,
     directive: Option<Directive>,

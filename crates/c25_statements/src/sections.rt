@@ -2,13 +2,13 @@
 
 ghost use Rattle.std.specs.Prelude.{◌≡◌};
 ghost use Rattle.std.specs.String.{string_bytes};
-ghost use Rattle.c25_meaning.specs.AssemblyLine as says;
-ghost use Rattle.c25_meaning.specs.Results.{Meets};
+ghost use Rattle.c25_meaning_assembly.specs.AssemblyLine as says;
+ghost use Rattle.c25_meaning_common.specs.Results.{Meets};
 ghost use Rattle.c25_text.specs.View.{piece_of};
 ghost use Rattle.c25_expr.specs.Pieces.{pieces_of};
 
-use c25_meaning::failure::Failure;
-use c25_meaning::statement::FaultKind;
+use c25_meaning_common::failure::Failure;
+use c25_meaning_language::statement::FaultKind;
 use c25_obj::is_section_name;
 use c25_operands::{is_string, string_in};
 use c25_text::tokens::Token;

@@ -2,13 +2,13 @@
 
 ghost use Rattle.std.specs.Prelude.{◌≡◌, ◌+◌, ◌≤◌, ◌<◌, ◌^◌, Ok, Err, slice_get, length};
 ghost use Rattle.std.specs.List.{list_all};
-ghost use Rattle.c25_meaning.specs.Forms as forms;
+ghost use Rattle.c25_meaning_language.specs.Forms as forms;
 
-use c25_meaning::insn::Change;
-use c25_meaning::mnemonic::{
+use c25_meaning_instructions::insn::Change;
+use c25_meaning_instructions::mnemonic::{
     JumpName, LongName, MemName, Mnemonic, PlainName, ShortName, Spelling,
 };
-use c25_meaning::statement::{AddrForm, FaultKind, Form, Written};
+use c25_meaning_language::statement::{AddrForm, FaultKind, Form, Written};
 
 fn is_expression(operand: Written) -> bool
     ensures { result ≡ forms.is_expression operand }
@@ -70,7 +70,7 @@ fn addr_written(operand: Option<Written>) -> Result<AddrForm, FaultKind>
     }
 }
 
-#[tactic(auto, unfolding(c25_meaning::specs::Forms::memory))]
+#[tactic(auto, unfolding(c25_meaning_language::specs::Forms::memory))]
 fn memory(
     index: usize,
     low: usize,
@@ -90,7 +90,7 @@ fn memory(
     }
 }
 
-#[tactic(auto, unfolding(c25_meaning::specs::Forms::expressions))]
+#[tactic(auto, unfolding(c25_meaning_language::specs::Forms::expressions))]
 fn expressions(low: usize, high: usize, operands: &[Written]) -> Result<(), FaultKind>
     ensures { result ≡ forms.expressions low high operands.now }
 {
@@ -121,7 +121,7 @@ fn jump_change(name: JumpName) -> Change
     }
 }
 
-#[tactic(auto, unfolding(c25_meaning::specs::Forms::jumping))]
+#[tactic(auto, unfolding(c25_meaning_language::specs::Forms::jumping))]
 fn jumping(name: JumpName, operands: &[Written]) -> Result<Change, FaultKind>
     ensures { result ≡ forms.jumping name operands.now }
 {
@@ -135,7 +135,7 @@ fn jumping(name: JumpName, operands: &[Written]) -> Result<Change, FaultKind>
     }
 }
 
-#[tactic(auto, unfolding(c25_meaning::specs::Forms::norm))]
+#[tactic(auto, unfolding(c25_meaning_language::specs::Forms::norm))]
 fn norm(operands: &[Written]) -> Result<Change, FaultKind>
     ensures { result ≡ forms.norm operands.now }
 {

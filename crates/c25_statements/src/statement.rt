@@ -1,8 +1,8 @@
 //! What lines say. Names borrow the line.
 
 use c25_expr::tree::Expr;
-use c25_meaning::assembly::Target;
-use c25_meaning::statement::{FaultKind, Form};
+use c25_meaning_assembly::assembly::Target;
+use c25_meaning_language::statement::{FaultKind, Form};
 
 /// An instruction as it is written: a form, and an expression for each operand that is one.
 #[derive(Drop)]

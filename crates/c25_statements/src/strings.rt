@@ -1,13 +1,13 @@
 //! The words of strings.
 
 ghost use Rattle.std.specs.Prelude.{◌≡◌, ◌+◌, ◌*◌, ◌++◌, OnOk};
-ghost use Rattle.c25_meaning.specs.AssemblyLine as says;
-ghost use Rattle.c25_meaning.specs.Results.{Meets};
+ghost use Rattle.c25_meaning_assembly.specs.AssemblyLine as says;
+ghost use Rattle.c25_meaning_common.specs.Results.{Meets};
 ghost use Rattle.c25_expr.specs.Pieces.{operands_view};
 
-use c25_meaning::failure::Failure;
-use c25_meaning::no_memory::NoMemory;
-use c25_meaning::statement::FaultKind;
+use c25_meaning_common::failure::Failure;
+use c25_meaning_common::no_memory::NoMemory;
+use c25_meaning_language::statement::FaultKind;
 use c25_operands::string_in;
 use c25_text::tokens::Token;
 use std::alloc::Global;

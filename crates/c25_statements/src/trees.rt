@@ -1,17 +1,17 @@
 //! The expressions of a line's operands.
 
 ghost use Rattle.std.specs.Prelude.{◌≡◌};
-ghost use Rattle.c25_meaning.specs.StatementLine.{no_trees, with_operand, all_trees, trees_in};
+ghost use Rattle.c25_meaning_assembly.specs.StatementLine.{no_trees, with_operand, all_trees, trees_in};
 ghost use Rattle.c25_expr.specs.Pieces.{pieces_of, operands_view};
-ghost use Rattle.c25_meaning.specs.Results.{Meets};
+ghost use Rattle.c25_meaning_common.specs.Results.{Meets};
 ghost use Rattle.c25_statements.specs.View.{trees_of, so_far};
 
 use c25_expr::operands::written_of;
 use c25_expr::reading::read_expr;
 use c25_expr::tree::Expr;
-use c25_meaning::expression::ExpressionFault;
-use c25_meaning::failure::Failure;
-use c25_meaning::statement::{FaultKind, Written};
+use c25_meaning_common::failure::Failure;
+use c25_meaning_language::expression::ExpressionFault;
+use c25_meaning_language::statement::{FaultKind, Written};
 use c25_text::tokens::Token;
 use std::alloc::Global;
 
@@ -33,7 +33,7 @@ impl Trees {
     }
 
     /// One operand more.
-    #[tactic(auto, unfolding(c25_meaning::specs::StatementLine::with_operand))]
+    #[tactic(auto, unfolding(c25_meaning_assembly::specs::StatementLine::with_operand))]
     fn add(&mut self, alloc: Global, tokens: &[Token<'_>]) -> Result<(), Failure<FaultKind>>
         ensures { Meets (λ _. so_far self.new) (with_operand (so_far self.old) (pieces_of tokens.now)) result }
     {

@@ -4,7 +4,7 @@ use Rattle.std.specs.Prelude.{◌==◌}
 use Rattle.std.specs.declared.alloc.Global.{Global}
 use Rattle.std.specs.String.{string_bytes}
 use Rattle.std.proofs.lemmas.List.{length-map}
-use Rattle.c25_meaning.specs.Arguments.{argument_len, bound, unquoted}
+use Rattle.c25_meaning_language.specs.Arguments.{argument_len, bound, unquoted}
 
 bound_first : (p : List ℕ) (ps : List (List ℕ)) (last : Bool) (text argument rest : List ℕ) → last ≡ (length ps == 0) →
     argument ≡ take (argument_len last text) text → rest ≡ drop (argument_len last text + 1) text → bound (p ∷ ps) text ≡ (p, unquoted argument) ∷ bound ps rest

@@ -7,8 +7,8 @@ use Rattle.std.proofs.lemmas.Bool.{cases_lt}
 use Rattle.std.proofs.lemmas.Bool.Decides.{nat_tests}
 use Rattle.std.proofs.lemmas.List.{get_or-drop, get_or_past, get_or-reverse, length-drop}
 use Rattle.std.proofs.lemmas.List.Sums.{prefix_len_passes, prefix_len_stops, prefix_len-le-length, suffix_len-le-length}
-use Rattle.c25_meaning.specs.Bytes.{is_blank, is_letter_or_digit, goes_on_name}
-use Rattle.c25_meaning.specs.Fragments.{is_beyond_ascii}
+use Rattle.c25_meaning_common.specs.Bytes.{is_blank, is_letter_or_digit, goes_on_name}
+use Rattle.c25_meaning_language.specs.Fragments.{is_beyond_ascii}
 
 -- behind a run of ASCII bytes of one kind
 run_cut : (p : ℕ → Bool) → ((b : ℕ) → p b ≡ true → b < 128) → (text : List ℕ) → IsUtf8 text → IsCharBoundary text (prefix_len p text)

@@ -4,7 +4,7 @@ use Rattle.std.specs.Prelude.{◌==◌}
 use Rattle.std.proofs.lemmas.List.{drop_all, get_or-drop, length-drop, take_rest}
 use Rattle.std.proofs.lemmas.Bool.{false≢true}
 use Rattle.std.proofs.lemmas.Bool.Decides.{nat_tests}
-use Rattle.c25_meaning.specs.Arguments.{folded}
+use Rattle.c25_meaning_language.specs.Arguments.{folded}
 use Rattle.c25_substitution.proofs.Quotings.{cut_at}
 
 abbrev fold_by : Bool → ℕ → List ℕ → List ℕ

@@ -7,7 +7,7 @@ use Rattle.std.specs.Option.{option_map}
 use Rattle.std.specs.Str.{bytes_eq}
 use Rattle.std.specs.String.{string_bytes, string_eq}
 use Rattle.indexmap.specs.IndexMap.{insert_entry}
-use Rattle.c25_meaning.specs.Texts.{with_name}
+use Rattle.c25_meaning_language.specs.Texts.{with_name}
 use Rattle.c25_substitution.specs.Pairs.{pairs}
 
 by_test : (b : Bool) (text : String Global) (o : Option (String Global)) (p : Option (List ℕ)) → option_map string_bytes o ≡ p → option_map string_bytes (cond b (Some text) o) ≡ cond b (Some (string_bytes text)) p

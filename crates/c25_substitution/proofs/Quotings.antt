@@ -1,8 +1,8 @@
 -- One byte further in a text.
 use Rattle.std.proofs.Common.{◌≡◌, ℕ, suc, ◌+◌, ◌<◌, ◌≤◌, Bool, true, false, cond, List, ◌∷◌, length, get_or, drop, Option, Some, None, option_map, refl, ap, sym, ◌∙◌, arith, drop-cons}
 use Rattle.std.proofs.lemmas.List.{drop_all}
-use Rattle.c25_meaning.specs.Quoting.{behind, is_outer, outer_len, last_comma, or_before}
-use Rattle.c25_meaning.specs.declared.quoting.Quoting.{Quoting}
+use Rattle.c25_meaning_language.specs.Quoting.{behind, is_outer, outer_len, last_comma, or_before}
+use Rattle.c25_meaning_language.specs.declared.quoting.Quoting.{Quoting}
 
 -- the byte at a place, and what follows
 pub cut_at : (text : List ℕ) (i : ℕ) → i < length text → drop i text ≡ get_or text i 0 ∷ drop (i + 1) text

@@ -1,13 +1,13 @@
 -- What is written for a text, a fragment at a time.
 use Rattle.std.proofs.Common.{◌≡◌, ℕ, zero, suc, ◌-◌, ◌<◌, ◌≤◌, List, [], ◌∷◌, ◌++◌, length, get_or, drop, refl, ap, sym, subst, ◌∙◌, arith, append_assoc, append-nil, add_assoc, length-append}
 use Rattle.std.proofs.lemmas.List.{length-drop}
-use Rattle.c25_meaning.specs.Quoting.{behind}
-use Rattle.c25_meaning.specs.Fragments.{Names, without, Fragment, front, fragments}
-use Rattle.c25_meaning.specs.Substitution.{Draft, as_is, joined, all_joined, drafted_by, drafted}
-use Rattle.c25_meaning.specs.declared.expansion.LongLine.{LongLine}
-use Rattle.c25_meaning.specs.declared.failure.Failure.{Failure}
-use Rattle.c25_meaning.specs.declared.failure.Failure.TheVariants.{NoMemory, Fault}
-use Rattle.c25_meaning.specs.declared.quoting.Quoting.{Quoting}
+use Rattle.c25_meaning_language.specs.Quoting.{behind}
+use Rattle.c25_meaning_language.specs.Fragments.{Names, without, Fragment, front, fragments}
+use Rattle.c25_meaning_language.specs.Substitution.{Draft, as_is, joined, all_joined, drafted_by, drafted}
+use Rattle.c25_meaning_language.specs.declared.long_line.LongLine.{LongLine}
+use Rattle.c25_meaning_common.specs.declared.failure.Failure.{Failure}
+use Rattle.c25_meaning_common.specs.declared.failure.Failure.TheVariants.{NoMemory, Fault}
+use Rattle.c25_meaning_language.specs.declared.quoting.Quoting.{Quoting}
 use Rattle.c25_substitution.specs.View.{Refuses}
 
 pub same_draft : (a b : Draft) → a.text ≡ b.text → a.replacements ≡ b.replacements → a ≡ b

@@ -2,12 +2,12 @@
 use Rattle.std.specs.Prelude.{◌≡◌, ◌<◌, ◌≤◌, ℕ, max, List, [], length, map, Some, None, Result, Ok, Err}
 use Rattle.std.specs.Borrow.{Bor}
 use Rattle.std.specs.String.{string_bytes}
-use Rattle.c25_meaning.specs.Fragments.{Names, visible, without}
-use Rattle.c25_meaning.specs.Substitution.{Draft, joined}
-use Rattle.c25_meaning.specs.Fragments as meaning
-use Rattle.c25_meaning.specs.declared.expansion.LongLine.{LongLine}
-use Rattle.c25_meaning.specs.declared.failure.Failure.{Failure}
-use Rattle.c25_meaning.specs.declared.failure.Failure.TheVariants.{NoMemory, Fault}
+use Rattle.c25_meaning_language.specs.Fragments.{Names, visible, without}
+use Rattle.c25_meaning_language.specs.Substitution.{Draft, joined}
+use Rattle.c25_meaning_language.specs.Fragments as meaning
+use Rattle.c25_meaning_language.specs.declared.long_line.LongLine.{LongLine}
+use Rattle.c25_meaning_common.specs.declared.failure.Failure.{Failure}
+use Rattle.c25_meaning_common.specs.declared.failure.Failure.TheVariants.{NoMemory, Fault}
 use Rattle.c25_substitution.specs.declared.visible.Visible.{Visible}
 use Rattle.c25_substitution.specs.declared.fragments.Fragment.{Fragment}
 use Rattle.c25_substitution.specs.declared.fragments.Fragment.TheVariants.{Kept, Numbered, Replaced}

@@ -2,12 +2,12 @@
 
 ghost use Rattle.std.specs.Prelude.{◌≡◌, ◌+◌, map, take, drop, IfOk};
 ghost use Rattle.std.specs.String.{string_bytes};
-ghost use Rattle.c25_meaning.specs.Arguments.{argument_len, arguments, assigned_text, operand_text};
+ghost use Rattle.c25_meaning_language.specs.Arguments.{argument_len, arguments, assigned_text, operand_text};
 
 use crate::parameters::Arguments;
 use crate::quoting::{last_comma_len, outer_len};
 use crate::strings::unquoted;
-use c25_meaning::no_memory::NoMemory;
+use c25_meaning_common::no_memory::NoMemory;
 use c25_text::{past_blanks, past_field};
 use std::alloc::Global;
 

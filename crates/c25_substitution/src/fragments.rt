@@ -4,14 +4,14 @@ ghost use Rattle.std.specs.Prelude.{◌≡◌, ◌+◌, ◌<◌, ◌≤◌, ◌=
 ghost use Rattle.std.specs.List.{prefix_len, take_while, list_any};
 ghost use Rattle.std.specs.Option.{option_map};
 ghost use Rattle.std.specs.Str.{bytes_eq, IsCharBoundary};
-ghost use Rattle.c25_meaning.specs.Bytes.{goes_on_name};
-ghost use Rattle.c25_meaning.specs.Fragments.{is_beyond_ascii, between_colons, character, forced, front, kept, unforced, unit, whole_name};
+ghost use Rattle.c25_meaning_common.specs.Bytes.{goes_on_name};
+ghost use Rattle.c25_meaning_language.specs.Fragments.{is_beyond_ascii, between_colons, character, forced, front, kept, unforced, unit, whole_name};
 ghost use Rattle.c25_substitution.specs.View.{names_in, fragment_of};
 
 use crate::quoting::inside;
 use crate::visible::Visible;
-use c25_meaning::quoting::Quoting;
-use c25_text::{begins_name, byte_at, constant_run, is_digit, name_run};
+use c25_bytes::{begins_name, byte_at, constant_run, is_digit, name_run};
+use c25_meaning_language::quoting::Quoting;
 
 /// A fragment of a text.
 pub(crate) enum Fragment<'a> {
@@ -190,7 +190,7 @@ fn forced<'a>(
 }
 
 /// The fragment at the front of a text, and the rest.
-#[tactic(auto, unfolding(c25_meaning::specs::Fragments::front))]
+#[tactic(auto, unfolding(c25_meaning_language::specs::Fragments::front))]
 pub(crate) fn first_fragment<'a>(
     names: &Visible<'a>,
     aside: &[&str],

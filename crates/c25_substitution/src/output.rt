@@ -3,11 +3,11 @@
 ghost use Rattle.std.specs.Prelude.{◌≡◌, ◌++◌, ◌∷◌, []};
 ghost use Rattle.std.specs.Fmt.{decimal};
 ghost use Rattle.std.specs.String.{string_bytes};
-ghost use Rattle.c25_meaning.specs.Substitution.{as_is};
+ghost use Rattle.c25_meaning_language.specs.Substitution.{as_is};
 ghost use Rattle.c25_substitution.specs.View.{written_so_far, IsWithin, Writes};
 
-use c25_meaning::expansion::LongLine;
-use c25_meaning::failure::Failure;
+use c25_meaning_common::failure::Failure;
+use c25_meaning_language::long_line::LongLine;
 use std::alloc::Global;
 
 /// The bytes that a line has at most, and the replacements.

@@ -1,11 +1,11 @@
 //! Which bytes of a line stand outside quotes and comment.
 
 ghost use Rattle.std.specs.Prelude.{◌≡◌, ◌<◌, ◌≤◌, length, slice_index};
-ghost use Rattle.c25_meaning.specs.Quoting.{behind, is_outer, outer_len, last_comma_len};
-ghost use Rattle.c25_meaning.specs.Fragments.{inside};
-ghost use Rattle.c25_meaning.specs.declared.quoting.Quoting.TheVariants.{Outside};
+ghost use Rattle.c25_meaning_language.specs.Quoting.{behind, is_outer, outer_len, last_comma_len};
+ghost use Rattle.c25_meaning_language.specs.Fragments.{inside};
+ghost use Rattle.c25_meaning_language.specs.declared.quoting.Quoting.TheVariants.{Outside};
 
-use c25_meaning::quoting::Quoting;
+use c25_meaning_language::quoting::Quoting;
 
 /// Where the byte behind this one stands.
 pub(crate) fn behind(b: u8, quoting: Quoting) -> Quoting

@@ -3,11 +3,12 @@
 ghost use Rattle.std.specs.Prelude.{◌≡◌, ◌≤◌, ◌==◌, ◌&&◌, false, length, IfOk};
 ghost use Rattle.std.specs.List.{suffix_len};
 ghost use Rattle.std.specs.String.{string_bytes};
-ghost use Rattle.c25_meaning.specs.Arguments.{before_quote, folded, is_one_string, past_quote, string_text, trimmed, trimmed_end, trimmed_start, unquoted};
-ghost use Rattle.c25_meaning.specs.Bytes.{is_blank};
+ghost use Rattle.c25_meaning_language.specs.Arguments.{before_quote, folded, is_one_string, past_quote, string_text, trimmed, trimmed_end, trimmed_start, unquoted};
+ghost use Rattle.c25_meaning_common.specs.Bytes.{is_blank};
 
-use c25_meaning::no_memory::NoMemory;
-use c25_text::{byte_at, is_blank, past_blanks, quoted_len};
+use c25_bytes::{byte_at, is_blank};
+use c25_meaning_common::no_memory::NoMemory;
+use c25_text::{past_blanks, quoted_len};
 use std::alloc::Global;
 
 fn trimmed_start(text: &str) -> &str

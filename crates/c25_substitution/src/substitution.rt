@@ -2,18 +2,18 @@
 
 ghost use Rattle.std.specs.Prelude.{◌≡◌, ◌-◌, ◌≤◌, ◌++◌, ◌∷◌, [], OnOk, length, map};
 ghost use Rattle.std.specs.String.{string_bytes};
-ghost use Rattle.c25_meaning.specs.Results.{Meets};
-ghost use Rattle.c25_meaning.specs.Substitution.{line_quoting, rewritten, substituted, substituted_before_comma, unsubstituted, drafted, drafted_by};
+ghost use Rattle.c25_meaning_common.specs.Results.{Meets};
+ghost use Rattle.c25_meaning_language.specs.Substitution.{line_quoting, rewritten, substituted, substituted_before_comma, unsubstituted, drafted, drafted_by};
 ghost use Rattle.c25_substitution.specs.View.{names_of, fragment_of, written_so_far, IsAll, IsWithin, Writes};
 
 use crate::fragments::{Fragment, first_fragment};
 use crate::output::Output;
 use crate::quoting::{behind, last_comma_len};
 use crate::visible::Visible;
-use c25_meaning::expansion::LongLine;
-use c25_meaning::failure::Failure;
-use c25_meaning::quoting::Quoting;
-use c25_text::byte_at;
+use c25_bytes::byte_at;
+use c25_meaning_common::failure::Failure;
+use c25_meaning_language::long_line::LongLine;
+use c25_meaning_language::quoting::Quoting;
 use std::alloc::Global;
 
 /// Writes what a text becomes that begins in this quoting. The names set aside are those that are

@@ -5,9 +5,9 @@ ghost use Rattle.std.specs.Map.{lookup};
 ghost use Rattle.std.specs.Option.{option_map};
 ghost use Rattle.std.specs.Str.{bytes_eq};
 ghost use Rattle.std.specs.String.{string_bytes};
-ghost use Rattle.c25_meaning.specs.Texts.{with_name};
+ghost use Rattle.c25_meaning_language.specs.Texts.{with_name};
 
-use c25_meaning::no_memory::NoMemory;
+use c25_meaning_common::no_memory::NoMemory;
 use indexmap::IndexMap;
 use std::alloc::Global;
 use std::marker::Model;

@@ -9,9 +9,9 @@ use Rattle.c25_chain.specs.Refusal.{Fault}
 use Rattle.c25_chain.specs.declared.built.Built.{Built}
 use Rattle.c25_chain.specs.declared.chain.Chain.{Chain}
 use Rattle.c25_disk.specs.Held.{Held, IsAllOf}
-use Rattle.c25_meaning.specs.Files.{Files}
-use Rattle.c25_meaning.specs.Results.{IsNoMemory}
-use Rattle.c25_meaning.specs.declared.failure.Failure.TheVariants as failure
+use Rattle.c25_meaning_expansion.specs.Files.{Files}
+use Rattle.c25_meaning_common.specs.Results.{IsNoMemory}
+use Rattle.c25_meaning_common.specs.declared.failure.Failure.TheVariants as failure
 use Rattle.c25_words.specs.Task.{text_of}
 use Rattle.c25_words.specs.declared.task.RunFiles.{RunFiles}
 use Rattle.c25_tasks.specs.Building.{BuildsFrom}

@@ -9,11 +9,11 @@ use Rattle.c25_chain.specs.declared.built.Built.{Built}
 use Rattle.c25_disk.specs.Held.{Held, IsAllOf, IsOfFile}
 use Rattle.c25_disk.specs.declared.fault.FileFault.{FileFault}
 use Rattle.c25_disk.specs.declared.fault.FileFaultKind.TheVariants.{CannotRead}
-use Rattle.c25_meaning.specs.Files.{Files}
-use Rattle.c25_meaning.specs.Module.{Contents}
-use Rattle.c25_meaning.specs.Results.{FailsBy}
-use Rattle.c25_meaning.specs.declared.failure.Failure.{Failure}
-use Rattle.c25_meaning.specs.declared.failure.Failure.TheVariants as failure
+use Rattle.c25_meaning_expansion.specs.Files.{Files}
+use Rattle.c25_meaning_objects.specs.Module.{Contents}
+use Rattle.c25_meaning_common.specs.Results.{FailsBy}
+use Rattle.c25_meaning_common.specs.declared.failure.Failure.{Failure}
+use Rattle.c25_meaning_common.specs.declared.failure.Failure.TheVariants as failure
 use Rattle.c25_tasks.specs.Files.{IsToldOfFile}
 use Rattle.c25_tasks.specs.Linking.{LinksFrom}
 use Rattle.c25_tasks.specs.Objects.{AreFiles, modules_in}

@@ -2,7 +2,7 @@
 use Rattle.std.proofs.Common.{◌≡◌, refl, sym, subst, ℕ, List, append-nil, Option, None, Some}
 use Rattle.std.specs.Io.KnownBytes.{Keeps}
 use Rattle.c25_disk.specs.Held.{Stay}
-use Rattle.c25_meaning.specs.Files.{Files}
+use Rattle.c25_meaning_expansion.specs.Files.{Files}
 use Rattle.c25_tasks.specs.Tells.{Printed, Wrote, Writes}
 
 pub stays : (files : Option Files) → Stay files files

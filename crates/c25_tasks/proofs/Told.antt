@@ -7,7 +7,7 @@ use Rattle.c25_chain.specs.Refusal.{Fault}
 use Rattle.c25_chain.specs.declared.sources.Assembled.{Assembled}
 use Rattle.c25_disk.specs.Held.{Held}
 use Rattle.c25_disk.specs.declared.writing.Output.{Output}
-use Rattle.c25_meaning.specs.declared.failure.Failure.TheVariants as failure
+use Rattle.c25_meaning_common.specs.declared.failure.Failure.TheVariants as failure
 use Rattle.c25_tasks.specs.Assembly.{AsmOutputs, AssemblesBy}
 use Rattle.c25_tasks.specs.Files.{ReadsAll}
 

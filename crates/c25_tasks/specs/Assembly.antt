@@ -8,12 +8,12 @@ use Rattle.c25_chain.specs.declared.sources.Assembled as code
 use Rattle.c25_disk.specs.Held.{Held}
 use Rattle.c25_disk.specs.Written.{contents_of}
 use Rattle.c25_disk.specs.declared.writing.Output.{Output}
-use Rattle.c25_meaning.specs.Files.{Files}
-use Rattle.c25_meaning.specs.Listing.{listing_text}
-use Rattle.c25_meaning.specs.ModuleOfSource.{Assembled}
-use Rattle.c25_meaning.specs.Records.{spelling}
-use Rattle.c25_meaning.specs.Results.{MeetsBy}
-use Rattle.c25_meaning.specs.declared.failure.Failure.TheVariants as failure
+use Rattle.c25_meaning_expansion.specs.Files.{Files}
+use Rattle.c25_meaning_assembly.specs.Listing.{listing_text}
+use Rattle.c25_meaning_sources.specs.ModuleOfSource.{Assembled}
+use Rattle.c25_meaning_objects.specs.Records.{spelling}
+use Rattle.c25_meaning_common.specs.Results.{MeetsBy}
+use Rattle.c25_meaning_common.specs.declared.failure.Failure.TheVariants as failure
 use Rattle.c25_tasks.specs.Files.{ComesTo, IsRefusedSource, ReadsAll}
 use Rattle.c25_tasks.specs.Tells.{Printed, Wrote, WritesTold}
 

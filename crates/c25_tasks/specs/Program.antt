@@ -5,7 +5,7 @@ use Rattle.clap.specs.declared.error.Error.{Error}
 use Rattle.c25_chain.specs.Refusal.{Fault}
 use Rattle.c25_chain.specs.declared.built.Built.{Built}
 use Rattle.c25_disk.specs.Held.{Held, Stay}
-use Rattle.c25_meaning.specs.declared.failure.Failure.{Failure}
+use Rattle.c25_meaning_common.specs.declared.failure.Failure.{Failure}
 use Rattle.c25_report.specs.Status.{HasWordsStatus}
 use Rattle.c25_words.specs.Task.{Reads, text_of, texts_of}
 use Rattle.c25_words.specs.declared.task.Task.{Task}

@@ -4,7 +4,7 @@ use Rattle.c25_chain.specs.Chain.{Answers, Given}
 use Rattle.c25_chain.specs.Refusal.{Fault}
 use Rattle.c25_chain.specs.declared.chain.Chain.{Chain}
 use Rattle.c25_disk.specs.Held.{Held, IsAllOf}
-use Rattle.c25_meaning.specs.Files.{Files}
+use Rattle.c25_meaning_expansion.specs.Files.{Files}
 use Rattle.c25_words.specs.Task.{text_of}
 use Rattle.c25_words.specs.declared.task.RunFiles.{RunFiles}
 use Rattle.c25_tasks.specs.Files.{ComesTo, FailsWith, IsOptional, IsRefusedSource, IsUnread, IsUnreadOptional, ReadsAll}

@@ -17,7 +17,7 @@ use c25_disk::disk::Disk;
 use c25_disk::work::Work;
 use c25_disk::{Output, with_copies};
 use c25_macro::files::Files;
-use c25_meaning::no_memory::NoMemory;
+use c25_meaning_common::no_memory::NoMemory;
 use c25_obj::write_module;
 use std::alloc::Global;
 
@@ -28,7 +28,7 @@ struct Assembly<'a> {
 }
 
 impl<'a> Work for Assembly<'a> {
-    ghost use Rattle.c25_meaning.specs.Results.{MeetsBy};
+    ghost use Rattle.c25_meaning_common.specs.Results.{MeetsBy};
     ghost use Rattle.c25_chain.specs.Modules.{assembled_in};
     ghost use Rattle.c25_chain.specs.Refusal.{refusal_of};
     ghost use Rattle.c25_chain.specs.View.{assembled_of};

@@ -10,8 +10,8 @@ use c25_disk::disk::Disk;
 use c25_disk::fault::FileFault;
 use c25_disk::read_file;
 use c25_disk::work::CopyFault;
-use c25_meaning::failure::Failure;
-use c25_meaning::no_memory::NoMemory;
+use c25_meaning_common::failure::Failure;
+use c25_meaning_common::no_memory::NoMemory;
 use std::alloc::Global;
 
 /// A file's fault.

@@ -3,16 +3,16 @@
 ghost use Rattle.std.specs.Prelude.{◌≡◌, ◌++◌, ◌∷◌, [], OnOk, map};
 ghost use Rattle.c25_chain.specs.Refusal.{IsRefusedAs, refusal_of};
 ghost use Rattle.c25_chain.specs.declared.fault.Refusal.TheVariants as refusal;
-ghost use Rattle.c25_meaning.specs.Results.{MeetsBy};
+ghost use Rattle.c25_meaning_common.specs.Results.{MeetsBy};
 ghost use Rattle.c25_tasks.specs.Objects.{ReadsBytes, module_in, modules_in, objects_of};
 
 use crate::files::fault_of_file;
 use c25_chain::fault::{Fault, Refusal};
 use c25_disk::disk::Disk;
 use c25_disk::read_binary;
-use c25_meaning::failure::Failure;
-use c25_meaning::no_memory::NoMemory;
-use c25_meaning::object::ObjectFault;
+use c25_meaning_common::failure::Failure;
+use c25_meaning_common::no_memory::NoMemory;
+use c25_meaning_objects::object::ObjectFault;
 use c25_obj::{Module, read_module};
 use std::alloc::Global;
 

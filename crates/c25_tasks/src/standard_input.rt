@@ -14,7 +14,7 @@ use c25_disk::disk::Disk;
 use c25_disk::fault::{FileFault, FileFaultKind};
 use c25_disk::{CannotRead, read_text};
 use c25_macro::files::{FileTwice, Files};
-use c25_meaning::failure::Failure;
+use c25_meaning_common::failure::Failure;
 use c25_words::task::DEFAULT_STEPS;
 use std::alloc::Global;
 use std::io::{Read, Write};

@@ -9,7 +9,7 @@ use c25_chain::built::Built;
 use c25_chain::linked::Linked;
 use c25_chain::page::Page;
 use c25_disk::Output;
-use c25_meaning::no_memory::NoMemory;
+use c25_meaning_common::no_memory::NoMemory;
 use c25_report::texts::{Names, Texts, program_outputs};
 use std::alloc::Global;
 

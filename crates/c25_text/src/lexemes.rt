@@ -1,13 +1,14 @@
 //! What stands at the front of a text.
 
 ghost use Rattle.std.specs.Prelude.{◌≡◌, ◌<◌, ◌≤◌, length, true, slice_index, IfSome, min, ◌^◌};
-ghost use Rattle.c25_meaning.specs.Constant.{suffix_base, numeral, is_constant, constant_value};
-ghost use Rattle.c25_meaning.specs.Lexeme.{name_of, constant_of, character_of, quoted_len, quoted_by, dotted_of, double_sign, single_sign, sign_by, lexeme};
+ghost use Rattle.c25_meaning_lines.specs.Constant.{suffix_base, numeral, is_constant, constant_value};
+ghost use Rattle.c25_meaning_lines.specs.Lexeme.{name_of, constant_of, character_of, quoted_len, quoted_by, dotted_of, double_sign, single_sign, sign_by, lexeme};
 
-use crate::bytes::{begins_name, byte_at, is_blank, is_digit, is_plain};
-use crate::digits::{all_digits, value_in};
-use crate::runs::{all_plain, constant_run, name_run};
-use c25_meaning::line::{Lexeme, LineFault, Sign, TokenKind};
+use c25_bytes::{
+    all_digits, all_plain, begins_name, byte_at, constant_run, is_blank, is_digit, is_plain,
+    name_run, value_in,
+};
+use c25_meaning_lines::line::{Lexeme, LineFault, Sign, TokenKind};
 
 fn suffix_base(b: u8) -> Option<u8>
     ensures { result ≡ suffix_base b }
@@ -171,7 +172,7 @@ fn sign_of(b: u8, c: u8) -> Lexeme
 }
 
 /// What stands at the front of a text that is not empty.
-#[tactic(auto, unfolding(c25_meaning::specs::Lexeme::lexeme))]
+#[tactic(auto, unfolding(c25_meaning_lines::specs::Lexeme::lexeme))]
 pub(crate) fn lexeme(text: &[u8]) -> Lexeme
     requires { 0 < length text.now }
     ensures value { result ≡ lexeme text.now }

@@ -2,24 +2,24 @@
 
 ghost use Rattle.std.specs.Prelude.{◌≡◌, ℕ, List, Ok, Err, length, slice_index, drop, nat_le, ◌&&◌, ◌<◌, ◌≤◌, MatchResult};
 ghost use Rattle.std.specs.Option.{option_map};
-ghost use Rattle.c25_meaning.specs.Line.{line_of, part_from, label_of, word_of, without_colon, is_name, is_comment_line, first_word, Operands, scan_from};
+ghost use Rattle.c25_meaning_lines.specs.Line.{line_of, part_from, label_of, word_of, without_colon, is_name, is_comment_line, first_word, Operands, scan_from};
 ghost use Rattle.c25_text.specs.View.{parts_of, part_of, pieces_left};
 
-use crate::bytes::{begins_name, byte_at};
-use crate::runs::{all_go_on_name, all_visible, past_blanks, past_field};
+use crate::fields::{past_blanks, past_field};
 use crate::tokens::{Tokens, comment_from};
-use c25_meaning::line::LineFault;
+use c25_bytes::{all_go_on_name, all_visible, begins_name, byte_at};
+use c25_meaning_lines::line::LineFault;
 
 /// A part of a line that is no token: the place of its first byte, and its text, which is the slice of
 /// the line there.
-#[derive(Clone, Copy, Debug)]
+#[derive(Clone, Copy)]
 pub struct Word<'a> {
     pub start: usize,
     pub text: &'a str,
 }
 
 /// A line in its parts. They borrow the line.
-#[derive(Clone, Copy, Debug)]
+#[derive(Clone, Copy)]
 pub struct Line<'a> {
     /// The label in column 1, without the colon that may end it.
     pub label: Option<&'a str>,
@@ -48,7 +48,7 @@ impl<'a> Line<'a> {
 /// column 1 is no label or a name among the operands is too long, `BadConstant` for a run that
 /// begins with a digit and is no constant, `OpenQuote` for a string that is not closed and a `'`
 /// that begins no character, `StrayText` for a character of no token.
-#[tactic(auto, using(crate::proofs::Scans::scan_end), unfolding(c25_meaning::specs::Line::statement_of))]
+#[tactic(auto, using(crate::proofs::Scans::scan_end), unfolding(c25_meaning_lines::specs::Line::statement_of))]
 pub fn split_line(text: &str) -> Result<Line<'_>, LineFault>
     ensures { MatchResult result (λ l. line_of text.now ≡ Ok (parts_of l)) (λ f. line_of text.now ≡ Err f) }
 {

@@ -2,14 +2,14 @@
 
 ghost use Rattle.std.specs.Prelude.{◌≡◌, ◌+◌, ◌<◌, ◌≤◌, [], ◌∷◌, length, slice_index, IfOk, IfSome, MatchOption, Ok, Err};
 ghost use Rattle.std.specs.Iterator.{YieldsFirstBy, item_count};
-ghost use Rattle.c25_meaning.specs.Line.{scan_from, stop_of};
+ghost use Rattle.c25_meaning_lines.specs.Line.{scan_from, stop_of};
 ghost use Rattle.c25_text.specs.View.{piece_of, end_of, pieces_left, IsFirstToken};
 
 use crate::lexemes::lexeme;
-use c25_meaning::line::{Lexeme, LineFault, TokenKind};
+use c25_meaning_lines::line::{Lexeme, LineFault, TokenKind};
 
 /// A token.
-#[derive(Clone, Copy, Debug)]
+#[derive(Clone, Copy)]
 pub struct Token<'a> {
     /// What it is.
     pub kind: TokenKind,
@@ -20,7 +20,7 @@ pub struct Token<'a> {
 }
 
 /// The tokens of a text from a place on, up to the comment, the first fault or the end.
-#[derive(Clone, Copy, Debug)]
+#[derive(Clone, Copy)]
 pub struct Tokens<'a> {
     pub(crate) text: &'a str,
     pub(crate) at: usize,

@@ -7,8 +7,8 @@ use Rattle.clap.specs.Faults.{fault_of}
 use Rattle.clap.specs.Kinds.{HasKind, Kinds}
 use Rattle.clap.specs.declared.error.Error.{Error}
 use Rattle.clap.specs.declared.error.kind.ErrorKind.TheVariants.{OutOfMemory}
-use Rattle.c25_meaning.specs.declared.failure.Failure.{Failure}
-use Rattle.c25_meaning.specs.declared.failure.Failure.TheVariants.{NoMemory, Fault}
+use Rattle.c25_meaning_common.specs.declared.failure.Failure.{Failure}
+use Rattle.c25_meaning_common.specs.declared.failure.Failure.TheVariants.{NoMemory, Fault}
 use Rattle.c25_words.specs.Program.{program}
 use Rattle.c25_words.specs.declared.task.RunFiles.{RunFiles}
 use Rattle.c25_words.specs.declared.task.Task.{Task}

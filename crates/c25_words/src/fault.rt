@@ -3,7 +3,7 @@
 ghost use Rattle.std.specs.Prelude.{Decides};
 ghost use Rattle.c25_words.specs.Task.{IsWantOfMemory};
 
-use c25_meaning::failure::Failure;
+use c25_meaning_common::failure::Failure;
 use clap::Error;
 use clap::error::ErrorKind;
 

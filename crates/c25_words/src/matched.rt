@@ -6,7 +6,7 @@ ghost use Rattle.c25_words.specs.Complete.{IsStepsText, IsThere, rows_in};
 ghost use Rattle.c25_words.specs.Task.{AreRunFiles, IsSteps, text_of, texts_of};
 
 use crate::task::{DEFAULT_STEPS, RunFiles};
-use c25_meaning::no_memory::NoMemory;
+use c25_meaning_common::no_memory::NoMemory;
 use clap::ArgMatches;
 use std::alloc::Global;
 

@@ -11,8 +11,8 @@ use crate::fault::WordsFault;
 use crate::matched::{all, needed, optional, run_files, steps};
 use crate::program::program;
 use crate::task::Task;
-use c25_meaning::failure::Failure;
-use c25_meaning::no_memory::NoMemory;
+use c25_meaning_common::failure::Failure;
+use c25_meaning_common::no_memory::NoMemory;
 use clap::ArgMatches;
 use std::alloc::Global;
 

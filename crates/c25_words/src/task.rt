@@ -4,7 +4,7 @@
 pub const DEFAULT_STEPS: u32 = 1000;
 
 /// The files that a run reads beside its sources. One that is not named stands for an empty text.
-#[derive(Clone, Copy, Debug, PartialEq, Eq)]
+#[derive(Clone, Copy)]
 pub struct RunFiles<'a> {
     /// The linker's command file.
     pub command: Option<&'a str>,
@@ -16,7 +16,7 @@ pub struct RunFiles<'a> {
 
 /// What the program is to do: a subcommand with its operands in their order and the values of its
 /// options.
-#[derive(Debug, Drop)]
+#[derive(Drop)]
 pub enum Task<'a> {
     /// No words: the source is standard input, and runs for `DEFAULT_STEPS` steps.
     RunStandardInput,

@@ -1,9 +1,9 @@
 -- Each family finds its own instruction that the words read as, and no words read as two.
 use Rattle.std.proofs.Common.{◌≡◌, ℕ, Some, ap}
-use Rattle.c25_meaning.specs.Table.{Reads}
-use Rattle.c25_meaning.specs.declared.insn.Insn.{Insn}
-use Rattle.c25_meaning.specs.declared.insn.Insn.TheVariants as insn
-use Rattle.c25_meaning.proofs.Readings.{one_reading}
+use Rattle.c25_meaning_instructions.specs.Table.{Reads}
+use Rattle.c25_meaning_instructions.specs.declared.insn.Insn.{Insn}
+use Rattle.c25_meaning_instructions.specs.declared.insn.Insn.TheVariants as insn
+use Rattle.c25_meaning_instructions.proofs.Readings.{one_reading}
 use Rattle.c25_isa.proofs.decode.Goals as goal
 
 -- what the words read as is all that they read as

@@ -1,8 +1,8 @@
 use Rattle.std.proofs.Common.{ℕ, List, [], ◌∷◌, ◌++◌, ap, sym, ◌∙◌}
 use Rattle.std.proofs.lemmas.List.{map-append}
 use Rattle.c25_macro.specs.Expander.{shown}
-use Rattle.c25_meaning.specs.Listing.{Entry}
-use Rattle.c25_meaning.specs.ModuleOfSource.{origin_of}
+use Rattle.c25_meaning_assembly.specs.Listing.{Entry}
+use Rattle.c25_meaning_sources.specs.ModuleOfSource.{origin_of}
 use Rattle.c25_listing.specs.View.{entry_of, entries_of}
 use Rattle.c25_phases.specs.Steps.{text_passed}
 use Rattle.c25_phases.specs.View.{progress_of}

@@ -1,5 +1,5 @@
 use Rattle.std.proofs.Common.{◌≡◌, ℕ, ◌<◌, vec_len, get_or}
-use Rattle.c25_meaning.specs.FirstState.{memory_of_map}
+use Rattle.c25_meaning_processor.specs.FirstState.{memory_of_map}
 use Rattle.c25_board.proofs.devices.words_of_page.Given as goal
 
 abbrev pub invariant-loop-address : goal.invariant-loop-address

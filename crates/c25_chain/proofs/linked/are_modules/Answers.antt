@@ -1,7 +1,7 @@
 use Rattle.std.proofs.Common.{List, All, subst}
 use Rattle.std.proofs.lemmas.List.{take_all}
 use Rattle.std.proofs.lemmas.List.Elements.{All-more}
-use Rattle.c25_meaning.specs.Module.{Contents, IsModule}
+use Rattle.c25_meaning_objects.specs.Module.{Contents, IsModule}
 use Rattle.c25_chain.proofs.linked.are_modules.Goals as goal
 
 pub loop-module-preserved : goal.loop-module-preserved

@@ -1,6 +1,6 @@
 -- those so far are modules
 use Rattle.std.proofs.Common.{All, take}
-use Rattle.c25_meaning.specs.Module.{IsModule}
+use Rattle.c25_meaning_objects.specs.Module.{IsModule}
 use Rattle.c25_chain.proofs.linked.are_modules.Given as goal
 
 abbrev pub invariant-loop-module : goal.invariant-loop-module

@@ -1,5 +1,5 @@
 use Rattle.std.proofs.Common.{◌≡◌, drop, map, string_bytes}
-use Rattle.c25_meaning.specs.Results.{fold_ok}
+use Rattle.c25_meaning_common.specs.Results.{fold_ok}
 use Rattle.c25_chain.specs.Modules.{modules_of, with_source}
 use Rattle.c25_chain.specs.View.{modules_view}
 use Rattle.c25_chain.proofs.modules.assemble_all.Given as goal

@@ -1,5 +1,5 @@
 use Rattle.std.proofs.Common.{◌≡◌, ◌++◌, drop, string_bytes}
-use Rattle.c25_meaning.specs.RunText.{outputs_text}
+use Rattle.c25_meaning_processor.specs.RunText.{outputs_text}
 use Rattle.c25_chain.proofs.output.push_outputs.Given as goal
 
 abbrev pub invariant-loop-port : goal.invariant-loop-port

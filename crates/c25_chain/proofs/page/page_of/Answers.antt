@@ -1,6 +1,6 @@
 use Rattle.std.proofs.Common.{ℕ, List, string_bytes, subst}
 use Rattle.c25_hex.proofs.ReadBack.{same_words}
-use Rattle.c25_meaning.specs.Hex.{SpellsWords}
+use Rattle.c25_meaning_intel_hex.specs.Hex.{SpellsWords}
 use Rattle.c25_chain.proofs.page.page_of.Goals as goal
 
 pub returns-in-Ok-clause-words : goal.returns-in-Ok-clause-words

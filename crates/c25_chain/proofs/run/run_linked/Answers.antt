@@ -1,7 +1,7 @@
 use Rattle.std.proofs.Common.{◌≡◌, ◌∙◌, ap, refl, rules}
 use Rattle.std.specs.Prelude.{slice_index}
 use Rattle.c25_board.specs.Outputs.{outputs_of}
-use Rattle.c25_meaning.specs.Samples.{samples_at}
+use Rattle.c25_meaning_stimulus.specs.Samples.{samples_at}
 use Rattle.c25_chain.specs.declared.run.Done.{Done}
 use Rattle.c25_chain.proofs.Ends.{begins, ends_as}
 use Rattle.c25_chain.proofs.run.run_linked.Goals as goal

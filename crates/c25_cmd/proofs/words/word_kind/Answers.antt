@@ -1,9 +1,9 @@
 use Rattle.std.proofs.Common.{◌<◌, ◌≤◌, ◌∙◌, ap, sym, subst, ℕ, Option}
 use Rattle.std.specs.Option.{option_map_or}
-use Rattle.c25_meaning.specs.declared.command_token.Keyword.{Keyword}
-use Rattle.c25_meaning.specs.declared.command_token.Kind.TheVariants as kind
-use Rattle.c25_meaning.specs.CommandTokens.{number_kind, keyword_of}
-use Rattle.c25_meaning.specs.Digits.{digit}
+use Rattle.c25_meaning_commands.specs.declared.command_token.Keyword.{Keyword}
+use Rattle.c25_meaning_commands.specs.declared.command_token.Kind.TheVariants as kind
+use Rattle.c25_meaning_commands.specs.CommandTokens.{number_kind, keyword_of}
+use Rattle.c25_meaning_common.specs.Digits.{digit}
 use Rattle.c25_cmd.proofs.WordKinds.{number_word, other_word}
 use Rattle.c25_cmd.proofs.words.word_kind.Goals as goal
 

@@ -3,7 +3,7 @@ use Rattle.std.specs.declared.alloc.Global.{Global}
 use Rattle.std.specs.List.{slice_split}
 use Rattle.std.proofs.lemmas.Iterator.Consumers.{map_from_collect}
 use Rattle.std.proofs.lemmas.Iterator.Splits.{YieldsList-from_slice_split}
-use Rattle.c25_meaning.specs.Operands.{is_comma, operands_of}
+use Rattle.c25_meaning_language.specs.Operands.{is_comma, operands_of}
 use Rattle.c25_text.specs.declared.tokens.Token.{Token}
 use Rattle.c25_expr.specs.Pieces.{pieces_of}
 use Rattle.c25_expr.proofs.Commas.{operands-pieces}

@@ -2,8 +2,8 @@ use Rattle.std.proofs.Common.{◌≡◌, ℕ, ◌+◌, ◌-◌, List, length, ge
 use Rattle.std.specs.Option.{is_none}
 use Rattle.std.proofs.lemmas.List.{take_rest}
 use Rattle.std.proofs.lemmas.Result.{err_from_is_err_and, IfOk-weaker}
-use Rattle.c25_meaning.specs.Reading.{State, step, finished}
-use Rattle.c25_meaning.specs.Tree.{mark_of}
+use Rattle.c25_meaning_language.specs.Reading.{State, step, finished}
+use Rattle.c25_meaning_language.specs.Tree.{mark_of}
 use Rattle.c25_text.specs.View.{piece_of}
 use Rattle.c25_text.specs.declared.tokens.Token.{Token}
 use Rattle.c25_expr.specs.Completes.{opens, completes}

@@ -1,5 +1,5 @@
 use Rattle.std.proofs.Common.{◌≡◌, ◌≤◌, drop}
-use Rattle.c25_meaning.specs.Reading.{run, start}
+use Rattle.c25_meaning_language.specs.Reading.{run, start}
 use Rattle.c25_expr.proofs.Reach.{reach}
 use Rattle.c25_expr.specs.View.{marks_of, state_of}
 use Rattle.c25_expr.proofs.Accepts.{HasShape}

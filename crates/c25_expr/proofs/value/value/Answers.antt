@@ -1,7 +1,7 @@
 use Rattle.std.proofs.Common.{sym, ap, ◌∙◌, List, map, reverse, length, Err}
 use Rattle.std.proofs.lemmas.Result.{err_from_is_err_and}
-use Rattle.c25_meaning.specs.Value.{value_named, value_of}
-use Rattle.c25_meaning.specs.declared.value.ValueFault.{ValueFault}
+use Rattle.c25_meaning_language.specs.Value.{value_named, value_of}
+use Rattle.c25_meaning_language.specs.declared.value.ValueFault.{ValueFault}
 use Rattle.c25_expr.specs.Postfix.{item_of, fits, runs, built, last_tree}
 use Rattle.c25_expr.specs.Stack.{applied}
 use Rattle.c25_expr.specs.declared.tree.Item.{Item}

@@ -1,6 +1,6 @@
 -- the operands that wait are the values of the trees so far, and the items that are left find theirs
 use Rattle.std.proofs.Common.{◌≡◌, true, map, reverse, take, drop, Ok, length}
-use Rattle.c25_meaning.specs.Value.{value_named}
+use Rattle.c25_meaning_language.specs.Value.{value_named}
 use Rattle.c25_expr.specs.Postfix.{item_of, built, runs}
 use Rattle.c25_expr.specs.Stack.{values_of}
 use Rattle.c25_expr.proofs.value.value.Given as goal

@@ -1,5 +1,5 @@
 use Rattle.std.proofs.Common.{refl}
-use Rattle.c25_meaning.specs.Spellings.{spellings}
+use Rattle.c25_meaning_instructions.specs.Spellings.{spellings}
 use Rattle.c25_isa.specs.declared.in_order.TheConstants.{IN_ORDER}
 use Rattle.c25_isa.proofs.InOrder.{sorted_list, has_each}
 use Rattle.c25_isa.proofs.in_order.spellings.Goals as goal

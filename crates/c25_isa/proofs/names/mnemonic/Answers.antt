@@ -1,6 +1,6 @@
 use Rattle.std.proofs.Common.{Some, ap, rules}
 use Rattle.std.proofs.lemmas.Fn.{always_returns_same}
-use Rattle.c25_meaning.proofs.Spellings.{one_spelling}
+use Rattle.c25_meaning_instructions.proofs.Spellings.{one_spelling}
 use Rattle.c25_isa.proofs.InOrder.{order_to, searched}
 use Rattle.c25_isa.proofs.names.mnemonic.Goals as goal
 

@@ -1,5 +1,5 @@
 -- Where no row has the first word, no instruction of the family has it.
-use Rattle.c25_meaning.proofs.OperandBytes.{operand_byte_below}
+use Rattle.c25_meaning_instructions.proofs.OperandBytes.{operand_byte_below}
 use Rattle.c25_isa.proofs.Options.{none_and_some}
 use Rattle.c25_isa.proofs.port.decode.Goals as goal
 

@@ -2,7 +2,7 @@ use Rattle.std.proofs.Common.{◌≡◌, ◌∙◌, sym, ◌^◌, ◌<◌, arith
 use Rattle.std.specs.List.{list_all}
 use Rattle.std.proofs.lemmas.Bool.{and_parts}
 use Rattle.std.proofs.lemmas.Grind.{common_steps}
-use Rattle.c25_meaning.specs.Digits.{digit, value_in, hexadecimal_of}
+use Rattle.c25_meaning_common.specs.Digits.{digit, value_in, hexadecimal_of}
 use Rattle.c25_items.proofs.FourDigits.{four_digits}
 use Rattle.c25_items.proofs.numbers.hexadecimal_of.Goals as goal
 

@@ -1,6 +1,6 @@
 -- what is still read completes what was read
 use Rattle.std.proofs.Common.{◌≡◌, ◌+◌, map, drop, []}
-use Rattle.c25_meaning.specs.Items.{items}
+use Rattle.c25_meaning_common.specs.Items.{items}
 use Rattle.c25_items.proofs.reading.items_in.Given as goal
 
 abbrev pub invariant-loop-index : goal.invariant-loop-index

@@ -1,7 +1,7 @@
 use Rattle.std.proofs.Common.{rules, tests, not, length, ◌==◌}
 use Rattle.std.proofs.lemmas.Iterator.Consumers.{map_from_collect, YieldsList-from_filter}
 use Rattle.std.proofs.lemmas.Iterator.Splits.{YieldsList-from_slice_split}
-use Rattle.c25_meaning.specs.Bytes.{is_blank}
+use Rattle.c25_meaning_common.specs.Bytes.{is_blank}
 use Rattle.c25_items.proofs.words.line_words.Goals as goal
 
 pub returns : goal.returns

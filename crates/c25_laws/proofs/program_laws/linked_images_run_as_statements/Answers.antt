@@ -1,11 +1,11 @@
 use Rattle.std.proofs.Common.{List, ℕ}
-use Rattle.c25_meaning.proofs.Image.{runs_alike, statements_stay}
-use Rattle.c25_meaning.specs.Command.{CommandData}
-use Rattle.c25_meaning.specs.Files.{Files}
-use Rattle.c25_meaning.specs.FirstState.{first_of_pages}
-use Rattle.c25_meaning.specs.Linking.{ImageData, IsProgram}
-use Rattle.c25_meaning.specs.Module.{Contents}
-use Rattle.c25_meaning.specs.Statements.{IsImageOf}
+use Rattle.c25_run_laws.proofs.Image.{runs_alike, statements_stay}
+use Rattle.c25_meaning_commands.specs.Command.{CommandData}
+use Rattle.c25_meaning_expansion.specs.Files.{Files}
+use Rattle.c25_meaning_processor.specs.FirstState.{first_of_pages}
+use Rattle.c25_meaning_linking.specs.Linking.{ImageData, IsProgram}
+use Rattle.c25_meaning_objects.specs.Module.{Contents}
+use Rattle.c25_meaning_processor.specs.Statements.{IsImageOf}
 use Rattle.c25_laws.proofs.ProgramMarks.{marks_are}
 use Rattle.c25_laws.proofs.ProgramRuns.{is_image}
 use Rattle.c25_laws.proofs.ProgramWords.{words_are}

@@ -1,7 +1,7 @@
 use Rattle.std.proofs.Common.{List, take, ap, sym, ◌∙◌, ◌++◌}
-use Rattle.c25_meaning.specs.Module.{Contents}
-use Rattle.c25_meaning.specs.Place.{by_modules}
-use Rattle.c25_meaning.specs.Words.{Definition, module_definitions}
+use Rattle.c25_meaning_objects.specs.Module.{Contents}
+use Rattle.c25_meaning_linking.specs.Place.{by_modules}
+use Rattle.c25_meaning_linking.specs.Words.{Definition, module_definitions}
 use Rattle.c25_obj.specs.View.{contents}
 use Rattle.c25_link.proofs.Search.{by_modules_more}
 use Rattle.c25_link.proofs.definitions.all_definitions.Goals as goal

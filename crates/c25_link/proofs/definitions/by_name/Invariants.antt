@@ -1,8 +1,8 @@
 -- no name stands twice so far, and each is found
 use Rattle.std.proofs.Common.{◌≡◌, ℕ, List, [], None, take}
 use Rattle.std.specs.Option.{option_map}
-use Rattle.c25_meaning.specs.Linking.{first_again}
-use Rattle.c25_meaning.specs.Words.{definition_of}
+use Rattle.c25_meaning_linking.specs.Linking.{first_again}
+use Rattle.c25_meaning_linking.specs.Words.{definition_of}
 use Rattle.c25_link.specs.View.{definition_view, definitions_view, names_of}
 use Rattle.c25_place.specs.View.{named}
 use Rattle.c25_link.proofs.definitions.by_name.Given as goal

@@ -1,7 +1,7 @@
 -- the sections so far stand there
 use Rattle.std.proofs.Common.{◌≡◌, take, map}
 use Rattle.c25_map.specs.View.{section_data}
-use Rattle.c25_meaning.specs.Linking.{section_place}
+use Rattle.c25_meaning_linking.specs.Linking.{section_place}
 use Rattle.c25_link.specs.Layout.{places_in}
 use Rattle.c25_place.specs.View.{places_view}
 use Rattle.c25_link.proofs.described.described_sections.Given as goal

@@ -1,7 +1,7 @@
 -- the symbols so far stand there
 use Rattle.std.proofs.Common.{◌≡◌, take, map}
 use Rattle.c25_map.specs.View.{symbol_data}
-use Rattle.c25_meaning.specs.Linking.{symbol_value}
+use Rattle.c25_meaning_linking.specs.Linking.{symbol_value}
 use Rattle.c25_link.specs.Layout.{places_in}
 use Rattle.c25_link.specs.View.{definitions_view}
 use Rattle.c25_link.proofs.described.described_symbols.Given as goal

@@ -1,7 +1,7 @@
 -- those so far are modules
 use Rattle.std.proofs.Common.{◌≡◌, ◌<◌, ℕ, Some}
 use Rattle.std.specs.List.{slice_get}
-use Rattle.c25_meaning.specs.Module.{Contents, IsModule}
+use Rattle.c25_meaning_objects.specs.Module.{Contents, IsModule}
 use Rattle.c25_link.proofs.layout.are_modules.Given as goal
 
 abbrev pub invariant-loop-module : goal.invariant-loop-module

@@ -1,8 +1,8 @@
 use Rattle.std.proofs.Common.{◌≡◌, ℕ, List, Ok, Option, All, ap, sym, subst, ◌∙◌}
 use Rattle.std.specs.Option.{option_map}
 use Rattle.c25_cmd.specs.View.{command_data}
-use Rattle.c25_meaning.specs.GoodMap.{IsGoodMap}
-use Rattle.c25_meaning.specs.Linking.{names_checked}
+use Rattle.c25_meaning_linking.specs.GoodMap.{IsGoodMap}
+use Rattle.c25_meaning_linking.specs.Linking.{names_checked}
 use Rattle.c25_link.specs.Bases.{HasRoom, KnowsBases}
 use Rattle.c25_link.specs.Layout.{HasOnePart}
 use Rattle.c25_link.specs.Link.{LinksAt}

@@ -1,7 +1,7 @@
 use Rattle.std.proofs.Common.{◌≡◌, ◌<◌, List, length, get_or, pos, is_some, ap, sym, ◌∙◌, arith}
-use Rattle.c25_meaning.specs.declared.object.Relocation.{Relocation}
-use Rattle.c25_meaning.specs.declared.object.RelocationBase.TheVariants as base
-use Rattle.c25_meaning.specs.declared.relocation.RelocationKind.TheVariants as kind
+use Rattle.c25_meaning_objects.specs.declared.object.Relocation.{Relocation}
+use Rattle.c25_meaning_objects.specs.declared.object.RelocationBase.TheVariants as base
+use Rattle.c25_meaning_common.specs.declared.relocation.RelocationKind.TheVariants as kind
 use Rattle.c25_link.specs.Loading.{found_at}
 use Rattle.c25_link.proofs.First.{copied_some}
 use Rattle.c25_link.proofs.Loaded.{relocation_new, relocation_seen}

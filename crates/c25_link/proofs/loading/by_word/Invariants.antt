@@ -1,6 +1,6 @@
 -- each word finds the first relocation of it so far
 use Rattle.std.proofs.Common.{◌≡◌, ℕ, find, take}
-use Rattle.c25_meaning.specs.Words.{is_relocation_at}
+use Rattle.c25_meaning_linking.specs.Words.{is_relocation_at}
 use Rattle.c25_link.specs.Loading.{found_at}
 use Rattle.c25_link.proofs.loading.by_word.Given as goal
 

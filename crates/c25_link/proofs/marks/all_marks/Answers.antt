@@ -1,8 +1,8 @@
 use Rattle.std.proofs.Common.{List, take, ap, sym, ◌∙◌, ◌++◌}
-use Rattle.c25_meaning.specs.Module.{Contents}
-use Rattle.c25_meaning.specs.Place.{by_modules}
-use Rattle.c25_meaning.specs.Words.{module_marks}
-use Rattle.c25_meaning.specs.declared.mark.Mark.{Mark}
+use Rattle.c25_meaning_objects.specs.Module.{Contents}
+use Rattle.c25_meaning_linking.specs.Place.{by_modules}
+use Rattle.c25_meaning_linking.specs.Words.{module_marks}
+use Rattle.c25_meaning_image.specs.declared.mark.Mark.{Mark}
 use Rattle.c25_obj.specs.View.{contents}
 use Rattle.c25_link.specs.Layout.{places_in}
 use Rattle.c25_link.proofs.Search.{by_modules_more}

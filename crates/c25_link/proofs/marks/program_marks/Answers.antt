@@ -1,8 +1,8 @@
 use Rattle.std.proofs.Common.{◌≡◌, ◌++◌, List, length, drop, take, sym, subst, ◌∙◌}
 use Rattle.std.specs.List.Sorted.{IsPermutation}
 use Rattle.std.proofs.lemmas.List.Sorted.{length_permutation}
-use Rattle.c25_meaning.specs.Linking.{HasMarks}
-use Rattle.c25_meaning.specs.declared.mark.Mark.{Mark}
+use Rattle.c25_meaning_linking.specs.Linking.{HasMarks}
+use Rattle.c25_meaning_image.specs.declared.mark.Mark.{Mark}
 use Rattle.c25_link.specs.Layout.{places_in}
 use Rattle.c25_link.proofs.Marked.{has_marks, take_all_of}
 use Rattle.c25_link.proofs.marks.program_marks.Goals as goal

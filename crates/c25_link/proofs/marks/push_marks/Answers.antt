@@ -1,9 +1,9 @@
 use Rattle.std.proofs.Common.{◌≡◌, ◌<◌, ◌++◌, ◌∷◌, [], List, length, get_or, ap, sym, ◌∙◌, arith}
 use Rattle.std.specs.declared.alloc.Global.{Global}
 use Rattle.std.specs.declared.vec.Vec.{Vec}
-use Rattle.c25_meaning.specs.Words.{section_page}
-use Rattle.c25_meaning.specs.declared.mark.Mark.{Mark}
-use Rattle.c25_meaning.specs.declared.object.ModuleMark.{ModuleMark}
+use Rattle.c25_meaning_linking.specs.Words.{section_page}
+use Rattle.c25_meaning_image.specs.declared.mark.Mark.{Mark}
+use Rattle.c25_meaning_objects.specs.declared.object.ModuleMark.{ModuleMark}
 use Rattle.c25_obj.specs.View.{contents}
 use Rattle.c25_link.specs.Layout.{places_in}
 use Rattle.c25_link.proofs.Marked.{word_below, mark_made, mark_pushed, mark_left}

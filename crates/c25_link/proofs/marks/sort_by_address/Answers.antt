@@ -1,6 +1,6 @@
 use Rattle.std.proofs.Common.{ℕ, rules}
 use Rattle.std.proofs.lemmas.List.Sorted.{IsNonDecreasingBy-from_sort, answers_always}
-use Rattle.c25_meaning.specs.declared.mark.Mark.{Mark}
+use Rattle.c25_meaning_image.specs.declared.mark.Mark.{Mark}
 use Rattle.c25_link.proofs.marks.sort_by_address.Goals as goal
 
 pub returns-clause-sorted : goal.returns-clause-sorted

@@ -1,8 +1,8 @@
 use Rattle.std.proofs.Common.{ap, ◌∙◌, find}
 use Rattle.std.specs.Option.{option_map}
-use Rattle.c25_meaning.specs.Linking.{Use, spills, module_uses}
-use Rattle.c25_meaning.specs.Module.{Contents}
-use Rattle.c25_meaning.specs.Words.{section_name}
+use Rattle.c25_meaning_linking.specs.Linking.{Use, spills, module_uses}
+use Rattle.c25_meaning_objects.specs.Module.{Contents}
+use Rattle.c25_meaning_linking.specs.Words.{section_name}
 use Rattle.c25_link.specs.Layout.{places_in}
 use Rattle.c25_link.proofs.Search.{found_at, none_more}
 use Rattle.c25_link.proofs.uses.first_spilled.Goals as goal

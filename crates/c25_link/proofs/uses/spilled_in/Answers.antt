@@ -1,10 +1,10 @@
 use Rattle.std.proofs.Common.{◌≡◌, false, not, pos, get_or, ap, sym, ◌∙◌, rules, to_z, of_z, w64}
-use Rattle.c25_meaning.specs.Fields.{takes}
-use Rattle.c25_meaning.specs.Linking.{Use, spills, use_of}
-use Rattle.c25_meaning.specs.Words.{section_name, relocated_value}
-use Rattle.c25_meaning.specs.declared.object.Relocation.{Relocation}
-use Rattle.c25_meaning.specs.declared.object.RelocationBase.TheVariants as base
-use Rattle.c25_meaning.specs.declared.relocation.RelocationKind.TheVariants as kind
+use Rattle.c25_meaning_common.specs.Fields.{takes}
+use Rattle.c25_meaning_linking.specs.Linking.{Use, spills, use_of}
+use Rattle.c25_meaning_linking.specs.Words.{section_name, relocated_value}
+use Rattle.c25_meaning_objects.specs.declared.object.Relocation.{Relocation}
+use Rattle.c25_meaning_objects.specs.declared.object.RelocationBase.TheVariants as base
+use Rattle.c25_meaning_common.specs.declared.relocation.RelocationKind.TheVariants as kind
 use Rattle.c25_obj.specs.View.{contents}
 use Rattle.c25_link.specs.Layout.{places_in}
 use Rattle.c25_link.proofs.Search.{found_in_slice}

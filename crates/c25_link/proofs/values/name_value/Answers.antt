@@ -1,6 +1,6 @@
 use Rattle.std.proofs.Common.{◌≡◌, Option, Some, pos, sym, ap, ◌∙◌, rules, to_z, of_z, w64}
 use Rattle.std.specs.Option.{option_map_or}
-use Rattle.c25_meaning.specs.Words.{Definition, definitions, definition_of, definition_value}
+use Rattle.c25_meaning_linking.specs.Words.{Definition, definitions, definition_of, definition_value}
 use Rattle.c25_link.specs.Layout.{places_in}
 use Rattle.c25_link.specs.View.{definition_view}
 use Rattle.c25_link.proofs.Owned.{definition_owned}

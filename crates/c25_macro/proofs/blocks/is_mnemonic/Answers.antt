@@ -1,5 +1,5 @@
 use Rattle.std.proofs.Common.{is_some, ap, ◌∙◌}
-use Rattle.c25_meaning.proofs.Spelled.{spelled}
+use Rattle.c25_meaning_instructions.proofs.Spelled.{spelled}
 use Rattle.c25_macro.proofs.blocks.is_mnemonic.Goals as goal
 
 pub returns : goal.returns

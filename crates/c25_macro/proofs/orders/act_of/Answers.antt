@@ -1,6 +1,6 @@
 -- A fault among the operands is told whatever would be asked under them.
 use Rattle.std.proofs.lemmas.Result.{err_from_is_err_and}
-use Rattle.c25_meaning.specs.Acts as acts
+use Rattle.c25_meaning_expansion.specs.Acts as acts
 use Rattle.c25_macro.proofs.orders.act_of.Goals as goal
 
 pub returns-in_err-condition_in-in-If : goal.returns-in_err-condition_in-in-If

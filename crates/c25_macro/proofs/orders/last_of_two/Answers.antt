@@ -1,5 +1,5 @@
 use Rattle.std.proofs.Common.{◌≡◌, suc, ◌-◌, ◌<◌, ◌≤◌, List, [], ◌∷◌, length, get_or, Some, None, refl, ap, ◌∙◌, arith}
-use Rattle.c25_meaning.specs.Acts as acts
+use Rattle.c25_meaning_expansion.specs.Acts as acts
 use Rattle.c25_text.specs.declared.tokens.Token.{Token}
 use Rattle.c25_expr.specs.Pieces.{pieces_of, operands_view}
 use Rattle.c25_macro.proofs.orders.last_of_two.Goals as goal

@@ -1,5 +1,5 @@
 use Rattle.std.proofs.Common.{◌≡◌, ◌+◌, ◌++◌, drop}
-use Rattle.c25_meaning.specs.Rows.{rows_from}
+use Rattle.c25_meaning_expansion.specs.Rows.{rows_from}
 use Rattle.c25_macro.specs.Views.{texts_of}
 use Rattle.c25_macro.proofs.rows.numbered.Given as goal
 

@@ -1,6 +1,6 @@
 use Rattle.std.proofs.Common.{◌≡◌, ◌++◌, length}
 use Rattle.std.specs.Option.{option_map}
-use Rattle.c25_meaning.specs.RecordReading.{words_in}
+use Rattle.c25_meaning_objects.specs.RecordReading.{words_in}
 use Rattle.c25_obj.proofs.named_payloads.words_in.Given as goal
 
 abbrev pub invariant-loop-rest : goal.invariant-loop-rest

@@ -1,7 +1,7 @@
 use Rattle.std.proofs.Common.{length, sym, ◌∙◌}
 use Rattle.std.proofs.lemmas.Result.{err_from_is_err_and}
 use Rattle.std.proofs.lemmas.Bool.{ne_eqb}
-use Rattle.c25_meaning.specs.RecordReading.{read_all}
+use Rattle.c25_meaning_objects.specs.RecordReading.{read_all}
 use Rattle.c25_obj.specs.View.{contents}
 use Rattle.c25_obj.proofs.Loop.{no_record, out_of_order, at_end, not_added, goes_on}
 use Rattle.c25_obj.proofs.reading.read_all.Goals as goal

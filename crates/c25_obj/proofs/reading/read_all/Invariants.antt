@@ -1,5 +1,5 @@
 use Rattle.std.proofs.Common.{◌≡◌, ◌-◌, length}
-use Rattle.c25_meaning.specs.RecordReading.{read_from, read_all}
+use Rattle.c25_meaning_objects.specs.RecordReading.{read_from, read_all}
 use Rattle.c25_obj.specs.Differing.{HasNames}
 use Rattle.c25_obj.specs.View.{contents, symbols_data}
 use Rattle.c25_obj.proofs.reading.read_all.Given as goal

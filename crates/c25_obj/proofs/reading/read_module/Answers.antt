@@ -1,6 +1,6 @@
 use Rattle.std.proofs.Common.{ap, subst, ◌∙◌, arith}
-use Rattle.c25_meaning.specs.RecordReading.{module_of}
-use Rattle.c25_meaning.specs.Results.{Meets}
+use Rattle.c25_meaning_objects.specs.RecordReading.{module_of}
+use Rattle.c25_meaning_common.specs.Results.{Meets}
 use Rattle.c25_obj.proofs.Readings.{is_found}
 use Rattle.c25_obj.proofs.Again.{spelling_read}
 use Rattle.c25_obj.proofs.reading.read_module.Goals as goal

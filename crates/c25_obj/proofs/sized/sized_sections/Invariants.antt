@@ -1,6 +1,6 @@
 use Rattle.std.proofs.Common.{◌<◌, ◌^◌, drop}
 use Rattle.std.specs.List.{AllByRecursion}
-use Rattle.c25_meaning.specs.Module.{body_words}
+use Rattle.c25_meaning_objects.specs.Module.{body_words}
 use Rattle.c25_obj.specs.View.{sections_data}
 use Rattle.c25_obj.proofs.sized.sized_sections.Given as goal
 

@@ -1,6 +1,6 @@
 use Rattle.std.proofs.Common.{◌≡◌, drop}
 use Rattle.std.specs.List.{list_all}
-use Rattle.c25_meaning.specs.Module.{symbol_stands}
+use Rattle.c25_meaning_objects.specs.Module.{symbol_stands}
 use Rattle.c25_obj.specs.View.{sections_data, symbols_data}
 use Rattle.c25_obj.proofs.spelling.all_symbols_stand.Given as goal
 

@@ -1,5 +1,5 @@
 use Rattle.std.proofs.Common.{◌≡◌, [], take, drop}
-use Rattle.c25_meaning.specs.Module.{each_fits, relocation_fits}
+use Rattle.c25_meaning_objects.specs.Module.{each_fits, relocation_fits}
 use Rattle.c25_obj.specs.View.{sections_data, symbols_data}
 use Rattle.c25_obj.proofs.spelling.relocations_fit.Given as goal
 

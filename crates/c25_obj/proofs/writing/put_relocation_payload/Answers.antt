@@ -1,6 +1,6 @@
 use Rattle.std.proofs.Common.{◌≡◌, ℕ, List, ◌∷◌, ◌++◌, ap, ◌∙◌, append_assoc, rules}
 use Rattle.std.specs.Int.{w16, w32, to_be_bytes, cast_unsigned, cast_signed}
-use Rattle.c25_meaning.specs.Records.{field_code, base_code, base_index}
+use Rattle.c25_meaning_objects.specs.Records.{field_code, base_code, base_index}
 use Rattle.c25_obj.proofs.writing.put_relocation_payload.Goals as goal
 
 regrouped : (out place base addend : List ℕ) → ((out ++ place) ++ base) ++ addend ≡ out ++ (place ++ (base ++ addend))

@@ -1,5 +1,5 @@
 use Rattle.std.proofs.Common.{ℕ, List, ◌++◌, ap, ◌∙◌, arith}
-use Rattle.c25_meaning.specs.Records.{symbol_payload}
+use Rattle.c25_meaning_objects.specs.Records.{symbol_payload}
 use Rattle.c25_obj.specs.View.{symbol_data}
 use Rattle.c25_obj.proofs.Lengths.{length-symbol, entry-written}
 use Rattle.c25_obj.proofs.writing.put_symbol.Goals as goal

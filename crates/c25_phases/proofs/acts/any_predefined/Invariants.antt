@@ -1,6 +1,6 @@
 use Rattle.std.proofs.Common.{◌≡◌, drop}
 use Rattle.std.specs.List.{list_any}
-use Rattle.c25_meaning.specs.Sections.{is_predefined}
+use Rattle.c25_meaning_assembly.specs.Sections.{is_predefined}
 use Rattle.c25_statements.specs.View.{texts_of}
 use Rattle.c25_phases.proofs.acts.any_predefined.Given as goal
 

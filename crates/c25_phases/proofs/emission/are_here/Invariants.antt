@@ -1,6 +1,6 @@
 use Rattle.std.proofs.Common.{◌≡◌, drop}
 use Rattle.std.specs.List.{list_all}
-use Rattle.c25_meaning.specs.Emission.{is_here}
+use Rattle.c25_meaning_assembly.specs.Emission.{is_here}
 use Rattle.c25_phases.specs.Names.{bytes_of_names}
 use Rattle.c25_phases.proofs.emission.are_here.Given as goal
 

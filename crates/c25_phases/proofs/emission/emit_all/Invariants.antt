@@ -1,5 +1,5 @@
 use Rattle.std.proofs.Common.{◌≡◌, drop, map}
-use Rattle.c25_meaning.specs.Emission.{emit_all}
+use Rattle.c25_meaning_assembly.specs.Emission.{emit_all}
 use Rattle.c25_phases.specs.View.{item_of}
 use Rattle.c25_phases.proofs.emission.emit_all.Given as goal
 

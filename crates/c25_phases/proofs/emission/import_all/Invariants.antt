@@ -1,5 +1,5 @@
 use Rattle.std.proofs.Common.{◌≡◌, take}
-use Rattle.c25_meaning.specs.Emission.{names_with}
+use Rattle.c25_meaning_assembly.specs.Emission.{names_with}
 use Rattle.c25_phases.proofs.emission.import_all.Given as goal
 
 abbrev pub invariant-loop-number : goal.invariant-loop-number

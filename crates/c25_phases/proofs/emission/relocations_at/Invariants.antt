@@ -1,5 +1,5 @@
 use Rattle.std.proofs.Common.{◌≡◌, ◌++◌, drop, map}
-use Rattle.c25_meaning.specs.Addresses.{relocation_at}
+use Rattle.c25_meaning_assembly.specs.Addresses.{relocation_at}
 use Rattle.c25_phases.proofs.emission.relocations_at.Given as goal
 
 abbrev pub invariant-loop-address : goal.invariant-loop-address

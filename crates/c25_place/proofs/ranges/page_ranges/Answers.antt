@@ -1,5 +1,5 @@
 use Rattle.std.proofs.Common.{List, [], length, vec_len, ap, sym, ◌∙◌}
-use Rattle.c25_meaning.specs.Command.{RangeData}
+use Rattle.c25_meaning_commands.specs.Command.{RangeData}
 use Rattle.c25_place.specs.Ranges.{place_in}
 use Rattle.c25_place.specs.View.{named, ranges_view}
 use Rattle.c25_place.proofs.Kept.{list_next, found_next, kept_same, counted, one_longer}

@@ -1,5 +1,5 @@
 use Rattle.std.proofs.Common.{◌≡◌, drop}
-use Rattle.c25_meaning.specs.AssemblyLine.{all_expressions}
+use Rattle.c25_meaning_assembly.specs.AssemblyLine.{all_expressions}
 use Rattle.c25_expr.specs.Pieces.{operands_view}
 use Rattle.c25_statements.proofs.operands.all_expressions.Given as goal
 

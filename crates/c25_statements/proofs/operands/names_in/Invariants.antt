@@ -1,6 +1,6 @@
 use Rattle.std.proofs.Common.{◌≡◌, ◌++◌, Ok, drop}
-use Rattle.c25_meaning.specs.Results.{◌>>=◌}
-use Rattle.c25_meaning.specs.Acts.{names_in}
+use Rattle.c25_meaning_common.specs.Results.{◌>>=◌}
+use Rattle.c25_meaning_language.specs.DirectiveOperands.{names_in}
 use Rattle.c25_expr.specs.Pieces.{operands_view}
 use Rattle.c25_statements.specs.View.{texts_of}
 use Rattle.c25_statements.proofs.operands.names_in.Given as goal

@@ -1,5 +1,5 @@
 use Rattle.std.proofs.Common.{◌≡◌, ◌++◌, drop, map}
-use Rattle.c25_meaning.specs.Operands.{written_of}
+use Rattle.c25_meaning_language.specs.Operands.{written_of}
 use Rattle.c25_expr.specs.Pieces.{operands_view}
 use Rattle.c25_statements.proofs.operations.kinds_of.Given as goal
 

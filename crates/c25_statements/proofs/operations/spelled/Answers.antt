@@ -1,7 +1,7 @@
 use Rattle.std.proofs.Common.{◌∙◌, ap}
 use Rattle.std.specs.Option.{ok_or}
-use Rattle.c25_meaning.proofs.Spelled.{spelled}
-use Rattle.c25_meaning.specs.declared.statement.FaultKind.TheVariants.{UnknownMnemonic}
+use Rattle.c25_meaning_instructions.proofs.Spelled.{spelled}
+use Rattle.c25_meaning_language.specs.declared.statement.FaultKind.TheVariants.{UnknownMnemonic}
 use Rattle.c25_statements.proofs.operations.spelled.Goals as goal
 
 pub returns : goal.returns

@@ -1,7 +1,7 @@
 use Rattle.std.proofs.Common.{◌≡◌, ◌++◌, Ok, drop}
 use Rattle.std.specs.String.{string_bytes}
-use Rattle.c25_meaning.specs.Results.{◌>>=◌}
-use Rattle.c25_meaning.specs.AssemblyLine.{joined, joined_behind}
+use Rattle.c25_meaning_common.specs.Results.{◌>>=◌}
+use Rattle.c25_meaning_assembly.specs.AssemblyLine.{joined, joined_behind}
 use Rattle.c25_expr.specs.Pieces.{pieces_of}
 use Rattle.c25_text.specs.View.{piece_of}
 use Rattle.c25_statements.proofs.sections.joined.Given as goal

@@ -1,5 +1,5 @@
 use Rattle.std.proofs.Common.{◌≡◌, ◌++◌, length}
-use Rattle.c25_meaning.specs.AssemblyLine.{packed}
+use Rattle.c25_meaning_assembly.specs.AssemblyLine.{packed}
 use Rattle.c25_statements.proofs.strings.pack.Given as goal
 
 abbrev pub invariant-loop-rest : goal.invariant-loop-rest

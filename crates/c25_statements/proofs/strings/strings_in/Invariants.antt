@@ -1,6 +1,6 @@
 use Rattle.std.proofs.Common.{◌≡◌, ◌++◌, Ok, drop}
-use Rattle.c25_meaning.specs.Results.{◌>>=◌}
-use Rattle.c25_meaning.specs.AssemblyLine.{strings_in}
+use Rattle.c25_meaning_common.specs.Results.{◌>>=◌}
+use Rattle.c25_meaning_assembly.specs.AssemblyLine.{strings_in}
 use Rattle.c25_expr.specs.Pieces.{operands_view}
 use Rattle.c25_statements.proofs.strings.strings_in.Given as goal
 

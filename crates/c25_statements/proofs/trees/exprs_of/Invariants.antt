@@ -1,6 +1,6 @@
 use Rattle.std.proofs.Common.{◌≡◌, drop}
-use Rattle.c25_meaning.specs.Results.{fold_ok}
-use Rattle.c25_meaning.specs.StatementLine.{with_operand, no_trees}
+use Rattle.c25_meaning_common.specs.Results.{fold_ok}
+use Rattle.c25_meaning_assembly.specs.StatementLine.{with_operand, no_trees}
 use Rattle.c25_expr.specs.Pieces.{operands_view}
 use Rattle.c25_statements.specs.View.{so_far}
 use Rattle.c25_statements.proofs.trees.exprs_of.Given as goal

@@ -3,7 +3,7 @@ use Rattle.std.proofs.Common.{◌≡◌, ◌++◌, length, map}
 use denote.Text.{Utf8}
 use denote.Shadow.{shadow}
 use Rattle.std.specs.String.{string_bytes}
-use Rattle.c25_meaning.specs.Arguments.{arguments, bound}
+use Rattle.c25_meaning_language.specs.Arguments.{arguments, bound}
 use Rattle.c25_substitution.proofs.arguments.arguments.Given as goal
 
 abbrev pub invariant-loop-parameter : goal.invariant-loop-parameter

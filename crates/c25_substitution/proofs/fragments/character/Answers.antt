@@ -1,7 +1,7 @@
 use Rattle.std.proofs.Common.{max, sym, subst, ap, ◌∙◌}
 use Rattle.std.specs.List.{prefix_len}
 use Rattle.std.specs.Str.{IsCharBoundary}
-use Rattle.c25_meaning.specs.Fragments.{is_beyond_ascii}
+use Rattle.c25_meaning_language.specs.Fragments.{is_beyond_ascii}
 use Rattle.c25_substitution.proofs.Cuts.{character_cut}
 use Rattle.c25_substitution.proofs.fragments.character.Goals as goal
 

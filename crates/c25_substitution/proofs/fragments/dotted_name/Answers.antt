@@ -2,7 +2,7 @@ use Rattle.std.proofs.Common.{◌+◌, ◌<◌, drop, get_or, length, sym, subst
 use Rattle.std.proofs.lemmas.List.{take_rest}
 use Rattle.std.specs.List.{prefix_len}
 use Rattle.std.specs.Str.{IsCharBoundary}
-use Rattle.c25_meaning.specs.Bytes.{goes_on_name}
+use Rattle.c25_meaning_common.specs.Bytes.{goes_on_name}
 use Rattle.c25_substitution.proofs.Cuts.{behind_cut, byte_within}
 use Rattle.c25_substitution.proofs.fragments.dotted_name.Goals as goal
 

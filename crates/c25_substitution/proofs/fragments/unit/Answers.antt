@@ -1,7 +1,7 @@
 use Rattle.std.proofs.Common.{sym, subst, ap, ◌∙◌}
 use Rattle.std.specs.List.{prefix_len}
 use Rattle.std.specs.Str.{IsCharBoundary}
-use Rattle.c25_meaning.specs.Bytes.{is_letter_or_digit}
+use Rattle.c25_meaning_common.specs.Bytes.{is_letter_or_digit}
 use Rattle.c25_substitution.proofs.Cuts.{constant_cut}
 use Rattle.c25_substitution.proofs.fragments.unit.Goals as goal
 

@@ -1,6 +1,6 @@
 -- the last comma so far, and those still to come
 use Rattle.std.proofs.Common.{◌≡◌, ◌<◌, ◌≤◌, get_or, length, drop}
-use Rattle.c25_meaning.specs.Quoting.{last_comma, last_comma_len}
+use Rattle.c25_meaning_language.specs.Quoting.{last_comma, last_comma_len}
 use Rattle.c25_substitution.proofs.Quotings.{comma_from}
 use Rattle.c25_substitution.proofs.quoting.last_comma_len.Given as goal
 

@@ -2,7 +2,7 @@ use Rattle.std.proofs.Common.{◌≡◌, ◌+◌, ◌-◌, ◌<◌, ◌≤◌, �
 use Rattle.std.specs.Prelude.{◌==◌, ◌&&◌}
 use Rattle.std.specs.String.{string_bytes}
 use Rattle.std.proofs.lemmas.Str.{IsCharBoundary-start, IsCharBoundary-after_ascii}
-use Rattle.c25_meaning.specs.Arguments.{folded}
+use Rattle.c25_meaning_language.specs.Arguments.{folded}
 use Rattle.c25_substitution.proofs.Folding.{stays, goes, rests, quote_ascii}
 use Rattle.c25_substitution.proofs.strings.folded.Goals as goal
 

@@ -2,7 +2,7 @@
 use Rattle.std.proofs.Common.{◌≡◌, ◌-◌, ◌≤◌, ◌++◌, false, take, drop}
 use Rattle.std.specs.Str.{IsCharBoundary}
 use Rattle.std.specs.String.{string_bytes}
-use Rattle.c25_meaning.specs.Arguments.{folded}
+use Rattle.c25_meaning_language.specs.Arguments.{folded}
 use Rattle.c25_substitution.proofs.strings.folded.Given as goal
 
 abbrev pub invariant-loop-i : goal.invariant-loop-i

@@ -1,7 +1,7 @@
 use Rattle.std.proofs.Common.{◌-◌, length, subst, sym, ap, ◌∙◌}
 use Rattle.std.specs.List.{suffix_len}
 use Rattle.std.specs.Str.{IsCharBoundary}
-use Rattle.c25_meaning.specs.Bytes.{is_blank}
+use Rattle.c25_meaning_common.specs.Bytes.{is_blank}
 use Rattle.c25_substitution.proofs.Cuts.{tail_cut}
 use Rattle.c25_substitution.proofs.strings.trimmed_end.Goals as goal
 

@@ -2,8 +2,8 @@ use Rattle.std.proofs.Common.{rules, ◌≡◌, ◌<◌, ℕ, List, length, get_
 use Rattle.std.specs.Borrow.{Bor}
 use Rattle.std.proofs.lemmas.Bool.Decides.{nat_tests}
 use Rattle.std.proofs.lemmas.Result.{err_from_is_err_and}
-use Rattle.c25_meaning.specs.Fragments.{without, front}
-use Rattle.c25_meaning.specs.Substitution.{Draft, joined}
+use Rattle.c25_meaning_language.specs.Fragments.{without, front}
+use Rattle.c25_meaning_language.specs.Substitution.{Draft, joined}
 use Rattle.c25_substitution.specs.View.{names_of, fragment_of, written_so_far, Refuses}
 use Rattle.c25_substitution.proofs.Writing.{goes_on, refuses, ends, part}
 use Rattle.c25_substitution.proofs.substitution.+writing.Goals as goal

@@ -1,7 +1,7 @@
 use Rattle.std.proofs.Common.{◌≡◌, ◌+◌, ◌-◌, ◌*◌, ◌≤◌, length, map}
 use denote.Text.{Utf8}
 use denote.Shadow.{shadow}
-use Rattle.c25_meaning.specs.Substitution.{joined}
+use Rattle.c25_meaning_language.specs.Substitution.{joined}
 use Rattle.c25_substitution.specs.View.{names_of, written_so_far, IsWithin}
 use Rattle.c25_substitution.proofs.Writing.{whole}
 use Rattle.c25_substitution.proofs.substitution.+writing.Given as goal

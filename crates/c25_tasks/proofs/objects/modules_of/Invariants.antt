@@ -1,5 +1,5 @@
 use Rattle.std.proofs.Common.{◌≡◌, drop}
-use Rattle.c25_meaning.specs.Results.{fold_ok}
+use Rattle.c25_meaning_common.specs.Results.{fold_ok}
 use Rattle.c25_tasks.specs.Objects.{modules_in, objects_of, with_object}
 use Rattle.c25_tasks.proofs.objects.modules_of.Given as goal
 

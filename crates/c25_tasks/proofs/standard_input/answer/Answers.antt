@@ -1,5 +1,5 @@
 use Rattle.std.proofs.Common.{rules, refl, inr}
-use Rattle.c25_meaning.specs.declared.failure.Failure.TheVariants as failure
+use Rattle.c25_meaning_common.specs.declared.failure.Failure.TheVariants as failure
 use Rattle.c25_tasks.proofs.Gathered.{input_short, input_told}
 use Rattle.c25_tasks.proofs.standard_input.answer.Goals as goal
 

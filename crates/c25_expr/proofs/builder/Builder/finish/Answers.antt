@@ -1,7 +1,7 @@
 use Rattle.std.proofs.Common.{sym, ap, ◌∙◌, Option}
 use Rattle.std.specs.Option.{ok_or, option_map}
-use Rattle.c25_meaning.specs.Reading.{Found}
-use Rattle.c25_meaning.specs.declared.expression.ExpressionFault.TheVariants.{BadExpression}
+use Rattle.c25_meaning_language.specs.Reading.{Found}
+use Rattle.c25_meaning_language.specs.declared.expression.ExpressionFault.TheVariants.{BadExpression}
 use Rattle.c25_expr.proofs.Finishes.{finished_none, finished_runs}
 use Rattle.c25_expr.proofs.builder.Builder.finish.Goals as goal
 

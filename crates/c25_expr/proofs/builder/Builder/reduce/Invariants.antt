@@ -1,6 +1,6 @@
 -- the last operand and the frames that are left reduce as at first
 use Rattle.std.proofs.Common.{◌≡◌, ℕ, vec_len, reverse}
-use Rattle.c25_meaning.specs.Reading.{State, reduced}
+use Rattle.c25_meaning_language.specs.Reading.{State, reduced}
 use Rattle.c25_expr.specs.Postfix.{last_tree, other_trees}
 use Rattle.c25_expr.specs.View.{woven, trees_of, items_of}
 use Rattle.c25_expr.specs.declared.builder.Builder.{Builder}

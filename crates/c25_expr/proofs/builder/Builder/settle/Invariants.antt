@@ -1,10 +1,10 @@
 -- the last operand and the frames that are left settle as at first
 use Rattle.std.proofs.Common.{◌≡◌, vec_len, reverse}
-use Rattle.c25_meaning.specs.Reading.{settle}
+use Rattle.c25_meaning_language.specs.Reading.{settle}
 use Rattle.c25_expr.specs.Postfix.{last_tree, other_trees}
 use Rattle.c25_expr.specs.View.{woven, trees_of, items_of}
 use Rattle.c25_expr.specs.declared.builder.Builder.{Builder}
-use Rattle.c25_meaning.specs.Reading.{State}
+use Rattle.c25_meaning_language.specs.Reading.{State}
 use Rattle.c25_expr.proofs.builder.Builder.settle.Given as goal
 
 -- where the last operand settles

@@ -1,6 +1,6 @@
 use Rattle.std.proofs.Common.{◌≡◌, ◌+◌, ap, ◌∙◌, cond, Some, arith}
 use Rattle.std.specs.Str.{bytes_eq}
-use Rattle.c25_meaning.specs.Module.{body_size}
+use Rattle.c25_meaning_objects.specs.Module.{body_size}
 use Rattle.c25_obj.specs.View.{section_data}
 use Rattle.c25_place.specs.View.{named}
 use Rattle.c25_link.specs.Bases.{next_part}

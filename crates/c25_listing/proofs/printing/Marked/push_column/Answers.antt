@@ -1,8 +1,8 @@
 use Rattle.std.proofs.Common.{◌++◌, codes, slice_index, ap, ◌∙◌}
 use Rattle.std.specs.String.{string_bytes}
-use Rattle.c25_meaning.specs.Listing.{is_relocated, sign}
-use Rattle.c25_meaning.specs.Module.{words_at}
-use Rattle.c25_meaning.specs.Show.{four_digits}
+use Rattle.c25_meaning_assembly.specs.Listing.{is_relocated, sign}
+use Rattle.c25_meaning_objects.specs.Module.{words_at}
+use Rattle.c25_meaning_common.specs.Digits.{four_digits}
 use Rattle.c25_obj.specs.View.{contents}
 use Rattle.c25_listing.proofs.Columns.{four_behind, low_digits}
 use Rattle.c25_listing.proofs.printing.Marked.push_column.Goals as goal

@@ -1,6 +1,6 @@
 use Rattle.std.proofs.Common.{◌≡◌, ◌-◌, ◌++◌, refl, ap, ◌∙◌, arith}
 use Rattle.std.specs.String.{string_bytes}
-use Rattle.c25_meaning.specs.Listing.{number_column, word_line}
+use Rattle.c25_meaning_assembly.specs.Listing.{number_column, word_line}
 use Rattle.c25_obj.specs.View.{contents}
 use Rattle.c25_listing.specs.View.{entry_of}
 use Rattle.c25_listing.proofs.Columns.{entry_words}

@@ -1,6 +1,6 @@
 use Rattle.std.proofs.Common.{sym, ap, ◌∙◌}
 use Rattle.std.specs.String.{string_bytes}
-use Rattle.c25_meaning.specs.Texts.{with_name}
+use Rattle.c25_meaning_language.specs.Texts.{with_name}
 use Rattle.c25_macro.proofs.Entries.{views, views-insert, with_new_name, none_there, is_some_mapped}
 use Rattle.c25_macro.proofs.files.Files.add.Goals as goal
 

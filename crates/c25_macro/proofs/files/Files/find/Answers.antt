@@ -3,7 +3,7 @@ use Rattle.std.specs.Map.{lookup}
 use Rattle.std.specs.Option.{option_map}
 use Rattle.std.specs.Str.{bytes_eq}
 use Rattle.std.specs.String.{string_bytes}
-use Rattle.c25_meaning.specs.Rows.{file_number}
+use Rattle.c25_meaning_expansion.specs.Rows.{file_number}
 use Rattle.c25_macro.proofs.Entries.{lookup-views, numbered}
 use Rattle.c25_macro.proofs.files.Files.find.Goals as goal
 

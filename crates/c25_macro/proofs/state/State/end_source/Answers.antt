@@ -1,5 +1,5 @@
 use Rattle.std.proofs.Common.{◌≡◌, false, rules}
-use Rattle.c25_meaning.specs.ExpansionRuns.{is_closed}
+use Rattle.c25_meaning_expansion.specs.ExpansionRuns.{is_closed}
 use Rattle.c25_macro.specs.Config.{config}
 use Rattle.c25_macro.proofs.Nexts.{ends_open}
 use Rattle.c25_macro.proofs.state.State.end_source.Goals as goal

@@ -1,5 +1,5 @@
 use Rattle.std.proofs.Common.{◌≡◌, length}
-use Rattle.c25_meaning.specs.Expansion as exp
+use Rattle.c25_meaning_expansion.specs.Expansion as exp
 use Rattle.c25_macro.specs.Config.{config}
 use Rattle.c25_macro.specs.Scopes.{test_of}
 use Rattle.c25_macro.proofs.state.State.leave.Given as goal

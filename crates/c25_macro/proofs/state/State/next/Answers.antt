@@ -1,9 +1,9 @@
 use Rattle.std.proofs.Common.{◌≡◌, suc}
-use Rattle.c25_meaning.specs.Expansion.{Goes, Gives, Finishes}
-use Rattle.c25_meaning.specs.ExpansionRuns.{rewrite}
-use Rattle.c25_meaning.proofs.ExpansionBounded.{bounded_going, bounded_giving}
-use Rattle.c25_meaning.proofs.ExpansionFalls.{falls_going}
-use Rattle.c25_meaning.proofs.ExpansionFirst.{comes_to_first}
+use Rattle.c25_meaning_expansion.specs.Expansion.{Goes, Gives, Finishes}
+use Rattle.c25_meaning_expansion.specs.ExpansionRuns.{rewrite}
+use Rattle.c25_meaning_expansion.proofs.ExpansionBounded.{bounded_going, bounded_giving}
+use Rattle.c25_meaning_expansion.proofs.ExpansionFalls.{falls_going}
+use Rattle.c25_meaning_expansion.proofs.ExpansionFirst.{comes_to_first}
 use Rattle.c25_macro.specs.Config.{config}
 use Rattle.c25_macro.proofs.Nexts.{first_refusing, bounded_finishing}
 use Rattle.c25_macro.proofs.state.State.next.Goals as goal

@@ -1,6 +1,6 @@
 use Rattle.std.proofs.Common.{ℕ}
-use Rattle.c25_meaning.specs.ExpansionBounds.{IsBounded}
-use Rattle.c25_meaning.specs.ExpansionRuns.{Leads, weight}
+use Rattle.c25_meaning_expansion.specs.ExpansionBounds.{IsBounded}
+use Rattle.c25_meaning_expansion.specs.ExpansionRuns.{Leads, weight}
 use Rattle.c25_macro.specs.Config.{config}
 use Rattle.c25_macro.proofs.state.State.next.Given as goal
 

@@ -1,5 +1,5 @@
 use Rattle.std.proofs.Common.{ap, ◌∙◌}
-use Rattle.c25_meaning.specs.Sections.{is_in}
+use Rattle.c25_meaning_assembly.specs.Sections.{is_in}
 use Rattle.c25_phases.proofs.Keys.{any_bytes}
 use Rattle.c25_phases.proofs.names.Names.has.Goals as goal
 

@@ -1,5 +1,5 @@
 use Rattle.std.proofs.Common.{◌≡◌, drop}
-use Rattle.c25_meaning.specs.Sections.{all_once}
+use Rattle.c25_meaning_assembly.specs.Sections.{all_once}
 use Rattle.c25_statements.specs.View.{texts_of}
 use Rattle.c25_phases.specs.View.{progress_of}
 use Rattle.c25_phases.proofs.progress.Progress.declare_all.Given as goal

@@ -1,7 +1,7 @@
 use Rattle.std.proofs.Common.{sym, ap, ◌∙◌, length}
 use Rattle.std.proofs.lemmas.List.{drop_all, length-map}
-use Rattle.c25_meaning.specs.Addresses.{taken}
-use Rattle.c25_meaning.specs.Results.{fold_ok}
+use Rattle.c25_meaning_assembly.specs.Addresses.{taken}
+use Rattle.c25_meaning_common.specs.Results.{fold_ok}
 use Rattle.c25_expr.specs.View.{tree_of}
 use Rattle.c25_statements.specs.View.{trees_of}
 use Rattle.c25_phases.proofs.Sheets.{fits_sheet, within_sheet}

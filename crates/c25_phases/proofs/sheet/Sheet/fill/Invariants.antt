@@ -1,6 +1,6 @@
 use Rattle.std.proofs.Common.{◌≡◌, drop}
-use Rattle.c25_meaning.specs.Results.{fold_ok}
-use Rattle.c25_meaning.specs.Addresses.{taken, sheet_of}
+use Rattle.c25_meaning_common.specs.Results.{fold_ok}
+use Rattle.c25_meaning_assembly.specs.Addresses.{taken, sheet_of}
 use Rattle.c25_statements.specs.View.{trees_of}
 use Rattle.c25_phases.proofs.sheet.Sheet.fill.Given as goal
 

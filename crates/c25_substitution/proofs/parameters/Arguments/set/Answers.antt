@@ -3,7 +3,7 @@ use Rattle.std.specs.declared.alloc.Global.{Global}
 use Rattle.std.specs.Map.{lookup}
 use Rattle.std.specs.Str.{bytes_eq}
 use Rattle.std.specs.String.{string_bytes}
-use Rattle.c25_meaning.specs.Texts.{with_name}
+use Rattle.c25_meaning_language.specs.Texts.{with_name}
 use Rattle.c25_substitution.specs.Pairs.{IsFirstOf, pairs}
 use Rattle.c25_substitution.proofs.Pairs.{text_set, is_known}
 use Rattle.c25_substitution.proofs.parameters.Arguments.set.Goals as goal

@@ -1,6 +1,6 @@
 use Rattle.std.proofs.Common.{ap, ◌∙◌}
 use Rattle.std.specs.String.{string_bytes}
-use Rattle.c25_meaning.specs.Texts.{with_name}
+use Rattle.c25_meaning_language.specs.Texts.{with_name}
 use Rattle.c25_substitution.specs.Pairs.{pairs}
 use Rattle.c25_substitution.proofs.Pairs.{pairs-insert}
 use Rattle.c25_substitution.proofs.texts.Texts.put.Goals as goal

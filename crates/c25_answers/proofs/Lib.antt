@@ -1,0 +1,3 @@
+pub mod Joined
+pub mod Listed
+pub mod Rows

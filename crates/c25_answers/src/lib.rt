@@ -1,0 +1,21 @@
+//! The texts that a debugger answers with.
+#![tactic(auto)]
+
+mod breakpoints;
+mod digits;
+pub mod halt;
+mod instructions;
+mod line;
+pub mod memory;
+mod registers;
+mod steps;
+#[cfg(test)]
+mod tests;
+mod words;
+
+pub use breakpoints::{push_cleared, push_set};
+pub use instructions::{push_instruction, push_instructions};
+pub use line::MOST_BYTES;
+pub use registers::{push_registers, push_stack};
+pub use steps::{push_halting, push_sink};
+pub use words::push_words;

@@ -1,5 +1,0 @@
-use Rattle.c25_meaning.proofs.Image.{covered}
-use Rattle.c25_meaning.proofs.laws.started_words_are_code.Goals as goal
-
-pub returns : goal.returns
-returns c = covered

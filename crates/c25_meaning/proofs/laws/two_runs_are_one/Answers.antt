@@ -1,9 +1,0 @@
-use Rattle.c25_meaning.specs.Statements.{statement_step}
-use Rattle.c25_meaning.proofs.Joined.{words_join, run_of_joined}
-use Rattle.c25_meaning.proofs.laws.two_runs_are_one.Goals as goal
-
-pub returns-clause-words : goal.returns-clause-words
-returns-clause-words c = words_join
-
-pub returns-clause-statements : goal.returns-clause-statements
-returns-clause-statements c = λ statements. run_of_joined (statement_step statements)

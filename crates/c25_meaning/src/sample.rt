@@ -1,9 +1,0 @@
-//! Samples.
-
-/// A word that an input port reads.
-#[derive(Clone, Copy, PartialEq, Eq, Debug)]
-pub struct Sample {
-    /// The port, 0 to 15.
-    pub port: u16,
-    pub word: u16,
-}

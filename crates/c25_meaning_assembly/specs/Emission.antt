@@ -1,0 +1,125 @@
+-- The module that the lines have made, when all its symbols are known (SPRU018, symbols and relocation).
+use Rattle.std.specs.Prelude.{ℕ, ◌+◌, Bool, true, false, if◌then◌else◌, List, [], ◌∷◌, ◌++◌, length, map, replicate, Option, Some, None, Result, Ok, Err, pos}
+use Rattle.std.specs.List.{flat_map, list_all}
+use Rattle.c25_meaning_assembly.specs.Addresses.{Sheet, sheet_of, words_of, relocations_of}
+use Rattle.c25_meaning_language.specs.ExpansionFault.{ExpansionFault, Faulty}
+use Rattle.c25_meaning_objects.specs.Module.{Contents, SectionBody, Uninitialised, Initialised, SectionData, SymbolData}
+use Rattle.c25_meaning_common.specs.Results.{◌>>=◌, fold_ok, told}
+use Rattle.c25_meaning_assembly.specs.Sections.{Definitions, Section, Content, Operands, Words, Zeros, Exported, Origin, Item, Progress, changed, imports, is_in, place}
+use Rattle.c25_meaning_language.specs.Value.{Table, value_named, start_of_text}
+use Rattle.c25_meaning_assembly.specs.declared.assembly.Target.{Target}
+use Rattle.c25_meaning_objects.specs.declared.object.Relocation.{Relocation}
+use Rattle.c25_meaning_objects.specs.declared.object.Scope.{Scope}
+use Rattle.c25_meaning_objects.specs.declared.object.Scope.TheVariants as scope
+use Rattle.c25_meaning_objects.specs.declared.object.SymbolKind.{SymbolKind}
+use Rattle.c25_meaning_objects.specs.declared.object.SymbolKind.TheVariants as symbol
+use Rattle.c25_meaning_language.specs.declared.statement.FaultKind.{FaultKind}
+use Rattle.c25_meaning_language.specs.declared.statement.FaultKind.TheVariants as fault
+use Rattle.c25_meaning_language.specs.declared.value.Base.{Base}
+use Rattle.c25_meaning_language.specs.declared.value.Base.TheVariants as base
+use Rattle.c25_meaning_language.specs.declared.value.Value.{Value}
+
+-- ---- all symbols
+
+-- names of other modules, numbered from this one on
+abbrev pub numbered : ℕ → List (List ℕ) → Definitions
+numbered n [] = []
+numbered n (name ∷ names) = (name, record { base = base.External n; offset = pos 0 }) ∷ numbered (n + 1) names
+
+-- names that are defined, and behind them those of other modules, each with its number among all
+abbrev pub names_with : Definitions → List (List ℕ) → Definitions
+names_with names declared = names ++ numbered (length names) (imports names declared)
+
+-- all names of a module
+abbrev pub all_names : Progress → Definitions
+all_names p = names_with p.names p.declared
+
+-- ---- words and relocations
+
+-- words and relocations behind those that a section has
+abbrev pub extended : List ℕ → List Relocation → Section → Section
+extended words relocations s = record s { words = s.words ++ words; relocations = s.relocations ++ relocations }
+
+-- whether a value is one of this module
+abbrev pub is_inside : Base → Bool
+is_inside base.Absolute = true
+is_inside (base.Section n) = true
+is_inside (base.External n) = false
+
+-- the same of a value, if there is one
+abbrev pub is_here_by : Option Value → Bool
+is_here_by None = false
+is_here_by (Some v) = is_inside v.base
+
+-- whether a name is defined in this module
+abbrev pub is_here : Definitions → List ℕ → Bool
+is_here names name = is_here_by (value_named (record { entries = names; here = start_of_text }) name)
+
+-- the symbols at a place
+abbrev pub table_at : Definitions → ℕ → ℕ → Table
+table_at names section offset = record { entries = names; here = place section offset }
+
+-- the sections with the words and relocations of a line's operands
+abbrev pub with_sheet : Target → ℕ → ℕ → List Section → Sheet → List Section
+with_sheet t section offset sections s =
+    changed (extended (words_of t s.numbers) (relocations_of t section offset s.addresses)) sections section
+
+-- the sections with an item's words
+abbrev pub emit : Definitions → ℕ → ℕ → List Section → Content → Result (List Section) FaultKind
+emit names section offset sections (Operands t trees) =
+    sheet_of t (table_at names section offset) trees >>= λ s. Ok (with_sheet t section offset sections s)
+emit names section offset sections (Words words) = Ok (changed (extended words []) sections section)
+emit names section offset sections (Zeros count) = Ok (changed (extended (replicate count 0) []) sections section)
+emit names section offset sections (Exported exported) =
+    if list_all (is_here names) exported then Ok sections else Err fault.Undefined
+
+-- a result of a line
+abbrev pub at_origin : {A : Type 0} → Origin → Result A FaultKind → Result A ExpansionFault
+at_origin origin r = told (λ kind. Faulty origin.file origin.line kind) r
+
+-- one item more
+abbrev pub emitted : Definitions → List Section → Item → Result (List Section) ExpansionFault
+emitted names sections item = at_origin item.origin (emit names item.section item.offset sections item.content)
+
+-- all items, line by line
+abbrev pub emit_all : Definitions → List Section → List Item → Result (List Section) ExpansionFault
+emit_all names sections items = fold_ok (emitted names) sections items
+
+-- ---- the module
+
+-- what a section has
+abbrev pub body_of : Section → SectionBody
+body_of s = if s.initialised then Initialised s.words else Uninitialised s.size
+
+-- a section
+abbrev pub section_of : Section → SectionData
+section_of s = record { name = s.name; body = body_of s }
+
+-- what a symbol's value counts from
+abbrev pub kind_of : Base → SymbolKind
+kind_of base.Absolute = symbol.Absolute
+kind_of (base.Section n) = symbol.InSection n
+kind_of (base.External n) = symbol.External
+
+-- who sees a symbol
+abbrev pub scope_of : Bool → Scope
+scope_of true = scope.Global
+scope_of false = scope.Local
+
+-- a symbol: other modules see what `.global`, `.ref` and `.def` name
+abbrev pub symbol_of : List (List ℕ) → List ℕ × Value → SymbolData
+symbol_of exported pair =
+    record { kind = kind_of pair.1.base; scope = scope_of (is_in exported pair.0); value = pair.1.offset; name = pair.0 }
+
+-- the module of sections and symbols
+abbrev pub module_with : List Section → Definitions → List (List ℕ) → Contents
+module_with sections names exported = record {
+  sections = map section_of sections;
+  marks = flat_map (λ s. s.marks) sections;
+  symbols = map (symbol_of exported) names;
+  relocations = flat_map (λ s. s.relocations) sections;
+}
+
+-- the module of all lines, or the first fault of their operands
+unfoldable pub finished : Progress → Result Contents ExpansionFault
+finished p = emit_all (all_names p) p.sections p.items >>= λ sections. Ok (module_with sections (all_names p) p.exported)

@@ -1,0 +1,39 @@
+-- The instruction statements of a module: where each stands, and its operands as numbers and addresses (SPRU018,
+-- relocation).
+use Rattle.std.specs.Prelude.{ℕ, List, [], ◌∷◌, ◌++◌, Result, Ok}
+use Rattle.c25_meaning_assembly.specs.Addresses.{Sheet, sheet_of}
+use Rattle.c25_meaning_assembly.specs.Emission.{all_names, at_origin, table_at}
+use Rattle.c25_meaning_language.specs.ExpansionFault.{ExpansionFault}
+use Rattle.c25_meaning_common.specs.Results.{◌>>=◌, fold_ok}
+use Rattle.c25_meaning_assembly.specs.Sections.{Definitions, Content, Operands, Item, Progress}
+use Rattle.c25_meaning_language.specs.Statement.{insn_of}
+use Rattle.c25_meaning_assembly.specs.declared.assembly.Target.TheVariants as target
+use Rattle.c25_meaning_instructions.specs.declared.insn.Insn.{Insn}
+use Rattle.c25_meaning_language.specs.declared.statement.Form.{Form}
+
+-- an instruction statement: its section, its offset there, and its form with the numbers of its operands, 0 where one is
+-- an address, and the addresses
+pub record Instruction : Type 0 where
+  pub section : ℕ
+  pub offset : ℕ
+  pub form : Form
+  pub sheet : Sheet
+
+-- the instruction with its relocated fields 0
+abbrev pub insn_with_zeros : Instruction → Insn
+insn_with_zeros i = insn_of i.form i.sheet.numbers
+
+-- the statement of an item's content, if it is one
+abbrev pub statement_by : Definitions → Item → Content → List Instruction → Result (List Instruction) ExpansionFault
+statement_by names item (Operands (target.Instruction f) trees) before =
+    at_origin item.origin (sheet_of (target.Instruction f) (table_at names item.section item.offset) trees) >>= λ s.
+    Ok (before ++ record { section = item.section; offset = item.offset; form = f; sheet = s } ∷ [])
+statement_by names item _ before = Ok before
+
+-- one item more
+abbrev pub with_statement : Definitions → List Instruction → Item → Result (List Instruction) ExpansionFault
+with_statement names before item = statement_by names item item.content before
+
+-- the instruction statements of a module, in the order of its lines
+abbrev pub instructions_of : Progress → Result (List Instruction) ExpansionFault
+instructions_of p = fold_ok (with_statement (all_names p)) [] p.items

@@ -1,0 +1,9 @@
+pub mod Addresses
+pub mod AssemblyLine
+pub mod Emission
+pub mod InstructionStatements
+pub mod ItemPlaces
+pub mod Listing
+pub mod OperandFields
+pub mod Sections
+pub mod StatementLine

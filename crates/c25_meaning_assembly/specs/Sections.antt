@@ -1,0 +1,325 @@
+-- What the lines of a module make one after another: sections with their sizes, symbols, and what waits for the symbols
+-- (SPRU018, sections, symbols, assembler directives).
+use Rattle.std.specs.Prelude.{ℕ, ◌+◌, ◌/◌, Bool, true, false, not, ◌&&◌, is_some, nat_le, nat_lt, if◌then◌else◌, List, [], ◌∷◌, ◌++◌, length, filter, set, slice_get, codes, Option, Some, None, Result, Ok, Err, ℤ, pos, negsuc}
+use Rattle.std.specs.List.{position, find, list_any}
+use Rattle.std.specs.Str.{bytes_eq}
+use Rattle.c25_meaning_assembly.specs.OperandFields.{target_size}
+use Rattle.c25_meaning_assembly.specs.AssemblyLine.{Act, Nothing, Enter, Reserve, Equate, Put, Load, Space, Declare, Export, Registers, Statement}
+use Rattle.c25_meaning_common.specs.Results.{◌>>=◌, fold_ok}
+use Rattle.c25_meaning_language.specs.Statement.{valued}
+use Rattle.c25_meaning_language.specs.Tree.{Tree}
+use Rattle.c25_meaning_language.specs.Value.{Table, value_named, predefined, start_of_text}
+use Rattle.c25_meaning_assembly.specs.declared.assembly.Target.{Target}
+use Rattle.c25_meaning_assembly.specs.declared.assembly.Target.TheVariants as target
+use Rattle.c25_meaning_objects.specs.declared.object.ModuleMark.{ModuleMark}
+use Rattle.c25_meaning_objects.specs.declared.object.Relocation.{Relocation}
+use Rattle.c25_meaning_language.specs.declared.statement.FaultKind.{FaultKind}
+use Rattle.c25_meaning_language.specs.declared.statement.FaultKind.TheVariants as fault
+use Rattle.c25_meaning_language.specs.declared.value.Base.{Base}
+use Rattle.c25_meaning_language.specs.declared.value.Base.TheVariants as base
+use Rattle.c25_meaning_language.specs.declared.value.Value.{Value}
+
+-- what names stand for, in order of definition
+abbrev pub Definitions : Type 0
+Definitions = List (List ℕ × Value)
+
+-- a section: the lines give it its size and marks, its words and relocations come when all symbols are known
+pub record Section : Type 0 where
+  pub name : List ℕ
+  pub initialised : Bool
+  pub size : ℕ
+  pub marks : List ModuleMark
+  pub words : List ℕ
+  pub relocations : List Relocation
+
+-- what waits for the symbols: operands; words in their turn; zeros; names that have to stand for something here
+pub data Content : Type 0 where
+  Operands : (target : Target) (trees : List Tree) → Content
+  Words : (words : List ℕ) → Content
+  Zeros : (count : ℕ) → Content
+  Exported : (names : List (List ℕ)) → Content
+
+-- a line
+pub record Origin : Type 0 where
+  pub file : List ℕ
+  pub line : ℕ
+
+-- content, the line that it is of, and where it begins
+pub record Item : Type 0 where
+  pub origin : Origin
+  pub section : ℕ
+  pub offset : ℕ
+  pub content : Content
+
+-- what the lines so far have made
+pub record Progress : Type 0 where
+  pub sections : List Section
+  -- the section that lines go on in
+  pub current : ℕ
+  pub names : Definitions
+  -- the names of `.global` and `.ref`
+  pub declared : List (List ℕ)
+  -- those and the names of `.def`
+  pub exported : List (List ℕ)
+  -- whether there was a `.mmregs`
+  pub registers : Bool
+  pub items : List Item
+
+-- a section without words
+abbrev pub empty_section : List ℕ → Bool → Section
+empty_section name initialised = record { name = name; initialised = initialised; size = 0; marks = []; words = []; relocations = [] }
+
+-- before the first line: an initialised section `.text`
+abbrev pub start : Progress
+start = record { sections = empty_section (codes ".text") true ∷ []; current = 0; names = []; declared = []; exported = []; registers = false; items = [] }
+
+-- ---- places and symbols
+
+-- the size of a section, if there is one
+abbrev pub size_by : Option Section → ℕ
+size_by None = 0
+size_by (Some s) = s.size
+
+-- the size of the section of a number
+abbrev pub size_at : List Section → ℕ → ℕ
+size_at sections i = size_by (slice_get sections i)
+
+-- a place behind so many words of a section
+abbrev pub place : ℕ → ℕ → Value
+place section offset = record { base = base.Section section; offset = pos offset }
+
+-- the place behind the words of a section
+abbrev pub place_in : List Section → ℕ → Value
+place_in sections i = place i (size_at sections i)
+
+-- the place where the next line begins
+abbrev pub here : Progress → Value
+here p = place_in p.sections p.current
+
+-- the symbols at that place
+abbrev pub table : Progress → Table
+table p = record { entries = p.names; here = here p }
+
+-- whether a name stands for something; `AR0` and the like always do
+abbrev pub stands : Definitions → List ℕ → Bool
+stands names name = is_some (value_named (record { entries = names; here = start_of_text }) name)
+
+-- a name that stands for nothing yet stands for this from now on
+unfoldable pub define : List ℕ → Value → Progress → Result Progress FaultKind
+define name value p = if stands p.names name then Err fault.Defined else Ok (record p { names = p.names ++ (name, value) ∷ [] })
+
+-- a label stands for the place where its line begins
+abbrev pub label : Option (List ℕ) → Progress → Result Progress FaultKind
+label None p = Ok p
+label (Some name) p = define name (here p) p
+
+-- ---- counts that are needed now
+
+-- the number of a value, which has to be absolute
+abbrev pub number_by : Base → ℤ → Result ℤ FaultKind
+number_by base.Absolute z = Ok z
+number_by _ z = Err fault.NotAbsolute
+
+-- a number that is no less than 0
+abbrev pub count_by : ℤ → Result ℕ FaultKind
+count_by (pos n) = Ok n
+count_by (negsuc n) = Err fault.ValueRange
+
+-- the count that a value is
+abbrev pub count_of : Value → Result ℕ FaultKind
+count_of v = number_by v.base v.offset >>= λ z. count_by z
+
+-- the count that an expression gives
+unfoldable pub count_in : Table → Tree → Result ℕ FaultKind
+count_in t e = valued t e >>= λ v. count_of v
+
+-- ---- sections
+
+-- whether a section has this name
+abbrev pub is_called : List ℕ → Section → Bool
+is_called name s = bytes_eq name s.name
+
+-- whether a section, if there is one, is of this kind
+abbrev pub same_kind : Bool → Option Section → Bool
+same_kind initialised None = true
+same_kind true (Some s) = s.initialised
+same_kind false (Some s) = not s.initialised
+
+-- no section of this name is of the other kind
+abbrev pub of_kind : List ℕ → Bool → Progress → Result (Unit {0}) FaultKind
+of_kind name initialised p =
+    if same_kind initialised (find (is_called name) p.sections) then Ok tt else Err fault.OperandForm
+
+-- the section of this number, or a new one, which comes last; there are at most 255
+abbrev pub opened_by : Option ℕ → List ℕ → Bool → Progress → Result (ℕ × Progress) FaultKind
+opened_by (Some i) name initialised p = Ok (i, p)
+opened_by None name initialised p =
+    if nat_le 255 (length p.sections) then Err fault.TooLarge
+    else Ok (length p.sections, record p { sections = p.sections ++ empty_section name initialised ∷ [] })
+
+-- the number of the section of this name
+unfoldable pub opened : List ℕ → Bool → Progress → Result (ℕ × Progress) FaultKind
+opened name initialised p = opened_by (position (is_called name) p.sections) name initialised p
+
+-- sections, this one changed, if it is there
+abbrev pub changed_by : (Section → Section) → List Section → ℕ → Option Section → List Section
+changed_by f sections i None = sections
+changed_by f sections i (Some s) = set sections i (f s)
+
+-- sections, the one of this number changed
+abbrev pub changed : (Section → Section) → List Section → ℕ → List Section
+changed f sections i = changed_by f sections i (slice_get sections i)
+
+-- so many words longer
+abbrev pub longer : ℕ → Section → Section
+longer n s = record s { size = s.size + n }
+
+-- so many words more in a section, which has at most 65,536
+unfoldable pub grow : ℕ → ℕ → Progress → Result Progress FaultKind
+grow i n p =
+    if nat_lt 65536 (size_at p.sections i + n) then Err fault.TooLarge
+    else Ok (record p { sections = changed (longer n) p.sections i })
+
+-- ---- what a line does
+
+-- one item more
+abbrev pub with_item : Origin → Content → Progress → Progress
+with_item origin content p =
+    record p { items = p.items ++ record { origin = origin; section = p.current; offset = size_at p.sections p.current; content = content } ∷ [] }
+
+-- content of so many words at the current place
+unfoldable pub lay : Origin → Content → ℕ → Progress → Result Progress FaultKind
+lay origin content n p = grow p.current n (with_item origin content p)
+
+-- one mark more
+abbrev pub with_mark : ModuleMark → Section → Section
+with_mark m s = record s { marks = s.marks ++ m ∷ [] }
+
+-- an instruction of so many words marks where it begins
+abbrev pub mark : Target → ℕ → ℕ → ℕ → Progress → Progress
+mark (target.Instruction f) section offset n p =
+    record p { sections = changed (with_mark (record { section = section; offset = offset; size = n })) p.sections section }
+mark target.Words section offset n p = p
+mark target.Bytes section offset n p = p
+
+-- words for a name
+unfoldable pub reserve : List ℕ → List ℕ → ℕ → Progress → Result Progress FaultKind
+reserve section name n p =
+    opened section false p >>= λ o. grow o.0 n o.1 >>= λ q. define name (place_in o.1.sections o.0) q
+
+-- whether a name is among these
+abbrev pub is_in : List (List ℕ) → List ℕ → Bool
+is_in names name = list_any (bytes_eq name) names
+
+-- a name behind others, once
+abbrev pub once : List (List ℕ) → List ℕ → List (List ℕ)
+once names name = if is_in names name then names else names ++ name ∷ []
+
+-- whether each name is there once
+abbrev pub are_distinct : List (List ℕ) → Bool
+are_distinct [] = true
+are_distinct (n ∷ ns) = not (is_in ns n) && are_distinct ns
+
+-- names behind others, each once
+abbrev pub all_once : List (List ℕ) → List (List ℕ) → List (List ℕ)
+all_once names [] = names
+all_once names (n ∷ ns) = all_once (once names n) ns
+
+-- whether a name is an AR or PA name
+abbrev pub is_predefined : List ℕ → Bool
+is_predefined name = is_some (predefined name)
+
+-- a plain number
+abbrev pub absolute : ℕ → Value
+absolute n = record { base = base.Absolute; offset = pos n }
+
+-- the memory-mapped registers, by their data addresses (SPRU014, memory-mapped registers)
+abbrev pub register_names : Definitions
+register_names =
+    (codes "DRR", absolute 0) ∷ (codes "DXR", absolute 1) ∷ (codes "TIM", absolute 2)
+    ∷ (codes "PRD", absolute 3) ∷ (codes "IMR", absolute 4) ∷ (codes "GREG", absolute 5) ∷ []
+
+-- a name and what it stands for
+abbrev pub define_pair : Progress → List ℕ × Value → Result Progress FaultKind
+define_pair p pair = define pair.0 pair.1 p
+
+-- ---- the directives, each in the order of its faults
+
+-- what is looked at before the label is defined: a section of the other kind, then a count that is no expression
+abbrev pub allowed : Act → Progress → Result (Unit {0}) FaultKind
+allowed (Enter section) p = of_kind section true p
+allowed (Reserve section name count) p = of_kind section false p >>= λ _. count >>= λ e. Ok tt
+allowed _ p = Ok tt
+
+-- `.text`, `.data`, `.sect`
+abbrev pub enter : List ℕ → Progress → Result Progress FaultKind
+enter section p = opened section true p >>= λ o. Ok (record o.1 { current = o.0 })
+
+-- `.bss`, `.usect`: the name is looked at before the count, and defined behind it
+abbrev pub reserve_count : List ℕ → List ℕ → Result Tree FaultKind → Progress → Result Progress FaultKind
+reserve_count section name count p =
+    if stands p.names name then Err fault.Defined
+    else (count >>= λ e. count_in (table p) e >>= λ n. reserve section name n p)
+
+-- `.set`, `.equ`: likewise
+abbrev pub equate : List ℕ → Tree → Progress → Result Progress FaultKind
+equate name e p =
+    if stands p.names name then Err fault.Defined
+    else (valued (table p) e >>= λ v. define name v p)
+
+-- an instruction, `.word`, `.int`, `.byte`
+abbrev pub put : Origin → Target → List Tree → Progress → Result Progress FaultKind
+put origin t trees p =
+    lay origin (Operands t trees) (target_size t (length trees)) p >>= λ q.
+    Ok (mark t p.current (size_at p.sections p.current) (target_size t (length trees)) q)
+
+-- `.space`: bits, rounded up to words
+abbrev pub space : Origin → Tree → Progress → Result Progress FaultKind
+space origin e p = count_in (table p) e >>= λ n. lay origin (Zeros ((n + 15) / 16)) ((n + 15) / 16) p
+
+-- `.global`, `.ref`
+abbrev pub declare : List (List ℕ) → Progress → Result Progress FaultKind
+declare names p =
+    if list_any is_predefined names then Err fault.Defined
+    else Ok (record p { declared = all_once p.declared names; exported = all_once p.exported names })
+
+-- `.def`
+abbrev pub export : Origin → List (List ℕ) → Progress → Result Progress FaultKind
+export origin names p =
+    if list_any is_predefined names then Err fault.Defined
+    else Ok (with_item origin (Exported names) (record p { exported = all_once p.exported names }))
+
+-- `.mmregs`; a second one does nothing
+unfoldable pub registers : Progress → Result Progress FaultKind
+registers p = if p.registers then Ok p else fold_ok define_pair (record p { registers = true }) register_names
+
+-- what a line does
+abbrev pub act : Origin → Act → Progress → Result Progress FaultKind
+act origin Nothing p = Ok p
+act origin (Enter section) p = enter section p
+act origin (Reserve section name count) p = reserve_count section name count p
+act origin (Equate name e) p = equate name e p
+act origin (Put t trees) p = put origin t trees p
+act origin (Load words) p = lay origin (Words words) (length words) p
+act origin (Space e) p = space origin e p
+act origin (Declare names) p = declare names p
+act origin (Export names) p = export origin names p
+act origin Registers p = registers p
+
+-- ---- how many names
+
+-- the names that are declared and stand for nothing: those of other modules
+abbrev pub imports : Definitions → List (List ℕ) → List (List ℕ)
+imports names declared = filter (λ name. not (stands names name)) declared
+
+-- how many names are defined or declared, each counted once
+abbrev pub name_count : Definitions → List (List ℕ) → ℕ
+name_count names declared = length names + length (imports names declared)
+
+-- at most 65,535
+abbrev pub few : Progress → Result (Unit {0}) FaultKind
+few p = if nat_lt 65535 (name_count p.names p.declared) then Err fault.TooLarge else Ok tt
+
+-- one line more: 52, 20 and 21 that wait for the sections, then 26, then 22 to 25, then 54
+unfoldable pub pass : Origin → Statement → Progress → Result Progress FaultKind
+pass origin s p = allowed s.act p >>= λ _. label s.label p >>= λ q. act origin s.act q >>= λ r. few r >>= λ _. Ok r

@@ -1,0 +1,5 @@
+//! Command files of the linker.
+#![tactic(auto)]
+
+pub mod command_fault;
+pub mod command_token;

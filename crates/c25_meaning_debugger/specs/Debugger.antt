@@ -1,0 +1,71 @@
+-- The answers of a debugger's script, over an image and the states of a run, whatever one step is (own).
+use Rattle.std.specs.Prelude.{◌≡◌, ℕ, ◌-◌, List, [], ◌∷◌, ◌++◌, min}
+use Rattle.c25_meaning_linking.specs.Linking.{ImageData}
+use Rattle.c25_meaning_processor.specs.Run.{Signals, Stepping}
+use Rattle.c25_meaning_image.specs.Marks.{size_at}
+use Rattle.c25_meaning_processor.specs.State.{State, data_at, program_at}
+use Rattle.c25_meaning_processor.specs.Status.{regs_of}
+use Rattle.c25_meaning_stimulus.specs.declared.script.Cmd.{Cmd}
+use Rattle.c25_meaning_stimulus.specs.declared.script.Cmd.TheVariants as cmd
+use Rattle.c25_meaning_breakpoints.specs.Goes.{Goes, Halting, is_breakpoint}
+use Rattle.c25_meaning_breakpoints.specs.Set.{can_set, with_breakpoint, without_breakpoint}
+use Rattle.c25_meaning_debugger.specs.Texts.{AreLinesOf, IsWhere, cleared_text, halting_text, marks_from, regs_text, set_text, stack_text, symbols_text, words_text}
+
+-- where a session stands: how many steps are done in all, the state, and the breakpoints in the order in which they were set
+pub record Point : Type 0 where
+  pub steps : ℕ
+  pub state : State
+  pub breaks : List ℕ
+
+-- ---- steps
+
+-- how many of n steps are tried where some are done: none past 4,294,967,295 in all
+abbrev pub tried : ℕ → ℕ → ℕ
+tried steps n = min n (4294967295 - steps)
+
+-- n steps from a point on, under these breakpoints
+pub record Steps (step : Stepping) (signals : Signals) (breaks : List ℕ) (n : ℕ) (p : Point) (text : List ℕ) (q : Point) : Type 0 where
+  pub halting : Halting
+  pub goes : Goes step signals breaks p.steps (tried p.steps n) p.state halting q.steps q.state
+  pub same : q.breaks ≡ p.breaks
+  pub text_is : text ≡ halting_text halting q.steps q.state.registers.pc
+
+-- ---- commands
+
+-- a word of data memory, or of program memory, as the processor reads it
+abbrev pub data_word : State → ℕ → ℕ
+data_word s address = data_at s.registers.cnf s.world address
+
+abbrev pub program_word : State → ℕ → ℕ
+program_word s address = program_at s.registers.cnf s.world address
+
+-- what a command answers at a point, and the point behind it
+abbrev pub Answers : Stepping → Signals → ImageData → Cmd → Point → List ℕ → Point → Type 0
+Answers step signals image (cmd.Step n) p text q = Steps step signals [] n p text q
+Answers step signals image (cmd.Run n) p text q = Steps step signals p.breaks n p text q
+Answers step signals image (cmd.Break address) p text q =
+    (text ≡ set_text (can_set p.breaks address) address) × (q ≡ record p { breaks = with_breakpoint p.breaks address })
+Answers step signals image (cmd.Clear address) p text q =
+    (text ≡ cleared_text (is_breakpoint p.breaks address) address) × (q ≡ record p { breaks = without_breakpoint p.breaks address })
+Answers step signals image cmd.Regs p text q = (text ≡ regs_text (regs_of p.state.registers)) × (q ≡ p)
+Answers step signals image (cmd.Data address count) p text q = (text ≡ words_text (data_word p.state) address count) × (q ≡ p)
+Answers step signals image (cmd.Prog address count) p text q = (text ≡ words_text (program_word p.state) address count) × (q ≡ p)
+Answers step signals image cmd.Stack p text q = (text ≡ stack_text (regs_of p.state.registers)) × (q ≡ p)
+Answers step signals image cmd.Where p text q =
+    IsWhere image.program p.state.registers.pc (size_at image.marks p.state.registers.pc) text × (q ≡ p)
+Answers step signals image (cmd.List n) p text q = AreLinesOf image.program (marks_from image.marks p.state.registers.pc n) text × (q ≡ p)
+Answers step signals image cmd.Symbols p text q = (text ≡ symbols_text image.described.symbols) × (q ≡ p)
+
+-- what commands answer one behind another, and the point behind them
+abbrev pub AnswersAll : Stepping → Signals → ImageData → List Cmd → Point → List ℕ → Point → Type 0
+AnswersAll step signals image [] p text q = (text ≡ []) × (q ≡ p)
+AnswersAll step signals image (c ∷ cs) p text q =
+    (first rest : List ℕ) × (m : Point) × Answers step signals image c p first m × AnswersAll step signals image cs m rest q × (text ≡ first ++ rest)
+
+-- a session begins so: no step done, no breakpoint
+abbrev pub beginning : State → Point
+beginning s = record { steps = 0; state = s; breaks = [] }
+
+-- the answers of a script from a first state on
+abbrev pub AnswersScript : Stepping → Signals → ImageData → List Cmd → State → List ℕ → Type 0
+AnswersScript step signals image commands s text = (q : Point) × AnswersAll step signals image commands (beginning s) text q

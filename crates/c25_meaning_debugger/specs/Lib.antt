@@ -1,0 +1,2 @@
+pub mod Debugger
+pub mod Texts

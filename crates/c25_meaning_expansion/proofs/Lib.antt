@@ -1,0 +1,5 @@
+pub mod ExpansionActs
+pub mod ExpansionBounded
+pub mod ExpansionFalls
+pub mod ExpansionFirst
+pub mod ExpansionLines

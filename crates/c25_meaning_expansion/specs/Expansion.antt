@@ -1,0 +1,169 @@
+-- What expansion works on: one flat list of lines still to come, rewritten at its front (SPRU018, macro language and
+-- assembler directives; the limits and the numbering of expansions are this project's own).
+use Rattle.std.specs.Prelude.{ℕ, ◌+◌, List, [], ◌∷◌, ◌++◌, Bool, true, false, ◌||◌, Option, Some, None, nat_le, if◌then◌else◌, length, drop, map, sum_by, is_some}
+use Rattle.std.specs.List.{list_any}
+use Rattle.std.specs.Map.{lookup}
+use Rattle.std.specs.Str.{bytes_eq}
+use Rattle.c25_meaning_expansion.specs.Acts.{Act, Macro}
+use Rattle.c25_meaning_expansion.specs.Rows.{Row}
+use Rattle.c25_meaning_language.specs.Fragments.{visible}
+use Rattle.c25_meaning_language.specs.Texts.{Named, Texts, with_name}
+use Rattle.c25_meaning_expansion.specs.declared.expansion.Place.{Place}
+use Rattle.c25_meaning_expansion.specs.declared.expansion.Branch.{Branch}
+use Rattle.c25_meaning_language.specs.declared.statement.FaultKind.{FaultKind}
+
+-- a line still to come, or the end of a copied file, of an expansion or of a turn of a loop
+pub data Item : Type 0 where
+  Read : (row : Row) → Item
+  Close : Item
+
+-- what the lines up to the next end are: a copied file, an expansion of a macro, or a turn of a loop, so many more to
+-- come
+pub data Kind : Type 0 where
+  Copied : Kind
+  Expanded : Kind
+  Turn : (body : List Row) (more : ℕ) → Kind
+
+-- a file, expansion or turn that is open: where its last line stands, and the `.if`s begun in it, the innermost first
+pub record Scope : Type 0 where
+  pub kind : Kind
+  pub last : Place
+  pub branches : List Branch
+
+-- an expansion that is open: its number, and the texts of its parameters
+pub record Expansion : Type 0 where
+  pub number : ℕ
+  pub arguments : Texts
+
+-- how the next line is looked at: read, or acted on after its label was given, or put into the body of a macro or of a
+-- loop, in which so many blocks of that kind are open
+pub data Mode : Type 0 where
+  Reading : Mode
+  Acting : (place : Place) (act : Act) → Mode
+  InMacro : (name : List ℕ) (parameters : List (List ℕ)) (body : List Row) (nested : ℕ) → Mode
+  InLoop : (turns : ℕ) (body : List Row) (nested : ℕ) → Mode
+
+-- what names stand for in expansion
+pub record Dictionary : Type 0 where
+  pub macros : Named Macro
+  -- those of `.asg` and `.eval`
+  pub texts : Texts
+  -- the open expansions, the innermost first
+  pub expansions : List Expansion
+  -- how many expansions there have been
+  pub count : ℕ
+
+-- all that stands at a line
+pub record Config : Type 0 where
+  pub lines : List Item
+  pub scope : Scope
+  -- those in which it stands, the innermost first
+  pub outer : List Scope
+  pub mode : Mode
+  pub names : Dictionary
+  -- how many lines may still be read
+  pub left : ℕ
+
+-- what a rewriting of the front comes to: a line, more to rewrite, the end, a fault, or a file that is not there
+pub data Rewriting : Type 0 where
+  Gives : (row : Row) (rest : Config) → Rewriting
+  Goes : (rest : Config) → Rewriting
+  Finishes : (rest : Config) → Rewriting
+  Faults : (place : Place) (kind : FaultKind) → Rewriting
+  Misses : (place : Place) (name : List ℕ) → Rewriting
+
+-- a fault where the test holds
+abbrev pub unless : Bool → FaultKind → Place → Rewriting → Rewriting
+unless test kind place next = if test then Faults place kind else next
+
+-- ---- open blocks
+
+-- how many expansions, copied files, loops and `.if`s are open
+abbrev pub depth : Config → ℕ
+depth c = length c.scope.branches + sum_by (λ f. length f.branches + 1) c.outer
+
+-- no more may be opened
+abbrev pub is_full : Config → Bool
+is_full c = nat_le 32 (depth c)
+
+-- these lines come next, and then an end
+abbrev pub opened : Kind → Place → List Row → Config → Config
+opened kind last rows c =
+    record c { lines = map Read rows ++ Close ∷ c.lines; scope = record { kind = kind; last = last; branches = [] }; outer = c.scope ∷ c.outer }
+
+-- with these `.if`s in the innermost file, expansion or turn
+abbrev pub with_branches : List Branch → Config → Config
+with_branches branches c = record c { scope = record { kind = c.scope.kind; last = c.scope.last; branches = branches } }
+
+-- the lines after the next end
+abbrev pub after_close : List Item → List Item
+after_close [] = []
+after_close (Close ∷ items) = items
+after_close (Read row ∷ items) = after_close items
+
+-- the open expansions after a file, expansion or turn has ended: an expansion that ends is the innermost
+abbrev pub without_ended : Kind → Dictionary → Dictionary
+without_ended Expanded names = record names { expansions = drop 1 names.expansions }
+without_ended Copied names = names
+without_ended (Turn body more) names = names
+
+-- lines dropped through the end of the innermost file, expansion or turn that passes the test
+abbrev pub left_through : (Kind → Bool) → List Item → Scope → List Scope → Dictionary → Config → Option Config
+left_through test lines scope [] names c = None
+left_through test lines scope (f ∷ fs) names c =
+    if test scope.kind
+    then Some (record c { lines = after_close lines; scope = f; outer = fs; names = without_ended scope.kind names })
+    else left_through test (after_close lines) f fs (without_ended scope.kind names) c
+
+-- an expansion
+abbrev pub is_expansion : Kind → Bool
+is_expansion Expanded = true
+is_expansion Copied = false
+is_expansion (Turn body more) = false
+
+-- a turn of a loop
+abbrev pub is_turn : Kind → Bool
+is_turn (Turn body more) = true
+is_turn Expanded = false
+is_turn Copied = false
+
+-- whether a file, expansion or turn that passes the test is open
+abbrev pub stands_in : (Kind → Bool) → Config → Bool
+stands_in test c = test c.scope.kind || list_any (λ f. test f.kind) c.outer
+
+-- ---- names
+
+-- the macro of a name
+abbrev pub macro_named : Dictionary → List ℕ → Option Macro
+macro_named names name = lookup (bytes_eq name) names.macros
+
+-- the arguments of the innermost expansion
+abbrev pub arguments_of : List Expansion → Texts
+arguments_of [] = []
+arguments_of (e ∷ es) = e.arguments
+
+-- what a name stands for: the innermost expansion's parameters are seen first, then the names of `.asg` and `.eval`
+abbrev pub seen : Dictionary → List ℕ → Option (List ℕ)
+seen names = visible (arguments_of names.expansions) names.texts
+
+-- the number of the innermost expansion, 0 outside
+abbrev pub number_of : List Expansion → ℕ
+number_of [] = 0
+number_of (e ∷ es) = e.number
+
+-- a name stands for a text from here on: a parameter of the innermost expansion, where it is one
+abbrev pub assigned_by : List Expansion → List ℕ → List ℕ → Dictionary → Dictionary
+assigned_by [] name text names = record names { texts = with_name names.texts name text }
+assigned_by (e ∷ es) name text names =
+    if is_some (lookup (bytes_eq name) e.arguments)
+    then record names { expansions = record e { arguments = with_name e.arguments name text } ∷ es }
+    else record names { texts = with_name names.texts name text }
+
+-- the same of all names
+abbrev pub assigned : List ℕ → List ℕ → Dictionary → Dictionary
+assigned name text names = assigned_by names.expansions name text names
+
+-- one expansion more, with these texts of its parameters
+abbrev pub called : Texts → Dictionary → Dictionary
+called arguments names =
+    record names { expansions = record { number = names.count + 1; arguments = arguments } ∷ names.expansions; count = names.count + 1 }

@@ -1,0 +1,128 @@
+-- Rewriting the lines still to come up to the next line that is given, the end, or the first fault.
+use Rattle.std.specs.Prelude.{◌≡◌, ℕ, zero, suc, ◌+◌, ◌*◌, ◌-◌, ◌==◌, List, [], ◌∷◌, ◌++◌, Bool, true, false, not, ◌&&◌, Option, option_map, nat_lt, if◌then◌else◌, length, map}
+use Rattle.c25_meaning_lines.specs.Line.{first_word}
+use Rattle.c25_meaning_language.specs.Value.{Table}
+use Rattle.c25_meaning_expansion.specs.Files.{Files, text_named}
+use Rattle.c25_meaning_expansion.specs.Rows.{Row, rows_of, last_place, file_number}
+use Rattle.c25_meaning_expansion.specs.Expansion.{Item, Read, Close, Kind, Copied, Expanded, Turn, Scope, Mode, Reading, Acting, InMacro, InLoop, Config, Rewriting, Gives, Goes, Finishes, Faults, Misses, unless, without_ended}
+use Rattle.c25_meaning_expansion.specs.ExpansionRules.{acts, directive_in, reads_by, in_macro, in_loop}
+use Rattle.c25_meaning_language.specs.declared.statement.FaultKind.TheVariants as fault
+
+-- ---- one rewriting
+
+-- a line by where it goes: into a body that is collected, or it is read
+abbrev pub read_by : Files → Table → Row → Mode → Config → Rewriting
+read_by files s row (InMacro name parameters body nested) c = in_macro row (directive_in (first_word row.text)) name parameters body nested c
+read_by files s row (InLoop turns body nested) c = in_loop row (directive_in (first_word row.text)) turns body nested c
+read_by files s row _ c = reads_by files s row (directive_in (first_word row.text)) c.scope.branches c
+
+-- whether lines are collected
+abbrev pub is_reading : Mode → Bool
+is_reading Reading = true
+is_reading (Acting place act) = true
+is_reading (InMacro name parameters body nested) = false
+is_reading (InLoop turns body nested) = false
+
+-- no items
+abbrev pub is_empty : {A : Type 0} → List A → Bool
+is_empty [] = true
+is_empty (x ∷ xs) = false
+
+-- no block is open that began in the innermost file, expansion or turn
+abbrev pub is_closed : Config → Bool
+is_closed c = is_reading c.mode && is_empty c.scope.branches
+
+-- what stood behind the end of the innermost file, expansion or turn
+abbrev pub back : List Item → List Scope → Config → Rewriting
+back rest [] c = Finishes c
+back rest (f ∷ fs) c = Goes (record c { lines = rest; scope = f; outer = fs; names = without_ended c.scope.kind c.names })
+
+-- the next turn of a loop that has one and has lines, or else what stood behind
+abbrev pub ended : Kind → List Item → Config → Rewriting
+ended (Turn body more) rest c =
+    if nat_lt 0 more && not (is_empty body)
+    then Goes (record c { lines = map Read body ++ Close ∷ rest; scope = record { kind = Turn body (more - 1); last = c.scope.last; branches = [] } })
+    else back rest c.outer c
+ended Copied rest c = back rest c.outer c
+ended Expanded rest c = back rest c.outer c
+
+-- blocks end in the file or body where they began
+abbrev pub closes : Rewriting → Config → Rewriting
+closes next c = if is_closed c then next else Faults c.scope.last fault.OpenBlock
+
+-- one rewriting of the front: a line is read, 200,000 at most, or an end is passed
+abbrev pub front : Files → Table → List Item → Config → Rewriting
+front files s (Read row ∷ rest) c =
+    unless (c.left == 0) fault.Lines row.place (read_by files s row c.mode (record c { lines = rest; mode = Reading; left = c.left - 1 }))
+front files s (Close ∷ rest) c = closes (ended c.scope.kind rest c) c
+front files s [] c = closes (Finishes c) c
+
+-- what a line asked for is done after its label was given, or else the front is rewritten
+abbrev pub rewrite_by : Files → Table → Mode → Config → Rewriting
+rewrite_by files s (Acting place act) c = acts files s place act (record c { mode = Reading })
+rewrite_by files s _ c = front files s c.lines c
+
+-- one rewriting
+unfoldable pub rewrite : Files → Table → Config → Rewriting
+rewrite files s c = rewrite_by files s c.mode c
+
+-- ---- rewriting until a line is given
+
+-- so many rewritings lead from one configuration to the other, and none of them gives a line
+abbrev pub Leads : Files → Table → ℕ → Config → Config → Type 0
+Leads files s zero old new = old ≡ new
+Leads files s (suc n) old new = (mid : Config) × Leads files s n old mid × (rewrite files s mid ≡ Goes new)
+
+-- the first rewriting that does not merely go on is this one
+abbrev pub ComesTo : Files → Table → Config → Rewriting → Type 0
+ComesTo files s old r = (n : ℕ) × (c : Config) × Leads files s n old c × (rewrite files s c ≡ r)
+
+-- how much rewriting is left at most: 6 for a line that may be read, since its label may be given before it is done (4),
+-- and it may open one file, expansion or turn (2)
+abbrev pub front_weight : List Item → ℕ
+front_weight [] = 1
+front_weight (Close ∷ items) = 1
+front_weight (Read row ∷ items) = 0
+
+-- what is still to be done weighs 4
+abbrev pub mode_weight : Mode → ℕ
+mode_weight (Acting place act) = 4
+mode_weight _ = 0
+
+-- the sum of these
+abbrev pub weight : Config → ℕ
+weight c = 6 * c.left + 2 * length c.outer + front_weight c.lines + mode_weight c.mode
+
+-- what follows where a rewriting merely goes on
+abbrev pub go_on : Rewriting → (Config → Rewriting) → Rewriting
+go_on (Goes d) f = f d
+go_on (Gives row d) f = Gives row d
+go_on (Finishes d) f = Finishes d
+go_on (Faults place kind) f = Faults place kind
+go_on (Misses place name) f = Misses place name
+
+-- the last of at most n + 1 rewritings, the first that does not merely go on
+unfoldable pub last_within : Files → Table → ℕ → Config → Rewriting
+last_within files s zero c = rewrite files s c
+last_within files s (suc n) c = go_on (rewrite files s c) (last_within files s n)
+
+-- the first rewriting that does not merely go on
+unfoldable pub first : Files → Table → Config → Rewriting
+first files s c = last_within files s (weight c) c
+
+-- ---- a module
+
+-- the configuration before the first line of a file
+abbrev pub start : ℕ → List ℕ → Config
+start file text = record {
+  lines = map Read (rows_of file text);
+  scope = record { kind = Copied; last = last_place (record { file = file; line = 0 }) (rows_of file text); branches = [] };
+  outer = [];
+  mode = Reading;
+  names = record { macros = []; texts = []; expansions = []; count = 0 };
+  left = 200000;
+}
+
+-- the same by the file's name, where there is such a file
+abbrev pub start_of : Files → List ℕ → Option Config
+start_of files name = option_map (start (file_number files name)) (text_named files name)

@@ -1,0 +1,8 @@
+pub mod Acts
+pub mod Expansion
+pub mod ExpansionAnswers
+pub mod ExpansionBounds
+pub mod ExpansionRules
+pub mod ExpansionRuns
+pub mod Files
+pub mod Rows

@@ -1,0 +1,4 @@
+//! Expansion of a source: macros, loops, conditions and copied files.
+#![tactic(auto)]
+
+pub mod expansion;

@@ -1,0 +1,70 @@
+//! Words by their addresses.
+
+ghost use Rattle.std.specs.Prelude.{◌≡◌, OnOk, OnErr};
+ghost use Rattle.std.specs.FinMap as map;
+ghost use Rattle.c25_meaning_image.specs.WordMap.{IsWordMap};
+
+use c25_meaning_common::no_memory::NoMemory;
+use std::alloc::Global;
+use std::collections::BTreeMap;
+use std::collections::btree_map::Iter;
+use std::marker::Model;
+
+/// A finite map from addresses to words, kept in order of the addresses.
+#[derive(Drop)]
+pub struct WordMap {
+    words: BTreeMap<u16, u16>,
+}
+
+impl Model for WordMap {
+    ghost use Rattle.std.specs.Prelude.{ℕ};
+    ghost use Rattle.std.specs.Ordering.{nat_cmp};
+    ghost use Rattle.std.specs.FinMap as map;
+    ghost use Rattle.std.specs.Coded.{coded_ℕ};
+    ghost use Rattle.c25_meaning_image.specs.WordMap.{IsWordMap};
+
+    ghost Value = { map.FinMap nat_cmp ℕ };
+
+    ghost coded = { map.code coded_ℕ coded_ℕ };
+
+    ghost view = { λ m. map.from_entries m.words.entries };
+
+    ghost invariant = { λ m. IsWordMap (map.from_entries m.words.entries) };
+}
+
+impl WordMap {
+    /// A map without words. It takes no memory.
+    pub fn new(alloc: Global) -> Self
+        ensures { result ≡ map.empty }
+    {
+        Self {
+            words: BTreeMap::new(alloc),
+        }
+    }
+
+    /// Sets the word at one address, whether or not there was one. Where memory is refused the
+    /// map stays as it is.
+    pub fn insert(&mut self, address: u16, word: u16) -> Result<(), NoMemory>
+        ensures ok { OnOk result (self.new ≡ map.insert self.old address word) }
+        ensures err { OnErr result (self.new ≡ self.old) }
+    {
+        self.words.insert(address, word)?;
+        Ok(())
+    }
+
+    /// The word at an address, where there is one.
+    pub fn get(&self, address: u16) -> Option<u16>
+        ensures { result ≡ map.get self.now address }
+    {
+        self.words.get(&address).copied()
+    }
+
+    /// The addresses and their words, ascending.
+    #[tactic(auto, using(crate::proofs::WordMaps::listed_view))]
+    pub fn iter(&self) -> Iter<'_, u16, u16>
+        ensures entries { result ≡ map.entries self.now }
+        ensures in_range { IsWordMap self.now }
+    {
+        self.words.iter()
+    }
+}

@@ -1,0 +1,4 @@
+pub mod RelocatedInsn
+pub mod Show
+pub mod Spellings
+pub mod Table

@@ -1,0 +1,4 @@
+//! Intel hex texts of words.
+#![tactic(auto)]
+
+pub mod hex_fault;

@@ -1,0 +1,15 @@
+pub mod Arguments
+pub mod DirectiveOperands
+pub mod ExpansionFault
+pub mod Faults
+pub mod Fits
+pub mod Forms
+pub mod Fragments
+pub mod Operands
+pub mod Quoting
+pub mod Reading
+pub mod Statement
+pub mod Substitution
+pub mod Texts
+pub mod Tree
+pub mod Value

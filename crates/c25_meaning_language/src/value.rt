@@ -1,0 +1,57 @@
+//! Values of expressions.
+
+use std::error::Error;
+use std::fmt;
+
+/// Why an expression has no value.
+#[derive(Clone, Copy, PartialEq, Debug)]
+pub enum ValueFault {
+    /// A name stands for nothing (22).
+    Undefined,
+    /// An operator that takes absolute numbers alone was given a place (23).
+    NotAbsolute,
+    /// A divisor is zero (24).
+    DivideByZero,
+    /// A number outside 32 signed bits, or a shift count outside 0 to 31 (25).
+    ValueRange,
+}
+
+impl fmt::Display for ValueFault {
+    ghost use Rattle.std.specs.Prelude.{Some};
+    ghost use Rattle.c25_meaning_language.specs.Faults.{fault_name};
+    ghost use Rattle.c25_meaning_language.specs.Statement.{value_fault};
+
+    ghost output = { λ fault. Some (fault_name (value_fault fault)) };
+
+    fn fmt<W: fmt::Write>(&self, f: &mut fmt::Formatter<W>) -> fmt::Result {
+        match self {
+            ValueFault::Undefined => f.write_str("Undefined"),
+            ValueFault::NotAbsolute => f.write_str("NotAbsolute"),
+            ValueFault::DivideByZero => f.write_str("DivideByZero"),
+            ValueFault::ValueRange => f.write_str("ValueRange"),
+        }
+    }
+}
+
+impl Error for ValueFault {}
+
+/// What a value counts from.
+#[derive(Clone, Copy, PartialEq, Debug, Default)]
+pub enum Base {
+    /// Nothing: the value is a plain number.
+    #[default]
+    Absolute,
+    /// The start of a section of this module, by the section's number.
+    Section(u16),
+    /// The address of an external symbol, by the symbol's number.
+    External(u16),
+}
+
+/// The value of an expression: a number that counts from a base.
+#[derive(Clone, Copy, PartialEq, Debug, Default)]
+pub struct Value {
+    /// What the number counts from.
+    pub base: Base,
+    /// The number.
+    pub offset: i32,
+}

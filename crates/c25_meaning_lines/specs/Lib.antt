@@ -1,0 +1,4 @@
+pub mod Constant
+pub mod Faults
+pub mod Lexeme
+pub mod Line

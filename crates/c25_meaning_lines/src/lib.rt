@@ -1,0 +1,4 @@
+//! Lines of a source: fields, tokens, constants.
+#![tactic(auto)]
+
+pub mod line;

@@ -1,0 +1,74 @@
+-- Where the parts of a program stand: the sections of one name of all modules are one section of the program, in the order
+-- of the modules and one behind the other (SPRU018, linker description, the SECTIONS directive).
+use Rattle.std.specs.Prelude.{◌≡◌, ℕ, ◌+◌, ◌<◌, ◌≤◌, Bool, ◌&&◌, List, [], ◌∷◌, ◌++◌, Option, Some, find, take, if◌then◌else◌}
+use Rattle.std.specs.Option.{option_map_or}
+use Rattle.std.specs.List.{list_any, flat_map, slice_get, sum_by}
+use Rattle.std.specs.Str.{bytes_eq}
+use Rattle.c25_meaning_objects.specs.Module.{SectionData, Contents, body_size, has_words}
+
+-- a section of the program: its page, the address of its first word, and how many words it has
+pub record Place : Type 0 where
+  pub name : List ℕ
+  pub page : ℕ
+  pub base : ℕ
+  pub size : ℕ
+
+-- what each module gives, one module after the other; they are counted from a number
+abbrev pub by_modules : {A : Type 0} → (ℕ → Contents → List A) → ℕ → List Contents → List A
+by_modules gives number [] = []
+by_modules gives number (m ∷ modules) = gives number m ++ by_modules gives (number + 1) modules
+
+-- the sections of modules, one module after the other
+abbrev pub all_sections : List Contents → List SectionData
+all_sections modules = flat_map (λ m. m.sections) modules
+
+-- whether a section has this name
+abbrev pub is_section_named : List ℕ → SectionData → Bool
+is_section_named name s = bytes_eq name s.name
+
+-- how many words a section adds to the section of this name
+abbrev pub size_for : List ℕ → SectionData → ℕ
+size_for name s = if is_section_named name s then body_size s.body else 0
+
+-- how many words the modules have in their sections of this name
+abbrev pub size_of_parts : List ℕ → List Contents → ℕ
+size_of_parts name modules = sum_by (size_for name) (all_sections modules)
+
+-- whether a module has a section of this name
+abbrev pub is_there : List ℕ → List Contents → Bool
+is_there name modules = list_any (is_section_named name) (all_sections modules)
+
+-- whether a module has an initialised section of this name
+abbrev pub is_initialised : List ℕ → List Contents → Bool
+is_initialised name modules = list_any (λ s. is_section_named name s && has_words s.body) (all_sections modules)
+
+-- the place of a section by its name
+abbrev pub place_named : List ℕ → List Place → Option Place
+place_named name places = find (λ p. bytes_eq name p.name) places
+
+-- the address where a section begins
+abbrev pub base_of : List ℕ → List Place → ℕ
+base_of name places = option_map_or (λ p. p.base) (place_named name places) 0
+
+-- its page
+abbrev pub page_of : List ℕ → List Place → ℕ
+page_of name places = option_map_or (λ p. p.page) (place_named name places) 0
+
+-- the address where the part of a module begins, behind the parts of the modules before it; modules are counted from 0
+abbrev pub part_base : List Contents → List Place → ℕ → List ℕ → ℕ
+part_base modules places number name = base_of name places + size_of_parts name (take number modules)
+
+-- from a first word on, so many words: a word is one of them
+pub record Covers (base size word : ℕ) : Type 0 where
+  pub from : base ≤ word
+  pub upto : word < base + size
+
+-- the section of a number, in the module of a number
+pub record IsPart (modules : List Contents) (number index : ℕ) (owner : Contents) (section : SectionData) : Type 0 where
+  pub owner_is : slice_get modules number ≡ Some owner
+  pub section_is : slice_get owner.sections index ≡ Some section
+
+-- an address of a page lies in the part that a module has of a section of the program
+pub record LiesIn (modules : List Contents) (places : List Place) (number : ℕ) (section : SectionData) (page address : ℕ) : Type 0 where
+  pub page_is : page ≡ page_of section.name places
+  pub covers : Covers (part_base modules places number section.name) (body_size section.body) address

@@ -1,0 +1,143 @@
+-- The words of a program, from its modules: the words of initialised sections at their addresses, each relocated field
+-- holding its base's address or value plus the addend (SPRU018, linker description, relocation and symbols).
+use Rattle.std.specs.Prelude.{◌≡◌, ℕ, ◌+◌, ◌==◌, ℤ, pos, ◌+ℤ◌, Bool, true, false, ◌&&◌, List, [], Option, Some, None, find, filter, map}
+use Rattle.std.specs.Option.{option_map_or}
+use Rattle.std.specs.List.{slice_get}
+use Rattle.std.specs.Str.{bytes_eq}
+use Rattle.c25_meaning_objects.specs.Module.{SectionData, SymbolData, Contents, is_global, body_words}
+use Rattle.c25_meaning_common.specs.Fields.{filled, field_number}
+use Rattle.c25_meaning_linking.specs.Place.{Place, by_modules, part_base, page_of, IsPart}
+use Rattle.c25_meaning_image.specs.declared.mark.Mark.{Mark}
+use Rattle.c25_meaning_objects.specs.declared.object.ModuleMark.{ModuleMark}
+use Rattle.c25_meaning_objects.specs.declared.object.SymbolKind.{SymbolKind}
+use Rattle.c25_meaning_objects.specs.declared.object.SymbolKind.TheVariants as kind
+use Rattle.c25_meaning_objects.specs.declared.object.RelocationBase.{RelocationBase}
+use Rattle.c25_meaning_objects.specs.declared.object.RelocationBase.TheVariants as base
+use Rattle.c25_meaning_objects.specs.declared.object.Relocation.{Relocation}
+
+-- ---- names
+
+-- the name of a module's section, by its number
+abbrev pub section_name : Contents → ℕ → List ℕ
+section_name m index = option_map_or (λ s. s.name) (slice_get m.sections index) []
+
+-- the name of a module's symbol, by its number
+abbrev pub symbol_name : Contents → ℕ → List ℕ
+symbol_name m index = option_map_or (λ y. y.name) (slice_get m.symbols index) []
+
+-- ---- where a module's sections stand
+
+-- the address of the part that a module has of its section of a number, 0 where there is none
+abbrev pub section_base : List Contents → List Place → ℕ → Contents → ℕ → ℕ
+section_base modules places number m index = option_map_or (λ s. part_base modules places number s.name) (slice_get m.sections index) 0
+
+-- the page of that section
+abbrev pub section_page : List Place → Contents → ℕ → ℕ
+section_page places m index = option_map_or (λ s. page_of s.name places) (slice_get m.sections index) 0
+
+-- ---- what symbols stand for
+
+-- whether a symbol of this kind is defined in its module
+abbrev pub is_defined : SymbolKind → Bool
+is_defined kind.External = false
+is_defined _ = true
+
+-- whether a symbol is defined here and seen by all modules
+abbrev pub is_definition : SymbolData → Bool
+is_definition y = is_global y.scope && is_defined y.kind
+
+-- a defined global symbol, with its module and the module's number
+pub record Definition : Type 0 where
+  pub number : ℕ
+  pub owner : Contents
+  pub symbol : SymbolData
+
+-- a symbol of a module
+abbrev pub definition : ℕ → Contents → SymbolData → Definition
+definition number m y = record { number = number; owner = m; symbol = y }
+
+-- those of one module
+abbrev pub module_definitions : ℕ → Contents → List Definition
+module_definitions number m = map (definition number m) (filter is_definition m.symbols)
+
+-- the defined global symbols, by modules and symbols
+abbrev pub definitions : List Contents → List Definition
+definitions modules = by_modules module_definitions 0 modules
+
+-- the definition of a name
+abbrev pub definition_of : List ℕ → List Definition → Option Definition
+definition_of name ds = find (λ d. bytes_eq name d.symbol.name) ds
+
+-- what a symbol of a module stands for: a number, or the address of its section's part plus an offset
+abbrev pub kind_value : List Contents → List Place → ℕ → Contents → SymbolKind → ℤ → ℤ
+kind_value modules places number m kind.Absolute z = z
+kind_value modules places number m (kind.InSection index) z = pos (section_base modules places number m index) +ℤ z
+kind_value modules places number m kind.External z = pos 0
+
+-- what a definition stands for
+abbrev pub definition_value : List Contents → List Place → Definition → ℤ
+definition_value modules places d = kind_value modules places d.number d.owner d.symbol.kind d.symbol.value
+
+-- what a defined name stands for
+abbrev pub name_value : List Contents → List Place → List ℕ → ℤ
+name_value modules places name = option_map_or (definition_value modules places) (definition_of name (definitions modules)) (pos 0)
+
+-- ---- relocated words
+
+-- what a relocation adds its addend to
+abbrev pub base_value : List Contents → List Place → ℕ → Contents → RelocationBase → ℤ
+base_value modules places number m (base.Section index) = pos (section_base modules places number m index)
+base_value modules places number m (base.External index) = name_value modules places (symbol_name m index)
+
+-- the value that a field is filled with
+abbrev pub relocated_value : List Contents → List Place → ℕ → Contents → Relocation → ℤ
+relocated_value modules places number m r = base_value modules places number m r.base +ℤ r.addend
+
+-- whether a relocation is of the word at this offset of this section
+abbrev pub is_relocation_at : ℕ → ℕ → Relocation → Bool
+is_relocation_at section offset r = r.section == section && r.offset == offset
+
+-- the relocation of a word of a module
+abbrev pub relocation_at : Contents → ℕ → ℕ → Option Relocation
+relocation_at m section offset = find (is_relocation_at section offset) m.relocations
+
+-- a word with its field filled, where it has one
+abbrev pub relocated : List Contents → List Place → ℕ → Contents → Option Relocation → ℕ → ℕ
+relocated modules places number m None word = word
+relocated modules places number m (Some r) word = filled r.kind (field_number r.kind (relocated_value modules places number m r)) word
+
+-- a word of a module as the program has it
+abbrev pub linked_word : List Contents → List Place → ℕ → Contents → ℕ → ℕ → ℕ → ℕ
+linked_word modules places number m section offset word = relocated modules places number m (relocation_at m section offset) word
+
+-- the program has this word at this address of this page: the word of an initialised section of a module
+pub record HasWord (modules : List Contents) (places : List Place) (page address word : ℕ) : Type 0 where
+  pub number : ℕ
+  pub index : ℕ
+  pub owner : Contents
+  pub section : SectionData
+  pub offset : ℕ
+  pub before : ℕ
+  pub part : IsPart modules number index owner section
+  pub word_is : slice_get (body_words section.body) offset ≡ Some before
+  pub page_is : page ≡ page_of section.name places
+  pub address_is : address ≡ part_base modules places number section.name + offset
+  pub linked : word ≡ linked_word modules places number owner index offset before
+
+-- ---- marks
+
+-- the mark of an instruction where its section's part stands
+abbrev pub placed_mark : List Contents → List Place → ℕ → Contents → ModuleMark → Mark
+placed_mark modules places number m mark = record { address = section_base modules places number m mark.section + mark.offset; size = mark.size }
+
+-- whether the section of a mark stands on page 0
+abbrev pub is_on_program : List Place → Contents → ModuleMark → Bool
+is_on_program places m mark = section_page places m mark.section == 0
+
+-- the marks of a module on page 0
+abbrev pub module_marks : List Contents → List Place → ℕ → Contents → List Mark
+module_marks modules places number m = map (placed_mark modules places number m) (filter (is_on_program places m) m.marks)
+
+-- the instructions on page 0, by modules and marks
+abbrev pub program_marks : List Contents → List Place → List Mark
+program_marks modules places = by_modules (module_marks modules places) 0 modules

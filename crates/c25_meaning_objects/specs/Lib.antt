@@ -1,0 +1,4 @@
+pub mod Faults
+pub mod Module
+pub mod RecordReading
+pub mod Records

@@ -1,0 +1,204 @@
+-- What a module of relocatable words consists of, and which lists are a module. Sections, symbols and relocation
+-- are those of SPRU018's chapters on sections and on the assembler; the records that hold them are this project's own.
+use Rattle.std.specs.Prelude.{◌≡◌, ◌<◌, ℕ, ℤ, pos, ◌+◌, ◌-◌, ◌%◌, Bool, true, false, ◌||◌, ◌&&◌, ◌==◌, not, nat_lt, nat_le, slice_index, List, [], ◌∷◌, ◌++◌, length, Option, Some, None, ◌^◌, FitsSigned}
+use Rattle.std.specs.Int.{w32}
+use Rattle.std.specs.List.{slice_get, list_all, list_any, AllByRecursion}
+use Rattle.std.specs.Ordering.{int_eq}
+use Rattle.std.specs.Str.{bytes_eq}
+use Rattle.c25_meaning_common.specs.Bytes.{is_visible, begins_name, goes_on_name}
+use Rattle.c25_meaning_objects.specs.declared.object.SymbolKind.{SymbolKind}
+use Rattle.c25_meaning_objects.specs.declared.object.SymbolKind.TheVariants.{Absolute, InSection, External}
+use Rattle.c25_meaning_objects.specs.declared.object.Scope.{Scope}
+use Rattle.c25_meaning_objects.specs.declared.object.Scope.TheVariants.{Local, Global}
+use Rattle.c25_meaning_objects.specs.declared.object.ModuleMark.{ModuleMark}
+use Rattle.c25_meaning_objects.specs.declared.object.RelocationBase.{RelocationBase}
+use Rattle.c25_meaning_objects.specs.declared.object.RelocationBase.TheVariants as base
+use Rattle.c25_meaning_objects.specs.declared.object.Relocation.{Relocation}
+use Rattle.c25_meaning_common.specs.Fields.{field_values}
+
+-- what a section has: room for words, or words
+pub data SectionBody : Type 0 where
+  Uninitialised : ℕ → SectionBody
+  Initialised : List ℕ → SectionBody
+
+-- a section
+pub record SectionData : Type 0 where
+  pub name : List ℕ
+  pub body : SectionBody
+
+-- a symbol, with its value whatever its kind
+pub record SymbolData : Type 0 where
+  pub kind : SymbolKind
+  pub scope : Scope
+  pub value : ℤ
+  pub name : List ℕ
+
+-- the lists of a module
+pub record Contents : Type 0 where
+  pub sections : List SectionData
+  pub marks : List ModuleMark
+  pub symbols : List SymbolData
+  pub relocations : List Relocation
+
+-- ---- names
+
+-- what a section's name is made of
+abbrev pub is_section_byte : ℕ → Bool
+is_section_byte b = is_visible b && not (b == 34)
+
+-- 1 to 32 characters 21h to 7Eh without the quote
+abbrev pub is_section_name : List ℕ → Bool
+is_section_name name = nat_le 1 (length name) && nat_le (length name) 32 && list_all is_section_byte name
+
+-- 1 to 128 characters: a letter or `_`, then letters, digits, `_` and `$`
+abbrev pub is_symbol_name : List ℕ → Bool
+is_symbol_name name = nat_le 1 (length name) && nat_le (length name) 128 && begins_name (slice_index name 0) && list_all goes_on_name name
+
+-- ---- sections
+
+-- the words that are loaded
+abbrev pub body_words : SectionBody → List ℕ
+body_words (Uninitialised size) = []
+body_words (Initialised words) = words
+
+-- the size in words
+abbrev pub body_size : SectionBody → ℕ
+body_size (Uninitialised size) = size
+body_size (Initialised words) = length words
+
+-- whether a section is initialised
+abbrev pub has_words : SectionBody → Bool
+has_words (Uninitialised size) = false
+has_words (Initialised words) = true
+
+-- an initialised `.text`
+abbrev pub is_text : SectionData → Bool
+is_text s = bytes_eq s.name (46 ∷ 116 ∷ 101 ∷ 120 ∷ 116 ∷ []) && has_words s.body
+
+-- the first section is an initialised `.text`
+abbrev pub begins_sections : List SectionData → SectionData → Bool
+begins_sections [] s = is_text s
+begins_sections (first ∷ others) s = true
+
+-- whether a section has that name
+abbrev pub has_section : List SectionData → List ℕ → Bool
+has_section before name = list_any (λ s. bytes_eq s.name name) before
+
+-- the section may follow these
+abbrev pub section_fits : List SectionData → SectionData → Bool
+section_fits before s =
+    is_section_name s.name && nat_le (body_size s.body) 65536 && begins_sections before s
+    && not (has_section before s.name) && nat_lt (length before) 255
+
+-- ---- marks
+
+-- the words of a section by its number: none where it is uninitialised, or where there is no such section
+abbrev pub words_at : List SectionData → ℕ → List ℕ
+words_at sections number = elim (slice_get sections number) [ None ↦ [] | Some s ↦ body_words s.body ]
+
+-- a place at or behind another
+abbrev pub is_from : ℕ → ℕ → ℕ → ℕ → Bool
+is_from section offset other_section other_offset =
+    nat_lt section other_section || (section == other_section && nat_le offset other_offset)
+
+-- what stands last, if anything does
+abbrev pub last_of : {A : Type 0} → List A → Option A
+last_of xs = slice_get xs (length xs - 1)
+
+-- the mark ascends and does not overlap the last one
+abbrev pub mark_after : Option ModuleMark → ModuleMark → Bool
+mark_after None m = true
+mark_after (Some last) m = is_from last.section (last.offset + last.size) m.section m.offset
+
+-- the mark may follow these
+abbrev pub mark_fits : List SectionData → List ModuleMark → ModuleMark → Bool
+mark_fits sections before m =
+    (m.size == 1 || m.size == 2) && nat_le (m.offset + m.size) (length (words_at sections m.section)) && mark_after (last_of before) m
+
+-- ---- symbols
+
+-- whether other modules see the symbol
+abbrev pub is_global : Scope → Bool
+is_global Local = false
+is_global Global = true
+
+-- a section that there is; no local external symbol and none with a value
+abbrev pub place_fits : List SectionData → SymbolData → SymbolKind → Bool
+place_fits sections y Absolute = true
+place_fits sections y (InSection number) = nat_lt number (length sections)
+place_fits sections y External = is_global y.scope && int_eq y.value (pos 0)
+
+-- whether a symbol has that name
+abbrev pub has_symbol : List SymbolData → List ℕ → Bool
+has_symbol before name = list_any (λ y. bytes_eq y.name name) before
+
+-- what a symbol has to be by itself
+abbrev pub symbol_stands : List SectionData → SymbolData → Bool
+symbol_stands sections y = is_symbol_name y.name && place_fits sections y y.kind
+
+-- the symbol may follow these
+abbrev pub symbol_fits : List SectionData → List SymbolData → SymbolData → Bool
+symbol_fits sections before y =
+    symbol_stands sections y && not (has_symbol before y.name) && nat_lt (length before) 65535
+
+-- ---- relocations
+
+-- whether there is a symbol, and it is external
+abbrev pub is_external : Option SymbolData → Bool
+is_external None = false
+is_external (Some y) = is_external_kind y.kind where
+  is_external_kind : SymbolKind → Bool
+  is_external_kind Absolute = false
+  is_external_kind (InSection number) = false
+  is_external_kind External = true
+
+-- a section that there is, or a symbol that is external
+abbrev pub base_fits : List SectionData → List SymbolData → RelocationBase → Bool
+base_fits sections symbols (base.Section number) = nat_lt number (length sections)
+base_fits sections symbols (base.External number) = is_external (slice_get symbols number)
+
+-- the relocation ascends: no two are of one word
+abbrev pub relocation_after : Option Relocation → Relocation → Bool
+relocation_after None r = true
+relocation_after (Some last) r = is_from last.section (last.offset + 1) r.section r.offset
+
+-- the field of the word is 0 yet
+abbrev pub field_is_clear : List ℕ → Relocation → Bool
+field_is_clear words r = nat_lt r.offset (length words) && slice_index words r.offset % field_values r.kind == 0
+
+-- the relocation may follow these
+abbrev pub relocation_fits : List SectionData → List SymbolData → List Relocation → Relocation → Bool
+relocation_fits sections symbols before r =
+    base_fits sections symbols r.base && relocation_after (last_of before) r && field_is_clear (words_at sections r.section) r
+
+-- ---- modules
+
+-- each may follow those before it
+abbrev pub each_fits : {A : Type 0} → (List A → A → Bool) → List A → List A → Bool
+each_fits fits before [] = true
+each_fits fits before (x ∷ xs) = fits before x && each_fits fits (before ++ x ∷ []) xs
+
+-- there is a section
+abbrev pub has_sections : Contents → Bool
+has_sections c = nat_lt 0 (length c.sections)
+
+-- each item of a list may follow those before it
+abbrev pub lists_fit : Contents → Bool
+lists_fit c =
+    each_fits section_fits [] c.sections && (each_fits (mark_fits c.sections) [] c.marks
+    && (each_fits (symbol_fits c.sections) [] c.symbols && each_fits (relocation_fits c.sections c.symbols) [] c.relocations))
+
+-- the lists are those of a module
+abbrev pub is_module : Contents → Bool
+is_module c = has_sections c && lists_fit c
+
+-- the numbers are of the widths that the records give them
+pub record IsSized (c : Contents) : Type 0 where
+  pub words : AllByRecursion (λ s. AllByRecursion (λ w. w < 2 ^ 16) (body_words s.body)) c.sections
+  pub values : AllByRecursion (λ y. FitsSigned w32 y.value) c.symbols
+  pub addends : AllByRecursion (λ r. FitsSigned w32 r.addend) c.relocations
+
+-- the contents of a module
+pub record IsModule (c : Contents) : Type 0 where
+  pub lists : is_module c ≡ true
+  pub sized : IsSized c

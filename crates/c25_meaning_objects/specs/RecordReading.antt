@@ -1,0 +1,204 @@
+-- Reading the bytes of a module (in records of this project's own) front to back, with the first fault that is met: of
+-- one record, that it is cut off, then that its tag is unknown or out of order, then that it is not of its form.
+use Rattle.std.specs.Prelude.{ℕ, zero, suc, ◌+◌, Bool, ◌||◌, ◌&&◌, ◌==◌, not, nat_lt, nat_le, slice_index, if◌then◌else◌, List, [], ◌∷◌, ◌++◌, length, take, drop, Option, Some, None, Result, Ok, Err}
+use Rattle.std.specs.Int.{w16, w32, from_be_bytes, cast_signed}
+use Rattle.std.specs.Option.{option_and_then, option_map}
+use Rattle.c25_meaning_objects.specs.declared.object.SymbolKind.{SymbolKind}
+use Rattle.c25_meaning_objects.specs.declared.object.SymbolKind.TheVariants.{Absolute, InSection, External}
+use Rattle.c25_meaning_objects.specs.declared.object.Scope.{Scope}
+use Rattle.c25_meaning_objects.specs.declared.object.Scope.TheVariants.{Local, Global}
+use Rattle.c25_meaning_objects.specs.declared.object.ModuleMark.{ModuleMark}
+use Rattle.c25_meaning_common.specs.declared.relocation.RelocationKind.{RelocationKind}
+use Rattle.c25_meaning_common.specs.declared.relocation.RelocationKind.TheVariants.{Word16, Low7, Page9}
+use Rattle.c25_meaning_objects.specs.declared.object.RelocationBase.{RelocationBase}
+use Rattle.c25_meaning_objects.specs.declared.object.RelocationBase.TheVariants as base
+use Rattle.c25_meaning_objects.specs.declared.object.Relocation.{Relocation}
+use Rattle.c25_meaning_objects.specs.declared.object.ObjectFault.{ObjectFault}
+use Rattle.c25_meaning_objects.specs.declared.object.ObjectFault.TheVariants.{BadMagic, BadVersion, Short, BadTag, BadField, Trailing}
+use Rattle.c25_meaning_common.specs.Results.{◌>>=◌}
+use Rattle.c25_meaning_objects.specs.Module.{SectionBody, Uninitialised, Initialised, SectionData, SymbolData, Contents, section_fits, mark_fits, symbol_fits, relocation_fits, has_sections}
+
+-- ---- the parts of payloads, by their places
+
+-- two bytes
+abbrev pub short_at : List ℕ → ℕ → ℕ
+short_at bytes at = from_be_bytes w16 (slice_index bytes at ∷ slice_index bytes (at + 1) ∷ [])
+
+-- four bytes
+abbrev pub long_at : List ℕ → ℕ → ℕ
+long_at bytes at = from_be_bytes w32 (slice_index bytes at ∷ slice_index bytes (at + 1) ∷ slice_index bytes (at + 2) ∷ slice_index bytes (at + 3) ∷ [])
+
+-- words of two bytes each; nothing where a byte is left
+unfoldable pub words_in : List ℕ → Option (List ℕ)
+words_in [] = Some []
+words_in (high ∷ []) = None
+words_in (high ∷ low ∷ rest) = option_map (λ words. from_be_bytes w16 (high ∷ low ∷ []) ∷ words) (words_in rest)
+
+-- ---- payloads
+
+-- section, offset, size
+unfoldable pub mark_of : List ℕ → Option ModuleMark
+mark_of bytes =
+    if length bytes == 5
+    then Some (record { section = short_at bytes 0; offset = short_at bytes 2; size = slice_index bytes 4 })
+    else None
+
+-- the kind of a code, with its two bytes for a section: 0 where there is none
+abbrev pub kind_of : ℕ → ℕ → Option SymbolKind
+kind_of code section =
+    if code == 0 then (if section == 0 then Some Absolute else None)
+    else (if code == 1 then Some (InSection section)
+    else (if code == 2 then (if section == 0 then Some External else None)
+    else None))
+
+-- the scope of a code
+abbrev pub scope_of : ℕ → Option Scope
+scope_of code = if code == 0 then Some Local else (if code == 1 then Some Global else None)
+
+-- a symbol of this kind and scope with the value and the name that the payload holds
+abbrev pub symbol_with : List ℕ → SymbolKind → Scope → SymbolData
+symbol_with bytes kind scope = record { kind = kind; scope = scope; value = cast_signed w32 (long_at bytes 4); name = drop 9 bytes }
+
+-- the length byte of the name is the ninth, and the name ends the payload
+unfoldable pub symbol_of : List ℕ → Option SymbolData
+symbol_of bytes =
+    if nat_lt (length bytes) 9 then None
+    else (if not (slice_index bytes 8 == length (drop 9 bytes)) then None
+    else option_and_then (λ kind. option_map (λ scope. symbol_with bytes kind scope) (scope_of (slice_index bytes 1)))
+    (kind_of (slice_index bytes 0) (short_at bytes 2)))
+
+-- the field of a code
+abbrev pub field_of : ℕ → Option RelocationKind
+field_of code = if code == 1 then Some Word16 else (if code == 2 then Some Low7 else (if code == 3 then Some Page9 else None))
+
+-- the base of a code, with its number
+abbrev pub base_of : ℕ → ℕ → Option RelocationBase
+base_of code index = if code == 0 then Some (base.Section index) else (if code == 1 then Some (base.External index) else None)
+
+-- a relocation of this field and base with the place and the addend that the payload holds
+abbrev pub relocation_with : List ℕ → RelocationKind → RelocationBase → Relocation
+relocation_with bytes kind base = record { section = short_at bytes 0; offset = short_at bytes 2; kind = kind; base = base; addend = cast_signed w32 (long_at bytes 8) }
+
+-- section, offset, field, base, number, addend: twelve bytes
+unfoldable pub relocation_of : List ℕ → Option Relocation
+relocation_of bytes =
+    if length bytes == 12
+    then option_and_then (λ kind. option_map (λ base. relocation_with bytes kind base) (base_of (slice_index bytes 5) (short_at bytes 6)))
+    (field_of (slice_index bytes 4))
+    else None
+
+-- the size, and behind a flag the words
+abbrev pub body_of : ℕ → List ℕ → Option SectionBody
+body_of flag bytes =
+    if nat_lt (length bytes) 4 then None
+    else (if flag == 0 then (if length bytes == 4 then Some (Uninitialised (long_at bytes 0)) else None)
+    else (if flag == 1 then option_and_then (λ words. if length words == long_at bytes 0 then Some (Initialised words) else None) (words_in (drop 4 bytes))
+    else None))
+
+-- flag, counted name, and the body behind it
+unfoldable pub section_of : List ℕ → Option SectionData
+section_of bytes =
+    if nat_lt (length bytes) 2 then None
+    else (if nat_lt (length (drop 2 bytes)) (slice_index bytes 1) then None
+    else option_map (λ body. record { name = take (slice_index bytes 1) (drop 2 bytes); body = body })
+    (body_of (slice_index bytes 0) (drop (slice_index bytes 1) (drop 2 bytes))))
+
+-- ---- a record after others
+
+-- an item that may follow, or else the payload is bad
+abbrev pub checked : {A : Type 0} → (A → Bool) → Option A → Result A ObjectFault
+checked fits None = Err BadField
+checked fits (Some x) = if fits x then Ok x else Err BadField
+
+-- the tag of the list that grew last, that of the sections before any has grown
+abbrev pub latest : Contents → ℕ
+latest c =
+    if nat_lt 0 (length c.relocations) then 4
+    else (if nat_lt 0 (length c.symbols) then 3
+    else (if nat_lt 0 (length c.marks) then 2 else 1))
+
+-- the tag is known, and none that is over
+abbrev pub is_in_order : Contents → ℕ → Bool
+is_in_order c tag = nat_le (latest c) tag && (nat_le tag 4 || tag == 255)
+
+-- the next section
+unfoldable pub with_section : Contents → List ℕ → Result Contents ObjectFault
+with_section c payload = do
+  s ← checked (section_fits c.sections) (section_of payload)
+  Ok (record c { sections = c.sections ++ s ∷ [] })
+
+-- the next mark
+unfoldable pub with_mark : Contents → List ℕ → Result Contents ObjectFault
+with_mark c payload = do
+  m ← checked (mark_fits c.sections c.marks) (mark_of payload)
+  Ok (record c { marks = c.marks ++ m ∷ [] })
+
+-- the next symbol
+unfoldable pub with_symbol : Contents → List ℕ → Result Contents ObjectFault
+with_symbol c payload = do
+  y ← checked (symbol_fits c.sections c.symbols) (symbol_of payload)
+  Ok (record c { symbols = c.symbols ++ y ∷ [] })
+
+-- the next relocation
+unfoldable pub with_relocation : Contents → List ℕ → Result Contents ObjectFault
+with_relocation c payload = do
+  r ← checked (relocation_fits c.sections c.symbols c.relocations) (relocation_of payload)
+  Ok (record c { relocations = c.relocations ++ r ∷ [] })
+
+-- the record of a tag, 1 to 4: a section, or, behind a section at least, a mark, a symbol or a relocation
+unfoldable pub with_record : Contents → ℕ → List ℕ → Result Contents ObjectFault
+with_record c tag payload =
+    if tag == 1 then with_section c payload
+    else (if not (has_sections c) then Err BadField
+    else (if tag == 2 then with_mark c payload
+    else (if tag == 3 then with_symbol c payload
+    else (if tag == 4 then with_relocation c payload
+    else Err BadTag))))
+
+-- ---- all of the bytes
+
+-- a record: its tag and its payload
+pub record Record : Type 0 where
+  pub tag : ℕ
+  pub payload : List ℕ
+
+-- the record at the front, and the bytes behind it
+unfoldable pub record_at : List ℕ → Result (Record × List ℕ) ObjectFault
+record_at bytes =
+    if nat_lt (length bytes) 5 then Err Short
+    else (if nat_lt (length (drop 5 bytes)) (long_at bytes 1) then Err Short
+    else Ok (record { tag = slice_index bytes 0; payload = take (long_at bytes 1) (drop 5 bytes) }, drop (long_at bytes 1) (drop 5 bytes)))
+
+-- after the record FF
+unfoldable pub ended : Contents → List ℕ → List ℕ → Result Contents ObjectFault
+ended c payload rest =
+    if has_sections c && length payload == 0 then (if length rest == 0 then Ok c else Err Trailing) else Err BadField
+
+-- the records after those of `c`, at most so many: first that one is cut off, then that its tag may not follow, then its payload
+unfoldable pub read_from : ℕ → Contents → List ℕ → Result Contents ObjectFault
+read_from zero c bytes = Err Short
+read_from (suc n) c bytes = do
+  found ← record_at bytes
+  if not (is_in_order c found.0.tag) then Err BadTag
+      else (if found.0.tag == 255 then ended c found.0.payload found.1
+      else (with_record c found.0.tag found.0.payload >>= λ d. read_from n d found.1))
+
+-- before the first record
+abbrev pub nothing_read : Contents
+nothing_read = record { sections = []; marks = []; symbols = []; relocations = [] }
+
+-- all of them; a record takes a byte at least, so there are no more than bytes
+abbrev pub read_all : List ℕ → Result Contents ObjectFault
+read_all bytes = read_from (length bytes) nothing_read bytes
+
+-- `C25O` in front
+abbrev pub has_magic : List ℕ → Bool
+has_magic bytes =
+    nat_le 4 (length bytes) && slice_index bytes 0 == 67 && slice_index bytes 1 == 50 && slice_index bytes 2 == 53 && slice_index bytes 3 == 79
+
+-- the module that the bytes are, or the first fault
+unfoldable pub module_of : List ℕ → Result Contents ObjectFault
+module_of bytes =
+    if not (has_magic bytes) then Err BadMagic
+    else (if not (nat_le 5 (length bytes) && slice_index bytes 4 == 1) then Err BadVersion
+    else read_all (drop 5 bytes))

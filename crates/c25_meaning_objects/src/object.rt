@@ -1,0 +1,90 @@
+//! The plain parts of a module of relocatable words, and what is wrong with bytes that spell none.
+
+use c25_meaning_common::relocation::RelocationKind;
+use std::error::Error;
+use std::fmt;
+
+/// What a symbol's value counts from.
+#[derive(Clone, Copy, PartialEq)]
+pub enum SymbolKind {
+    /// From 0.
+    Absolute,
+    /// From the section of that number, counted from 0.
+    InSection(u16),
+    /// The symbol is another module's, and has no value here.
+    External,
+}
+
+/// Who sees a symbol.
+#[derive(Clone, Copy)]
+pub enum Scope {
+    /// Its own module alone.
+    Local,
+    /// All modules that are linked.
+    Global,
+}
+
+/// An instruction of one or two words: its section, counted from 0, and its offset there in words.
+#[derive(Clone, Copy, PartialEq, Debug)]
+pub struct ModuleMark {
+    pub section: u16,
+    pub offset: u16,
+    pub size: u8,
+}
+
+/// What a relocation adds its addend to.
+#[derive(Clone, Copy, PartialEq, Debug)]
+pub enum RelocationBase {
+    /// The address of the section of that number.
+    Section(u16),
+    /// The value of the external symbol of that number, counted from 0 among the module's symbols.
+    External(u16),
+}
+
+/// A field of a word that is filled when modules are linked: the word's section and offset, the
+/// field, and what it is filled from.
+#[derive(Clone, Copy, PartialEq, Debug)]
+pub struct Relocation {
+    pub section: u16,
+    pub offset: u16,
+    pub kind: RelocationKind,
+    pub base: RelocationBase,
+    pub addend: i32,
+}
+
+/// Why bytes are no module: the first fault that stands in them, from the front.
+#[derive(Clone, Copy, PartialEq, Debug)]
+pub enum ObjectFault {
+    /// They do not begin with `C25O` (40).
+    BadMagic,
+    /// The version is none that is known, or is missing (41).
+    BadVersion,
+    /// They end before the last record does (42).
+    Short,
+    /// A record has a tag that is unknown, or that may not follow the records before it (43).
+    BadTag,
+    /// A record has not the form of its tag, or may not stand among the records before it (44).
+    BadField,
+    /// Something follows the last record (45).
+    Trailing,
+}
+
+impl fmt::Display for ObjectFault {
+    ghost use Rattle.std.specs.Prelude.{Some};
+    ghost use Rattle.c25_meaning_objects.specs.Faults.{object_name};
+
+    ghost output = { λ fault. Some (object_name fault) };
+
+    fn fmt<W: fmt::Write>(&self, f: &mut fmt::Formatter<W>) -> fmt::Result {
+        match self {
+            ObjectFault::BadMagic => f.write_str("BadMagic"),
+            ObjectFault::BadVersion => f.write_str("BadVersion"),
+            ObjectFault::Short => f.write_str("Short"),
+            ObjectFault::BadTag => f.write_str("BadTag"),
+            ObjectFault::BadField => f.write_str("BadField"),
+            ObjectFault::Trailing => f.write_str("Trailing"),
+        }
+    }
+}
+
+impl Error for ObjectFault {}

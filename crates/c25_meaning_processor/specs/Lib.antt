@@ -1,0 +1,13 @@
+pub mod Arithmetic
+pub mod Effect
+pub mod FirstState
+pub mod Memory
+pub mod Operand
+pub mod Reset
+pub mod Run
+pub mod RunText
+pub mod State
+pub mod Statements
+pub mod Status
+pub mod Step
+pub mod WordStep

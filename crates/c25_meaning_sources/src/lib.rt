@@ -1,0 +1,2 @@
+//! The module of a source: what its expansion gives, assembled.
+#![tactic(auto)]

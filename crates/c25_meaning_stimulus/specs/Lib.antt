@@ -1,0 +1,4 @@
+pub mod Samples
+pub mod Schedule
+pub mod Script
+pub mod Signals

@@ -1,0 +1,17 @@
+pub mod AddressFields
+pub mod Chains
+pub mod Counted
+pub mod Distinct
+pub mod Emitted
+pub mod Kept
+pub mod KeptActs
+pub mod KeptLines
+pub mod LineWords
+pub mod ModuleFits
+pub mod ModulesOfSources
+pub mod OperandSheets
+pub mod ResultSteps
+pub mod SectionsFilled
+pub mod Spoken
+pub mod Symbols
+pub mod Valued

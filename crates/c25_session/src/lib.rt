@@ -1,0 +1,8 @@
+//! The debugger: a session over a board, which answers commands with texts.
+#![tactic(auto)]
+
+mod breakpoints;
+mod memories;
+pub mod session;
+mod shown;
+mod steps;

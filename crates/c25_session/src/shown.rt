@@ -1,0 +1,112 @@
+//! Commands that show where a board stands, and the image that it runs.
+
+ghost use Rattle.std.specs.Prelude.{◌≡◌, ◌≤◌, ◌+◌, IfOk, string_bytes};
+ghost use Rattle.c25_board.specs.Board.{state};
+ghost use Rattle.c25_meaning_debugger.specs.Debugger.{data_word, program_word};
+ghost use Rattle.c25_meaning_debugger.specs.Texts.{AreLinesOf, IsWhere, marks_from, regs_text, stack_text, symbols_text, words_text};
+ghost use Rattle.c25_meaning_image.specs.Marks as marks;
+ghost use Rattle.c25_meaning_processor.specs.Status.{regs_of};
+
+use crate::memories::{DataMemory, ProgramMemory};
+use c25_answers::{push_instruction, push_instructions, push_registers, push_stack, push_words};
+use c25_board::board::Board;
+use c25_board::ports::{Feed, Sink};
+use c25_link::Image;
+use c25_map::push_symbols;
+use c25_meaning_common::no_memory::NoMemory;
+use c25_meaning_image::marks::size_at;
+use std::alloc::Global;
+
+/// The registers.
+pub(crate) fn show_registers<F: Feed + Drop, S: Sink + Drop>(
+    alloc: Global,
+    board: &Board<F, S>,
+) -> Result<String, NoMemory>
+    ensures { IfOk result (λ text. string_bytes text ≡ regs_text (regs_of (state board.now).registers)) }
+{
+    let mut text = String::new(alloc);
+    push_registers(&mut text, &board.regs())?;
+    Ok(text)
+}
+
+/// The hardware stack.
+pub(crate) fn show_stack<F: Feed + Drop, S: Sink + Drop>(
+    alloc: Global,
+    board: &Board<F, S>,
+) -> Result<String, NoMemory>
+    ensures { IfOk result (λ text. string_bytes text ≡ stack_text (regs_of (state board.now).registers)) }
+{
+    let mut text = String::new(alloc);
+    push_stack(&mut text, &board.regs())?;
+    Ok(text)
+}
+
+/// Words of data memory.
+pub(crate) fn show_data<F: Feed + Drop, S: Sink + Drop>(
+    alloc: Global,
+    board: &Board<F, S>,
+    address: u16,
+    count: u32,
+) -> Result<String, NoMemory>
+    requires { address + count ≤ 65536 }
+    ensures { IfOk result (λ text. string_bytes text ≡ words_text (data_word (state board.now)) address count) }
+{
+    let mut text = String::new(alloc);
+    push_words(&mut text, &DataMemory { board }, address, count)?;
+    Ok(text)
+}
+
+/// Words of program memory.
+pub(crate) fn show_program<F: Feed + Drop, S: Sink + Drop>(
+    alloc: Global,
+    board: &Board<F, S>,
+    address: u16,
+    count: u32,
+) -> Result<String, NoMemory>
+    requires { address + count ≤ 65536 }
+    ensures { IfOk result (λ text. string_bytes text ≡ words_text (program_word (state board.now)) address count) }
+{
+    let mut text = String::new(alloc);
+    push_words(&mut text, &ProgramMemory { board }, address, count)?;
+    Ok(text)
+}
+
+/// The image's instruction at an address.
+pub(crate) fn show_place(alloc: Global, image: &Image, address: u16) -> Result<String, NoMemory>
+    ensures { IfOk result (λ text. IsWhere image.now.program address (marks.size_at image.now.marks address) (string_bytes text)) }
+{
+    let mut text = String::new(alloc);
+    let size = size_at(image.marks(), address);
+    push_instruction(alloc, &mut text, image.words(0), address, size)?;
+    Ok(text)
+}
+
+/// The image's first so many instructions from an address up.
+pub(crate) fn show_list(
+    alloc: Global,
+    image: &Image,
+    address: u16,
+    count: u32,
+) -> Result<String, NoMemory>
+    ensures { IfOk result (λ text. AreLinesOf image.now.program (marks_from image.now.marks address count) (string_bytes text)) }
+{
+    let mut text = String::new(alloc);
+    push_instructions(
+        alloc,
+        &mut text,
+        image.words(0),
+        image.marks(),
+        address,
+        count,
+    )?;
+    Ok(text)
+}
+
+/// The image's symbols.
+pub(crate) fn show_symbols(alloc: Global, image: &Image) -> Result<String, NoMemory>
+    ensures { IfOk result (λ text. string_bytes text ≡ symbols_text image.now.described.symbols) }
+{
+    let mut text = String::new(alloc);
+    push_symbols(&mut text, image.symbols())?;
+    Ok(text)
+}
