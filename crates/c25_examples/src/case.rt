@@ -59,7 +59,10 @@ impl<'a> Case<'a> {
         if output.as_slice() != self.output {
             println!(rt; "{name}: another standard output")?;
         }
-        if self.errors.is_some_and(|wanted| errors.as_slice() != wanted) {
+        if self
+            .errors
+            .is_some_and(|wanted| errors.as_slice() != wanted)
+        {
             println!(rt; "{name}: another standard error")?;
         }
         if !folder.wrote(&self.written) {
