@@ -1,18 +1,22 @@
 #!/usr/bin/env python3
-"""Makes what the crate c25_examples runs and what it has to print: of the larger programs and of the pages.
+"""Makes what the crate c25_examples runs and what it has to print.
 
     python3 examples/sessions.py            writes it
     python3 examples/sessions.py --check    says which files are others, and writes nothing
 
-`args` has the folders in `data/` that are run, each with a file `session`: a command a line. `stdout` has each
-folder's name and its commands with what they must print.
+`args` has what is run of `data/`: folders, each with a file `session` (a command a line), and files of packed cases
+(their form is told in crates/c25_examples/src/packed.rt). `stdout` has each one's name and what must be printed: of a
+folder its commands with what a terminal shows behind them, of packed cases their number.
 
-- Of a larger program the command is its `session`, and what it must print its `output.txt`, which `expected.py` works
-  out (examples/README.md).
-- Of a page (README.md, docs/MANUAL.md, docs/manual/) all of it is taken from the page: the folder's files, the
-  commands and what the page shows behind them. A block `console` has a shell's commands, of which `cat FILE` makes the
-  file where no command of the page writes it; of a block `listing` its source is assembled; each line of a block
-  `faults` is a source, and its comment is the fault that must be told of it.
+- `programs/NAME` is a copy of the larger program examples/NAME: its command is its `session`, and what it must print its
+  `output.txt`, which `expected.py` works out (examples/README.md).
+- `pages/NAME` is all taken from a page (README.md, docs/MANUAL.md, docs/manual/): the folder's files, the commands and
+  what the page shows behind them. A block `console` has a shell's commands, of which `cat FILE` makes the file where no
+  command of the page writes it; of a block `listing` its source is assembled; each line of a block `faults` is a source,
+  and its comment is the fault that must be told of it.
+- `faults.cases` has the examples of docs/FAULTS.md that words of the program reach: the form of its blocks is told there.
+- `cases/NAME` stands as it is, with its files, its `session` and its `output.txt`: what a terminal shows of it.
+- `cases/*.cases` and `random/*.cases` stand as they are.
 
 The program itself is not run here: `rt ci` runs it.
 """
@@ -26,9 +30,13 @@ import tempfile
 
 TOP = os.path.dirname(os.path.dirname(os.path.abspath(__file__)))
 CRATE = os.path.join(TOP, "crates", "c25_examples")
+DATA = os.path.join(CRATE, "data")
 PROGRAMS = ["fir", "biquad", "tone", "ring", "modem", "pi", "decimal"]
+# What belongs to a larger program and is not run.
+BESIDE = ("expected.py", "output.txt", "README.md")
 PAGES = ["README.md", "docs/MANUAL.md"] + ["docs/manual/%s.md" % name for name in (
     "language", "macros", "linking", "program", "formats", "limits")]
+FAULTS = "docs/FAULTS.md"
 # Commands that show something and are none of the program's: what they show is not looked at.
 OTHERS = ("ls", "od ", "cmp ")
 
@@ -134,10 +142,99 @@ def page(path, data):
 
 
 def program(name, data):
-    """The folder of a larger program, which stands."""
-    folder = os.path.join(CRATE, "data", name)
-    command, = lines_of(os.path.join(folder, "session"))
-    return name, ["$ " + command] + lines_of(os.path.join(folder, "output.txt"))
+    """The folder of a larger program."""
+    source = os.path.join(TOP, "examples", name)
+    shutil.copytree(source, os.path.join(data, "programs", name), ignore=shutil.ignore_patterns(*BESIDE))
+    command, = lines_of(os.path.join(source, "session"))
+    return "programs/" + name, ["$ " + command] + lines_of(os.path.join(source, "output.txt"))
+
+
+def case_folders():
+    """The folders of cases, which stand."""
+    for name in sorted(os.listdir(os.path.join(DATA, "cases"))):
+        folder = os.path.join(DATA, "cases", name)
+        if os.path.isdir(folder):
+            told = lines_of(os.path.join(folder, "output.txt"))
+            if [line[2:] for line in told if line.startswith("$ ")] != lines_of(os.path.join(folder, "session")):
+                sys.exit("cases/%s: output.txt has other commands than session" % name)
+            yield "cases/" + name, told
+
+
+def packed_number(path):
+    """The number of the cases of a packed file."""
+    with open(path, "rb") as file:
+        rest, number = file.read(), 0
+    while rest:
+        line, _, rest = rest.partition(b"\n")
+        words = line.split(b" ")
+        number += words[0] == b"case"
+        if words[0] in (b"input", b"given", b"output", b"errors", b"written"):
+            rest = rest[int(words[1]) + 1:]
+    return number
+
+
+def packed(data, name):
+    return name, ["%d cases" % packed_number(os.path.join(data, name))]
+
+
+def given_files(block):
+    """The files of a block `given` (the first lines are those of a.asm), and the command that they are given to."""
+    command = block.pop(0)[2:] if block and block[0].startswith("$ ") else None
+    files, name = {}, "a.asm"
+    for line in block:
+        if line.startswith("--- "):
+            name = line[4:]
+            files.setdefault(name, [])
+        else:
+            files.setdefault(name, []).append(line)
+    return files, command
+
+
+def file_bytes(name, lines):
+    return bytes.fromhex("".join(lines)) if name.endswith(".obj") else "".join(line + "\n" for line in lines).encode()
+
+
+def packed_case(name, files, command, told):
+    """An example as a packed case: the fault's line goes to standard error, that of a run to standard output."""
+    if command is None:
+        beside = [option for option in ("command", "samples", "schedule") if option in files]
+        words = ["run"] + sorted(name for name in files if name.endswith(".asm"))
+        words += [word for option in beside for word in ("--" + option, option)]
+    else:
+        words = command.split()[1:]
+    runs = told.startswith(("left ", "ran "))
+    line = told.encode() + b"\n"
+    out = b"case %s\n" % name.encode() + b"".join(b"word %s\n" % word.encode() for word in words)
+    for file in sorted(files):
+        held = file_bytes(file, files[file])
+        out += b"given %d %s\n%s\n" % (len(held), file.encode(), held)
+    answer = b"status 3\noutput %d\n%s\nerrors 0\n\n" if runs else b"status 1\nerrors %d\n%s\n"
+    return out + answer % (len(line), line)
+
+
+def fault_examples():
+    """The examples of the page of faults that words of the program reach: their files, commands and lines."""
+    given = None
+    for _, kind, block in blocks(os.path.join(TOP, FAULTS)):
+        if kind == "given":
+            given = given_files(block)
+        elif kind == "told" and (given[1] is None or given[1].startswith("c25 ")):
+            yield given + (block[0],)
+        elif kind.startswith("lines ") and kind[6:] in ("a.asm", "command", "samples", "schedule"):
+            for row in block:
+                told, _, text = row.partition("|")
+                yield {"a.asm": [" NOP"], kind[6:]: [text]}, None, told
+
+
+def faults(data):
+    """These examples packed, named by their lines and numbered."""
+    out, seen = b"", {}
+    for files, command, told in fault_examples():
+        seen[told] = seen.get(told, 0) + 1
+        out += packed_case("%s, %d" % (told, seen[told]), files, command, told)
+    with open(os.path.join(data, "faults.cases"), "wb") as file:
+        file.write(out)
+    return packed(data, "faults.cases")
 
 
 def differing(made, standing):
@@ -150,24 +247,40 @@ def differing(made, standing):
             yield other
 
 
+def make(made):
+    """Makes the folders and files below the first of each pair, which stand below the second: the pairs."""
+    told = [program(name, made) for name in PROGRAMS] + [page(path, made) for path in PAGES] + [faults(made)]
+    told += case_folders()
+    told += [packed(DATA, "%s/%s" % (kind, name)) for kind in ("cases", "random")
+             for name in sorted(os.listdir(os.path.join(DATA, kind))) if name.endswith(".cases")]
+    for name, lines in (("args", [name for name, _ in told]),
+                        ("stdout", [line for name, lines in told for line in ["== " + name] + lines])):
+        with open(os.path.join(made, name), "w", encoding="utf-8") as file:
+            file.write("".join(line + "\n" for line in lines))
+    return [(os.path.join(made, name), os.path.join(at, name))
+            for at, name in ((CRATE, "args"), (CRATE, "stdout"), (DATA, "faults.cases"), (DATA, "programs"), (DATA, "pages"))]
+
+
+def check(pairs):
+    """The files that stand and are others than those that were made."""
+    for one, other in pairs:
+        if os.path.isdir(one):
+            yield from differing(one, other)
+        elif not (os.path.exists(other) and filecmp.cmp(one, other, shallow=False)):
+            yield other
+
+
 def main():
     with tempfile.TemporaryDirectory() as made:
-        told = [page(path, made) for path in PAGES]
-        told = [program(name, made) for name in PROGRAMS] + told
-        for name, lines in (("args", [name for name, _ in told]),
-                            ("stdout", [line for name, lines in told for line in ["== " + name] + lines])):
-            with open(os.path.join(made, name), "w", encoding="utf-8") as file:
-                file.write("".join(line + "\n" for line in lines))
-        pages = os.path.join(CRATE, "data", "pages")
+        pairs = make(made)
         if sys.argv[1:] == ["--check"]:
-            others = [path for name in ("args", "stdout") for path in [os.path.join(CRATE, name)]
-                      if not (os.path.exists(path) and filecmp.cmp(os.path.join(made, name), path, shallow=False))]
-            others += differing(os.path.join(made, "pages"), pages)
-            sys.exit("".join("%s is another\n" % os.path.relpath(path, TOP) for path in others) or 0)
-        for name in ("args", "stdout"):
-            shutil.copyfile(os.path.join(made, name), os.path.join(CRATE, name))
-        shutil.rmtree(pages, ignore_errors=True)
-        shutil.copytree(os.path.join(made, "pages"), pages)
+            sys.exit("".join("%s is another\n" % os.path.relpath(path, TOP) for path in check(pairs)) or 0)
+        for one, other in pairs:
+            if os.path.isdir(one):
+                shutil.rmtree(other, ignore_errors=True)
+                shutil.copytree(one, other)
+            else:
+                shutil.copyfile(one, other)
 
 
 if __name__ == "__main__":

@@ -6,7 +6,7 @@ use c25_macro::files::Files;
 use c25_meaning_common::failure::Failure;
 use c25_meaning_common::no_memory::NoMemory;
 use c25_meaning_objects::object::{RelocationBase, Scope, SymbolKind};
-use c25_obj::{Body, Parts, write_module};
+use c25_obj::{Body, Parts};
 use std::alloc::Global;
 use std::fmt::Write;
 use std::process::Abort;
@@ -96,20 +96,6 @@ pub(crate) fn module_text(alloc: Global, files: &Files) -> Result<String, NoMemo
     Ok(out)
 }
 
-/// What comes of the module `a.asm`: the bytes that it is written as, or its fault.
-fn object_text(alloc: Global, files: &Files) -> Result<String, NoMemory> {
-    let mut out = String::new(alloc);
-    match assemble(alloc, files, "a.asm") {
-        Ok((module, _listing)) => {
-            for byte in &write_module(alloc, &module)? {
-                write!(out, "{byte:02X}")?;
-            }
-        }
-        Err(failure) => fault_into(&mut out, failure)?,
-    }
-    Ok(out)
-}
-
 /// What comes of the module `a.asm`: its listing, or its fault.
 pub(crate) fn listing_text(alloc: Global, files: &Files) -> Result<String, NoMemory> {
     match assemble(alloc, files, "a.asm") {
@@ -133,18 +119,6 @@ pub(crate) fn one_file(alloc: Global, text: &str) -> Result<Files, Fail> {
 pub(crate) fn gives(rt: &(impl Abort + AllocGlobal), text: &str, wanted: &str) -> Result<(), Fail> {
     let files = one_file(rt.alloc(), text)?;
     let found = module_text(rt.alloc(), &files)?;
-    assert_eq!(rt; found.as_str(), wanted);
-    Ok(())
-}
-
-/// The module of a source is written as these bytes.
-pub(crate) fn is_written(
-    rt: &(impl Abort + AllocGlobal),
-    text: &str,
-    wanted: &str,
-) -> Result<(), Fail> {
-    let files = one_file(rt.alloc(), text)?;
-    let found = object_text(rt.alloc(), &files)?;
     assert_eq!(rt; found.as_str(), wanted);
     Ok(())
 }

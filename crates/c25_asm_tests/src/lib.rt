@@ -6,8 +6,6 @@ mod bench;
 #[cfg(test)]
 mod faults;
 #[cfg(test)]
-mod limits;
-#[cfg(test)]
 mod listings;
 #[cfg(test)]
 mod modules;

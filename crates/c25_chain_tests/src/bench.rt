@@ -6,7 +6,6 @@ use c25_chain::fault::Fault;
 use c25_chain::{build, run_chain, write_fault, write_run};
 use c25_macro::files::Files;
 use c25_meaning_common::no_memory::NoMemory;
-use c25_meaning_image::word_map::WordMap;
 use std::alloc::Global;
 use std::process::Abort;
 use std::test::Fail;
@@ -88,47 +87,12 @@ pub(crate) fn runs(
     Ok(())
 }
 
-/// A case is refused with this line.
-pub(crate) fn is_refused(
-    rt: &(impl Abort + AllocGlobal),
-    case: Case<'_>,
-    line: &str,
-) -> Result<(), Fail> {
-    let found = answer(rt.alloc(), case, 9)?;
-    assert!(rt; found.is_err());
-    runs(rt, case, 9, line)
-}
-
 /// The run of n steps of a case, which is no refusal.
 pub(crate) fn run_of(alloc: Global, case: Case<'_>, n: u32) -> Result<Chain, Fail> {
     match answer(alloc, case, n)? {
         Ok(chain) => Ok(chain),
         Err(_) => Err(Fail::from("it was refused")),
     }
-}
-
-/// A text whose lines are parted by `^`.
-pub(crate) fn lines_of(alloc: Global, text: &str) -> Result<String, Fail> {
-    let mut out = String::new(alloc);
-    for part in text.split('^') {
-        out.push_str(part)?;
-        out.push_str("\n")?;
-    }
-    Ok(out)
-}
-
-/// Up to nine words from address 0 on, with a blank between two.
-pub(crate) fn words_text(alloc: Global, words: &WordMap) -> Result<String, Fail> {
-    let mut out = String::new(alloc);
-    for address in 0..9 {
-        if let Some(word) = words.get(address) {
-            if address > 0 {
-                out.push_str(" ")?;
-            }
-            write!(out, "{word:04X}")?;
-        }
-    }
-    Ok(out)
 }
 
 /// The program of a case.
@@ -139,10 +103,4 @@ pub(crate) fn built_of(alloc: Global, case: Case<'_>) -> Result<Built, Fail> {
         Ok(built) => Ok(built),
         Err(_) => Err(Fail::from("it was refused")),
     }
-}
-
-/// The first words of page 0 of a case's program.
-pub(crate) fn words_of(alloc: Global, case: Case<'_>) -> Result<String, Fail> {
-    let built = built_of(alloc, case)?;
-    words_text(alloc, built.linked.image.words(0))
 }

@@ -8,12 +8,6 @@ use std::alloc::Global;
 use std::process::Abort;
 use std::test::Fail;
 
-/// Blocks of words, in one section of two modules.
-const BLOCKS: [&str; 2] = [
-    " .bss U,100\n .bss V,100\n LDPK V\n LAC V\n",
-    " .bss W,1\n LDPK W\n LAC W\n",
-];
-
 /// Modules each of which names what the other one defines.
 const CALLS: [&str; 2] = [
     " .ref GO\n B GO\n .def END\nEND NOP\n",
@@ -75,12 +69,6 @@ fn both_have_texts(
 
 #[test]
 fn assembled_and_linked_is_built(rt: HostRuntime) -> Result<(), Fail> {
-    both_have_texts(
-        &rt,
-        &BLOCKS,
-        ":08000000C8062064C80720486F\n:00000001FF\n",
-        "C25 MAP 1\nSECTION 0 0000 00004 .text\nPART 0 0000 00002\nPART 1 0002 00002\nSECTION 1 0300 00201 .bss\nPART 0 0300 00200\nPART 1 03C8 00001\nEND\n",
-    )?;
     both_have_texts(
         &rt,
         &CALLS,

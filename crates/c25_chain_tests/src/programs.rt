@@ -1,6 +1,6 @@
 //! What a program's texts are: both pages, the map and the listings.
 
-use crate::bench::{Case, alone, answer, built_of, files_of, run_of, runs, words_text};
+use crate::bench::{Case, alone, built_of, files_of, run_of, runs};
 use c25_chain::assemble_all;
 use c25_chain::chain::Chain;
 use std::process::Abort;
@@ -71,18 +71,6 @@ fn a_run_shows_outputs_registers_and_memory(rt: HostRuntime) -> Result<(), Fail>
 }
 
 #[test]
-fn an_empty_source_has_no_words(rt: HostRuntime) -> Result<(), Fail> {
-    let texts = Texts {
-        page0: NO_WORDS,
-        page1: NO_WORDS,
-        map: "C25 MAP 1\nSECTION 0 0000 00000 .text\nPART 0 0000 00000\nEND\n",
-    };
-    makes(&rt, alone(&[""]), texts)?;
-    runs(&rt, alone(&[""]), 1, "left 0 OutOfCode\n")?;
-    runs(&rt, alone(&[""]), 0, "ran 0\n")
-}
-
-#[test]
 fn no_sources_have_no_words(rt: HostRuntime) -> Result<(), Fail> {
     let texts = Texts {
         page0: NO_WORDS,
@@ -93,96 +81,6 @@ fn no_sources_have_no_words(rt: HostRuntime) -> Result<(), Fail> {
     runs(&rt, alone(&[]), 1, "left 0 OutOfCode\n")?;
     assert!(&rt; run_of(rt.alloc(), alone(&[]), 0)?.listings.is_empty());
     Ok(())
-}
-
-/// The first words of a case's program are these, in its image as in what its hex text is read as.
-fn has_words(rt: &(impl Abort + AllocGlobal), case: Case<'_>, wanted: &str) -> Result<(), Fail> {
-    let built = built_of(rt.alloc(), case)?;
-    let words = words_text(rt.alloc(), built.linked.image.words(0))?;
-    assert_eq!(rt; words.as_str(), wanted);
-    let words = words_text(rt.alloc(), &built.linked.page0.words)?;
-    assert_eq!(rt; words.as_str(), wanted);
-    Ok(())
-}
-
-#[test]
-fn macros_give_words(rt: HostRuntime) -> Result<(), Fail> {
-    let text = "P .macro a\n .word a\nL? .word L?\n .endm\n P 1,2,3\n P 4\n";
-    has_words(&rt, alone(&[text]), "0001 0002 0003 0003 0004 0005")
-}
-
-#[test]
-fn a_value_below_zero_is_cut(rt: HostRuntime) -> Result<(), Fail> {
-    has_words(&rt, alone(&["X .set $-1\n .word X\n"]), "FFFF")
-}
-
-#[test]
-fn fields_of_data_keep_their_pages(rt: HostRuntime) -> Result<(), Fail> {
-    let case = Case {
-        command: "MEMORY { PAGE 0: P: o = 0, l = 1000h PAGE 1: D: o = 385h, l = 10h }",
-        ..alone(&["X .usect \"v\",1\n LAC X,4\n LDPK X\n"])
-    };
-    has_words(&rt, case, "2405 C807")
-}
-
-/// Words reserved on two pages of 128, each named by its page and its offset there.
-#[test]
-fn a_block_may_lie_on_two_pages(rt: HostRuntime) -> Result<(), Fail> {
-    let blocks = [
-        " .bss U,100\n .bss V,100\n LDPK V\n LAC V\n",
-        " .bss W,1\n LDPK W\n LAC W\n",
-    ];
-    has_words(&rt, alone(&blocks), "C806 2064 C807 2048")?;
-    runs(&rt, alone(&blocks), 5, "left 4 OutOfCode\n")
-}
-
-/// A word of page 0 alone, at an address.
-fn word_at<'a>(command: &'a str) -> Case<'a> {
-    Case {
-        command,
-        ..alone(&[" .word 2405h\n"])
-    }
-}
-
-#[test]
-fn a_word_has_twice_its_address_in_hex(rt: HostRuntime) -> Result<(), Fail> {
-    let low = Texts {
-        page0: ":02004000240595\n:00000001FF\n",
-        page1: NO_WORDS,
-        map: "C25 MAP 1\nSECTION 0 0020 00001 .text\nPART 0 0020 00001\nEND\n",
-    };
-    makes(&rt, word_at("SECTIONS { .text : load = 20h }"), low)?;
-    let high = Texts {
-        page0: ":020000040001F9\n:020000002405D5\n:00000001FF\n",
-        page1: NO_WORDS,
-        map: "C25 MAP 1\nSECTION 0 8000 00001 .text\nPART 0 8000 00001\nEND\n",
-    };
-    makes(&rt, word_at("SECTIONS { .text : load = 8000h }"), high)?;
-    let store = Texts {
-        page0: NO_WORDS,
-        page1: ":02004000240595\n:00000001FF\n",
-        map: "C25 MAP 1\nSECTION 1 0020 00001 .text\nPART 0 0020 00001\nEND\n",
-    };
-    makes(
-        &rt,
-        word_at("SECTIONS { .text : load = 20h PAGE 1 } MEMORY { PAGE 1 : D : o = 0, l = 100h }"),
-        store,
-    )
-}
-
-/// A section may be as long as its range.
-#[test]
-fn a_section_may_fill_its_range(rt: HostRuntime) -> Result<(), Fail> {
-    let case = Case {
-        command: "MEMORY { P: o = 0, l = 32 }",
-        ..alone(&[" .space 512\n"])
-    };
-    let texts = Texts {
-        page0: ":1000000000000000000000000000000000000000F0\n:1000100000000000000000000000000000000000E0\n:1000200000000000000000000000000000000000D0\n:1000300000000000000000000000000000000000C0\n:00000001FF\n",
-        page1: NO_WORDS,
-        map: "C25 MAP 1\nSECTION 0 0000 00032 .text\nPART 0 0000 00032\nEND\n",
-    };
-    makes(&rt, case, texts)
 }
 
 /// Modules that have 65,536 words together fill a page; the label at the end of the last word, as a
@@ -216,24 +114,6 @@ fn a_section_may_be_all_of_a_page(rt: HostRuntime) -> Result<(), Fail> {
     Ok(())
 }
 
-#[test]
-fn modules_stand_one_behind_another(rt: HostRuntime) -> Result<(), Fail> {
-    let sources = [
-        " .ref GO\n B GO\n .def END\nEND NOP\n",
-        " .def GO\nGO LACK 1\n SACL 60h\n OUT 60h,PA2\n .ref END\n B END\n",
-    ];
-    let texts = Texts {
-        page0: ":10000000FF8000035500CA016060E260FF800002CB\n:00000001FF\n",
-        page1: NO_WORDS,
-        map: "C25 MAP 1\nSECTION 0 0000 00008 .text\nPART 0 0000 00003\nPART 1 0003 00005\nSYMBOL 00000002 END\nSYMBOL 00000003 GO\nEND\n",
-    };
-    makes(&rt, alone(&sources), texts)?;
-    runs(&rt, alone(&sources), 6, "2 0001\nran 6\n")?;
-    let chain = run_of(rt.alloc(), alone(&sources), 0)?;
-    assert_eq!(&rt; chain.listings.len(), 2);
-    Ok(())
-}
-
 /// A source that is named twice is assembled twice.
 #[test]
 fn one_name_twice_is_two_modules(rt: HostRuntime) -> Result<(), Fail> {
@@ -248,11 +128,5 @@ fn one_name_twice_is_two_modules(rt: HostRuntime) -> Result<(), Fail> {
     };
     assert_eq!(&rt; all.modules.len(), 2);
     assert_eq!(&rt; all.listings.len(), 2);
-    Ok(())
-}
-
-#[test]
-fn an_answer_is_no_refusal_where_there_is_memory(rt: HostRuntime) -> Result<(), Fail> {
-    assert!(&rt; answer(rt.alloc(), alone(&[WRITES_41H]), 3)?.is_ok());
     Ok(())
 }

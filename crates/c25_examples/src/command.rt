@@ -28,6 +28,8 @@ pub(crate) enum Command<'a> {
     Call(Call<'a>),
     /// `cat FILE`.
     Show(&'a str),
+    /// `od -An -v -tx1 FILE`: its bytes as hexadecimal digits, 16 a line.
+    ShowBytes(&'a str),
     /// `echo $?`: the status of the call before.
     Status,
 }
@@ -73,6 +75,9 @@ fn call_of(line: &str) -> Option<Call<'_>> {
 pub(crate) fn command_of(line: &str) -> Option<Command<'_>> {
     if line == "echo $?" {
         return Some(Command::Status);
+    }
+    if let Some(name) = line.strip_prefix("od -An -v -tx1 ") {
+        return Some(Command::ShowBytes(name));
     }
     match line.strip_prefix("cat ") {
         Some(name) => Some(Command::Show(name)),

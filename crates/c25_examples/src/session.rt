@@ -40,6 +40,24 @@ fn run_call<R: Files + Print + AllocGlobal>(rt: &R, call: &Call<'_>) -> Result<E
     Ok(status)
 }
 
+/// Bytes as hexadecimal digits, a blank before each, and a line feed.
+fn show_line<R: Print>(rt: &R, bytes: &[u8]) -> Result<()> {
+    for byte in bytes {
+        print!(rt; " {byte:02x}")?;
+    }
+    println!(rt)?;
+    Ok(())
+}
+
+/// The bytes of a file, 16 a line.
+fn show_bytes<R: Files + Print + AllocGlobal>(rt: &R, name: &str) -> Result<()> {
+    let bytes = fs::read(rt, name)?;
+    for line in bytes.chunks(16) {
+        show_line(rt, line)?;
+    }
+    Ok(())
+}
+
 /// The number of a status.
 fn number_of(status: ExitCode) -> u8 {
     for number in 0..u8::MAX {
@@ -59,6 +77,7 @@ pub(crate) fn run_session<R: Files + Print + AllocGlobal>(rt: &R) -> Result<()> 
         match command_of(line) {
             Some(Command::Call(call)) => status = run_call(rt, &call)?,
             Some(Command::Show(name)) => rt.print(fs::read_to_string(rt, name)?)?,
+            Some(Command::ShowBytes(name)) => show_bytes(rt, name)?,
             Some(Command::Status) => println!(rt; "{}", number_of(status))?,
             None => bail!("no command: {line}"),
         }

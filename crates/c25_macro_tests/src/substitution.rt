@@ -1,7 +1,5 @@
 //! Substitution and arguments against an independent model of the expander.
 
-use c25_meaning_common::failure::Failure;
-use c25_meaning_language::long_line::LongLine;
 use c25_substitution::arguments::{arguments, assigned_text};
 use c25_substitution::parameters::Arguments;
 use c25_substitution::strings::string_text;
@@ -145,60 +143,6 @@ fn arguments_are_seen_first(rt: HostRuntime) -> Result<(), Fail> {
     Ok(())
 }
 
-/// A text so many times.
-fn repeated(alloc: Global, text: &str, count: usize) -> Result<String, Fail> {
-    let mut all = String::new(alloc);
-    for _ in 0..count {
-        all.push_str(text)?;
-    }
-    Ok(all)
-}
-
-/// Whether a line got too long.
-fn is_long(line: &Result<String, Failure<LongLine>>) -> bool {
-    matches!(line, Err(Failure::Fault(LongLine)))
-}
-
-/// A line is substituted by itself, with an `x` behind it it is too long.
-fn is_as_long_as_may_be(
-    rt: &(impl Abort + AllocGlobal),
-    names: &Visible<'_>,
-    line: &str,
-) -> Result<(), Fail> {
-    let alloc = rt.alloc();
-    let found = substitute(alloc, names, 0, line)?;
-    assert_eq!(rt; found.as_str(), line);
-    let longer = format!(in alloc; "{line}x")?;
-    assert!(rt; is_long(&substitute(alloc, names, 0, longer.as_str())));
-    assert!(rt; is_long(&unsubstituted(alloc, longer.as_str())));
-    Ok(())
-}
-
-#[test]
-fn a_line_has_1024_bytes(rt: HostRuntime) -> Result<(), Fail> {
-    let texts = texts(rt.alloc())?;
-    let names = outside(&texts);
-    for text in ["x", "é", ";", "*"] {
-        let line = repeated(rt.alloc(), text, 1024 / text.len())?;
-        is_as_long_as_may_be(&rt, &names, line.as_str())?;
-    }
-    Ok(())
-}
-
-#[test]
-fn a_line_takes_1024_replacements(rt: HostRuntime) -> Result<(), Fail> {
-    let alloc = rt.alloc();
-    let texts = texts(alloc)?;
-    let names = outside(&texts);
-    let full = repeated(alloc, ":e:", 1024)?;
-    let found = substitute(alloc, &names, 0, full.as_str())?;
-    assert_eq!(rt; found.as_str(), "");
-    let more = repeated(alloc, ":e:", 1025)?;
-    assert!(rt; is_long(&substitute(alloc, &names, 0, more.as_str())));
-    assert!(rt; is_long(&substitute_before_comma(alloc, &names, 0, more.as_str())));
-    Ok(())
-}
-
 /// A row for each call of a macro of the parameters x, y and x: the texts of x and y, and the line.
 const CALLS: &str = r#"1|2| P 1, 2 ,3
 1||L P 1 ; , comment
@@ -269,10 +213,6 @@ const ASSIGNED: &str = r#"1,2| .asg 1,2,k
 a"b|L .asg "a""b" ,k ; x,y
 | .asg ,k"#;
 
-/// The same for the one argument of a call.
-const ARGUMENTS: &str = r#""a","b"|  "a","b"
-"string"| """string""" "#;
-
 /// The text that a line of `.asg` assigns is its row's.
 fn assigns(rt: &(impl Abort + AllocGlobal), row: &str) -> Result<(), Fail> {
     let (want, line) = row.split_once('|').ok_or("no row")?;
@@ -285,24 +225,6 @@ fn assigns(rt: &(impl Abort + AllocGlobal), row: &str) -> Result<(), Fail> {
 fn assigned_texts_lose_their_quotes(rt: HostRuntime) -> Result<(), Fail> {
     for row in ASSIGNED.lines() {
         assigns(&rt, row)?;
-    }
-    Ok(())
-}
-
-/// The one argument of a call is its row's.
-fn calls_alone(rt: &(impl Abort + AllocGlobal), alone: &[String], row: &str) -> Result<(), Fail> {
-    let (want, text) = row.split_once('|').ok_or("no row")?;
-    let line = format!(in rt.alloc(); " P {text}")?;
-    let found = arguments(rt.alloc(), alone, line.as_str())?;
-    has(rt, &found, "x", Some(want), text);
-    Ok(())
-}
-
-#[test]
-fn arguments_lose_their_quotes(rt: HostRuntime) -> Result<(), Fail> {
-    let alone = parameters(rt.alloc(), "x")?;
-    for row in ARGUMENTS.lines() {
-        calls_alone(&rt, alone.as_slice(), row)?;
     }
     Ok(())
 }

@@ -31,34 +31,6 @@ fn an_empty_sink_and_one_of_a_word_refuse(rt: HostRuntime) -> Result<(), Fail> {
 }
 
 #[test]
-fn sinks_of_two_and_three_words_refuse(rt: HostRuntime) -> Result<(), Fail> {
-    refuses!(rt, 2, 6);
-    refuses!(rt, 3, 8);
-    Ok(())
-}
-
-#[test]
-fn sinks_of_four_and_five_words_refuse(rt: HostRuntime) -> Result<(), Fail> {
-    refuses!(rt, 4, 10);
-    refuses!(rt, 5, 12);
-    Ok(())
-}
-
-#[test]
-fn sinks_of_six_and_seven_words_refuse(rt: HostRuntime) -> Result<(), Fail> {
-    refuses!(rt, 6, 14);
-    refuses!(rt, 7, 16);
-    Ok(())
-}
-
-#[test]
-fn sinks_of_eight_and_nine_words_refuse(rt: HostRuntime) -> Result<(), Fail> {
-    refuses!(rt, 8, 18);
-    refuses!(rt, 9, 20);
-    Ok(())
-}
-
-#[test]
 fn cleared_sinks_take_words_again(rt: HostRuntime) -> Result<(), Fail> {
     let mut board = board_of(rt.alloc(), PUTS, "", "", FixedSink::<3>::new())?;
     assert_eq!(rt; board.run(100), Outcome::SinkFault(8));

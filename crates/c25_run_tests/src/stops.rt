@@ -25,40 +25,6 @@ fn code_is_not_written(rt: HostRuntime) -> Result<(), Fail> {
     Ok(())
 }
 
-/// `NOP`, and a word that reads as `NOP` where no instruction starts.
-const FREE_NOP: Program<'static> = Program {
-    words: &[0x5500, 0x5500],
-    starts: &[(0, 1)],
-};
-
-#[test]
-fn words_without_a_place_are_not_run(rt: HostRuntime) -> Result<(), Fail> {
-    let sink = ListSink::new(rt.alloc());
-    let mut board = board_of(rt.alloc(), FREE_NOP, "", "", sink)?;
-    assert_eq!(rt; board.run(2), Outcome::Left(1, Stop::OutOfCode));
-    assert_eq!(rt; board.run(0), Outcome::Ran);
-    Ok(())
-}
-
-/// `IN 60h,PA2`, `OUT 60h,PA3`.
-const PASSES_ON: Program<'static> = Program {
-    words: &[0x8260, 0xE360],
-    starts: &[(0, 1), (1, 1)],
-};
-
-#[test]
-fn dry_ports_stop(rt: HostRuntime) -> Result<(), Fail> {
-    let sink = ListSink::new(rt.alloc());
-    let mut board = board_of(rt.alloc(), PASSES_ON, "", "", sink)?;
-    assert_eq!(rt; board.run(2), Outcome::Left(0, Stop::PortDry));
-    let sink = ListSink::new(rt.alloc());
-    let mut board = board_of(rt.alloc(), PASSES_ON, "2 00FF\n", "", sink)?;
-    assert_eq!(rt; board.run(2), Outcome::Ran);
-    assert_eq!(rt; board.sink().words(), [(3, 0x00FF)].as_slice());
-    assert_eq!(rt; board.data_at(0x60), 0x00FF);
-    Ok(())
-}
-
 /// `CNFP`, `LALK 1234h`, `LDPK 4`, `SACL 0`, `CNFD`, `SACL 0`, `CNFP`.
 const BLOCK: Program<'static> = Program {
     words: &[

@@ -1,0 +1,2 @@
+X .usect "v",1
+ .bss X,Q

@@ -1,0 +1,4 @@
+ .if X
+ NOP
+ .endif
+X .set 1

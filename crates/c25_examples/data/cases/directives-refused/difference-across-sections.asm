@@ -1,0 +1,3 @@
+A .word A-B
+ .sect "s"
+B NOP

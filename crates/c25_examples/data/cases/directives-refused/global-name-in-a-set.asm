@@ -1,0 +1,2 @@
+ .global X
+Y .set X

@@ -1,0 +1,2 @@
+ .global X
+ .def X

@@ -1,0 +1,2 @@
+X NOP
+X .set Q

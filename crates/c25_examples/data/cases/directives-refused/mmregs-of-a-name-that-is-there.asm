@@ -1,0 +1,2 @@
+DXR NOP
+ .mmregs

@@ -1,0 +1,3 @@
+ .loop 199997
+ .space 0
+ .endloop

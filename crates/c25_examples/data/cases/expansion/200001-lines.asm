@@ -1,0 +1,3 @@
+ .loop 199998
+ .space 0
+ .endloop

@@ -1,0 +1,64 @@
+ .if 1
+ .if 1
+ .if 1
+ .if 1
+ .if 1
+ .if 1
+ .if 1
+ .if 1
+ .if 1
+ .if 1
+ .if 1
+ .if 1
+ .if 1
+ .if 1
+ .if 1
+ .if 1
+ .if 1
+ .if 1
+ .if 1
+ .if 1
+ .if 1
+ .if 1
+ .if 1
+ .if 1
+ .if 1
+ .if 1
+ .if 1
+ .if 1
+ .if 1
+ .if 1
+ .if 1
+ .if 1
+ .endif
+ .endif
+ .endif
+ .endif
+ .endif
+ .endif
+ .endif
+ .endif
+ .endif
+ .endif
+ .endif
+ .endif
+ .endif
+ .endif
+ .endif
+ .endif
+ .endif
+ .endif
+ .endif
+ .endif
+ .endif
+ .endif
+ .endif
+ .endif
+ .endif
+ .endif
+ .endif
+ .endif
+ .endif
+ .endif
+ .endif
+ .endif

@@ -1,0 +1,66 @@
+ .if 1
+ .if 1
+ .if 1
+ .if 1
+ .if 1
+ .if 1
+ .if 1
+ .if 1
+ .if 1
+ .if 1
+ .if 1
+ .if 1
+ .if 1
+ .if 1
+ .if 1
+ .if 1
+ .if 1
+ .if 1
+ .if 1
+ .if 1
+ .if 1
+ .if 1
+ .if 1
+ .if 1
+ .if 1
+ .if 1
+ .if 1
+ .if 1
+ .if 1
+ .if 1
+ .if 1
+ .if 1
+ .if 1
+ .endif
+ .endif
+ .endif
+ .endif
+ .endif
+ .endif
+ .endif
+ .endif
+ .endif
+ .endif
+ .endif
+ .endif
+ .endif
+ .endif
+ .endif
+ .endif
+ .endif
+ .endif
+ .endif
+ .endif
+ .endif
+ .endif
+ .endif
+ .endif
+ .endif
+ .endif
+ .endif
+ .endif
+ .endif
+ .endif
+ .endif
+ .endif
+ .endif

@@ -1,0 +1,2 @@
+L .asg "1,2",C
+ .word C

@@ -1,0 +1,4 @@
+P .macro
+ .if 1
+ .endm
+ P

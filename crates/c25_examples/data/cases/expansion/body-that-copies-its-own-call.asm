@@ -1,0 +1,4 @@
+P .macro
+ .copy "calls-p.inc"
+ .endm
+ .copy "calls-p.inc"

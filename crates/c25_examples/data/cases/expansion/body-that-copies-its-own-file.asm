@@ -1,0 +1,4 @@
+P .macro
+ .copy "body-that-copies-its-own-file.asm"
+ .endm
+ P

@@ -1,0 +1,4 @@
+ .loop 3
+ NOP
+ .break 1
+ .endloop

@@ -1,0 +1,5 @@
+ .loop
+ NOP
+ .break
+ .endloop
+ ZAC

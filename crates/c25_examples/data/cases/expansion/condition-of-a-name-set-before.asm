@@ -1,0 +1,4 @@
+X .set 1
+ .if X
+ NOP
+ .endif

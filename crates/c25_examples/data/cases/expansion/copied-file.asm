@@ -1,0 +1,2 @@
+ .copy "word.inc"
+ NOP

@@ -1,0 +1,2 @@
+ .eval 1+2,C
+ .word C

@@ -1,0 +1,6 @@
+M: .macro
+ NOP
+ .mexit
+ ZAC
+ .endm
+ M

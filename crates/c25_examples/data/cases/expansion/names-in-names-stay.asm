@@ -1,0 +1,10 @@
+ .asg 1,k
+ .asg 5,word
+ .asg 9,foo
+ .asg b+a,a
+ .asg c,b
+ .asg a+1,c
+ .asg ,e
+k5 .set 7
+k$ .set 8
+ .word word,k5,k$

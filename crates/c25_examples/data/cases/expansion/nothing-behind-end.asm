@@ -1,0 +1,4 @@
+ NOP
+ .end
+ ZAC
+ .endif

@@ -1,0 +1,1 @@
+X LRLK X,Y

@@ -1,0 +1,3 @@
+ B Y
+X NOP
+X NOP

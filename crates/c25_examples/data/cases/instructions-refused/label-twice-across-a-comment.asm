@@ -1,0 +1,3 @@
+X NOP
+* X
+X NOP

@@ -1,0 +1,22 @@
+ ADD *+,2,AR3
+ MPY *-,AR2
+ LARP 4
+ RPTK 2
+ MACD 0FF00h,*-
+ MPYK -1
+ LACK 65
+ SACL 60h ; comment
+ OUT 60h,PA1
+ BIT *,15,AR2
+ SACH *+,0
+ NORM
+ BANZ 123h
+ lalk 0FFFFh,4
+ ZAC
+ NOP
+ mar * br0 +
+ MAR *0-
+ ADD *+,AR3
+ LDPK 511
+ SACL 0FFFFh
+ B -32768,*+,ar1

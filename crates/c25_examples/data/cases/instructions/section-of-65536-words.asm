@@ -1,0 +1,3 @@
+ .loop 32768
+ B 0
+ .endloop

@@ -1,0 +1,3 @@
+ .loop 65537
+ LACK 1
+ .endloop

@@ -1,0 +1,4 @@
+ B E
+ .sect "hi"
+ NOP
+E

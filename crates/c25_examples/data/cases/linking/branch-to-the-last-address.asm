@@ -1,0 +1,4 @@
+ B E-1
+ .sect "hi"
+ NOP
+E

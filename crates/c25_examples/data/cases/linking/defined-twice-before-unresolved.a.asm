@@ -1,0 +1,4 @@
+ .ref NO
+ .word NO
+ .def GO
+GO NOP

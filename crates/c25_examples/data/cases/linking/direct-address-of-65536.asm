@@ -1,0 +1,4 @@
+ LAC E
+ .sect "hi"
+ NOP
+E

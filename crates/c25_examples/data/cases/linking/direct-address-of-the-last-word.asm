@@ -1,0 +1,4 @@
+ LAC E-1
+ .sect "hi"
+ NOP
+E

@@ -1,0 +1,1 @@
+SECTIONS { e : > 32 } MEMORY { P : o = 0, l = 32 }

@@ -1,0 +1,1 @@
+SECTIONS { e : > 0 }

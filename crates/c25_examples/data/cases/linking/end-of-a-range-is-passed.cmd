@@ -1,0 +1,1 @@
+MEMORY { P : o = 16, l = 16 } SECTIONS { .text : > 31 }

@@ -1,0 +1,2 @@
+ .def MAIN
+MAIN NOP

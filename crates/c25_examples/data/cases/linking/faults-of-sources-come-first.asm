@@ -1,0 +1,5 @@
+ .ref A
+ .word A
+ .sect "b"
+ NOP
+ .space -1

@@ -1,0 +1,2 @@
+ .ref A,B
+ .word A,B

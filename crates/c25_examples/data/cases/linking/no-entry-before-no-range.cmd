@@ -1,0 +1,1 @@
+-e MAIN MEMORY { }

@@ -1,0 +1,4 @@
+ LDPK E
+ .sect "hi"
+ NOP
+E

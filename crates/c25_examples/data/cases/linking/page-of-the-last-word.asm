@@ -1,0 +1,4 @@
+ LDPK E-1
+ .sect "hi"
+ NOP
+E

@@ -1,0 +1,4 @@
+ NOP
+ NOP
+ .sect "b"
+ NOP

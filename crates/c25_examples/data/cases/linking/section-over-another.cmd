@@ -1,0 +1,1 @@
+SECTIONS { b : > 4 .text : > 3 }

@@ -1,0 +1,3 @@
+ .sect "hi"
+ NOP
+ NOP

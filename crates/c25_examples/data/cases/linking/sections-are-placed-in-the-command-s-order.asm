@@ -1,0 +1,6 @@
+ NOP
+ NOP
+ .sect "b"
+ NOP
+ .sect "c"
+ NOP

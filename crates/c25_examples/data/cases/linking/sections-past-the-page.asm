@@ -1,0 +1,4 @@
+ .space 1048560
+ .sect "b"
+ NOP
+ NOP

@@ -1,0 +1,2 @@
+ .ref NO
+ .word NO

@@ -1,0 +1,4 @@
+ .word E
+ .sect "hi"
+ NOP
+E

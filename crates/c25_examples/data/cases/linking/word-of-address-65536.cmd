@@ -1,0 +1,1 @@
+SECTIONS { hi : > 0FFFFh }

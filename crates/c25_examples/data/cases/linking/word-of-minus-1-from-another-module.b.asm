@@ -1,0 +1,2 @@
+ .ref A
+ .word A

@@ -1,0 +1,1 @@
+ .endloop 1

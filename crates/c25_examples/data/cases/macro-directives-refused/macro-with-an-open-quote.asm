@@ -1,0 +1,1 @@
+M .macro 'a

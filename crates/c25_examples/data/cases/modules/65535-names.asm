@@ -1,0 +1,7 @@
+ .asg 0,k
+ .loop 65535
+ .global N:k:
+ .eval k+1,k
+ .endloop
+ .ref N5
+N7 LACK 256

@@ -1,0 +1,2 @@
+ .global E
+X MACD E+2,X+130

@@ -1,0 +1,3 @@
+ .title "t"
+ .width 99999999999
+X .LIST

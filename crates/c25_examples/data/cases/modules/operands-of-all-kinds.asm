@@ -1,0 +1,6 @@
+ ADD *+,2,AR3
+ MPY *-,AR2
+ LARP 4
+ RPTK 2
+ MACD 0FF00h,*-
+ MPYK -1

@@ -1,0 +1,4 @@
+ LALK 0FFFFh
+ TBLR 60h
+ OUT 60h,PA0
+ .space 1048496

@@ -1,0 +1,4 @@
+ .bss U,100
+ .bss V,100
+ LDPK V
+ LAC V

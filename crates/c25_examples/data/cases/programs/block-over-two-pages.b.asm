@@ -1,0 +1,3 @@
+ .bss W,1
+ LDPK W
+ LAC W

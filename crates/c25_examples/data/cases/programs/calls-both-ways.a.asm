@@ -1,0 +1,4 @@
+ .ref GO
+ B GO
+ .def END
+END NOP

@@ -1,0 +1,1 @@
+SECTIONS { .text : load = 8000h }

@@ -1,0 +1,3 @@
+ .loop 4
+ .word 1,2,3,4
+ .endloop

@@ -1,0 +1,1 @@
+SECTIONS { .text : > 7FF8h }

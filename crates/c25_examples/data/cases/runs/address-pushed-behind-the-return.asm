@@ -1,0 +1,13 @@
+ B GO
+ .word 0,0
+ B ISR
+GO LACK 2
+ SACL 4
+ CALL F
+S B S
+F EINT
+ RET
+ISR POP
+ SACL 61h
+ OUT 61h,PA1
+T B T

@@ -1,0 +1,1 @@
+SECTIONS { hi : load = 0FEFFh }

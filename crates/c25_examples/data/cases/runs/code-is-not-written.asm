@@ -1,0 +1,6 @@
+ LACK 5
+ TBLW 60h
+ LACK 3
+ TBLW 60h
+ NOP
+ .word 1234h

@@ -1,0 +1,4 @@
+ CNFP
+ B X
+ .sect "hi"
+X B X

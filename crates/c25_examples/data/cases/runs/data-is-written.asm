@@ -1,0 +1,6 @@
+ LACK 5
+ TBLW 60h
+ TBLR 61h
+ OUT 61h,PA0
+ NOP
+ .word 1234h

@@ -1,0 +1,7 @@
+ B GO
+ .word 0
+GO LACK 1
+ SACL 4
+ EINT
+ NOP
+S B S

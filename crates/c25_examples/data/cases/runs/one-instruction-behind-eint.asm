@@ -1,0 +1,11 @@
+ B GO
+ .word 0,0
+ B ISR
+GO LACK 2
+ SACL 4
+ CALL F
+S B S
+F EINT
+ RET
+ISR OUT 4,PA0
+T B T

@@ -1,0 +1,2 @@
+ IN 60h,PA2
+ OUT 60h,PA3

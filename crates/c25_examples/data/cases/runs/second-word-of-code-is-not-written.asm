@@ -1,0 +1,3 @@
+ LACK 3
+ TBLW 60h
+S B S

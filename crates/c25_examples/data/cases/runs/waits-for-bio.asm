@@ -1,0 +1,4 @@
+S BIOZ T
+ B S
+T OUT 60h,PA7
+W B W
