@@ -28,7 +28,7 @@ TOP = os.path.dirname(os.path.dirname(os.path.abspath(__file__)))
 CRATE = os.path.join(TOP, "crates", "c25_examples")
 PROGRAMS = ["fir", "biquad", "tone", "ring", "modem", "pi", "decimal", "fft", "lms", "mulaw", "float", "divide", "roots"]
 PAGES = ["README.md", "docs/MANUAL.md"] + ["docs/manual/%s.md" % name for name in (
-    "language", "macros", "linking", "program", "formats", "limits")]
+    "language", "macros", "linking", "program", "formats", "debugging", "limits")]
 # Commands that show something and are none of the program's: what they show is not looked at.
 OTHERS = ("ls", "od ", "cmp ")
 
