@@ -28,7 +28,7 @@ STEP    .usect  "points",1      ; words between the p of two pairs, 4m
 PAIRS   .usect  "points",1      ; pairs of a factor, less one
 GROUP   .usect  "points",1      ; factors of this stage, less one
 FIRST   .usect  "points",1      ; the address of the next factor's first p
-ROOTS   .usect  "points",WORDS-2 ; the factors of all stages
+ROOTS   .usect  "points",WORDS-2 ; factors of all stages
 
         .text
         LDPK    WR

@@ -1,10 +1,11 @@
-* Floating-point products. Whole numbers come in pairs, from ports 0 and 1, -32,768
-* to 32,767; of each product port 2 gets the mantissa, port 3 the exponent:
+* Floating-point products. Whole numbers come in pairs, from ports 0 and 1,
+* -32,768 to 32,767; of each product port 2 gets the mantissa, port 3 the
+* exponent:
 *
 *     product = mantissa / 32,768 times 2 to the power of the exponent
 *
-* A mantissa is normal where its two highest bits differ: 4000h to 7FFFh or 8000h
-* to 0BFFFh, that is 0.5 to below 1, or -1 to below -0.5. NORM shifts the
+* A mantissa is normal where its two highest bits differ: 4000h to 7FFFh or
+* 8000h to 0BFFFh, that is 0.5 to below 1, or -1 to below -0.5. NORM shifts the
 * accumulator one bit to the left where bits 31 and 30 are equal, and takes one
 * from the register of its operand then; else it does nothing. So, repeated, it
 * makes a mantissa normal and leaves the exponent in the register.

@@ -4,7 +4,7 @@
 * The upper 14 bits of a sample count: a sign and a size, of at most 8,158. The
 * size plus 33 is 33 to 8,191. The place of its highest bit, counted from bit 5,
 * is the segment, 0 to 7; the four bits behind that one are the step. A byte is
-* the sign (1 for above or 0), segment and step, the last two inverted.
+* the sign (1 for 0 and above), segment and step, the last two inverted.
 *
 * NORM finds the highest bit: it shifts the accumulator to the left, and takes
 * one from the register, while bits 31 and 30 are equal.
