@@ -29,6 +29,8 @@ CRATE = os.path.join(TOP, "crates", "c25_examples")
 PROGRAMS = ["fir", "biquad", "tone", "ring", "modem", "pi", "decimal", "fft", "lms", "mulaw", "float", "divide", "roots"]
 PAGES = ["README.md", "docs/MANUAL.md"] + ["docs/manual/%s.md" % name for name in (
     "language", "macros", "linking", "program", "formats", "debugging", "limits")]
+# Programs whose samples are made of another file, and the words with which examples/tools/signals.py makes them.
+RECORDED = {"mulaw": ["samples.wav"], "fir": ["samples.csv", "--column", "2", "--fractions"]}
 # Commands that show something and are none of the program's: what they show is not looked at.
 OTHERS = ("ls", "od ", "cmp ")
 
@@ -140,6 +142,16 @@ def program(name, data):
     return name, ["$ " + command] + lines_of(os.path.join(folder, "output.txt"))
 
 
+def recorded():
+    """The samples that are others than signals.py makes of their recording or table."""
+    for name, words in RECORDED.items():
+        folder = os.path.join(CRATE, "data", name)
+        script = os.path.join(TOP, "examples", "tools", "signals.py")
+        made = subprocess.run([sys.executable, script, "samples"] + words, cwd=folder, capture_output=True, text=True, check=True)
+        if made.stdout.splitlines() != lines_of(os.path.join(folder, "samples.txt")):
+            yield os.path.join(folder, "samples.txt")
+
+
 def differing(made, standing):
     """The files of the one folder that are others in the other, or not there, and the same the other way."""
     names = {os.path.relpath(os.path.join(at, name), top)
@@ -163,6 +175,7 @@ def main():
             others = [path for name in ("args", "stdout") for path in [os.path.join(CRATE, name)]
                       if not (os.path.exists(path) and filecmp.cmp(os.path.join(made, name), path, shallow=False))]
             others += differing(os.path.join(made, "pages"), pages)
+            others += recorded()
             sys.exit("".join("%s is another\n" % os.path.relpath(path, TOP) for path in others) or 0)
         for name in ("args", "stdout"):
             shutil.copyfile(os.path.join(made, name), os.path.join(CRATE, name))

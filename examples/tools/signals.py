@@ -20,6 +20,7 @@ import argparse
 import array
 import csv
 import io
+import os
 import sys
 import wave
 
@@ -137,7 +138,13 @@ def main():
         else:
             of.add_argument("--unsigned", action="store_true")
     words = parser.parse_args()
-    words.call(words)
+    try:
+        words.call(words)
+        sys.stdout.flush()
+    except BrokenPipeError:
+        os.dup2(os.open(os.devnull, os.O_WRONLY), sys.stdout.fileno())
+    except (OSError, ValueError, wave.Error, EOFError) as error:
+        sys.exit("signals.py: %s" % error)
 
 
 if __name__ == "__main__":
