@@ -1,12 +1,7 @@
-* Puts 3, 2 and 1 out at port 0, and sleeps.
-        LARP    AR1
+* Counts down: puts 3, 2, 1 and 0 out at port 0, and sleeps.
+        LARP    AR1             ; AR1 is the current register
         LARK    AR1,3
-NEXT    SAR     AR1,60h
-        OUT     60h,PA0
-        BANZ    SKIP,*-
-SKIP    MAR     *
-        LAR     AR2,60h
-        LAC     60h
-        SUBK    1
-        BNZ     NEXT
-        IDLE
+NEXT    SAR     AR1,60h         ; to data memory,
+        OUT     60h,PA0         ; and from there to the port
+        BANZ    NEXT,*-         ; one less; again, unless it was 0
+        IDLE                    ; no interrupt is let through: sleeps

@@ -237,6 +237,16 @@ def faults(data):
     return packed(data, "faults.cases")
 
 
+def recorded():
+    """The samples that are others than signals.py makes of their recording or table."""
+    for name, words in RECORDED.items():
+        folder = os.path.join(CRATE, "data", name)
+        script = os.path.join(TOP, "examples", "tools", "signals.py")
+        made = subprocess.run([sys.executable, script, "samples"] + words, cwd=folder, capture_output=True, text=True, check=True)
+        if made.stdout.splitlines() != lines_of(os.path.join(folder, "samples.txt")):
+            yield os.path.join(folder, "samples.txt")
+
+
 def differing(made, standing):
     """The files of the one folder that are others in the other, or not there, and the same the other way."""
     names = {os.path.relpath(os.path.join(at, name), top)

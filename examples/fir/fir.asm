@@ -3,27 +3,31 @@
 *     y(n) = h(0) x(n) + h(1) x(n-1) + .. + h(15) x(n-15)
 *
 * Samples and coefficients are fractions in Q15: 8000h is -1, 4000h is 0.5.
+* Samples may have the whole range. The sum can then go beyond 1, so it is kept
+* in Q30, which has room up to 2, and doubled in overflow mode at the end: what
+* is beyond 1 becomes 1, what is below -1 becomes -1.
 * The coefficients are copied to block B0, and CNFP makes that block program
 * memory at 0FF00h. There a repeated MACD adds up the filter at one tap a
 * step: it adds the product before, multiplies a sample by a coefficient, and
 * moves the sample one word up, which makes x(n-1) of x(n) for the next time.
 
 TAPS    .set    16
-SAMPLES .set    48              ; so many are filtered
+SAMPLES .set    80              ; so many are filtered
 B0      .set    200h            ; block B0 as data memory,
 B0PROG  .set    0FF00h          ; and as program memory
 
         .bss    XNEW,1          ; x(n), the newest sample
         .bss    XOLD,TAPS-1     ; x(n-1) to x(n-15), at ascending addresses
         .bss    XGONE,1         ; MACD moves the oldest sample here
-        .bss    YNEW,1          ; y(n)
+        .bss    YHIGH,1         ; the sum of y(n), and then y(n)
+        .bss    YLOW,1
 OLDEST  .set    XGONE-1         ; x(n-15), where MACD begins
 
         .text
         LDPK    XNEW            ; the page of all the variables
         SSXM                    ; numbers have a sign
-        ROVM
-        SPM     1               ; Q15 times Q15 is Q30: shifted left, Q31
+        SOVM                    ; a sum beyond 32 bits becomes the limit
+        SPM     0               ; Q15 times Q15 is Q30
 
         LRLK    AR1,XNEW        ; no samples yet: clear the delay line
         LARP    AR1
@@ -40,13 +44,17 @@ OLDEST  .set    XGONE-1         ; x(n-15), where MACD begins
 NEXT    IN      XNEW,PA0
         LRLK    AR1,OLDEST
         LARP    AR1
-        LALK    1,15            ; half of the last bit of y(n), to round
+        LALK    1,14            ; half of the last bit of y(n), to round
         MPYK    0               ; P = 0: the first MACD adds nothing
         RPTK    TAPS-1
         MACD    B0PROG,*-       ; from x(n-15) down to x(n)
         APAC                    ; the last product
-        SACH    YNEW
-        OUT     YNEW,PA1
+        SACH    YHIGH           ; the sum and the sum again is Q31,
+        SACL    YLOW
+        ADDH    YHIGH           ; within its limits
+        ADDS    YLOW
+        SACH    YHIGH
+        OUT     YHIGH,PA1
         LARP    AR7
         BANZ    NEXT,*-
 

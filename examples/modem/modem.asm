@@ -1,7 +1,8 @@
 * Receives characters from a modem of 300 bits a second, Bell 103's originating
 * side: a mark (1) is a tone of 1,270 Hz, a space (0) one of 1,070 Hz. A bit is
 * 32 samples, at 9,600 a second. A character is a start bit 0, eight bits with
-* the lowest first, and a stop bit 1; between characters there are marks.
+* the lowest first, and a stop bit 1; between characters there are marks. The
+* first sample is the first one of a bit: where bits begin is not searched for.
 *
 * Each bit is the stronger of its tones, by Goertzel's algorithm: a resonator
 *     s(n) = x(n) + c s(n-1) - s(n-2),   c = 2 cos (2 pi f / 9600)

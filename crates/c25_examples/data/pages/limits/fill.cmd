@@ -1,0 +1,1 @@
+SECTIONS { at20 : {} load = 20h, fill = 0FFFFh }

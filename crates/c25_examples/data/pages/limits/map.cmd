@@ -1,0 +1,1 @@
+-m gain.map

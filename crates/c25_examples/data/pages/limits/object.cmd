@@ -1,0 +1,1 @@
+gain.obj
