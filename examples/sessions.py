@@ -31,9 +31,9 @@ import tempfile
 TOP = os.path.dirname(os.path.dirname(os.path.abspath(__file__)))
 CRATE = os.path.join(TOP, "crates", "c25_examples")
 DATA = os.path.join(CRATE, "data")
-PROGRAMS = ["fir", "biquad", "tone", "ring", "modem", "pi", "decimal"]
+PROGRAMS = ["fir", "biquad", "tone", "ring", "modem", "pi", "decimal", "fft", "lms", "mulaw", "float", "divide", "roots"]
 # What belongs to a larger program and is not run.
-BESIDE = ("expected.py", "output.txt", "README.md")
+BESIDE = ("expected.py", "output.txt", "README.md", "samples.csv", "samples.wav")
 PAGES = ["README.md", "docs/MANUAL.md"] + ["docs/manual/%s.md" % name for name in (
     "language", "macros", "linking", "program", "formats", "limits")]
 FAULTS = "docs/FAULTS.md"
