@@ -35,7 +35,7 @@ PROGRAMS = ["fir", "biquad", "tone", "ring", "modem", "pi", "decimal", "fft", "l
 # What belongs to a larger program and is not run.
 BESIDE = ("expected.py", "output.txt", "README.md", "samples.csv", "samples.wav")
 PAGES = ["README.md", "docs/MANUAL.md"] + ["docs/manual/%s.md" % name for name in (
-    "language", "macros", "linking", "program", "formats", "limits")]
+    "language", "macros", "linking", "program", "formats", "limits", "debugging")]
 FAULTS = "docs/FAULTS.md"
 # Commands that show something and are none of the program's: what they show is not looked at.
 OTHERS = ("ls", "od ", "cmp ")

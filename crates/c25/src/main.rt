@@ -14,4 +14,5 @@ fn main(rt: HostRuntime) -> ExitCode {
         &mut rt.stdout(),
         &mut rt.stderr(),
     )
+    .status()
 }

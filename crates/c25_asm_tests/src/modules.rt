@@ -1,6 +1,8 @@
 //! The lists of modules.
 
-use crate::bench::gives;
+use crate::bench::{gives, module_text};
+use c25_disk_tests::readers::Pieces;
+use c25_macro::files::Files;
 use std::test::Fail;
 
 #[test]
@@ -21,4 +23,20 @@ fn symbols_come_in_order_of_definition_and_then_of_declaration(
         local GREG 5\nglobal A 0:0\nglobal B 5\nexternal E\nexternal F\n\
         Word16 0:0 symbol 8 0\nWord16 0:1 symbol 9 -1\n";
     gives(&rt, text, wanted)
+}
+
+#[test]
+fn a_source_read_byte_by_byte_is_that_source(rt: HostRuntime) -> Result<(), Fail> {
+    let mut reader = Pieces {
+        rest: b"P .macro a\r\n .word a\r\nL? .word L?\r\n .endm\r\n P 1,2,3\r\n P 4\r\n",
+        most: 1,
+        fails: false,
+    };
+    let mut files = Files::new(rt.alloc());
+    files.add_from("a.asm", &mut reader)?;
+    let found = module_text(rt.alloc(), &files)?;
+    let wanted = ".text 0001 0002 0003 0000 0004 0000\nlocal L_1 0:3\nlocal L_2 0:5\n\
+        Word16 0:3 section 0 3\nWord16 0:5 section 0 5\n";
+    assert_eq!(rt; found.as_str(), wanted);
+    Ok(())
 }

@@ -26,7 +26,7 @@ use Rattle.c25_chain.specs.declared.run.Done.{Done}
 
 -- ---- programs of sources
 
-is_built : (files : Files) (sources : List (List ℕ)) (command : List ℕ) (b : Built) → IsBuiltAs files sources command b → IsBuilt files sources command b.linked.image (linked.texts_of b.linked) (map string_bytes b.listings.items)
+pub is_built : (files : Files) (sources : List (List ℕ)) (command : List ℕ) (b : Built) → IsBuiltAs files sources command b → IsBuilt files sources command b.linked.image (linked.texts_of b.linked) (map string_bytes b.listings.items)
 is_built files sources command b h = record { all = h.all; assembled = h.assembled; listings_are = h.listings_are; linked = h.linked.under }
 
 -- ---- refusals
@@ -73,7 +73,7 @@ told_on g n (Err f) given same h = subst (λ (x : Fault). Answers g n (Err x)) (
 
 -- ---- the answer
 
-both_read : (g : Given) (samples : List Sample) (entries : List Entry) → samples_in g ≡ Ok samples → schedule_in g ≡ Ok entries → inputs_in g ≡ Ok (record { samples = samples; entries = entries })
+pub both_read : (g : Given) (samples : List Sample) (entries : List Entry) → samples_in g ≡ Ok samples → schedule_in g ≡ Ok entries → inputs_in g ≡ Ok (record { samples = samples; entries = entries })
 both_read g samples entries e h =
     ap (λ (x : Result (List Sample) (Refusal (List ℕ))). x >>= with_samples g) e
     ∙ ap (λ (x : Result (List Entry) (Refusal (List ℕ))). x >>= with_entries samples) h

@@ -1,11 +1,8 @@
 pub mod Answered
+pub mod Cited
 pub mod Ends
 pub mod Headline
-pub mod Named
-pub mod Numerals
 pub mod OneProgram
 pub mod OutputLines
-pub mod Placed
-pub mod Printed
-pub mod Spelled
+pub mod Sourced
 pub mod Texts

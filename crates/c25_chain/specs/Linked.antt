@@ -6,7 +6,7 @@ use Rattle.c25_meaning_commands.specs.CommandText.{command_of}
 use Rattle.c25_meaning_linking.specs.GoodMap.{IsGoodMap}
 use Rattle.c25_meaning_intel_hex.specs.HexText.{written}
 use Rattle.c25_meaning_linking.specs.Linking.{ImageData, IsProgram, IsRefusal, HasWords, HasMarks}
-use Rattle.c25_meaning_linking.specs.MapText.{MapData, IsMapOf, map_text}
+use Rattle.c25_meaning_linking.specs.MapText.{MapData, IsMapOf}
 use Rattle.c25_meaning_objects.specs.Module.{Contents}
 use Rattle.c25_meaning_linking.specs.Place.{Place}
 use Rattle.c25_meaning_common.specs.Results.{told}
@@ -49,7 +49,7 @@ texts_of l = record { page0 = string_bytes l.page0.text; page1 = string_bytes l.
 -- an image with the texts of its words and of its map, and the words that the hex texts are read as
 pub record HasTextsOf (image : ImageData) (l : Linked) : Type 0 where
   pub image_is : l.image ≡ image
-  pub map_is : string_bytes l.map ≡ map_text image.described
+  pub map_is : IsMapOf (string_bytes l.map) image.described
   pub text0 : string_bytes l.page0.text ≡ written image.program
   pub text1 : string_bytes l.page1.text ≡ written image.store
   pub words0 : l.page0.words ≡ image.program

@@ -13,6 +13,7 @@ ghost use Rattle.c25_chain.specs.declared.fault.Refusal.TheVariants as refusal;
 
 use crate::built::{Built, build};
 use crate::fault::{Fault, Refusal};
+use crate::laws::answers_run_as_their_sources;
 use crate::linked::Linked;
 use crate::page::Page;
 use crate::run::{Done, run_linked};
@@ -49,7 +50,7 @@ pub struct Chain {
 }
 
 /// The samples of a text.
-fn samples_in(alloc: Global, text: &str) -> Result<Samples, Fault>
+pub fn samples_in(alloc: Global, text: &str) -> Result<Samples, Fault>
     ensures { MeetsBy refusal_of (λ samples. samples) (told refusal.Samples (samples_of text.now)) result }
 {
     match read_samples(alloc, text) {
@@ -60,7 +61,7 @@ fn samples_in(alloc: Global, text: &str) -> Result<Samples, Fault>
 }
 
 /// The schedule of a text.
-fn schedule_in(alloc: Global, text: &str) -> Result<Schedule, Fault>
+pub fn schedule_in(alloc: Global, text: &str) -> Result<Schedule, Fault>
     ensures { MeetsBy refusal_of (λ schedule. schedule) (told refusal.Schedule (schedule_of text.now)) result }
 {
     match read_schedule(alloc, text) {
@@ -124,6 +125,7 @@ pub fn run_chain(
     ensures code_stays { IfOk result (OfProgram CodeStays files.now (map string_bytes sources.now) command.now) }
     ensures own_run_is_the_statements { IfOk result (TellsStatementsRun (record { files = files.now; sources = map string_bytes sources.now; command = command.now; samples = samples.now; schedule = schedule.now }) n) }
 {
+    answers_run_as_their_sources();
     let built = build(alloc, files, sources, command)?;
     let samples = samples_in(alloc, samples)?;
     let schedule = schedule_in(alloc, schedule)?;

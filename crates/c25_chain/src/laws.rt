@@ -1,27 +1,58 @@
-//! Laws of what the chain answers, each the contract of a function that does nothing.
+//! Laws of what the chain answers, each the contract of a function that calls the laws on which it
+//! rests and does nothing else.
 
 ghost use Rattle.std.specs.Prelude.{◌≡◌, List, ℕ};
 ghost use Rattle.c25_meaning_expansion.specs.Files.{Files};
 ghost use Rattle.c25_meaning_linking.specs.Linking.{ImageData};
+ghost use Rattle.c25_meaning_processor.specs.Statements.{IsImageOf};
+ghost use Rattle.c25_meaning_stimulus.specs.declared.sample.Sample.{Sample};
 ghost use Rattle.c25_chain.specs.Built.{IsBuilt};
 ghost use Rattle.c25_chain.specs.Chain.{Given, IsAnswer};
-ghost use Rattle.c25_chain.specs.Headline.{CodeStays, HoldsSourceWords, MarksStatements, OfProgram, RunsAsSources, TellsStatementsRun};
+ghost use Rattle.c25_chain.specs.Headline.{CodeStays, HoldsSourceWords, MarksStatements, OfProgram, RunsAsSources, TellsStatementsRun, first_state, source_statements};
 ghost use Rattle.c25_chain.specs.Linked.{Texts};
 ghost use Rattle.c25_chain.specs.declared.chain.Chain.{Chain};
+
+use c25_cmd::laws::spelled_commands_keep_the_rules;
+use c25_hex::laws::written_texts_are_read_back;
+use c25_laws::program_laws::{
+    linked_images_run_as_statements, program_marks_are_statements, program_words_are_the_sources,
+    program_words_read_as_statements,
+};
+use c25_linking_laws::laws::{
+    modules_have_one_program, program_maps_have_their_form, program_words_have_16_bits,
+};
+use c25_module_laws::assembly_laws::sources_make_modules;
+use c25_run_laws::laws::steps_keep_the_words_of_code;
 
 /// Sources and the text of a command come to one program at most: its words, its marks and its map
 /// are theirs alone, whatever the samples, the schedule and the number of steps are.
 pub fn sources_have_one_program()
     ensures { (files : Files) (names : List (List ℕ)) (command : List ℕ) (image other : ImageData) (texts others : Texts) (listings more : List (List ℕ))
         → IsBuilt files names command image texts listings → IsBuilt files names command other others more → image ≡ other }
-{}
+{
+    modules_have_one_program();
+}
 
 /// What is run is what the sources say: each of the claims follows from what an answer is, a program
-/// of its sources and n steps of that program's words.
+/// of its sources and n steps of that program's words. The state in which every run of a program begins
+/// holds the statements of its sources, whatever its samples are.
 pub fn answers_run_as_their_sources()
     ensures words { (g : Given) (n : ℕ) (c : Chain) → IsAnswer g n c → OfProgram (HoldsSourceWords c) g.files g.sources g.command c }
     ensures marks { (g : Given) (n : ℕ) (c : Chain) → IsAnswer g n c → OfProgram MarksStatements g.files g.sources g.command c }
     ensures runs { (g : Given) (n : ℕ) (c : Chain) → IsAnswer g n c → OfProgram RunsAsSources g.files g.sources g.command c }
     ensures code { (g : Given) (n : ℕ) (c : Chain) → IsAnswer g n c → OfProgram CodeStays g.files g.sources g.command c }
     ensures own_run { (g : Given) (n : ℕ) (c : Chain) → IsAnswer g n c → TellsStatementsRun g n c }
-{}
+    ensures first_states { (files : Files) (names : List (List ℕ)) (command : List ℕ) (image : ImageData) (texts : Texts) (listings : List (List ℕ)) (samples : List Sample)
+        → IsBuilt files names command image texts listings → IsImageOf (source_statements files names image.described) (first_state image samples).world }
+{
+    sources_make_modules();
+    spelled_commands_keep_the_rules();
+    written_texts_are_read_back();
+    program_maps_have_their_form();
+    program_words_have_16_bits();
+    program_marks_are_statements();
+    program_words_read_as_statements();
+    program_words_are_the_sources();
+    linked_images_run_as_statements();
+    steps_keep_the_words_of_code();
+}

@@ -20,4 +20,5 @@ pub use fault_text::write_fault;
 pub use linked::link_modules;
 pub use modules::assemble_all;
 pub use output::write_run;
+pub use run::board_of;
 pub use sources::assemble_source;

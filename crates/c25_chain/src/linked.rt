@@ -1,10 +1,9 @@
 //! Modules, linked under the text of a command file.
 
-ghost use Rattle.std.specs.Prelude.{◌<◌, ◌^◌, All, IfOk, length};
+ghost use Rattle.std.specs.Prelude.{IfOk};
 ghost use Rattle.c25_cmd.specs.View.{command_data};
 ghost use Rattle.c25_meaning_commands.specs.Command.{IsCommand};
 ghost use Rattle.c25_meaning_commands.specs.CommandText.{command_of};
-ghost use Rattle.c25_meaning_objects.specs.Module.{IsModule};
 ghost use Rattle.c25_meaning_common.specs.Results.{MeetsBy, told};
 ghost use Rattle.c25_chain.specs.Linked.{HasTextsOf, Links, LinksUnder};
 ghost use Rattle.c25_chain.specs.Refusal.{refusal_of};
@@ -14,6 +13,7 @@ use crate::fault::{Fault, Refusal};
 use crate::page::{Page, page_of};
 use c25_cmd::{Command, read_command};
 use c25_link::{Image, link};
+use c25_linking_laws::laws::program_maps_have_their_form;
 use c25_meaning_common::failure::Failure;
 use c25_meaning_common::no_memory::NoMemory;
 use c25_obj::Module;
@@ -29,18 +29,6 @@ pub struct Linked {
     pub page1: Page,
     /// The text of the map.
     pub map: String,
-}
-
-/// Each of these is a module, and there are not too many for their numbers. The call changes nothing: a
-/// proof knows of each module what was read.
-fn are_modules(modules: &[Module])
-    ensures each { All IsModule modules.now }
-    ensures few { length modules.now < 2 ^ 64 }
-{
-    let _count = modules.len();
-    for module in modules {
-        let _parts = module.parts();
-    }
 }
 
 /// The command that a text spells.
@@ -88,7 +76,7 @@ fn with_texts(alloc: Global, image: Image) -> Result<Linked, NoMemory>
 pub fn link_modules(alloc: Global, modules: &[Module], command: &str) -> Result<Linked, Fault>
     ensures { LinksUnder modules.now command.now result }
 {
-    are_modules(modules);
+    program_maps_have_their_form();
     let command = command_in(alloc, command)?;
     let image = image_of(alloc, modules, &command)?;
     Ok(with_texts(alloc, image)?)

@@ -3,6 +3,7 @@
 ghost use Rattle.std.specs.Prelude.{◌≡◌, IfOk, string_bytes};
 ghost use Rattle.c25_meaning_intel_hex.specs.HexText.{written};
 
+use c25_hex::laws::one_text_spells_one_map;
 use c25_hex::{read_hex, write_hex};
 use c25_meaning_common::failure::Failure;
 use c25_meaning_common::no_memory::NoMemory;
@@ -22,6 +23,7 @@ pub(crate) fn page_of(alloc: Global, words: &WordMap) -> Result<Page, NoMemory>
     ensures text { IfOk result (λ page. string_bytes page.text ≡ written words.now) }
     ensures words { IfOk result (λ page. page.words ≡ words.now) }
 {
+    one_text_spells_one_map();
     let text = write_hex(alloc, words)?;
     match read_hex(alloc, text.as_str()) {
         Ok(words) => Ok(Page { text, words }),

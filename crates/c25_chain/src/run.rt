@@ -1,7 +1,10 @@
 //! A run of a linked program.
 
 ghost use Rattle.std.specs.Prelude.{◌≡◌, IfOk, true};
+ghost use Rattle.c25_board.specs.Board.{entries, state, steps};
 ghost use Rattle.c25_meaning_image.specs.Marks.{fit_from};
+ghost use Rattle.c25_meaning_processor.specs.FirstState.{first_of_pages};
+ghost use Rattle.c25_meaning_stimulus.specs.Samples.{samples_at};
 ghost use Rattle.c25_chain.specs.Run.{HasRun};
 
 use crate::linked::Linked;
@@ -23,6 +26,26 @@ pub(crate) struct Done {
     pub(crate) steps: u32,
 }
 
+/// The board of a linked program after a reset, with an empty list for its outputs.
+pub fn board_of(
+    alloc: Global,
+    linked: &Linked,
+    samples: Samples,
+    schedule: Schedule,
+) -> Result<Board<Samples, ListSink>, NoMemory>
+    requires { fit_from 0 linked.now.image.marks ≡ true }
+    ensures state { IfOk result (λ board. state board ≡ first_of_pages linked.now.page0.words linked.now.page1.words linked.now.image.marks (samples_at samples)) }
+    ensures steps { IfOk result (λ board. steps board ≡ 0) }
+    ensures schedule { IfOk result (λ board. entries board ≡ schedule) }
+{
+    let page0 = &linked.page0.words;
+    let page1 = &linked.page1.words;
+    let marks = linked.image.marks();
+    let sink = ListSink::new(alloc);
+    let board = Board::new(alloc, page0, page1, marks, schedule, samples, sink)?;
+    Ok(board)
+}
+
 /// Runs n steps of a program, from a reset on.
 pub(crate) fn run_linked(
     alloc: Global,
@@ -34,11 +57,7 @@ pub(crate) fn run_linked(
     requires { fit_from 0 linked.now.image.marks ≡ true }
     ensures { IfOk result (λ done. HasRun linked.now.page0.words linked.now.page1.words linked.now.image.marks samples schedule n done) }
 {
-    let page0 = &linked.page0.words;
-    let page1 = &linked.page1.words;
-    let marks = linked.image.marks();
-    let sink = ListSink::new(alloc);
-    let mut board = Board::new(alloc, page0, page1, marks, schedule, samples, sink)?;
+    let mut board = board_of(alloc, linked, samples, schedule)?;
     let outcome = board.run(n);
     if let Some(refused) = board.sink().refused() {
         return Err(refused);

@@ -1,9 +1,10 @@
 -- What is read from a disk, and what is written to one.
-use Rattle.std.specs.Prelude.{◌≡◌, ◌⊎◌, ⊤, ℕ, ◌≤◌, List, [], ◌∷◌, ◌++◌, length, Option, Some, None, IfSome, is_some, false, if◌then◌else◌, Result, Ok, Err, IfOk, IfErr, String}
+use Rattle.std.specs.Prelude.{◌≡◌, ◌⊎◌, ⊤, ℕ, List, [], ◌∷◌, ◌++◌, Option, Some, None, is_some, false, if◌then◌else◌, Result, Ok, Err, IfOk, IfErr, String}
 use Rattle.std.specs.List.{All}
 use Rattle.std.specs.String.{string_bytes}
 use Rattle.std.specs.declared.alloc.Global.{Global}
 use Rattle.c25_meaning_expansion.specs.Files.{Files, text_named}
+pub use Rattle.c25_reading.specs.Whole.{IsAllOf}
 use Rattle.c25_meaning_common.specs.declared.failure.Failure.{Failure}
 use Rattle.c25_meaning_common.specs.declared.failure.Failure.TheVariants.{NoMemory, Fault}
 use Rattle.c25_disk.specs.declared.fault.FileFault.{FileFault}
@@ -23,10 +24,6 @@ Adds (Some files) (Some after) added = after ≡ files ++ added
 -- known files stay as they were
 abbrev pub Stay : Option Files → Option Files → Type 0
 Stay old new = Adds old new []
-
--- a text is all of a file, where that is known; it has at most 16,777,216 bytes
-abbrev pub IsAllOf : Option (List ℕ) → List ℕ → Type 0
-IsAllOf known text = (length text ≤ 16777216) × IfSome known (λ bytes. text ≡ bytes)
 
 -- each text is all of the file of its name
 abbrev pub AreAsHeld : Held → Files → Type 0

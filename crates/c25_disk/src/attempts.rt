@@ -4,7 +4,7 @@ ghost use Rattle.c25_disk.specs.Copies.{AfterFault, IsTurn};
 
 use crate::sources::is_among;
 use crate::work::{CopyFault, Work};
-use c25_macro::files::Files;
+use c25_files::files::Files;
 use c25_meaning_common::failure::Failure;
 use std::alloc::Global;
 

@@ -5,9 +5,9 @@ ghost use Rattle.c25_disk.specs.declared.fault.FileFaultKind.TheVariants as kind
 ghost use Rattle.c25_disk.specs.Held.{IsAllOf, IsOfFile};
 
 use crate::disk::{Disk, Refused};
-use crate::fault::{FileFault, FileFaultKind, fault_of_file};
-use crate::reading::{CannotRead, read_bytes};
+use crate::fault::{FileFault, unread};
 use c25_meaning_common::failure::Failure;
+use c25_reading::{CannotRead, read_bytes};
 use std::alloc::Global;
 
 /// The bytes of a file, or why there are none.
@@ -35,9 +35,6 @@ pub fn read_binary<D: Disk>(
 {
     match bytes_of(alloc, disk, name) {
         Ok(bytes) => Ok(bytes),
-        Err(Failure::NoMemory(error)) => Err(Failure::NoMemory(error)),
-        Err(Failure::Fault(CannotRead)) => {
-            Err(fault_of_file(alloc, name, FileFaultKind::CannotRead))
-        }
+        Err(failure) => Err(unread(alloc, name, failure)),
     }
 }

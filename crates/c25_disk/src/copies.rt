@@ -7,9 +7,9 @@ ghost use Rattle.c25_disk.specs.Copies.{AddsCopy, EndsOver, IsEnd, IsFileFault};
 use crate::attempts::{Turn, attempt};
 use crate::disk::Disk;
 use crate::fault::{FileFault, FileFaultKind, fault_of_file};
-use crate::sources::{add_text, read_file};
+use crate::sources::add_source;
 use crate::work::{CopyFault, Work};
-use c25_macro::files::Files;
+use c25_files::files::Files;
 use c25_meaning_common::failure::Failure;
 use std::alloc::Global;
 
@@ -36,11 +36,8 @@ fn add_copy<D: Disk, F: Drop>(
     requires { is_some (text_named files.old name.now) ≡ false }
     ensures { AddsCopy (D.bytes_of disk.now) files.old files.new name.now result }
 {
-    match read_file(alloc, disk, name) {
-        Ok(text) => match add_text(files, name, text.as_str()) {
-            Ok(()) => Ok(()),
-            Err(failure) => Err(file_fault(failure)),
-        },
+    match add_source(alloc, disk, files, name) {
+        Ok(()) => Ok(()),
         Err(failure) => Err(file_fault(failure)),
     }
 }

@@ -2,9 +2,11 @@
 
 ghost use Rattle.std.specs.Prelude.{◌≡◌, IfOk, string_bytes};
 ghost use Rattle.c25_disk.specs.Held.{IsOfFile};
+ghost use Rattle.c25_disk.specs.declared.fault.FileFaultKind.TheVariants as kind;
 
 use c25_meaning_common::failure::Failure;
 use c25_meaning_common::no_memory::NoMemory;
+use c25_reading::CannotRead;
 use std::alloc::Global;
 use std::fmt;
 
@@ -54,5 +56,19 @@ pub(crate) fn fault_of_file(
     match String::from_str(alloc, name) {
         Ok(file) => Failure::Fault(FileFault { file, kind }),
         Err(error) => Failure::NoMemory(NoMemory::from(error)),
+    }
+}
+
+/// Tells that a file cannot be read, unless memory runs out or ran out before.
+pub(crate) fn unread(
+    alloc: Global,
+    name: &str,
+    failure: Failure<CannotRead>,
+) -> Failure<FileFault<String>>
+    ensures { IsOfFile name.now kind.CannotRead result }
+{
+    match failure {
+        Failure::NoMemory(error) => Failure::NoMemory(error),
+        Failure::Fault(CannotRead) => fault_of_file(alloc, name, FileFaultKind::CannotRead),
     }
 }

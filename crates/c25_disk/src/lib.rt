@@ -8,14 +8,13 @@ mod binary;
 mod copies;
 pub mod disk;
 pub mod fault;
-mod reading;
 mod sources;
 pub mod system;
 pub mod work;
 mod writing;
 
 pub use binary::read_binary;
+pub use c25_reading::{CannotRead, read_text};
 pub use copies::with_copies;
-pub use reading::{CannotRead, read_text};
 pub use sources::{read_file, read_sources};
 pub use writing::{Output, write_outputs};

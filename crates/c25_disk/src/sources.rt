@@ -1,16 +1,16 @@
 //! Sources, read from a disk.
 
-ghost use Rattle.std.specs.Prelude.{◌≡◌, ◌++◌, ◌∷◌, [], IfErr, IfOk, OnOk, false, is_some, map, string_bytes};
+ghost use Rattle.std.specs.Prelude.{◌≡◌, [], IfErr, IfOk, OnOk, false, is_some, map, string_bytes};
 ghost use Rattle.c25_meaning_expansion.specs.Files.{text_named};
-ghost use Rattle.c25_meaning_common.specs.Results.{IsNoMemory};
+ghost use Rattle.c25_files.specs.Added.{AddsAll};
 ghost use Rattle.c25_disk.specs.declared.fault.FileFaultKind.TheVariants as kind;
 ghost use Rattle.c25_disk.specs.Held.{AddsSource, IsAllOf, IsOfFile, ReadsSources};
 
 use crate::disk::{Disk, Refused};
-use crate::fault::{FileFault, FileFaultKind, fault_of_file};
-use crate::reading::{CannotRead, read_text};
-use c25_macro::files::{FileTwice, Files};
+use crate::fault::{FileFault, FileFaultKind, fault_of_file, unread};
+use c25_files::files::{AddFault, Files};
 use c25_meaning_common::failure::Failure;
+use c25_reading::{CannotRead, read_text};
 use std::alloc::Global;
 
 /// The text of a file, or why there is none.
@@ -38,10 +38,7 @@ pub fn read_file<D: Disk>(
 {
     match text_of(alloc, disk, name) {
         Ok(text) => Ok(text),
-        Err(Failure::NoMemory(error)) => Err(Failure::NoMemory(error)),
-        Err(Failure::Fault(CannotRead)) => {
-            Err(fault_of_file(alloc, name, FileFaultKind::CannotRead))
-        }
+        Err(failure) => Err(unread(alloc, name, failure)),
     }
 }
 
@@ -52,25 +49,26 @@ pub(crate) fn is_among(files: &Files, name: &str) -> bool
     files.text(name).is_some()
 }
 
-/// Adds the text of a new name.
-pub(crate) fn add_text(
-    files: &mut Files,
-    name: &str,
-    text: &str,
-) -> Result<(), Failure<FileFault<String>>>
+/// Adds the text of a file under its name, which is new.
+fn add_file<D: Disk>(disk: &D, files: &mut Files, name: &str) -> Result<(), Failure<CannotRead>>
     requires { is_some (text_named files.old name.now) ≡ false }
-    ensures ok { OnOk result (files.new ≡ files.old ++ (name.now, text.now) ∷ []) }
-    ensures err { IfErr result IsNoMemory }
+    ensures { OnOk result (AddsAll (D.bytes_of disk.now name.now) name.now files.old files.new) }
 {
-    match files.add(name, text) {
+    let Ok(reader) = disk.open(name) else {
+        return Err(Failure::Fault(CannotRead));
+    };
+    let mut reader = reader;
+    match files.add_from(name, &mut reader) {
         Ok(()) => Ok(()),
         Err(Failure::NoMemory(error)) => Err(Failure::NoMemory(error)),
-        Err(Failure::Fault(FileTwice)) => unreachable!(),
+        Err(Failure::Fault(AddFault::CannotRead)) => Err(Failure::Fault(CannotRead)),
+        Err(Failure::Fault(AddFault::FileTwice)) => unreachable!(),
     }
 }
 
-/// Reads a source behind others: one that is there already is refused without being read (37).
-fn add_source<D: Disk>(
+/// Reads the file of a name behind others: one that is there already is refused without being opened
+/// (37).
+pub(crate) fn add_source<D: Disk>(
     alloc: Global,
     disk: &D,
     files: &mut Files,
@@ -81,8 +79,10 @@ fn add_source<D: Disk>(
     if is_among(files, name) {
         return Err(fault_of_file(alloc, name, FileFaultKind::FileTwice));
     }
-    let text = read_file(alloc, disk, name)?;
-    add_text(files, name, text.as_str())
+    match add_file(disk, files, name) {
+        Ok(()) => Ok(()),
+        Err(failure) => Err(unread(alloc, name, failure)),
+    }
 }
 
 /// Reads the sources of names, one by one. The first that is there already is refused (37), and so is

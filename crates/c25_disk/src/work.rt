@@ -4,7 +4,7 @@ ghost use Rattle.std.specs.Prelude.{◌≡◌};
 ghost use Rattle.std.specs.Option.{option_map};
 
 use crate::fault::FileFault;
-use c25_macro::files::Files;
+use c25_files::files::Files;
 use c25_meaning_common::failure::Failure;
 use std::alloc::Global;
 

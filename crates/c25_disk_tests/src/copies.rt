@@ -7,7 +7,7 @@ use crate::reading::shelf_of;
 use c25_disk::fault::FileFault;
 use c25_disk::with_copies;
 use c25_disk::work::{CopyFault, Work};
-use c25_macro::files::Files;
+use c25_files::files::Files;
 use c25_meaning_common::failure::Failure;
 use std::alloc::Global;
 use std::process::Abort;

@@ -1,31 +1,14 @@
 //! Texts of readers, sources and what is written.
 
-use crate::readers::Pieces;
+use crate::readers::{Pieces, Stars};
 use crate::shelf::Shelf;
 use c25_disk::fault::FileFault;
 use c25_disk::{CannotRead, Output, read_file, read_sources, read_text, write_outputs};
 use c25_meaning_common::failure::Failure;
 use std::alloc::Global;
-use std::io;
 use std::io::Read;
 use std::process::Abort;
 use std::test::Fail;
-
-/// Gives so many `*`.
-#[derive(Drop)]
-struct Stars {
-    left: usize,
-    most: usize,
-}
-
-impl Read for Stars {
-    fn read(&mut self, buf: &mut [u8]) -> io::Result<usize> {
-        let count = self.most.min(buf.len()).min(self.left);
-        buf[..count].fill(b'*');
-        self.left -= count;
-        Ok(count)
-    }
-}
 
 /// These files, and room for many more.
 pub(crate) fn shelf_of<'a>(alloc: Global, files: &'a [(&'a str, &'a [u8])]) -> Shelf<'a> {

@@ -45,7 +45,7 @@ impl<'a> Case<'a> {
         let mut input = self.input;
         let mut output = Vec::<u8>::new(rt.alloc());
         let mut errors = Vec::<u8>::new(rt.alloc());
-        let status = run_words(
+        let ended = run_words(
             rt.alloc(),
             &self.words,
             &mut folder,
@@ -53,7 +53,7 @@ impl<'a> Case<'a> {
             &mut output,
             &mut errors,
         );
-        if status != ExitCode::from(self.status) {
+        if ended.status() != ExitCode::from(self.status) {
             println!(rt; "{name}: another status than {}", self.status)?;
         }
         if output.as_slice() != self.output {

@@ -26,7 +26,7 @@ fn run_call<R: Files + Print + AllocGlobal>(rt: &R, call: &Call<'_>) -> Result<E
     }
     let input = input_of(rt, call.input)?;
     let mut errors = Vec::<u8>::new(rt.alloc());
-    let status = run_words(
+    let ended = run_words(
         rt.alloc(),
         &words,
         &mut System::new(rt),
@@ -37,7 +37,7 @@ fn run_call<R: Files + Print + AllocGlobal>(rt: &R, call: &Call<'_>) -> Result<E
     if call.shows_errors {
         io::writer(rt).write_all(&errors)?;
     }
-    Ok(status)
+    Ok(ended.status())
 }
 
 /// Bytes as hexadecimal digits, a blank before each, and a line feed.

@@ -23,7 +23,7 @@ use Rattle.c25_meaning_language.specs.declared.statement.Form.TheVariants as for
 use Rattle.c25_module_laws.proofs.AddressFields.{IsAlone, IsField, alone, field_word, form_fields, long_mem_first}
 use Rattle.c25_module_laws.proofs.Chains.{Chain, chain_bound}
 use Rattle.c25_module_laws.proofs.Counted.{FitForm}
-use Rattle.c25_laws.proofs.Members.{behind_in, in_front, nothing_in}
+use Rattle.c25_linking_laws.proofs.Members.{behind_in, in_front, nothing_in}
 use Rattle.c25_module_laws.proofs.OperandSheets.{IsAddress}
 
 -- addresses of these numbers, whatever they count from

@@ -37,7 +37,7 @@ use Rattle.c25_module_laws.proofs.Kept.{heads, is_code, words_in}
 use Rattle.c25_module_laws.proofs.KeptActs.{code_section}
 use Rattle.c25_module_laws.proofs.KeptLines.{IsMade}
 use Rattle.c25_module_laws.proofs.LineWords.{IsFilled}
-use Rattle.c25_laws.proofs.Members.{behind_in, each_in, first_in, found_in, from_map, in_front, in_map, none_found, nothing_in}
+use Rattle.c25_linking_laws.proofs.Members.{behind_in, each_in, first_in, found_in, from_map, in_front, in_map, none_found, nothing_in}
 use Rattle.c25_module_laws.proofs.ModulesOfSources.{base_in, items_placed}
 use Rattle.c25_laws.proofs.NamesUnder.{name_kind, name_means}
 use Rattle.c25_module_laws.proofs.OperandSheets.{IsAddress, IsSheet, sheet_made}

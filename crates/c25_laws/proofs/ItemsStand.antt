@@ -14,7 +14,7 @@ use Rattle.c25_meaning_language.specs.declared.value.Base.{Base}
 use Rattle.c25_module_laws.proofs.Emitted.{Give, Made, filled_from, made_by, relocations_at, relocations_here, relocations_part, words_at, words_here, words_part}
 use Rattle.c25_module_laws.proofs.Kept.{AreLaid, part, part_here, total, words_in}
 use Rattle.c25_module_laws.proofs.LineWords.{IsFilled}
-use Rattle.c25_laws.proofs.Members.{behind_in, first_in, in_front, nothing_in}
+use Rattle.c25_linking_laws.proofs.Members.{behind_in, first_in, in_front, nothing_in}
 use Rattle.c25_module_laws.proofs.SectionsFilled.{AreMadeOf, IsMadeOf, section_filled, zero_count}
 use Rattle.c25_laws.proofs.StatementWords.{chain_has}
 

@@ -3,7 +3,6 @@ pub mod FieldsFilled
 pub mod FieldsOfValues
 pub mod ItemsLinked
 pub mod ItemsStand
-pub mod Members
 pub mod NamesDefined
 pub mod NamesUnder
 pub mod ProgramMarks

@@ -18,7 +18,7 @@ use Rattle.c25_meaning_instructions.specs.Table.{Reads, size_of}
 use Rattle.c25_meaning_instructions.specs.declared.insn.Insn.{Insn}
 use Rattle.c25_meaning_instructions.specs.declared.insn.Insn.TheVariants as insn
 use Rattle.c25_meaning_image.specs.declared.mark.Mark.{Mark}
-use Rattle.c25_laws.proofs.Members.{behind_in, first_in, found_in, in_front, in_map, in_permuted, none_found, nothing_in}
+use Rattle.c25_linking_laws.proofs.Members.{behind_in, first_in, found_in, in_front, in_map, in_permuted, none_found, nothing_in}
 use Rattle.c25_laws.specs.ProgramStatements.{AreMarksOf, ReadsAs}
 
 both : (a b : Bool) → (a && b) ≡ true → (a ≡ true) × (b ≡ true)

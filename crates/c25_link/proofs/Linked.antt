@@ -1,12 +1,13 @@
 -- Modules linked: where their sections stand there is room for all parts, and what is made there is their program.
-use Rattle.std.proofs.Common.{◌≡◌, ◌+◌, ◌<◌, ◌≤◌, List, Result, Ok, Err, All, String, arith, inr}
+use Rattle.std.proofs.Common.{◌≡◌, ◌+◌, ◌<◌, ◌≤◌, List, get_or, Result, Ok, Err, All, String, arith, inr}
 use Rattle.std.specs.Str.{bytes_eq}
 use Rattle.std.specs.declared.alloc.Global.{Global}
 use Rattle.std.proofs.lemmas.List.Elements.{All-map}
+use Rattle.std.proofs.lemmas.Option.{slice_get-get_or}
 use Rattle.c25_meaning_commands.specs.Command.{CommandData}
 use Rattle.c25_meaning_linking.specs.GoodMap.{IsGoodMap, ranges_for, placings_for}
 use Rattle.c25_meaning_linking.specs.Linking.{ImageData, names_checked}
-use Rattle.c25_meaning_objects.specs.Module.{Contents}
+use Rattle.c25_meaning_objects.specs.Module.{Contents, IsModule}
 use Rattle.c25_meaning_linking.specs.Place.{Place}
 use Rattle.c25_meaning_common.specs.declared.failure.Failure.{Failure}
 use Rattle.c25_meaning_common.specs.declared.failure.Failure.TheVariants.{NoMemory, Fault}
@@ -43,6 +44,11 @@ pub has_one_part : (modules : List Contents) (command : CommandData) (places : L
 has_one_part modules command places are good = λ number other index another page address owner owner_2 section section_2 p q l k.
     let one = one_part (ranges_for command) modules (placings_for command) places (λ m n is. (are n m is).lists) good number other index another page address owner owner_2 section section_2 p q l k in
     (one.numbers, one.indexes)
+
+-- ---- modules
+
+pub all_modules : (modules : List Contents) → AreModules modules → All IsModule modules
+all_modules modules are = λ i d lt. are i (get_or modules i d) (slice_get-get_or modules i d lt)
 
 -- ---- what linking answers
 

@@ -23,8 +23,7 @@ use Rattle.c25_obj.specs.declared.parts.Section.{Section}
 use Rattle.c25_link.specs.View.{definition_view, definitions_view, names_of}
 use Rattle.c25_link.specs.declared.definitions.Definition.{Definition}
 use Rattle.c25_link.proofs.Again.{again_some, again_none, or_false}
-use Rattle.c25_link.proofs.Printed.{all_by_modules}
-use Rattle.c25_link.proofs.Search.{mapped_more}
+use Rattle.c25_link.proofs.Search.{all_by_modules, mapped_more}
 
 -- ---- definitions
 

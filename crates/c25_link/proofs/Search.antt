@@ -1,8 +1,10 @@
 -- The first item that passes a test, in lists that grow in a loop and in what modules give one after the other.
-use Rattle.std.proofs.Common.{◌≡◌, ℕ, ◌+◌, ◌<◌, ◌≤◌, Bool, true, false, cond, List, [], ◌∷◌, ◌++◌, length, get_or, take, drop, map, Option, Some, None, find, refl, sym, ap, ◌∙◌, arith, append_assoc, add-zero, add-one}
+use Rattle.std.proofs.Common.{◌≡◌, ℕ, suc, ◌+◌, ◌<◌, ◌≤◌, Bool, true, false, cond, List, [], ◌∷◌, ◌++◌, length, get_or, take, drop, map, Option, Some, None, find, All, refl, sym, ap, subst, ◌∙◌, arith, append_assoc, add-zero, add-one}
+use Rattle.std.specs.List.{slice_get}
 use Rattle.std.specs.Option.{option_map, option_or}
 use Rattle.std.proofs.Math.Seq.{drop-cons}
 use Rattle.std.proofs.lemmas.List.{take_more, take_all, append-nil, map-append, take-append-drop, length-take-le}
+use Rattle.std.proofs.lemmas.List.Elements.{All-nil, All-append}
 use Rattle.std.proofs.lemmas.List.Folds.{find-append}
 use Rattle.c25_meaning_objects.specs.Module.{Contents}
 use Rattle.c25_meaning_linking.specs.Place.{by_modules}
@@ -16,6 +18,14 @@ by_modules-append g number (x ∷ xs) ys =
     ap (λ zs. g number x ++ zs) (by_modules-append g (number + 1) xs ys)
     ∙ sym (append_assoc (g number x) (by_modules g (number + 1) xs) (by_modules g ((number + 1) + length xs) ys))
     ∙ ap (λ n. by_modules g number (x ∷ xs) ++ by_modules g n ys) same
+
+-- what holds of all that each module gives
+pub all_by_modules : {A : Type 0} (P : A → Type 0) (g : ℕ → Contents → List A) (number : ℕ) (modules : List Contents) → ((k : ℕ) (m : Contents) → slice_get modules k ≡ Some m → All P (g (number + k) m)) → All P (by_modules g number modules)
+all_by_modules P g number [] h = All-nil P
+all_by_modules P g number (m ∷ modules) h =
+    let same : number + 0 ≡ number = omega arith in
+    All-append P (g number m) (by_modules g (number + 1) modules) (subst (λ n. All P (g n m)) same (h 0 m refl))
+    (all_by_modules P g (number + 1) modules (λ k o is. let z : number + suc k ≡ (number + 1) + k = omega arith in subst (λ n. All P (g n o)) z (h (suc k) o is)))
 
 -- one module more
 pub by_modules_more : {A : Type 0} (g : ℕ → Contents → List A) (modules : List Contents) (i : ℕ) (m : Contents) → i < length modules → m ≡ get_or modules i m → by_modules g 0 (take (i + 1) modules) ≡ by_modules g 0 (take i modules) ++ g i m

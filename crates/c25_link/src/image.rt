@@ -1,8 +1,8 @@
 //! A linked program.
 
-ghost use Rattle.std.specs.Prelude.{◌≡◌, ◌≤◌, All, IfOk, map, string_bytes, if◌then◌else◌, ◌==◌};
+ghost use Rattle.std.specs.Prelude.{◌≡◌, ◌≤◌, IfOk, map, string_bytes, if◌then◌else◌, ◌==◌};
 ghost use Rattle.c25_map.specs.View.{map_data, symbol_data};
-ghost use Rattle.c25_meaning_linking.specs.MapText.{map_text, HasDigits};
+ghost use Rattle.c25_meaning_linking.specs.MapText.{IsMapOf, IsPrinted};
 
 use c25_map::{GlobalSymbol, Map, write_map};
 use c25_meaning_common::no_memory::NoMemory;
@@ -24,10 +24,9 @@ impl Model for Image {
     ghost use Rattle.std.specs.Coded.{codes, coded_ℕ};
     ghost use Rattle.std.specs.FinMap as finite;
     ghost use Rattle.std.specs.Ordering.{nat_cmp};
-    ghost use Rattle.std.specs.Prelude.{All};
     ghost use Rattle.c25_map.specs.View.{map_data};
     ghost use Rattle.c25_meaning_linking.specs.Linking.{ImageData};
-    ghost use Rattle.c25_meaning_linking.specs.MapText.{HasDigits};
+    ghost use Rattle.c25_meaning_linking.specs.MapText.{IsPrinted};
 
     ghost Value = { ImageData };
 
@@ -35,13 +34,13 @@ impl Model for Image {
 
     ghost view = { λ i. record { program = i.program; store = i.store; marks = i.marks.items; described = map_data i.described } };
 
-    ghost invariant = { λ i. All HasDigits (map_data i.described).sections };
+    ghost invariant = { λ i. IsPrinted (map_data i.described) };
 }
 
 impl Image {
     /// An image of these parts.
     pub(crate) fn new(program: WordMap, store: WordMap, marks: Vec<Mark>, described: Map) -> Self
-        requires { All HasDigits (map_data described).sections }
+        requires { IsPrinted (map_data described) }
         ensures { result ≡ record { program = program; store = store; marks = marks.items; described = map_data described } }
     {
         Image {
@@ -86,9 +85,10 @@ impl Image {
         &self.described
     }
 
-    /// The text of the map.
+    /// The text of the map, which [`read_map`](crate::read_map) reads as this map.
+    #[tactic(auto, using(crate::proofs::Printed::have_digits, crate::proofs::Printed::is_map_of))]
     pub fn write_map(&self, alloc: Global) -> Result<String, NoMemory>
-        ensures { IfOk result (λ text. string_bytes text ≡ map_text self.now.described) }
+        ensures { IfOk result (λ text. IsMapOf (string_bytes text) self.now.described) }
     {
         write_map(alloc, &self.described)
     }

@@ -1,5 +1,6 @@
 //! What the words, the instructions and the map of a program are made from.
 
+ghost use Rattle.std.specs.Prelude.{◌<◌, ◌^◌, length};
 ghost use Rattle.c25_link.specs.Layout.{AreModules};
 
 use crate::bases::Bases;
@@ -17,10 +18,12 @@ pub(crate) struct Layout<'m, 'p> {
     pub bases: &'p Bases,
 }
 
-/// Each of these is a module. The call changes nothing: a proof knows of each module what was read.
+/// Each of these is a module, and there are not too many for their numbers. The call changes nothing: a proof knows of each module what was read.
 pub(crate) fn are_modules(modules: &[Module])
-    ensures { AreModules modules.now }
+    ensures each { AreModules modules.now }
+    ensures few { length modules.now < 2 ^ 64 }
 {
+    let _count = modules.len();
     for module in modules {
         let _parts = module.parts();
     }

@@ -13,5 +13,6 @@ mod marks;
 mod uses;
 mod values;
 
+pub use c25_map::read_map;
 pub use image::Image;
 pub use linking::link;

@@ -3,7 +3,8 @@
 ghost use Rattle.std.specs.Prelude.{◌≡◌, IfOk, option_map};
 ghost use Rattle.c25_cmd.specs.View.{command_data};
 ghost use Rattle.c25_meaning_commands.specs.Command.{IsCommand};
-ghost use Rattle.c25_meaning_linking.specs.Linking.{names_checked};
+ghost use Rattle.c25_meaning_linking.specs.Linking.{map_of, names_checked};
+ghost use Rattle.c25_meaning_linking.specs.MapText.{IsPrinted};
 ghost use Rattle.c25_meaning_common.specs.Results.{MeetsBy};
 ghost use Rattle.c25_meaning_linking.specs.Words.{definitions};
 ghost use Rattle.c25_link.specs.Layout.{IsLaidOut, places_in};
@@ -20,6 +21,7 @@ use crate::loading::load;
 use crate::marks::program_marks;
 use crate::uses::{first_spilled, first_unresolved, is_missing};
 use c25_cmd::Command;
+use c25_linking_laws::laws::program_maps_have_their_form;
 use c25_meaning_common::failure::Failure;
 use c25_meaning_linking::link_fault::LinkFault;
 use c25_obj::Module;
@@ -62,13 +64,13 @@ fn checked_definitions<'a>(
 }
 
 /// The program of modules whose sections have been placed, unless a field does not take its value.
-#[tactic(auto, using(crate::proofs::Printed::has_digits))]
 fn linked_image(
     alloc: Global,
     layout: &Layout<'_, '_>,
     entry: Option<&str>,
 ) -> Result<Image, Refused>
-    requires { IsLaidOut layout.now }
+    requires laid { IsLaidOut layout.now }
+    requires printed { IsPrinted (map_of layout.now.modules.now (option_map (λ name. name.now) entry) (places_in layout.now)) }
     ensures { LinksAt layout.now.modules.now (places_in layout.now) (option_map (λ name. name.now) entry.entry) result }
 {
     match first_spilled(layout) {
@@ -99,6 +101,7 @@ pub fn link<'a>(
     requires { IsCommand (command_data command.now) }
     ensures { Links modules.now (command_data command.now) result }
 {
+    program_maps_have_their_form();
     let entry = entry_of(command);
     let definitions = checked_definitions(alloc, modules, entry)?;
     let places = good_places(alloc, modules, command)?;

@@ -6,7 +6,8 @@ ghost use Rattle.c25_meaning_commands.specs.Command.{IsCommand};
 use crate::cases::CASES;
 use crate::modules::module_of;
 use c25_cmd::{Command, read_command};
-use c25_link::{Image, link};
+use c25_link::{Image, link, read_map};
+use c25_map::OutputSection;
 use c25_meaning_common::failure::Failure;
 use c25_meaning_image::mark::Mark;
 use c25_meaning_image::word_map::WordMap;
@@ -44,11 +45,22 @@ fn push_marks(alloc: Global, out: &mut String, marks: &[Mark]) -> Result<(), Fai
     Ok(())
 }
 
+/// The names of sections, each behind a blank.
+fn push_sections(out: &mut String, sections: &[OutputSection]) -> Result<(), Fail> {
+    for section in sections {
+        out.push(' ')?;
+        out.push_str(&section.name)?;
+    }
+    Ok(())
+}
+
 /// A program as the cases have it.
 fn push_image(alloc: Global, out: &mut String, image: &Image) -> Result<(), Fail> {
-    for c in image.write_map(alloc)?.chars() {
+    let text = image.write_map(alloc)?;
+    for c in text.chars() {
         out.push(if c == '\n' { '^' } else { c })?;
     }
+    push_sections(out, &read_map(alloc, &text)?.sections)?;
     out.push_str("#")?;
     push_words(alloc, out, image.words(0))?;
     out.push_str("#")?;

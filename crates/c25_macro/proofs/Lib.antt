@@ -1,5 +1,4 @@
 pub mod Consuming
-pub mod Entries
 pub mod Fewer
 pub mod Lists
 pub mod Nexts

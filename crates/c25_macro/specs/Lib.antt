@@ -1,7 +1,6 @@
 pub mod Acts
 pub mod Config
 pub mod Dictionary
-pub mod Entries
 pub mod Expander
 pub mod Expanders
 pub mod Scopes

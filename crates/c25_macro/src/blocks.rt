@@ -11,7 +11,6 @@ ghost use Rattle.c25_macro.specs.Acts.{bytes_of_names};
 ghost use Rattle.c25_macro.specs.Config.{config, GoesOn};
 ghost use Rattle.c25_macro.specs.Scopes.{test_of};
 
-use crate::files::Files;
 use crate::refusal::{Refusal, fault};
 use crate::rows::{Rows, rows_of};
 use crate::scope::{Block, Branches, Kind, Scope, Source, Stack};
@@ -19,6 +18,7 @@ use crate::state::{Mode, State};
 use crate::values::{is_zero, number};
 use c25_expr::symbols::Symbols;
 use c25_expr::tree::Expr;
+use c25_files::files::Files;
 use c25_isa::mnemonic;
 use c25_meaning_common::failure::Failure;
 use c25_meaning_expansion::expansion::Place;

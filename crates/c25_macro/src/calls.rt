@@ -7,9 +7,9 @@ ghost use Rattle.c25_macro.specs.Expanders.{expansion_of};
 
 use crate::answer::{ExpLine, ExpandFault};
 use crate::expander::Expander;
-use crate::files::Files;
 use crate::stage::{Stage, advance};
 use c25_expr::symbols::Symbols;
+use c25_files::files::Files;
 use c25_meaning_common::failure::Failure;
 use std::alloc::Global;
 use std::mem;

@@ -1,7 +1,7 @@
 //! The expander.
 
-use crate::files::Files;
 use crate::stage::Stage;
+use c25_files::files::Files;
 use std::alloc::Global;
 
 /// The lines of a module, with its macros, loops, conditions, substitution symbols and copied files

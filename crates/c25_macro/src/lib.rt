@@ -12,7 +12,6 @@ mod dictionary;
 mod directive;
 pub mod expander;
 mod expansions;
-pub mod files;
 mod lines;
 mod macros;
 mod operands;
@@ -25,3 +24,5 @@ mod standing;
 mod state;
 mod step;
 mod values;
+
+pub use c25_files::files;

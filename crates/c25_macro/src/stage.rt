@@ -9,12 +9,12 @@ ghost use Rattle.c25_macro.specs.Expander.{shown, begun_at, Comes, IsNextAt, IsK
 ghost use Rattle.c25_macro.specs.Stages.{stage_of, IsRefused};
 
 use crate::answer::{ExpLine, ExpandFault};
-use crate::files::Files;
 use crate::refusal::Refusal;
 use crate::rows::Row;
 use crate::standing::Standing;
 use crate::state::State;
 use c25_expr::symbols::Symbols;
+use c25_files::files::Files;
 use c25_meaning_common::failure::Failure;
 use c25_meaning_common::no_memory::NoMemory;
 use c25_meaning_expansion::expansion::Place;

@@ -8,12 +8,12 @@ ghost use Rattle.c25_meaning_expansion.specs.Files as meaning;
 ghost use Rattle.c25_meaning_language.specs.Value.{Table};
 ghost use Rattle.c25_macro.specs.Config.{config, mode_of, Follows, Answers};
 
-use crate::files::Files;
 use crate::refusal::{Refusal, fault};
 use crate::rows::Row;
 use crate::scope::Kind;
 use crate::state::{Mode, Progress, State};
 use c25_expr::symbols::Symbols;
+use c25_files::files::Files;
 use c25_meaning_common::failure::Failure;
 use c25_meaning_language::statement::FaultKind;
 use std::mem;

@@ -1,4 +1,5 @@
 pub mod AddressFields
+pub mod CallsSuffice
 pub mod Chains
 pub mod Counted
 pub mod Distinct

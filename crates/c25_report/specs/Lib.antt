@@ -1,2 +1,2 @@
-pub mod Status
+pub mod Ending
 pub mod ProgramFiles

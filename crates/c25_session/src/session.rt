@@ -69,7 +69,8 @@ impl<'a, F: Feed + Drop, S: Sink + Drop> Session<'a, F, S> {
             told.is_refused (S.failures self.old.board.devices.sink) (S.failures self.new.board.devices.sink)) }
         ensures image { self.new.image ≡ self.old.image }
         ensures refused { self.new.is_refused ≡ self.old.is_refused }
-        ensures kept { OnErr result (point_of self.new.board self.new.breakpoints ≡ point_of self.old.board self.old.breakpoints) }
+        ensures board_kept { OnErr result (self.new.board ≡ self.old.board) }
+        ensures breakpoints_kept { OnErr result (self.new.breakpoints ≡ self.old.breakpoints) }
         ensures schedule { entries self.new.board ≡ entries self.old.board }
     {
         let (alloc, image) = (self.alloc, self.image);
@@ -99,8 +100,8 @@ impl<'a, F: Feed + Drop, S: Sink + Drop> Session<'a, F, S> {
     }
 
     /// Does what a command asks for, and answers its text. A step past the 4,294,967,295th is not done.
-    /// Where memory is refused nothing is done: no step, no breakpoint is set or cleared, and `refused`
-    /// tells what it told.
+    /// Where memory is refused nothing is done: the board and the breakpoints are as they were, and
+    /// `refused` tells what it told.
     pub fn command(&mut self, command: &Cmd) -> Result<String, NoMemory>
         requires { IsWithin command.now }
         ensures answer { IfOk result (λ text. meant.Told (signals self.old.board) self.old.image.now command.now
@@ -108,7 +109,8 @@ impl<'a, F: Feed + Drop, S: Sink + Drop> Session<'a, F, S> {
             self.new.is_refused (S.failures self.old.board.devices.sink) (S.failures self.new.board.devices.sink)) }
         ensures image { self.new.image ≡ self.old.image }
         ensures refused { OnErr result (self.new.is_refused ≡ self.old.is_refused) }
-        ensures kept { OnErr result (point_of self.new.board self.new.breakpoints ≡ point_of self.old.board self.old.breakpoints) }
+        ensures board_kept { OnErr result (self.new.board ≡ self.old.board) }
+        ensures breakpoints_kept { OnErr result (self.new.breakpoints ≡ self.old.breakpoints) }
         ensures schedule { entries self.new.board ≡ entries self.old.board }
     {
         let told = self.told(command)?;

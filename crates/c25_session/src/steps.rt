@@ -1,7 +1,7 @@
 //! Steps that a command asks for, and what is answered to them.
 
 ghost use Rattle.std.specs.Prelude.{◌≡◌, ◌≤◌, ◌+◌, ◌++◌, ℕ, List, false, true, IfOk, IsOk, OnErr, string_bytes, string_len};
-ghost use Rattle.c25_board.specs.Board.{entries, signals, state, steps};
+ghost use Rattle.c25_board.specs.Board.{entries, signals};
 ghost use Rattle.std.specs.String.{string_capacity};
 ghost use Rattle.c25_answers.specs.View.{halting_of};
 ghost use Rattle.c25_meaning_debugger.specs.Texts.{halting_text, sink_text};
@@ -82,8 +82,7 @@ pub(crate) fn tell_steps<F: Feed + Drop, S: Sink + Drop>(
     ensures told { IfOk result (λ told. (kept : List ℕ) → StepsTold (signals board.old) breakpoints.now count
         (point_of board.old kept) (string_bytes told.text) (point_of board.new kept)
         told.is_refused (S.failures board.old.devices.sink) (S.failures board.new.devices.sink)) }
-    ensures kept { OnErr result (state board.new ≡ state board.old) }
-    ensures steps_kept { OnErr result (steps board.new ≡ steps board.old) }
+    ensures kept { OnErr result (board.new ≡ board.old) }
     ensures schedule { entries board.new ≡ entries board.old }
 {
     let text = String::with_capacity(alloc, MOST_BYTES)?;

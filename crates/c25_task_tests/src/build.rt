@@ -126,6 +126,7 @@ fn the_first_fault_of_the_files_is_told(rt: HostRuntime) -> Result<(), Fail> {
         ("build a.asm b.asm a.asm --out b", "a.asm: 37 FileTwice\n"),
         ("run q --command r", "q: 8 CannotRead\n"),
         ("run a.asm --command r --samples s", "r: 8 CannotRead\n"),
+        ("run a.asm --schedule s --command r", "r: 8 CannotRead\n"),
         ("run a.asm", "link:GO: 70 Unresolved\n"),
         ("link q r --out b", "q: 8 CannotRead\n"),
         ("link bad.cmd bad.obj r --out b", "r: 8 CannotRead\n"),

@@ -4,7 +4,11 @@
 #[cfg(test)]
 mod build;
 #[cfg(test)]
+mod debug;
+#[cfg(test)]
 mod files;
+#[cfg(test)]
+mod many;
 #[cfg(test)]
 mod program;
 #[cfg(test)]

@@ -25,10 +25,10 @@ fn prints(
     let mut out = Vec::<u8>::new(rt.alloc());
     let mut err = Vec::<u8>::new(rt.alloc());
     let mut shelf = shelf_of(rt.alloc(), &[]);
-    let status = run_program(rt.alloc(), words, &mut shelf, input, &mut out, &mut err);
+    let ended = run_program(rt.alloc(), words, &mut shelf, input, &mut out, &mut err);
     assert_eq!(rt; out.as_slice(), printed.out.as_bytes());
     assert_eq!(rt; err.as_slice(), printed.err.as_bytes());
-    assert_eq!(rt; status, ExitCode::from(printed.status));
+    assert_eq!(rt; ended.status(), ExitCode::from(printed.status));
     assert!(rt; shelf.written.is_empty());
     Ok(())
 }
@@ -100,26 +100,6 @@ fn a_fault_goes_to_standard_error(rt: HostRuntime) -> Result<(), Fail> {
 }
 
 #[test]
-fn debugging_is_not_there_yet(rt: HostRuntime) -> Result<(), Fail> {
-    let mut input = Pieces {
-        rest: b" NOP\n",
-        most: 9,
-        fails: false,
-    };
-    let printed = Printed {
-        out: "",
-        err: "c25: debug is not there yet\n",
-        status: 2,
-    };
-    let words = Words {
-        words: &["debug", "a.asm", "--script", "a.txt"],
-    };
-    prints(&rt, &words, &mut input, printed)?;
-    assert_eq!(&rt; input.rest, b" NOP\n".as_slice());
-    Ok(())
-}
-
-#[test]
 fn words_that_are_no_text_have_status_2(rt: HostRuntime) -> Result<(), Fail> {
     let mut input = Pieces {
         rest: b" NOP\n",
@@ -147,7 +127,7 @@ fn words_that_are_no_task_have_status_2(rt: HostRuntime) -> Result<(), Fail> {
         };
         let words = [word];
         let words = Words { words: &words };
-        let status = run_program(
+        let ended = run_program(
             rt.alloc(),
             &words,
             &mut shelf,
@@ -155,7 +135,7 @@ fn words_that_are_no_task_have_status_2(rt: HostRuntime) -> Result<(), Fail> {
             &mut out,
             &mut err,
         );
-        assert_eq!(rt; status, ExitCode::from(2));
+        assert_eq!(rt; ended.status(), ExitCode::from(2));
         assert!(rt; out.is_empty());
         assert!(rt; !err.is_empty());
         assert_eq!(&rt; input.rest, b" NOP\n".as_slice());
@@ -172,7 +152,7 @@ fn a_run_that_cannot_be_printed_is_a_failure(rt: HostRuntime) {
     };
     let mut err = Vec::<u8>::new(rt.alloc());
     let mut shelf = shelf_of(rt.alloc(), &[]);
-    let status = run_program(
+    let ended = run_program(
         rt.alloc(),
         &NO_WORDS,
         &mut shelf,
@@ -180,6 +160,6 @@ fn a_run_that_cannot_be_printed_is_a_failure(rt: HostRuntime) {
         &mut Closed,
         &mut err,
     );
-    assert_eq!(rt; status, ExitCode::FAILURE);
-    assert!(rt; err.is_empty());
+    assert_eq!(rt; ended.status(), ExitCode::FAILURE);
+    assert_eq!(rt; err.as_slice(), b"stdout: 7 CannotWrite\n".as_slice());
 }

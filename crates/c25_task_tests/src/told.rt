@@ -1,6 +1,7 @@
 //! What the program does with a line of words.
 
 use crate::worlds::Words;
+use c25_disk::disk::Disk;
 use c25_disk_tests::readers::Pieces;
 use c25_disk_tests::shelf::Shelf;
 use c25_tasks::run_program;
@@ -48,10 +49,10 @@ pub(crate) fn fault(err: &str) -> Told<'_> {
 }
 
 /// Runs the program with a line of words. Standard input cannot be read.
-fn run_line(
+pub(crate) fn run_line<D: Disk>(
     alloc: Global,
     line: &str,
-    shelf: &mut Shelf<'_>,
+    disk: &mut D,
     out: &mut Vec<u8>,
     err: &mut Vec<u8>,
 ) -> Result<ExitCode, Fail> {
@@ -65,7 +66,8 @@ fn run_line(
         most: 9,
         fails: true,
     };
-    Ok(run_program(alloc, &words, shelf, &mut input, out, err))
+    let ended = run_program(alloc, &words, disk, &mut input, out, err);
+    Ok(ended.status())
 }
 
 /// The program does this with a line of words.

@@ -12,11 +12,9 @@ use Rattle.c25_disk.specs.Held.{Held, IsAllOf}
 use Rattle.c25_meaning_expansion.specs.Files.{Files}
 use Rattle.c25_meaning_common.specs.Results.{IsNoMemory}
 use Rattle.c25_meaning_common.specs.declared.failure.Failure.TheVariants as failure
-use Rattle.c25_words.specs.Task.{text_of}
-use Rattle.c25_words.specs.declared.task.RunFiles.{RunFiles}
-use Rattle.c25_tasks.specs.Building.{BuildsFrom}
-use Rattle.c25_tasks.specs.Files.{ComesTo, FailsWith, IsOptional, IsUnread, ReadsAll}
-use Rattle.c25_tasks.specs.Running.{Beside, RanInput, RanText, RunsFrom, given_with, nothing_beside, stdin}
+use Rattle.c25_tasks.specs.Building.{BuildsOver}
+use Rattle.c25_tasks.specs.Files.{ComesTo, FailsWith, IsUnread}
+use Rattle.c25_tasks.specs.Running.{RanInput, RanText, RunsOver, given_with, stdin}
 
 abbrev is_held : Held → List ℕ × List ℕ → Type 0
 is_held held file = IsAllOf (held file.0) file.1
@@ -40,50 +38,30 @@ unread_short name (failure.Fault f) short = absurd short
 
 -- ---- programs
 
-pub builds_from : (held : Held) (names sources : List (List ℕ)) (command : Option (List ℕ)) (text shown : List ℕ) (given : Files) (answer : Result Built Fault) → ReadsAll held names (Ok given) → IsOptional held command text → sources ≡ names → shown ≡ text → ComesTo held given (λ files result. Builds files sources shown result) answer → BuildsFrom held names command answer
-builds_from held names sources command text shown given answer read optional named same comes =
-    let as_named = subst (λ (ns : List (List ℕ)). ComesTo held given (λ files result. Builds files ns shown result) answer) named comes in
-    inr (inr (given, text, read, optional, subst (λ (t : List ℕ). ComesTo held given (λ files result. Builds files names t result) answer) same as_named))
+pub builds_over : (held : Held) (given : Files) (names sources : List (List ℕ)) (command shown : List ℕ) (answer : Result Built Fault) → sources ≡ names → shown ≡ command → BuildsOver held given sources shown answer → BuildsOver held given names command answer
+builds_over held given names sources command shown answer named same comes =
+    subst (λ (t : List ℕ). BuildsOver held given names t answer) same (subst (λ (ns : List (List ℕ)). BuildsOver held given ns shown answer) named comes)
 
-pub builds_short : (held : Held) (names : List (List ℕ)) (command : Option (List ℕ)) (text : List ℕ) (given : Files) (fault : Fault) → ReadsAll held names (Ok given) → IsOptional held command text → IsNoMemory fault → BuildsFrom held names command (Err fault)
-builds_short held names command text given fault read optional short =
-    inr (inr (given, text, read, optional, over_short held given (λ files result. Builds files names text result) fault short))
-
-pub builds_told : (held : Held) (names : List (List ℕ)) (command : Option (List ℕ)) (text : List ℕ) (given : Files) (answer : Result Built Fault) → ReadsAll held names (Ok given) → IsOptional held command text → IsErrAnd answer IsNoMemory → BuildsFrom held names command answer
-builds_told held names command text given (Ok built) read optional short = absurd short
-builds_told held names command text given (Err fault) read optional short = builds_short held names command text given fault read optional short
+pub builds_told : (held : Held) (given : Files) (names : List (List ℕ)) (command : List ℕ) (answer : Result Built Fault) → IsErrAnd answer IsNoMemory → BuildsOver held given names command answer
+builds_told held given names command (Ok built) short = absurd short
+builds_told held given names command (Err fault) short = over_short held given (λ files result. Builds files names command result) fault short
 
 -- ---- runs
 
-pub runs_from : (held : Held) (names sources : List (List ℕ)) (steps : ℕ) (files : RunFiles) (given : Files) (command samples schedule : List ℕ) (shown : Beside) (answer : Result Chain Fault) → ReadsAll held names (Ok given) → IsOptional held (text_of files.command) command → IsOptional held (text_of files.samples) samples → IsOptional held (text_of files.schedule) schedule → shown.command ≡ command → shown.samples ≡ samples → shown.schedule ≡ schedule → sources ≡ names → ComesTo held given (λ all result. Answers (given_with all sources shown) steps result) answer → RunsFrom held names steps files answer
-runs_from held names sources steps files given command samples schedule shown answer read is_command is_samples is_schedule same_command same_samples same_schedule named comes =
-    inr (inr (
-      given,
-      shown,
-      read,
-      record {
-        command = subst (λ (t : List ℕ). IsOptional held (text_of files.command) t) (sym same_command) is_command;
-        samples = subst (λ (t : List ℕ). IsOptional held (text_of files.samples) t) (sym same_samples) is_samples;
-        schedule = subst (λ (t : List ℕ). IsOptional held (text_of files.schedule) t) (sym same_schedule) is_schedule;
-      },
-      subst (λ (ns : List (List ℕ)). ComesTo held given (λ all result. Answers (given_with all ns shown) steps result) answer) named comes,
-    ))
+pub runs_over : (held : Held) (given : Files) (names sources : List (List ℕ)) (steps : ℕ) (command samples schedule command_shown samples_shown schedule_shown : List ℕ) (answer : Result Chain Fault) → sources ≡ names → command_shown ≡ command → samples_shown ≡ samples → schedule_shown ≡ schedule → RunsOver held given sources steps command_shown samples_shown schedule_shown answer → RunsOver held given names steps command samples schedule answer
+runs_over held given names sources steps command samples schedule command_shown samples_shown schedule_shown answer named same_command same_samples same_schedule comes =
+    let with_names = subst (λ (ns : List (List ℕ)). RunsOver held given ns steps command_shown samples_shown schedule_shown answer) named comes in
+    let with_command = subst (λ (t : List ℕ). RunsOver held given names steps t samples_shown schedule_shown answer) same_command with_names in
+    let with_samples = subst (λ (t : List ℕ). RunsOver held given names steps command t schedule_shown answer) same_samples with_command in
+    subst (λ (t : List ℕ). RunsOver held given names steps command samples t answer) same_schedule with_samples
 
-pub runs_short : (held : Held) (names : List (List ℕ)) (steps : ℕ) (files : RunFiles) (given : Files) (command samples schedule : List ℕ) (fault : Fault) → ReadsAll held names (Ok given) → IsOptional held (text_of files.command) command → IsOptional held (text_of files.samples) samples → IsOptional held (text_of files.schedule) schedule → IsNoMemory fault → RunsFrom held names steps files (Err fault)
-runs_short held names steps files given command samples schedule fault read is_command is_samples is_schedule short =
-    let beside : Beside = record { command = command; samples = samples; schedule = schedule } in
-    inr (inr (
-      given,
-      beside,
-      read,
-      record { command = is_command; samples = is_samples; schedule = is_schedule },
-      over_short held given (λ all result. Answers (given_with all names beside) steps result) fault short,
-    ))
+pub runs_short : (held : Held) (given : Files) (names : List (List ℕ)) (steps : ℕ) (command samples schedule : List ℕ) (fault : Fault) → IsNoMemory fault → RunsOver held given names steps command samples schedule (Err fault)
+runs_short held given names steps command samples schedule fault short =
+    over_short held given (λ all result. Answers (given_with all names (record { command = command; samples = samples; schedule = schedule })) steps result) fault short
 
-pub runs_told : (held : Held) (names : List (List ℕ)) (steps : ℕ) (files : RunFiles) (given : Files) (command samples schedule : List ℕ) (answer : Result Chain Fault) → ReadsAll held names (Ok given) → IsOptional held (text_of files.command) command → IsOptional held (text_of files.samples) samples → IsOptional held (text_of files.schedule) schedule → IsErrAnd answer IsNoMemory → RunsFrom held names steps files answer
-runs_told held names steps files given command samples schedule (Ok chain) read is_command is_samples is_schedule short = absurd short
-runs_told held names steps files given command samples schedule (Err fault) read is_command is_samples is_schedule short =
-    runs_short held names steps files given command samples schedule fault read is_command is_samples is_schedule short
+pub runs_told : (held : Held) (given : Files) (names : List (List ℕ)) (steps : ℕ) (command samples schedule : List ℕ) (answer : Result Chain Fault) → IsErrAnd answer IsNoMemory → RunsOver held given names steps command samples schedule answer
+runs_told held given names steps command samples schedule (Ok chain) short = absurd short
+runs_told held given names steps command samples schedule (Err fault) short = runs_short held given names steps command samples schedule fault short
 
 -- ---- standard input
 
@@ -94,13 +72,12 @@ pub input_short : (held : Held) (input : Option (List ℕ)) (fault : Fault) → 
 input_short held input fault short = inr (unread_short stdin fault short)
 
 pub text_short : (held : Held) (text : List ℕ) (fault : Fault) → IsNoMemory fault → RanText held text (Err fault)
-text_short held text fault short =
-    over_short held ((stdin, text) ∷ []) (λ all result. Answers (given_with all (stdin ∷ []) nothing_beside) 1000 result) fault short
+text_short held text fault short = runs_short held ((stdin, text) ∷ []) (stdin ∷ []) 1000 [] [] [] fault short
 
-pub text_ran : (held : Held) (text : List ℕ) (given : Files) (names : List (List ℕ)) (answer : Result Chain Fault) → given ≡ (stdin, text) ∷ [] → names ≡ stdin ∷ [] → ComesTo held given (λ all result. Answers (given_with all names nothing_beside) 1000 result) answer → RanText held text answer
+pub text_ran : (held : Held) (text : List ℕ) (given : Files) (names : List (List ℕ)) (answer : Result Chain Fault) → given ≡ (stdin, text) ∷ [] → names ≡ stdin ∷ [] → RunsOver held given names 1000 [] [] [] answer → RanText held text answer
 text_ran held text given names answer given_is named comes =
-    let as_named = subst (λ (ns : List (List ℕ)). ComesTo held given (λ all result. Answers (given_with all ns nothing_beside) 1000 result) answer) named comes in
-    subst (λ (files : Files). ComesTo held files (λ all result. Answers (given_with all (stdin ∷ []) nothing_beside) 1000 result) answer) given_is as_named
+    let as_named = subst (λ (ns : List (List ℕ)). RunsOver held given ns 1000 [] [] [] answer) named comes in
+    subst (λ (files : Files). RunsOver held files (stdin ∷ []) 1000 [] [] [] answer) given_is as_named
 
 pub input_told : (held : Held) (input : Option (List ℕ)) (answer : Result Chain Fault) → IsErrAnd answer IsNoMemory → RanInput held input answer
 input_told held input (Ok chain) short = absurd short

@@ -2,5 +2,7 @@ pub mod Told
 pub mod Unread
 pub mod Quiet
 pub mod Gathered
+pub mod Debugged
+pub mod Done
 pub mod Joined
 pub mod Words

@@ -1,9 +1,25 @@
--- What stays as it is.
-use Rattle.std.proofs.Common.{◌≡◌, refl, sym, subst, ℕ, List, append-nil, Option, None, Some}
+-- What stays as it is, and files that cannot be written.
+use Rattle.std.proofs.Common.{◌≡◌, ◌∙◌, ap, inl, inr, refl, sym, subst, ℕ, List, ◌∷◌, ◌++◌, append-nil, map, Option, None, Some}
+use Rattle.std.proofs.lemmas.List.{map-append}
 use Rattle.std.specs.Io.KnownBytes.{Keeps}
+use Rattle.std.specs.Prelude.{Ok, Result, String, Vec}
+use Rattle.std.specs.String.{string_bytes}
+use Rattle.std.specs.declared.alloc.Global.{Global}
+use Rattle.c25_chain.specs.FaultText.{at_file, fault_text}
+use Rattle.c25_chain.specs.Refusal.{Fault}
+use Rattle.c25_chain.specs.declared.fault.Refusal.{Refusal}
+use Rattle.c25_chain.specs.declared.fault.Refusal.TheVariants.{File}
 use Rattle.c25_disk.specs.Held.{Stay}
+use Rattle.c25_disk.specs.Written.{IsUnwritten, contents_of}
+use Rattle.c25_disk.specs.declared.fault.FileFault.{FileFault}
+use Rattle.c25_disk.specs.declared.fault.FileFaultKind.TheVariants.{CannotWrite}
+use Rattle.c25_disk.specs.declared.writing.Output.{Output}
+use Rattle.c25_meaning_common.specs.declared.failure.Failure.{Failure}
+use Rattle.c25_meaning_common.specs.declared.failure.Failure.TheVariants as failure
 use Rattle.c25_meaning_expansion.specs.Files.{Files}
-use Rattle.c25_tasks.specs.Tells.{Printed, Wrote, Writes}
+use Rattle.c25_report.specs.declared.ending.Ending.{Ending}
+use Rattle.c25_tasks.specs.Files.{IsToldOfFile}
+use Rattle.c25_tasks.specs.Tells.{HasFault, IsEndingOf, IsShort, IsUnwrittenAmong, Wrote, WritesTold}
 
 pub stays : (files : Option Files) → Stay files files
 stays None = tt
@@ -13,5 +29,27 @@ pub keeps : (known : Option (List ℕ)) → Keeps known known
 keeps None = tt
 keeps (Some xs) = refl
 
-pub writes_as : (files outputs : Files) (status : ℕ) (err : Printed) (written : Wrote) → outputs ≡ files → Writes outputs status err written → Writes files status err written
-writes_as files outputs status err written same writes = subst (λ (fs : Files). Writes fs status err written) same writes
+-- ---- a file that cannot be written
+
+same_line : (f : FileFault (String Global)) (name : List ℕ) → string_bytes f.file ≡ name → f.kind ≡ CannotWrite → at_file (string_bytes f.file) f.kind ≡ at_file name CannotWrite
+same_line f name named kind = ap (λ k. at_file (string_bytes f.file) k) kind ∙ ap (λ (n : List ℕ). at_file n CannotWrite) named
+
+unwritten : (outputs : List Output) (refusal : Failure (FileFault (String Global))) (fault : Fault) (e : Ending) → IsUnwritten outputs refusal → IsToldOfFile refusal fault → IsEndingOf fault e → IsUnwrittenAmong (map contents_of outputs) e
+unwritten outputs (failure.NoMemory n) (failure.NoMemory m) e is told comes = inr (m, comes)
+unwritten outputs (failure.NoMemory n) (failure.Fault r) e is told comes = absurd told
+unwritten outputs (failure.Fault f) (failure.NoMemory m) e is told comes = absurd told
+unwritten outputs (failure.Fault f) (failure.Fault r) e is told (inr short) = inr short
+unwritten outputs (failure.Fault f) (failure.Fault r) e (kind, (before, output, after, all, named)) told (inl line) =
+    let of_file = subst (λ (g : Refusal (String Global)). HasFault (fault_text (failure.Fault g)) e) told line in
+    inl (
+      map contents_of before,
+      contents_of output,
+      map contents_of after,
+      ap (map contents_of) all ∙ map-append contents_of before (output ∷ after),
+      subst (λ (text : List ℕ). HasFault text e) (same_line f output.name.now named kind) of_file,
+    )
+
+pub told_unwritten : (told : Result (Vec Output Global) Fault) (outputs : Vec Output Global) (shown : List Output) (refusal : Failure (FileFault (String Global))) (fault : Fault) (e : Ending) (written : Wrote) → told ≡ Ok outputs → shown ≡ outputs.items → IsUnwritten shown refusal → IsToldOfFile refusal fault → IsEndingOf fault e → WritesTold told e written
+told_unwritten told outputs shown refusal fault e written is same among as_fault comes =
+    let of_outputs = subst (λ (os : List Output). IsUnwrittenAmong (map contents_of os) e) same (unwritten shown refusal fault e among as_fault comes) in
+    subst (λ (t : Result (Vec Output Global) Fault). WritesTold t e written) (sym is) (inr of_outputs)

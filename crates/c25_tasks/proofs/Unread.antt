@@ -19,28 +19,32 @@ split names i d low =
     ap texts (sym (take-append-drop i names) ∙ ap (λ rest. take i names ++ rest) (drop_more names i d low))
     ∙ map-append (λ name. name.now) (take i names) (get_or names i d ∷ drop (i + 1) names)
 
-pub unread_at : (names : List (Bor (List ℕ))) (i : ℕ) (d : Bor (List ℕ)) (fault : Fault) → i < length names → IsUnread (get_or names i d).now fault → IsUnreadAmong (texts names) fault
-unread_at names i d fault low is = record {
+abbrev is_held : Held → List ℕ × List ℕ → Type 0
+is_held held file = IsAllOf (held file.0) file.1
+
+pub unread_at : (held : Held) (names : List (Bor (List ℕ))) (files : Files) (i : ℕ) (d : Bor (List ℕ)) (fault : Fault) → i < length names → AreFiles held (texts (take i names)) files → IsUnread (get_or names i d).now fault → IsUnreadAmong held (texts names) fault
+unread_at held names files i d fault low read is = record {
   before = texts (take i names);
+  files = files;
   name = (get_or names i d).now;
   after = texts (drop (i + 1) names);
   among = split names i d low;
+  read = read;
   unread = is;
 }
 
-pub no_memory_among : (names : List (Bor (List ℕ))) (i : ℕ) (fault : Fault) → i < length names → IsNoMemory fault → IsUnreadAmong (texts names) fault
-no_memory_among [] i fault low is = absurd (omega (arith, low))
-no_memory_among (name ∷ names) i (failure.NoMemory n) low is = record {
+pub no_memory_among : (held : Held) (names : List (Bor (List ℕ))) (i : ℕ) (fault : Fault) → i < length names → IsNoMemory fault → IsUnreadAmong held (texts names) fault
+no_memory_among held [] i fault low is = absurd (omega (arith, low))
+no_memory_among held (name ∷ names) i (failure.NoMemory n) low is = record {
   before = [];
+  files = [];
   name = name.now;
   after = texts names;
   among = refl;
+  read = record { named = refl; as_held = All-nil (is_held held) };
   unread = (failure.NoMemory n, tt, tt);
 }
-no_memory_among (name ∷ names) i (failure.Fault f) low is = absurd is
-
-abbrev is_held : Held → List ℕ × List ℕ → Type 0
-is_held held file = IsAllOf (held file.0) file.1
+no_memory_among held (name ∷ names) i (failure.Fault f) low is = absurd is
 
 pub files_none : (held : Held) (names : List (Bor (List ℕ))) → AreFiles held (texts (take 0 names)) []
 files_none held names = record { named = refl; as_held = All-nil (is_held held) }

@@ -14,8 +14,9 @@ use Rattle.c25_meaning_sources.specs.ModuleOfSource.{Assembled}
 use Rattle.c25_meaning_objects.specs.Records.{spelling}
 use Rattle.c25_meaning_common.specs.Results.{MeetsBy}
 use Rattle.c25_meaning_common.specs.declared.failure.Failure.TheVariants as failure
+use Rattle.c25_report.specs.declared.ending.Ending.{Ending}
 use Rattle.c25_tasks.specs.Files.{ComesTo, IsRefusedSource, ReadsAll}
-use Rattle.c25_tasks.specs.Tells.{Printed, Wrote, WritesTold}
+use Rattle.c25_tasks.specs.Tells.{Wrote, WritesTold}
 
 -- the module and the listing of a source, over its file and those that it copies, or why there are none
 abbrev pub AssemblesBy : Held → List ℕ → Result code.Assembled Fault → Type 0
@@ -36,6 +37,6 @@ AsmOutputs held source object listing (Err (failure.NoMemory n)) = Unit {0}
 AsmOutputs held source object listing (Err (failure.Fault f)) = AssemblesBy held source (Err (failure.Fault f))
 
 -- a source's object, and its listing where one is asked for, are written, or why not
-abbrev pub Assembles : Held → (source object : List ℕ) → (listing : Option (List ℕ)) → ℕ → Printed → Wrote → Type 0
-Assembles held source object listing status err written =
-    (told : Result (Vec Output Global) Fault) × AsmOutputs held source object listing told × WritesTold told status err written
+abbrev pub Assembles : Held → (source object : List ℕ) → (listing : Option (List ℕ)) → Ending → Wrote → Type 0
+Assembles held source object listing e written =
+    (told : Result (Vec Output Global) Fault) × AsmOutputs held source object listing told × WritesTold told e written

@@ -6,19 +6,20 @@ use Rattle.c25_chain.specs.declared.built.Built.{Built}
 use Rattle.c25_disk.specs.Held.{Held, Stay}
 use Rattle.c25_meaning_expansion.specs.Files.{Files}
 use Rattle.c25_report.specs.ProgramFiles.{files_of}
+use Rattle.c25_report.specs.declared.ending.Ending.{Ending}
 use Rattle.c25_report.specs.declared.texts.Texts.{Texts}
-use Rattle.c25_tasks.specs.Files.{ComesTo, FailsWith, IsOptional, IsRefusedSource, IsUnreadOptional, ReadsAll}
-use Rattle.c25_tasks.specs.Tells.{Printed, Wrote, Writes}
+use Rattle.c25_tasks.specs.Files.{AfterOptional, AfterSources, ComesTo}
+use Rattle.c25_tasks.specs.Tells.{IsEndingOf, Wrote, Writes}
 
 -- ---- programs
 
--- the program of the sources of names under a command file, where one is named, or why there is none
+-- the program of the sources of names among given files and those that they copy, under the text of a command; or why there is none
+abbrev pub BuildsOver : Held → Files → List (List ℕ) → List ℕ → Result Built Fault → Type 0
+BuildsOver held given names command answer = ComesTo held given (λ files result. Builds files names command result) answer
+
+-- the same of files on a disk, of which the sources are read first, and then the command file, where one is named
 abbrev pub BuildsFrom : Held → List (List ℕ) → Option (List ℕ) → Result Built Fault → Type 0
-BuildsFrom held names command answer =
-    IsRefusedSource held names answer
-    ⊎ (FailsWith answer (IsUnreadOptional command)
-    ⊎ ((given : Files) × (text : List ℕ) × ReadsAll held names (Ok given) × IsOptional held command text
-    × ComesTo held given (λ files result. Builds files names text result) answer))
+BuildsFrom held names command answer = AfterSources held names (λ given. AfterOptional held command (BuildsOver held given names)) answer
 
 -- ---- files
 
@@ -26,7 +27,7 @@ BuildsFrom held names command answer =
 abbrev pub texts_in : Built → Texts
 texts_in built = record { page0 = built.linked.page0.text; page1 = built.linked.page1.text; map = built.linked.map; listings = built.listings }
 
--- what is written of what was built; where there is nothing, the status is 1 and nothing is written
-abbrev pub WritesProgram : List ℕ → Result Built Fault → ℕ → Printed → Wrote → Type 0
-WritesProgram base (Ok built) status err written = Writes (files_of base (texts_in built)) status err written
-WritesProgram base (Err fault) status err written = (status ≡ 1) × Stay written.0 written.1
+-- what is written of what was built; where there is nothing, nothing is written
+abbrev pub WritesProgram : List ℕ → Result Built Fault → Ending → Wrote → Type 0
+WritesProgram base (Ok built) e written = Writes (files_of base (texts_in built)) e written
+WritesProgram base (Err fault) e written = IsEndingOf fault e × Stay written.0 written.1

@@ -1,5 +1,5 @@
 -- Faults of files, as the program tells them; files that need not be named; work over sources of a disk.
-use Rattle.std.specs.Prelude.{◌≡◌, ℕ, List, [], Option, Some, None, Result, Ok, Err, String}
+use Rattle.std.specs.Prelude.{◌≡◌, ◌⊎◌, ℕ, List, [], Option, Some, None, Result, Ok, Err, String}
 use Rattle.std.specs.String.{string_bytes}
 use Rattle.std.specs.declared.alloc.Global.{Global}
 use Rattle.c25_chain.specs.Refusal.{Fault}
@@ -50,13 +50,24 @@ abbrev pub FailsWith : {A : Type 0} → Result A Fault → (Fault → Type 0) �
 FailsWith (Ok a) holds = ⊥
 FailsWith (Err fault) holds = holds fault
 
--- ---- files that need not be named
+-- ---- files that are named
 
 -- the file of this name cannot be read (8), or memory ran out
 abbrev pub IsUnread : List ℕ → Fault → Type 0
 IsUnread name fault = (failure : Failure (FileFault (String Global))) × IsOfFile name CannotRead failure × IsToldOfFile failure fault
 
--- the same of a file that need not be named
+-- the text of the file of this name, or why it is not read
+abbrev pub ReadsNamed : Held → List ℕ → Result (String Global) Fault → Type 0
+ReadsNamed held name (Ok text) = IsAllOf (held name) (string_bytes text)
+ReadsNamed held name (Err fault) = IsUnread name fault
+
+-- what follows that file's text, or that it cannot be read
+abbrev pub AfterNamed : {A : Type 0} → Held → List ℕ → (List ℕ → Result A Fault → Type 0) → Result A Fault → Type 0
+AfterNamed held name next answer = FailsWith answer (IsUnread name) ⊎ ((text : List ℕ) × IsAllOf (held name) text × next text answer)
+
+-- ---- files that need not be named
+
+-- such a file cannot be read (8), or memory ran out
 abbrev pub IsUnreadOptional : Option (List ℕ) → Fault → Type 0
 IsUnreadOptional None fault = ⊥
 IsUnreadOptional (Some name) fault = IsUnread name fault
@@ -71,6 +82,10 @@ abbrev pub ReadsOptional : Held → Option (List ℕ) → Result (String Global)
 ReadsOptional held name (Ok text) = IsOptional held name (string_bytes text)
 ReadsOptional held name (Err fault) = IsUnreadOptional name fault
 
+-- what follows such a file's text, or that it cannot be read
+abbrev pub AfterOptional : {A : Type 0} → Held → Option (List ℕ) → (List ℕ → Result A Fault → Type 0) → Result A Fault → Type 0
+AfterOptional held name next answer = FailsWith answer (IsUnreadOptional name) ⊎ ((text : List ℕ) × IsOptional held name text × next text answer)
+
 -- ---- sources
 
 -- the sources of names, or the first that is refused: it is among those before it (37), or cannot be read (8)
@@ -81,6 +96,10 @@ ReadsAll held names (Err fault) = (failure : Failure (FileFault (String Global))
 -- one of these sources is refused
 abbrev pub IsRefusedSource : {A : Type 0} → Held → List (List ℕ) → Result A Fault → Type 0
 IsRefusedSource held names answer = FailsWith answer (λ fault. ReadsAll held names (Err fault))
+
+-- what follows these sources, or that one of them is refused
+abbrev pub AfterSources : {A : Type 0} → Held → List (List ℕ) → (Files → Result A Fault → Type 0) → Result A Fault → Type 0
+AfterSources held names next answer = IsRefusedSource held names answer ⊎ ((given : Files) × ReadsAll held names (Ok given) × next given answer)
 
 -- ---- work over files
 

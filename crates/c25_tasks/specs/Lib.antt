@@ -6,4 +6,5 @@ pub mod Objects
 pub mod Building
 pub mod Linking
 pub mod Running
+pub mod Debugging
 pub mod Program

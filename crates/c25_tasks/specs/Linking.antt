@@ -3,12 +3,12 @@ use Rattle.std.specs.Prelude.{◌≡◌, ◌⊎◌, ℕ, List, [], Result, Ok, E
 use Rattle.c25_chain.specs.Linked.{IsLinked, IsRefusedUnder}
 use Rattle.c25_chain.specs.Refusal.{Fault, refusal_of}
 use Rattle.c25_chain.specs.declared.built.Built.{Built}
-use Rattle.c25_disk.specs.Held.{Held, IsAllOf}
+use Rattle.c25_disk.specs.Held.{Held}
 use Rattle.c25_meaning_expansion.specs.Files.{Files}
 use Rattle.c25_meaning_objects.specs.Module.{Contents}
 use Rattle.c25_meaning_common.specs.declared.failure.Failure.TheVariants as failure
-use Rattle.c25_tasks.specs.Files.{FailsWith, IsUnread}
-use Rattle.c25_tasks.specs.Objects.{AreFiles, IsUnreadAmong, modules_in}
+use Rattle.c25_tasks.specs.Files.{AfterNamed}
+use Rattle.c25_tasks.specs.Objects.{AfterObjects, modules_in}
 
 -- the program of the modules of these files under a command's text, without listings, or the first refusal: of a module, or else of the
 -- command, or else of linking
@@ -20,9 +20,6 @@ LinksFiles files text (Err (failure.Fault f)) =
     (modules_in files ≡ Err (refusal_of f))
     ⊎ ((modules : List Contents) × (modules_in files ≡ Ok modules) × IsRefusedUnder modules text (refusal_of f))
 
--- the same of files on a disk, of which the command file is read first
+-- the same of files on a disk, of which the command file is read first, and then the objects
 abbrev pub LinksFrom : Held → (command : List ℕ) → (objects : List (List ℕ)) → Result Built Fault → Type 0
-LinksFrom held command objects answer =
-    FailsWith answer (IsUnread command)
-    ⊎ (FailsWith answer (IsUnreadAmong objects)
-    ⊎ ((text : List ℕ) × (files : Files) × IsAllOf (held command) text × AreFiles held objects files × LinksFiles files text answer))
+LinksFrom held command objects answer = AfterNamed held command (λ text. AfterObjects held objects (λ files. LinksFiles files text)) answer

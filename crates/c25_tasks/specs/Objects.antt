@@ -1,5 +1,5 @@
 -- The modules of object files.
-use Rattle.std.specs.Prelude.{◌≡◌, ℕ, List, [], ◌∷◌, ◌++◌, map, Result, Ok, Err, Vec}
+use Rattle.std.specs.Prelude.{◌≡◌, ◌⊎◌, ℕ, List, [], ◌∷◌, ◌++◌, map, Result, Ok, Err, Vec}
 use Rattle.std.specs.declared.alloc.Global.{Global}
 use Rattle.c25_chain.specs.Refusal.{Fault}
 use Rattle.c25_chain.specs.declared.fault.Refusal.{Refusal}
@@ -9,7 +9,7 @@ use Rattle.c25_meaning_expansion.specs.Files.{Files}
 use Rattle.c25_meaning_objects.specs.Module.{Contents}
 use Rattle.c25_meaning_objects.specs.RecordReading.{module_of}
 use Rattle.c25_meaning_common.specs.Results.{◌>>=◌, fold_ok, told}
-use Rattle.c25_tasks.specs.Files.{IsUnread}
+use Rattle.c25_tasks.specs.Files.{FailsWith, IsUnread}
 use Rattle.c25_tasks.specs.declared.objects.Object as code
 
 -- the names and the bytes of files
@@ -20,23 +20,29 @@ objects_of objects = map (λ o. (o.name.now, o.bytes.items)) objects
 abbrev pub names_in : Files → List (List ℕ)
 names_in files = map (λ file. file.0) files
 
--- one of the files of these names cannot be read (8), or memory ran out
-pub record IsUnreadAmong (names : List (List ℕ)) (fault : Fault) : Type 0 where
-  pub before : List (List ℕ)
-  pub name : List ℕ
-  pub after : List (List ℕ)
-  pub among : names ≡ before ++ name ∷ after
-  pub unread : IsUnread name fault
-
 -- the files of these names, each with all that it has
 pub record AreFiles (held : Held) (names : List (List ℕ)) (files : Files) : Type 0 where
   pub named : names_in files ≡ names
   pub as_held : AreAsHeld held files
 
+-- one of the files of these names cannot be read (8) and those before it were, or memory ran out
+pub record IsUnreadAmong (held : Held) (names : List (List ℕ)) (fault : Fault) : Type 0 where
+  pub before : List (List ℕ)
+  pub files : Files
+  pub name : List ℕ
+  pub after : List (List ℕ)
+  pub among : names ≡ before ++ name ∷ after
+  pub read : AreFiles held before files
+  pub unread : IsUnread name fault
+
 -- what is read of the files of names
 abbrev pub ReadsBytes : Held → List (List ℕ) → Result (Vec code.Object Global) Fault → Type 0
 ReadsBytes held names (Ok objects) = AreFiles held names (objects_of objects.items)
-ReadsBytes held names (Err fault) = IsUnreadAmong names fault
+ReadsBytes held names (Err fault) = IsUnreadAmong held names fault
+
+-- what follows the files of names, or that one of them cannot be read
+abbrev pub AfterObjects : {A : Type 0} → Held → List (List ℕ) → (Files → Result A Fault → Type 0) → Result A Fault → Type 0
+AfterObjects held names next answer = FailsWith answer (IsUnreadAmong held names) ⊎ ((files : Files) × AreFiles held names files × next files answer)
 
 -- the module of a file, or why its bytes are those of none
 abbrev pub module_in : List ℕ × List ℕ → Result Contents (Refusal (List ℕ))

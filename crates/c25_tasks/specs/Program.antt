@@ -6,21 +6,22 @@ use Rattle.c25_chain.specs.Refusal.{Fault}
 use Rattle.c25_chain.specs.declared.built.Built.{Built}
 use Rattle.c25_disk.specs.Held.{Held, Stay}
 use Rattle.c25_meaning_common.specs.declared.failure.Failure.{Failure}
-use Rattle.c25_report.specs.Status.{HasWordsStatus}
+use Rattle.c25_report.specs.declared.ending.Ending.{Ending}
+use Rattle.c25_report.specs.declared.ending.Ending.TheVariants as ending
 use Rattle.c25_words.specs.Task.{Reads, text_of, texts_of}
 use Rattle.c25_words.specs.declared.task.Task.{Task}
 use Rattle.c25_words.specs.declared.task.Task.TheVariants.{RunStandardInput, Assemble, Link, Build, Run, Debug}
 use Rattle.c25_tasks.specs.Assembly.{Assembles}
 use Rattle.c25_tasks.specs.Building.{BuildsFrom, WritesProgram}
+use Rattle.c25_tasks.specs.Debugging.{DebugsTold}
 use Rattle.c25_tasks.specs.Linking.{LinksFrom}
 use Rattle.c25_tasks.specs.Running.{Runs, RunsTold}
-use Rattle.c25_tasks.specs.Tells.{Printed, Wrote}
+use Rattle.c25_tasks.specs.Tells.{IsShort, Printed, Wrote}
 
--- what the program does to the world: its status, what it prints to standard output and standard error, and what it writes
+-- what the program comes to, what it prints to standard output, and what it writes
 pub record Effect : Type 0 where
-  pub status : ℕ
+  pub ending : Ending
   pub out : Printed
-  pub err : Printed
   pub written : Wrote
 
 -- ---- tasks
@@ -31,24 +32,25 @@ IsQuiet e = Keeps e.out.0 e.out.1 × Stay e.written.0 e.written.1
 
 -- the files of a program are written, or why there is none
 abbrev pub WritesBuilt : (Result Built Fault → Type 0) → List ℕ → Effect → Type 0
-WritesBuilt comes base e = (told : Result Built Fault) × comes told × WritesProgram base told e.status e.err e.written
+WritesBuilt comes base e = (told : Result Built Fault) × comes told × WritesProgram base told e.ending e.written
 
 -- what the program does for a task, with what is known of standard input and of the files on the disk
 abbrev pub Does : Held → Option (List ℕ) → Task → Effect → Type 0
-Does held input RunStandardInput e = Runs held input e.status e.out e.err × Stay e.written.0 e.written.1
+Does held input RunStandardInput e = Runs held input e.ending e.out × Stay e.written.0 e.written.1
 Does held input (Assemble source object listing) e =
-    Assembles held source.now object.now (text_of listing) e.status e.err e.written × Keeps e.out.0 e.out.1
+    Assembles held source.now object.now (text_of listing) e.ending e.written × Keeps e.out.0 e.out.1
 Does held input (Link command objects base) e = WritesBuilt (LinksFrom held command.now (texts_of objects.items)) base.now e × Keeps e.out.0 e.out.1
 Does held input (Build sources base command) e = WritesBuilt (BuildsFrom held (texts_of sources.items) (text_of command)) base.now e × Keeps e.out.0 e.out.1
-Does held input (Run sources steps files) e = RunsTold held (texts_of sources.items) steps files e.status e.out e.err × Stay e.written.0 e.written.1
-Does held input (Debug sources script files) e = (e.status ≡ 2) × IsQuiet e
+Does held input (Run sources steps files) e = RunsTold held (texts_of sources.items) steps files e.ending e.out × Stay e.written.0 e.written.1
+Does held input (Debug sources script files) e =
+    DebugsTold held (texts_of sources.items) script.now files e.ending e.out × Stay e.written.0 e.written.1
 
 -- ---- words
 
 -- what the program does where words are read so
 abbrev pub DoesRead : Held → Option (List ℕ) → Result Task (Failure Error) → Effect → Type 0
 DoesRead held input (Ok task) e = Does held input task e
-DoesRead held input (Err fault) e = HasWordsStatus fault e.status × IsQuiet e
+DoesRead held input (Err fault) e = (e.ending ≡ ending.NoTask fault) × IsQuiet e
 
 -- how words are read, the program's name first: alone, or none at all, they ask for the run of standard input
 abbrev pub AreRead : List (List ℕ) → Result Task (Failure Error) → Type 0
@@ -58,6 +60,10 @@ AreRead words answer = (length words < 2 → answer ≡ Ok RunStandardInput) × 
 abbrev pub DoesWords : Held → Option (List ℕ) → List (List ℕ) → Effect → Type 0
 DoesWords held input words e = (answer : Result Task (Failure Error)) × AreRead words answer × DoesRead held input answer e
 
+-- it has no words: one is not UTF-8, or memory ran out
+abbrev pub HasNoWords : Ending → Type 0
+HasNoWords e = (e ≡ ending.NoText) ⊎ IsShort e
+
 -- what the program does: for some words, which are not known; or they cannot be had, and nothing is done
 abbrev pub IsProgram : Held → Option (List ℕ) → Effect → Type 0
-IsProgram held input e = ((words : List (List ℕ)) × DoesWords held input words e) ⊎ IsQuiet e
+IsProgram held input e = ((words : List (List ℕ)) × DoesWords held input words e) ⊎ (HasNoWords e.ending × IsQuiet e)

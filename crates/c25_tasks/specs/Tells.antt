@@ -1,15 +1,22 @@
--- What the program prints and writes of answers, and its status.
-use Rattle.std.specs.Prelude.{◌≡◌, ◌≢◌, ◌⊎◌, ℕ, List, map, Option, Result, Ok, Err, Vec}
-use Rattle.std.specs.Io.KnownBytes.{Appends, Keeps}
+-- What the program prints and writes of answers, and what it comes to.
+use Rattle.std.specs.Prelude.{◌≡◌, ◌⊎◌, ℕ, List, ◌∷◌, ◌++◌, map, Option, Result, Ok, Err, String, Vec}
+use Rattle.std.specs.Io.KnownBytes.{Keeps}
+use Rattle.std.specs.String.{string_bytes}
 use Rattle.std.specs.declared.alloc.Global.{Global}
+use Rattle.c25_chain.specs.FaultText.{at_file, fault_text}
 use Rattle.c25_chain.specs.OutcomeText.{run_text}
 use Rattle.c25_chain.specs.Refusal.{Fault}
 use Rattle.c25_chain.specs.declared.chain.Chain.{Chain}
 use Rattle.c25_disk.specs.Held.{Adds, Stay}
 use Rattle.c25_disk.specs.Written.{contents_of}
+use Rattle.c25_disk.specs.declared.fault.FileFaultKind.TheVariants.{CannotWrite}
 use Rattle.c25_disk.specs.declared.writing.Output.{Output}
+use Rattle.c25_meaning_common.specs.declared.failure.Failure.TheVariants as failure
+use Rattle.c25_meaning_common.specs.declared.no_memory.NoMemory.{NoMemory}
 use Rattle.c25_meaning_expansion.specs.Files.{Files}
-use Rattle.c25_report.specs.Status.{status_of}
+use Rattle.c25_report.specs.Ending.{IsPrinted, ending_of}
+use Rattle.c25_report.specs.declared.ending.Ending.{Ending}
+use Rattle.c25_report.specs.declared.ending.Ending.TheVariants as ending
 
 -- what was known before of what a writer holds, and what is then
 abbrev pub Printed : Type 0
@@ -19,18 +26,49 @@ Printed = Option (List ℕ) × Option (List ℕ)
 abbrev pub Wrote : Type 0
 Wrote = Option Files × Option Files
 
--- an answer is told with a status. A run's text goes to standard output and nothing to standard error, unless memory runs out or
--- printing fails, which is status 1; a fault's status is 1, and nothing goes to standard output
-abbrev pub Tells : Result Chain Fault → ℕ → Printed → Printed → Type 0
-Tells (Ok chain) status out err =
-    status ≢ 1 → (status ≡ status_of chain.outcome) × Appends out.0 out.1 (run_text chain) × Keeps err.0 err.1
-Tells (Err fault) status out err = (status ≡ 1) × Keeps out.0 out.1
+-- ---- faults
 
--- these files are written, and the status is 0; or one cannot be, or memory ran out, and the status is 1
-abbrev pub Writes : Files → ℕ → Printed → Wrote → Type 0
-Writes files status err written = (status ≡ 1) ⊎ ((status ≡ 0) × Keeps err.0 err.1 × Adds written.0 written.1 files)
+-- it ends for want of memory, as a growth was refused
+abbrev pub IsShort : Ending → Type 0
+IsShort e = (n : NoMemory) × (e ≡ ending.NoMemory n)
 
--- the same of files that all work came to; where there are none, the status is 1 and nothing is written
-abbrev pub WritesTold : Result (Vec Output Global) Fault → ℕ → Printed → Wrote → Type 0
-WritesTold (Ok outputs) status err written = Writes (map contents_of outputs.items) status err written
-WritesTold (Err fault) status err written = (status ≡ 1) × Stay written.0 written.1
+-- it ends with a fault of this line
+abbrev pub HasFault : List ℕ → Ending → Type 0
+HasFault text e = (line : String Global) × (e ≡ ending.Faulty line) × (string_bytes line ≡ text)
+
+-- the same, unless memory runs out
+abbrev pub IsLineOf : List ℕ → Ending → Type 0
+IsLineOf text e = HasFault text e ⊎ IsShort e
+
+-- what a fault comes to: want of memory is itself, and all else has its line, unless memory runs out
+abbrev pub IsEndingOf : Fault → Ending → Type 0
+IsEndingOf (failure.NoMemory n) e = e ≡ ending.NoMemory n
+IsEndingOf (failure.Fault f) e = IsLineOf (fault_text (failure.Fault f)) e
+
+-- ---- answers
+
+-- what a run comes to: its text goes to standard output, unless memory runs out; of a fault nothing goes there
+abbrev pub Tells : Result Chain Fault → Ending → Printed → Type 0
+Tells (Ok chain) e out = IsPrinted (run_text chain) (ending_of chain.outcome) e out.0 out.1 ⊎ (IsShort e × Keeps out.0 out.1)
+Tells (Err fault) e out = IsEndingOf fault e × Keeps out.0 out.1
+
+-- the same of the answers of a debugger
+abbrev pub TellsText : Result (String Global) Fault → Ending → Printed → Type 0
+TellsText (Ok text) e out = IsPrinted (string_bytes text) ending.Done e out.0 out.1
+TellsText (Err fault) e out = IsEndingOf fault e × Keeps out.0 out.1
+
+-- ---- files
+
+-- one of these files cannot be written (7), or memory runs out
+abbrev pub IsUnwrittenAmong : Files → Ending → Type 0
+IsUnwrittenAmong files e =
+    ((before : Files) × (file : List ℕ × List ℕ) × (after : Files) × (files ≡ before ++ file ∷ after) × HasFault (at_file file.0 CannotWrite) e) ⊎ IsShort e
+
+-- these files are written, or one cannot be
+abbrev pub Writes : Files → Ending → Wrote → Type 0
+Writes files e written = ((e ≡ ending.Done) × Adds written.0 written.1 files) ⊎ IsUnwrittenAmong files e
+
+-- the same of files that all work came to; where there are none, nothing is written
+abbrev pub WritesTold : Result (Vec Output Global) Fault → Ending → Wrote → Type 0
+WritesTold (Ok outputs) e written = Writes (map contents_of outputs.items) e written
+WritesTold (Err fault) e written = IsEndingOf fault e × Stay written.0 written.1

@@ -4,14 +4,16 @@ ghost use Rattle.std.specs.Option.{option_map};
 ghost use Rattle.std.specs.Prelude.{◌≡◌, map, string_bytes};
 ghost use Rattle.c25_chain.specs.Built.{Builds};
 ghost use Rattle.c25_chain.specs.Chain.{Answers};
+ghost use Rattle.c25_debug_chain.specs.Debug.{Debugs};
 ghost use Rattle.c25_tasks.specs.Files.{ComesTo, missing_name};
-ghost use Rattle.c25_tasks.specs.View.{given_of};
+ghost use Rattle.c25_tasks.specs.View.{debugged_of, given_of};
 
 use crate::files::{fault_of_copies, missing_name};
 use c25_chain::built::Built;
 use c25_chain::chain::Chain;
 use c25_chain::fault::{Fault, Refusal};
 use c25_chain::{build, run_chain};
+use c25_debug_chain::debug_chain;
 use c25_disk::disk::Disk;
 use c25_disk::with_copies;
 use c25_disk::work::Work;
@@ -91,6 +93,48 @@ impl<'a> Work for Run<'a> {
     }
 }
 
+/// Sources that are to be debugged, the texts beside them, and the text of a script.
+#[derive(Clone, Copy)]
+pub(crate) struct Debug<'a> {
+    pub(crate) sources: &'a [String],
+    pub(crate) command: &'a str,
+    pub(crate) samples: &'a str,
+    pub(crate) schedule: &'a str,
+    pub(crate) script: &'a str,
+}
+
+impl<'a> Work for Debug<'a> {
+    ghost use Rattle.c25_debug_chain.specs.Debug.{Debugs};
+    ghost use Rattle.c25_tasks.specs.Files.{missing_name};
+    ghost use Rattle.c25_tasks.specs.View.{debugged_of};
+
+    type Answer = String;
+
+    type Fault = Refusal<String>;
+
+    ghost comes_to = { λ work files result. Debugs (debugged_of files work) work.script.now result };
+
+    ghost missing_of = { missing_name };
+
+    fn answer(&self, alloc: Global, files: &Files) -> Result<String, Fault> {
+        debug_chain(
+            alloc,
+            files,
+            self.sources,
+            self.command,
+            self.samples,
+            self.schedule,
+            self.script,
+        )
+    }
+
+    fn missing(fault: &Refusal<String>) -> Option<&str>
+        ensures { option_map (λ name. name.now) result ≡ missing_name fault.now }
+    {
+        missing_name(fault)
+    }
+}
+
 /// Builds sources among these files, and those that they copy from a disk.
 pub(crate) fn build_over<D: Disk>(
     alloc: Global,
@@ -117,6 +161,21 @@ pub(crate) fn run_over<D: Disk>(
 {
     match with_copies(alloc, disk, files, work) {
         Ok(chain) => Ok(chain),
+        Err(failure) => Err(fault_of_copies(failure)),
+    }
+}
+
+/// Debugs sources among these files, and those that they copy from a disk.
+pub(crate) fn debug_over<D: Disk>(
+    alloc: Global,
+    disk: &D,
+    files: Files,
+    work: &Debug<'_>,
+) -> Result<String, Fault>
+    ensures { ComesTo (D.bytes_of disk.now) files (λ given result. Debugs (debugged_of given work.now) work.now.script.now result) result }
+{
+    match with_copies(alloc, disk, files, work) {
+        Ok(text) => Ok(text),
         Err(failure) => Err(fault_of_copies(failure)),
     }
 }

@@ -3,7 +3,7 @@
 ghost use Rattle.std.specs.Option.{option_map};
 ghost use Rattle.std.specs.Prelude.{◌≡◌, IfOk, map, string_bytes};
 ghost use Rattle.c25_words.specs.Task.{text_of, texts_of};
-ghost use Rattle.c25_tasks.specs.Files.{IsToldOfCopies, IsToldOfFile, ReadsOptional, missing_name};
+ghost use Rattle.c25_tasks.specs.Files.{IsToldOfCopies, IsToldOfFile, ReadsNamed, ReadsOptional, missing_name};
 
 use c25_chain::fault::{Fault, Refusal};
 use c25_disk::disk::Disk;
@@ -42,6 +42,16 @@ pub(crate) fn missing_name(refusal: &Refusal<String>) -> Option<&str>
     match refusal {
         Refusal::NoFile { name, .. } => Some(name.as_str()),
         _ => None,
+    }
+}
+
+/// The text of a file.
+pub(crate) fn read_named<D: Disk>(alloc: Global, disk: &D, name: &str) -> Result<String, Fault>
+    ensures { ReadsNamed (D.bytes_of disk.now) name.now result }
+{
+    match read_file(alloc, disk, name) {
+        Ok(text) => Ok(text),
+        Err(failure) => Err(fault_of_file(failure)),
     }
 }
 

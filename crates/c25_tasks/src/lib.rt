@@ -4,6 +4,7 @@
 mod assembly;
 mod building;
 mod copies;
+mod debugging;
 mod files;
 mod linking;
 mod objects;

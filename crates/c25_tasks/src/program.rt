@@ -1,22 +1,36 @@
 //! What the program does with its words.
 
-ghost use Rattle.std.specs.Prelude.{◌≡◌, map, string_bytes};
-ghost use Rattle.std.specs.Process.{exit_status};
-ghost use Rattle.c25_tasks.specs.Program.{DoesWords, IsProgram};
+ghost use Rattle.std.specs.Prelude.{OnOk, map, string_bytes};
+ghost use Rattle.c25_report.specs.Ending.{IsTold};
+ghost use Rattle.c25_tasks.specs.Program.{DoesWords, HasNoWords, IsProgram};
 
 use crate::task::do_task;
 use c25_disk::disk::Disk;
-use c25_report::printing::{NO_MEMORY, print_line};
-use c25_report::words::refuse_words;
+use c25_meaning_common::no_memory::NoMemory;
+use c25_report::ending::{Ended, Ending, finish};
 use c25_words::read::read_words;
-use std::alloc::Global;
+use std::alloc::{AllocError, Global};
 use std::io::{ErrorKind, Read, Write};
-use std::process::ExitCode;
 use std::rt::Env;
 use std::{env, io};
 
-/// Does what words ask for, the program's name first: 2 is the status where they are no task, or one
-/// that is not there yet, and 1 where they cannot be read for want of memory.
+/// What words come to.
+fn ending_of_words<D: Disk, R: Read, O: Write>(
+    alloc: Global,
+    words: &[String],
+    disk: &mut D,
+    input: &mut R,
+    out: &mut O,
+) -> Ending
+    ensures { DoesWords (D.bytes_of disk.old) (R.remaining input.old) (map string_bytes words.now) (record { ending = result; out = (O.contents out.old, O.contents out.new); written = (D.written disk.old, D.written disk.new) }) }
+{
+    match read_words(alloc, words) {
+        Ok(task) => do_task(alloc, &task, disk, input, out),
+        Err(fault) => Ending::NoTask(fault),
+    }
+}
+
+/// Does what words ask for, the program's name first, and tells on standard error what it comes to.
 pub fn run_words<D: Disk, R: Read, O: Write, E: Write>(
     alloc: Global,
     words: &[String],
@@ -24,13 +38,12 @@ pub fn run_words<D: Disk, R: Read, O: Write, E: Write>(
     input: &mut R,
     out: &mut O,
     err: &mut E,
-) -> ExitCode
-    ensures { DoesWords (D.bytes_of disk.old) (R.remaining input.old) (map string_bytes words.now) (record { status = exit_status result; out = (O.contents out.old, O.contents out.new); err = (E.contents err.old, E.contents err.new); written = (D.written disk.old, D.written disk.new) }) }
+) -> Ended
+    ensures done { DoesWords (D.bytes_of disk.old) (R.remaining input.old) (map string_bytes words.now) (record { ending = result.ending; out = (O.contents out.old, O.contents out.new); written = (D.written disk.old, D.written disk.new) }) }
+    ensures told { OnOk result.told (IsTold result.ending (E.contents err.old) (E.contents err.new)) }
 {
-    match read_words(alloc, words) {
-        Ok(task) => do_task(alloc, &task, disk, input, out, err),
-        Err(fault) => refuse_words(&fault, err),
-    }
+    let ending = ending_of_words(alloc, words, disk, input, out);
+    finish(ending, err)
 }
 
 /// The words of the program, its name first.
@@ -42,14 +55,30 @@ fn words_of<V: Env>(alloc: Global, env: &V) -> io::Result<Vec<String>> {
     Ok(words)
 }
 
-/// Tells that the words cannot be had: memory ran out (1), or one is not UTF-8 (2).
-fn refuse_arguments<E: Write>(error: &io::Error, err: &mut E) -> ExitCode {
+/// What words that cannot be had come to.
+fn ending_without_words(error: &io::Error) -> Ending
+    ensures { HasNoWords result }
+{
     if error.kind() == ErrorKind::OutOfMemory {
-        let _ = print_line(NO_MEMORY, err);
-        return ExitCode::FAILURE;
+        return Ending::NoMemory(NoMemory::from(AllocError));
     }
-    let _ = print_line("c25: a word is not UTF-8", err);
-    ExitCode::from(2)
+    Ending::NoText
+}
+
+/// What the program comes to.
+fn ending_of_program<V: Env, D: Disk, R: Read, O: Write>(
+    alloc: Global,
+    env: &V,
+    disk: &mut D,
+    input: &mut R,
+    out: &mut O,
+) -> Ending
+    ensures { IsProgram (D.bytes_of disk.old) (R.remaining input.old) (record { ending = result; out = (O.contents out.old, O.contents out.new); written = (D.written disk.old, D.written disk.new) }) }
+{
+    match words_of(alloc, env) {
+        Ok(words) => ending_of_words(alloc, &words, disk, input, out),
+        Err(error) => ending_without_words(&error),
+    }
 }
 
 /// The program: what `run_words` does of its words. Where one is not UTF-8 the status is 2.
@@ -60,11 +89,10 @@ pub fn run_program<V: Env, D: Disk, R: Read, O: Write, E: Write>(
     input: &mut R,
     out: &mut O,
     err: &mut E,
-) -> ExitCode
-    ensures { IsProgram (D.bytes_of disk.old) (R.remaining input.old) (record { status = exit_status result; out = (O.contents out.old, O.contents out.new); err = (E.contents err.old, E.contents err.new); written = (D.written disk.old, D.written disk.new) }) }
+) -> Ended
+    ensures done { IsProgram (D.bytes_of disk.old) (R.remaining input.old) (record { ending = result.ending; out = (O.contents out.old, O.contents out.new); written = (D.written disk.old, D.written disk.new) }) }
+    ensures told { OnOk result.told (IsTold result.ending (E.contents err.old) (E.contents err.new)) }
 {
-    match words_of(alloc, env) {
-        Ok(words) => run_words(alloc, &words, disk, input, out, err),
-        Err(error) => refuse_arguments(&error, err),
-    }
+    let ending = ending_of_program(alloc, env, disk, input, out);
+    finish(ending, err)
 }

@@ -1,50 +1,61 @@
-//! What is printed of answers, and the program's status.
+//! What answers and faults come to.
 
-ghost use Rattle.std.specs.Prelude.{◌≡◌};
-ghost use Rattle.std.specs.Process.{exit_status};
-ghost use Rattle.c25_tasks.specs.Tells.{Tells};
+ghost use Rattle.c25_chain.specs.FaultText.{fault_text};
+ghost use Rattle.c25_tasks.specs.Tells.{IsEndingOf, IsLineOf, Tells, TellsText};
 
 use c25_chain::chain::Chain;
 use c25_chain::fault::Fault;
 use c25_chain::{write_fault, write_run};
-use c25_report::printing::{NO_MEMORY, print_line, print_run};
+use c25_meaning_common::failure::Failure;
+use c25_report::ending::Ending;
+use c25_report::printing::{print_answers, print_run};
 use std::alloc::Global;
 use std::io::Write;
-use std::process::ExitCode;
 
-/// Prints a fault's line, and answers the status of a fault, 1, whether or not it can be printed.
-pub(crate) fn report_fault<E: Write>(alloc: Global, fault: &Fault, err: &mut E) -> ExitCode
-    ensures { exit_status result ≡ 1 }
+/// The line of a fault, unless memory runs out.
+fn line_of(alloc: Global, fault: &Fault) -> Ending
+    ensures { IsLineOf (fault_text fault.now) result }
 {
     match write_fault(alloc, fault) {
-        Ok(line) => {
-            let _ = print_line(line.as_str(), err);
-            ExitCode::FAILURE
-        }
-        Err(_) => {
-            let _ = print_line(NO_MEMORY, err);
-            ExitCode::FAILURE
-        }
+        Ok(line) => Ending::Faulty(line),
+        Err(error) => Ending::NoMemory(error),
     }
 }
 
-/// Prints an answer: a run on the one writer, a fault's line on the other.
-pub(crate) fn report<O: Write, E: Write>(
+/// What a fault comes to.
+#[tactic(auto, using(crate::proofs::Done::ends_of))]
+pub(crate) fn ending_of_fault(alloc: Global, fault: &Fault) -> Ending
+    ensures { IsEndingOf fault.now result }
+{
+    match fault {
+        Failure::NoMemory(error) => Ending::NoMemory(*error),
+        Failure::Fault(_) => line_of(alloc, fault),
+    }
+}
+
+/// Prints the answers of a debugger.
+pub(crate) fn report_text<O: Write>(
     alloc: Global,
-    answer: &Result<Chain, Fault>,
+    answer: &Result<String, Fault>,
     out: &mut O,
-    err: &mut E,
-) -> ExitCode
-    ensures { Tells answer.now (exit_status result) (O.contents out.old, O.contents out.new) (E.contents err.old, E.contents err.new) }
+) -> Ending
+    ensures { TellsText answer.now result (O.contents out.old, O.contents out.new) }
+{
+    match answer {
+        Ok(text) => print_answers(text.as_str(), out),
+        Err(fault) => ending_of_fault(alloc, fault),
+    }
+}
+
+/// Prints a run.
+pub(crate) fn report<O: Write>(alloc: Global, answer: &Result<Chain, Fault>, out: &mut O) -> Ending
+    ensures { Tells answer.now result (O.contents out.old, O.contents out.new) }
 {
     match answer {
         Ok(chain) => match write_run(alloc, chain) {
             Ok(text) => print_run(text.as_str(), chain.outcome, out),
-            Err(_) => {
-                let _ = print_line(NO_MEMORY, err);
-                ExitCode::FAILURE
-            }
+            Err(error) => Ending::NoMemory(error),
         },
-        Err(fault) => report_fault(alloc, fault, err),
+        Err(fault) => ending_of_fault(alloc, fault),
     }
 }

@@ -1,7 +1,5 @@
 //! The run of sources from a disk.
 
-ghost use Rattle.std.specs.Prelude.{◌≡◌};
-ghost use Rattle.std.specs.Process.{exit_status};
 ghost use Rattle.c25_words.specs.Task.{texts_of};
 ghost use Rattle.c25_tasks.specs.Running.{RunsFrom, RunsTold};
 
@@ -12,10 +10,10 @@ use crate::sources::sources_of;
 use c25_chain::chain::Chain;
 use c25_chain::fault::Fault;
 use c25_disk::disk::Disk;
+use c25_report::ending::Ending;
 use c25_words::task::RunFiles;
 use std::alloc::Global;
 use std::io::Write;
-use std::process::ExitCode;
 
 /// Reads the files of a run, the sources first and then the command file, the samples and the schedule,
 /// and runs the sources.
@@ -43,18 +41,17 @@ fn answer<D: Disk>(
     run_over(alloc, disk, files, &work)
 }
 
-/// Runs sources, and prints the run or why it is refused.
-pub(crate) fn run_sources<D: Disk, O: Write, E: Write>(
+/// Runs sources, and prints the run.
+pub(crate) fn run_sources<D: Disk, O: Write>(
     alloc: Global,
     sources: &[&str],
     steps: u32,
     beside: RunFiles<'_>,
     disk: &D,
     out: &mut O,
-    err: &mut E,
-) -> ExitCode
-    ensures { RunsTold (D.bytes_of disk.now) (texts_of sources.now) steps beside.entry (exit_status result) (O.contents out.old, O.contents out.new) (E.contents err.old, E.contents err.new) }
+) -> Ending
+    ensures { RunsTold (D.bytes_of disk.now) (texts_of sources.now) steps beside.entry result (O.contents out.old, O.contents out.new) }
 {
     let told = answer(alloc, disk, sources, steps, beside);
-    report(alloc, &told, out, err)
+    report(alloc, &told, out)
 }

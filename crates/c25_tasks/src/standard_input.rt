@@ -1,7 +1,5 @@
 //! The run of a source from standard input.
 
-ghost use Rattle.std.specs.Prelude.{◌≡◌};
-ghost use Rattle.std.specs.Process.{exit_status};
 ghost use Rattle.c25_tasks.specs.Files.{ComesTo};
 ghost use Rattle.c25_tasks.specs.Running.{RanInput, RanText, Runs};
 
@@ -15,10 +13,10 @@ use c25_disk::fault::{FileFault, FileFaultKind};
 use c25_disk::{CannotRead, read_text};
 use c25_macro::files::{FileTwice, Files};
 use c25_meaning_common::failure::Failure;
+use c25_report::ending::Ending;
 use c25_words::task::DEFAULT_STEPS;
 use std::alloc::Global;
 use std::io::{Read, Write};
-use std::process::ExitCode;
 
 /// The name of standard input as a source.
 const STANDARD_INPUT: &str = "stdin";
@@ -59,16 +57,15 @@ fn answer<D: Disk, R: Read>(alloc: Global, disk: &D, reader: &mut R) -> Result<C
     }
 }
 
-/// Runs what a reader gives, and prints the run or why it is refused.
-pub(crate) fn run_standard_input<D: Disk, R: Read, O: Write, E: Write>(
+/// Runs what a reader gives, and prints the run.
+pub(crate) fn run_standard_input<D: Disk, R: Read, O: Write>(
     alloc: Global,
     disk: &D,
     input: &mut R,
     out: &mut O,
-    err: &mut E,
-) -> ExitCode
-    ensures { Runs (D.bytes_of disk.now) (R.remaining input.old) (exit_status result) (O.contents out.old, O.contents out.new) (E.contents err.old, E.contents err.new) }
+) -> Ending
+    ensures { Runs (D.bytes_of disk.now) (R.remaining input.old) result (O.contents out.old, O.contents out.new) }
 {
     let told = answer(alloc, disk, input);
-    report(alloc, &told, out, err)
+    report(alloc, &told, out)
 }

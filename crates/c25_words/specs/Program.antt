@@ -59,10 +59,10 @@ run_shape = with_run_files (shape_with (codes "run") (operands_rule (codes "sour
 abbrev pub debug_shape : Shape
 debug_shape = with_run_files (shape_with (codes "debug") (operands_rule (codes "source") ∷ needed_rule (codes "script") ∷ []))
 
--- the program before it has its subcommands: one of them must be there, and `help` is none
+-- the program before it has its subcommands: it has a version, one of them must be there, and `help` is none
 abbrev pub bare_program : App
 bare_program = record {
-  top = record (new_shape (codes "c25")) { subcommand_required = true; disable_help_subcommand = true };
+  top = record (new_shape (codes "c25")) { has_version = true; subcommand_required = true; disable_help_subcommand = true };
   subs = [];
 }
 

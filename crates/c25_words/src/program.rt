@@ -10,6 +10,10 @@ use crate::arguments::{base_name, command_file, needed, operand, operands, optio
 use clap::Command;
 use std::alloc::{AllocError, Global};
 
+/// What `--version` prints behind the program's name. It rises with each change of what the program
+/// reads, writes or answers.
+const VERSION: &str = "1.0.0";
+
 /// A subcommand without arguments.
 fn subcommand<'a>(alloc: Global, name: &'a str, about: &'a str) -> Command<'a>
     ensures { IsSubcommand (new_shape name.entry.now) result }
@@ -79,6 +83,7 @@ fn bare_program<'a>(alloc: Global) -> Command<'a>
 {
     Command::new(alloc, "c25")
         .about("Assembles, links and runs programs of the TMS320C25")
+        .version(VERSION)
         .subcommand_required(true)
         .disable_help_subcommand(true)
 }

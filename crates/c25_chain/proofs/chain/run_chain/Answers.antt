@@ -1,7 +1,6 @@
 use Rattle.std.proofs.Common.{string_bytes, map}
 use Rattle.c25_chain.specs.Chain.{Given}
 use Rattle.c25_chain.proofs.Answered.{answered, samples_refused, schedule_refused, told_on}
-use Rattle.c25_chain.proofs.Headline.{code_of_answer, marks_of_answer, own_run_of_answer, runs_of_answer, words_of_answer}
 use Rattle.c25_chain.proofs.chain.run_chain.Goals as goal
 
 pub returns-in_err-samples-clause-answer : goal.returns-in_err-samples-clause-answer
@@ -23,16 +22,16 @@ returns-clause-answer c =
     c.in_ok-samples.ensures c.in_ok-schedule.ensures c.in_ok-done.ensures c.chain_of.ensures.texts c.chain_of.ensures.listings c.chain_of.ensures.run
 
 pub returns-clause-hex_texts_hold_the_words : goal.returns-clause-hex_texts_hold_the_words
-returns-clause-hex_texts_hold_the_words c = words_of_answer _ _ _ (returns-clause-answer c)
+returns-clause-hex_texts_hold_the_words c = c.answers_run_as_their_sources.ensures.words _ _ _ (returns-clause-answer c)
 
 pub returns-clause-marks_are_statements : goal.returns-clause-marks_are_statements
-returns-clause-marks_are_statements c = marks_of_answer _ _ _ (returns-clause-answer c)
+returns-clause-marks_are_statements c = c.answers_run_as_their_sources.ensures.marks _ _ _ (returns-clause-answer c)
 
 pub returns-clause-runs_agree : goal.returns-clause-runs_agree
-returns-clause-runs_agree c = runs_of_answer _ _ _ (returns-clause-answer c)
+returns-clause-runs_agree c = c.answers_run_as_their_sources.ensures.runs _ _ _ (returns-clause-answer c)
 
 pub returns-clause-code_stays : goal.returns-clause-code_stays
-returns-clause-code_stays c = code_of_answer _ _ _ (returns-clause-answer c)
+returns-clause-code_stays c = c.answers_run_as_their_sources.ensures.code _ _ _ (returns-clause-answer c)
 
 pub returns-clause-own_run_is_the_statements : goal.returns-clause-own_run_is_the_statements
-returns-clause-own_run_is_the_statements c = own_run_of_answer _ _ _ (returns-clause-answer c)
+returns-clause-own_run_is_the_statements c = c.answers_run_as_their_sources.ensures.own_run _ _ _ (returns-clause-answer c)

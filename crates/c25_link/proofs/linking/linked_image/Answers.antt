@@ -1,8 +1,12 @@
 use Rattle.std.proofs.Common.{sym, subst}
 use Rattle.std.specs.Option.{option_map}
+use Rattle.c25_meaning_linking.specs.MapText.{IsPrinted}
 use Rattle.c25_link.specs.Layout.{places_in}
 use Rattle.c25_link.specs.Link.{IsImageAt}
 use Rattle.c25_link.proofs.linking.linked_image.Goals as goal
+
+pub new-requires : goal.new-requires
+new-requires c = subst IsPrinted (sym c.in_ok-described.ensures) c.requires.printed
 
 pub returns : goal.returns
 returns c =

@@ -4,7 +4,7 @@ use Rattle.std.specs.Option.{option_map, option_copied}
 use Rattle.std.specs.Str.{bytes_eq}
 use Rattle.c25_macro.specs.Acts.{macro_of}
 use Rattle.c25_macro.specs.declared.macros.Macro.{Macro}
-use Rattle.c25_macro.proofs.Entries.{lookup-views}
+use Rattle.c25_files.proofs.Entries.{lookup-views}
 use Rattle.c25_macro.proofs.macros.Macros.get.Goals as goal
 
 copied : (o : Option (Bor Macro)) → option_map (λ m. macro_of m.now) o ≡ option_map macro_of (option_copied o)

@@ -1,0 +1,9 @@
+use Rattle.c25_board.specs.Outputs.{outputs_of}
+use Rattle.c25_meaning_stimulus.specs.Samples.{samples_at}
+use Rattle.c25_chain.proofs.Ends.{begins}
+use Rattle.c25_chain.proofs.run.board_of.Goals as goal
+
+pub returns-clause-state : goal.returns-clause-state
+returns-clause-state c =
+    begins c.args.linked.now.page0.words c.args.linked.now.page1.words c.marks-marks.result.now c.args.linked.now.image.marks
+    (samples_at c.args.samples) (outputs_of c.new-sink.result) _ c.in_ok-board.ensures.state c.marks-marks.ensures c.new-sink.ensures.words

@@ -1,0 +1,166 @@
+//! The texts of sources by their names.
+
+ghost use Rattle.std.specs.Prelude.{◌≡◌, ◌↔◌, [], ◌∷◌, ◌++◌, IsSome, IfSome, IsErrOf, OnOk, OnErr, is_some, false, string_bytes};
+ghost use Rattle.std.specs.Option.{option_map};
+ghost use Rattle.std.specs.Io.KnownBytes.{IsAtEnd};
+ghost use Rattle.c25_meaning_expansion.specs.Files.{text_named, file_name};
+ghost use Rattle.c25_meaning_expansion.specs.Rows.{file_number};
+ghost use Rattle.c25_files.specs.Added.{AddsAll};
+ghost use Rattle.c25_files.specs.declared.files.AddFault.TheVariants as fault;
+
+use c25_meaning_common::failure::Failure;
+use c25_meaning_common::no_memory::NoMemory;
+use c25_reading::{CannotRead, read_text};
+use indexmap::IndexMap;
+use std::alloc::Global;
+use std::error::Error;
+use std::fmt;
+use std::io::Read;
+use std::marker::Model;
+
+/// The name is there already (37).
+#[derive(Clone, Copy, PartialEq, Debug)]
+pub struct FileTwice;
+
+impl fmt::Display for FileTwice {
+    ghost use Rattle.std.specs.Prelude.{Some, codes};
+
+    ghost output = { λ _. Some (codes "FileTwice") };
+
+    fn fmt<W: fmt::Write>(&self, f: &mut fmt::Formatter<W>) -> fmt::Result {
+        f.write_str("FileTwice")
+    }
+}
+
+impl Error for FileTwice {}
+
+/// Why the text of a reader is not added.
+#[derive(Clone, Copy, PartialEq, Debug)]
+pub enum AddFault {
+    /// The name is there already (37).
+    FileTwice,
+    /// The reader's rest cannot be read, is too long or is not UTF-8 (8).
+    CannotRead,
+}
+
+impl fmt::Display for AddFault {
+    ghost use Rattle.std.specs.Prelude.{Some};
+    ghost use Rattle.c25_files.specs.FaultNames.{fault_name};
+
+    ghost output = { λ fault. Some (fault_name fault) };
+
+    fn fmt<W: fmt::Write>(&self, f: &mut fmt::Formatter<W>) -> fmt::Result {
+        match self {
+            AddFault::FileTwice => f.write_str("FileTwice"),
+            AddFault::CannotRead => f.write_str("CannotRead"),
+        }
+    }
+}
+
+impl Error for AddFault {}
+
+/// Texts by their names, in the order in which they were added. Names are compared byte by byte.
+#[derive(Drop)]
+pub struct Files {
+    alloc: Global,
+    texts: IndexMap<String, String>,
+}
+
+/// Files are seen as the list of their names and texts.
+impl Model for Files {
+    ghost use Rattle.std.specs.Prelude.{ℕ, List};
+    ghost use Rattle.c25_files.specs.Entries.{named_texts};
+
+    ghost Value = { List (List ℕ × List ℕ) };
+
+    ghost view = { λ files. named_texts files.texts.entries };
+}
+
+impl Files {
+    /// No files. It takes no memory.
+    pub fn new(alloc: Global) -> Files
+        ensures { result ≡ [] }
+    {
+        Files {
+            alloc,
+            texts: IndexMap::new(alloc),
+        }
+    }
+
+    /// The text of a name, where there is one.
+    pub fn text(&self, name: &str) -> Option<&str>
+        ensures { option_map (λ text. text.now) result ≡ text_named self.now name.now }
+    {
+        match self.texts.get(name) {
+            Some(text) => Some(text.as_str()),
+            None => None,
+        }
+    }
+
+    /// The number and the text of the file of a name, where there is one.
+    pub fn find(&self, name: &str) -> Option<(usize, &str)>
+        ensures text { option_map (λ f. f.1.now) result ≡ text_named self.now name.now }
+        ensures number { IfSome result (λ f. f.0 ≡ file_number self.now name.now) }
+    {
+        match self.texts.get_full(name) {
+            Some((number, _, text)) => Some((number, text.as_str())),
+            None => None,
+        }
+    }
+
+    /// The name of the file of a number, or nothing where there is none.
+    pub fn name(&self, number: usize) -> &str
+        ensures { result.now ≡ file_name self.now number }
+    {
+        match self.texts.get_index(number) {
+            Some((name, _)) => name.as_str(),
+            None => "",
+        }
+    }
+
+    /// Puts a text behind the others, under a name that none of them has.
+    fn put(&mut self, name: &str, text: String) -> Result<(), NoMemory>
+        requires { is_some (text_named self.old name.now) ≡ false }
+        ensures ok { OnOk result (self.new ≡ self.old ++ (name.now, string_bytes text) ∷ []) }
+        ensures err { OnErr result (self.new ≡ self.old) }
+    {
+        let name = String::from_str(self.alloc, name)?;
+        self.texts.insert(name, text)?;
+        Ok(())
+    }
+
+    /// Adds a text under a new name. After a refusal the files are as before.
+    pub fn add(&mut self, name: &str, text: &str) -> Result<(), Failure<FileTwice>>
+        ensures twice { IsErrOf result (Failure.Fault (record {})) ↔ IsSome (text_named self.old name.now) }
+        ensures ok { OnOk result (self.new ≡ self.old ++ (name.now, text.now) ∷ []) }
+        ensures err { OnErr result (self.new ≡ self.old) }
+    {
+        if self.text(name).is_some() {
+            return Err(Failure::Fault(FileTwice));
+        }
+        let text = String::from_str(self.alloc, text)?;
+        self.put(name, text)?;
+        Ok(())
+    }
+
+    /// Adds all that a reader has left, under a new name: what `add` makes of that text, however the
+    /// reads cut it. A name that is there is refused before anything is read (37). The text is refused
+    /// (8) where a read fails, where it is not UTF-8, where 33,554,432 reads bring no end, and where it
+    /// has more than 16,777,216 bytes. After a refusal the files are as before.
+    pub fn add_from<R: Read>(&mut self, name: &str, reader: &mut R) -> Result<(), Failure<AddFault>>
+        ensures twice { IsErrOf result (Failure.Fault fault.FileTwice) ↔ IsSome (text_named self.old name.now) }
+        ensures unread { IsErrOf result (Failure.Fault fault.FileTwice) → reader.new ≡ reader.old }
+        ensures ok { OnOk result (AddsAll (R.remaining reader.old) name.now self.old self.new) }
+        ensures end { OnOk result (IsAtEnd (R.remaining reader.new)) }
+        ensures err { OnErr result (self.new ≡ self.old) }
+    {
+        if self.text(name).is_some() {
+            return Err(Failure::Fault(AddFault::FileTwice));
+        }
+        match read_text(self.alloc, reader) {
+            Ok(text) => Ok(self.put(name, text)?),
+            Err(Failure::NoMemory(error)) => Err(Failure::NoMemory(error)),
+            Err(Failure::Fault(CannotRead)) => Err(Failure::Fault(AddFault::CannotRead)),
+        }
+    }
+}

@@ -1,0 +1,4 @@
+//! The texts of sources by their names, given or read.
+#![tactic(auto)]
+
+pub mod files;

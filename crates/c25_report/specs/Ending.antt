@@ -1,0 +1,71 @@
+-- What the program comes to: its status, and what is told of it.
+use Rattle.std.specs.Prelude.{◌≡◌, ◌⊎◌, ℕ, List, ◌++◌, codes, Option}
+use Rattle.std.specs.Io.KnownBytes.{Appends, Keeps}
+use Rattle.std.specs.String.{string_bytes}
+use Rattle.clap.specs.Values.{kind_of}
+use Rattle.clap.specs.declared.error.Error.{Error}
+use Rattle.clap.specs.declared.error.kind.ErrorKind.{ErrorKind}
+use Rattle.clap.specs.declared.error.kind.ErrorKind.TheVariants.{OutOfMemory}
+use Rattle.c25_board.specs.declared.board.Outcome.{Outcome}
+use Rattle.c25_board.specs.declared.board.Outcome.TheVariants as outcome
+use Rattle.c25_meaning_common.specs.declared.failure.Failure.{Failure}
+use Rattle.c25_meaning_common.specs.declared.failure.Failure.TheVariants as failure
+use Rattle.c25_words.specs.Task.{IsWantOfMemory}
+use Rattle.c25_report.specs.declared.ending.Ending.{Ending}
+use Rattle.c25_report.specs.declared.ending.Ending.TheVariants.{Done, Left, Sunk, Faulty, NoMemory, Unprinted, NoTask, NoText}
+
+-- ---- statuses
+
+-- the status of `clap`'s errors
+abbrev pub kind_status : ErrorKind → ℕ
+kind_status OutOfMemory = 1
+kind_status kind = 2
+
+-- the status of words that are no task: 1 where memory ran out, else 2
+abbrev pub words_status : Failure Error → ℕ
+words_status (failure.NoMemory n) = 1
+words_status (failure.Fault error) = kind_status (kind_of error)
+
+-- the program's status
+abbrev pub status_of : Ending → ℕ
+status_of Done = 0
+status_of Left = 3
+status_of Sunk = 1
+status_of (Faulty line) = 1
+status_of (NoMemory n) = 1
+status_of Unprinted = 1
+status_of (NoTask fault) = words_status fault
+status_of NoText = 2
+
+-- ---- standard output
+
+-- what a run comes to that is printed
+abbrev pub ending_of : Outcome → Ending
+ending_of outcome.Ran = Done
+ending_of (outcome.Left at stop) = Left
+ending_of (outcome.SinkFault at) = Sunk
+
+-- a text is printed behind what stood there, and that comes to this; or it cannot be
+abbrev pub IsPrinted : List ℕ → Ending → Ending → Option (List ℕ) → Option (List ℕ) → Type 0
+IsPrinted text done ending old new = ((ending ≡ done) × Appends old new text) ⊎ (ending ≡ Unprinted)
+
+-- ---- standard error
+
+-- a line of its own stands behind what stood there
+abbrev pub HasLine : List ℕ → Option (List ℕ) → Option (List ℕ) → Type 0
+HasLine line old new = Appends old new (line ++ codes "\n")
+
+-- what is told of words that are no task: the line of a refused growth, or else `clap`'s text, of which no more is known
+abbrev pub IsToldOfWords : Failure Error → Option (List ℕ) → Option (List ℕ) → Type 0
+IsToldOfWords fault old new = IsWantOfMemory fault → HasLine (codes "memory: 9 NoMemory") old new
+
+-- what is told of an ending
+abbrev pub IsTold : Ending → Option (List ℕ) → Option (List ℕ) → Type 0
+IsTold Done old new = Keeps old new
+IsTold Left old new = Keeps old new
+IsTold Sunk old new = Keeps old new
+IsTold (Faulty line) old new = HasLine (string_bytes line) old new
+IsTold (NoMemory n) old new = HasLine (codes "memory: 9 NoMemory") old new
+IsTold Unprinted old new = HasLine (codes "stdout: 7 CannotWrite") old new
+IsTold (NoTask fault) old new = IsToldOfWords fault old new
+IsTold NoText old new = HasLine (codes "c25: a word is not UTF-8") old new

@@ -1,0 +1,33 @@
+-- Sessions of the debugger with sources from a disk.
+use Rattle.std.specs.Prelude.{ℕ, List, Result, String}
+use Rattle.std.specs.declared.alloc.Global.{Global}
+use Rattle.c25_chain.specs.Refusal.{Fault}
+use Rattle.c25_debug_chain.specs.Debug.{Debugs}
+use Rattle.c25_disk.specs.Held.{Held}
+use Rattle.c25_meaning_expansion.specs.Files.{Files}
+use Rattle.c25_report.specs.declared.ending.Ending.{Ending}
+use Rattle.c25_words.specs.Task.{text_of}
+use Rattle.c25_words.specs.declared.task.RunFiles.{RunFiles}
+use Rattle.c25_tasks.specs.Files.{AfterNamed, AfterOptional, AfterSources, ComesTo}
+use Rattle.c25_tasks.specs.Running.{given_with}
+use Rattle.c25_tasks.specs.Tells.{Printed, TellsText}
+
+-- the answers to the text of a script, over the sources of names among given files and those that they copy, under these texts beside
+-- them; or why there are none
+abbrev pub DebugsOver : Held → Files → List (List ℕ) → (command samples schedule script : List ℕ) → Result (String Global) Fault → Type 0
+DebugsOver held given names command samples schedule script answer =
+    ComesTo held given (λ all result. Debugs (given_with all names (record { command = command; samples = samples; schedule = schedule })) script result) answer
+
+-- the same of files on a disk, which are read in this order
+abbrev pub DebugsFrom : Held → List (List ℕ) → (script : List ℕ) → RunFiles → Result (String Global) Fault → Type 0
+DebugsFrom held names script files answer =
+    AfterSources held names (λ given.
+    AfterOptional held (text_of files.command) (λ command.
+    AfterOptional held (text_of files.samples) (λ samples.
+    AfterOptional held (text_of files.schedule) (λ schedule.
+    AfterNamed held script (DebugsOver held given names command samples schedule))))) answer
+
+-- what is done with them
+abbrev pub DebugsTold : Held → List (List ℕ) → (script : List ℕ) → RunFiles → Ending → Printed → Type 0
+DebugsTold held names script files e out =
+    (answer : Result (String Global) Fault) × DebugsFrom held names script files answer × TellsText answer e out
