@@ -1,0 +1,4 @@
+* Ends behind its third instruction.
+        ZAC
+        LACK    2
+        LACK    3
