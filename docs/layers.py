@@ -116,7 +116,7 @@ def below(all_crates, name):
 
 def nearest(all_crates, subject):
     """The subjects on which one stands, without those on which another of them stands."""
-    on = [it for it in all_crates[subject] if it.startswith(SUBJECT) or subject == SUBJECT + "common"]
+    on = [it for it in all_crates[subject] if it.startswith(SUBJECT) or it == "c25_bits"]
     return {it.replace(SUBJECT, "") for it in on if not any(it in below(all_crates, other) for other in on)}
 
 

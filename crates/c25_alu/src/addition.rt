@@ -2,10 +2,10 @@
 
 ghost use Rattle.std.specs.Prelude.{◌≡◌, ◌+ℤ◌, ◌-ℤ◌, ℤ, pos, unsigned_abs};
 ghost use Rattle.c25_bits.specs.Cut.{signed};
-ghost use Rattle.c25_meaning_processor.specs.Arithmetic.{absolute, difference, negated, sum, with_total};
+ghost use Rattle.c25_meaning_arithmetic.specs.Arithmetic.{absolute, difference, negated, sum, with_total};
 ghost use Rattle.c25_alu.specs.Total.{IsTotal};
 
-use c25_meaning_processor::registers::Acc;
+use c25_meaning_arithmetic::accumulator::Acc;
 
 /// The lowest number of 32 signed bits. In each number with its sign, this bit is set.
 const LOWEST: u32 = 0x8000_0000;
@@ -86,7 +86,7 @@ fn kept(acc: Acc, total: Total, carry: bool, ovm: bool) -> Acc
 /// The accumulator after `A += v`, where v is the signed number of the bits of `addend`. C is the
 /// carry out of the 32 bits. Where the sum leaves 32 signed bits, OV is set, and with `ovm` the
 /// accumulator takes the end of the range that was left.
-#[tactic(auto, unfolding(c25_meaning_processor::specs::Arithmetic::sum))]
+#[tactic(auto, unfolding(c25_meaning_arithmetic::specs::Arithmetic::sum))]
 pub fn add(acc: Acc, addend: u32, ovm: bool) -> Acc
     ensures { result ≡ sum acc (signed addend 32) ovm }
 {
@@ -96,7 +96,7 @@ pub fn add(acc: Acc, addend: u32, ovm: bool) -> Acc
 
 /// The accumulator after `A -= v`, where v is the signed number of the bits of `amount`. C is 0
 /// where the 32 bits borrow. OV and saturation are as for [`add`].
-#[tactic(auto, unfolding(c25_meaning_processor::specs::Arithmetic::difference))]
+#[tactic(auto, unfolding(c25_meaning_arithmetic::specs::Arithmetic::difference))]
 pub fn subtract(acc: Acc, amount: u32, ovm: bool) -> Acc
     ensures { result ≡ difference acc (signed amount 32) ovm }
 {
@@ -110,7 +110,7 @@ pub fn subtract(acc: Acc, amount: u32, ovm: bool) -> Acc
 
 /// The accumulator after `ABS`: its absolute value, and C 0. 80000000h has none in 32 signed bits,
 /// so there OV is set, and with `ovm` the value is 7FFFFFFFh.
-#[tactic(auto, unfolding(c25_meaning_processor::specs::Arithmetic::absolute))]
+#[tactic(auto, unfolding(c25_meaning_arithmetic::specs::Arithmetic::absolute))]
 pub fn absolute(acc: Acc, ovm: bool) -> Acc
     ensures { result ≡ absolute acc ovm }
 {
@@ -119,7 +119,7 @@ pub fn absolute(acc: Acc, ovm: bool) -> Acc
 
 /// The accumulator after `NEG`: its negative, and C 1 at 0 alone. At 80000000h OV is set, and with
 /// `ovm` the value is 7FFFFFFFh.
-#[tactic(auto, unfolding(c25_meaning_processor::specs::Arithmetic::negated))]
+#[tactic(auto, unfolding(c25_meaning_arithmetic::specs::Arithmetic::negated))]
 pub fn negate(acc: Acc, ovm: bool) -> Acc
     ensures { result ≡ negated acc ovm }
 {

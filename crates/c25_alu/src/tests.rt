@@ -1,7 +1,7 @@
 //! Each call once, at values worked out by hand.
 
 use super::*;
-use c25_meaning_processor::registers::{Acc, ProductShift};
+use c25_meaning_arithmetic::accumulator::{Acc, ProductShift};
 use std::process::Abort;
 
 /// An accumulator without overflow.

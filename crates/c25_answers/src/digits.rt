@@ -4,7 +4,7 @@ ghost use Rattle.std.specs.Prelude.{◌≡◌, ◌+◌, ◌<◌, ◌≤◌, ◌�
 ghost use Rattle.arrayvec.specs.ArrayString.{array_string_len};
 ghost use Rattle.c25_meaning_common.specs.Digits.{four_digits, hex_digit, two_digits};
 ghost use Rattle.c25_meaning_debugger.specs.Texts.{spaced};
-ghost use Rattle.c25_meaning_linking.specs.MapText.{eight_digits};
+ghost use Rattle.c25_meaning_placing.specs.MapText.{eight_digits};
 
 use arrayvec::ArrayString;
 use c25_meaning_common::no_memory::NoMemory;
@@ -71,7 +71,7 @@ pub(crate) fn push_word(text: &mut String, word: u16) -> Result<(), NoMemory>
 }
 
 /// Appends a number of 32 bits in eight digits.
-#[tactic(auto, unfolding(c25_meaning_linking::specs::MapText::eight_digits))]
+#[tactic(auto, unfolding(c25_meaning_placing::specs::MapText::eight_digits))]
 pub(crate) fn push_long(text: &mut String, number: u32) -> Result<(), NoMemory>
     ensures { OnOk result (string_bytes text.new ≡ string_bytes text.old ++ eight_digits number) }
 {

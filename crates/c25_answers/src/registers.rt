@@ -3,7 +3,7 @@
 ghost use Rattle.std.specs.Prelude.{◌≡◌, ◌++◌, OnOk, codes, string_bytes};
 ghost use Rattle.c25_meaning_common.specs.Digits.{four_digits, two_digits};
 ghost use Rattle.c25_meaning_debugger.specs.Texts.{regs_text, spaced, stack_text};
-ghost use Rattle.c25_meaning_linking.specs.MapText.{eight_digits};
+ghost use Rattle.c25_meaning_placing.specs.MapText.{eight_digits};
 
 use crate::digits::{push_byte, push_long, push_spaced, push_word};
 use c25_meaning_common::no_memory::NoMemory;

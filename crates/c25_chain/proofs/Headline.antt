@@ -8,7 +8,7 @@ use Rattle.c25_meaning_expansion.specs.Files.{Files}
 use Rattle.c25_meaning_image.specs.WordMap.{IsWordMap}
 use Rattle.c25_meaning_intel_hex.specs.Hex.{SpellsWords}
 use Rattle.c25_meaning_linking.specs.Linking.{ImageData}
-use Rattle.c25_meaning_linking.specs.Place.{Place}
+use Rattle.c25_meaning_placing.specs.Place.{Place}
 use Rattle.c25_meaning_objects.specs.Module.{Contents}
 use Rattle.c25_meaning_processor.specs.Run.{Ending, Ran}
 use Rattle.c25_meaning_processor.specs.Statements.{IsImageOf, RunsAsStatements, Statement}

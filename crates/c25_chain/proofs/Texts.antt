@@ -2,12 +2,12 @@
 use Rattle.std.proofs.Common.{◌≡◌, ℕ, List, Ok, Err, Result, ap, subst, sym, ◌∙◌}
 use Rattle.c25_meaning_commands.specs.Command.{CommandData}
 use Rattle.c25_meaning_commands.specs.CommandText.{command_of}
-use Rattle.c25_meaning_linking.specs.GoodMap.{IsGoodMap}
+use Rattle.c25_meaning_placing.specs.GoodMap.{IsGoodMap}
 use Rattle.c25_meaning_linking.specs.Linking.{ImageData, IsProgram, HasWords, HasMarks}
 use Rattle.c25_meaning_intel_hex.specs.HexText.{written}
-use Rattle.c25_meaning_linking.specs.MapText.{IsMapOf}
+use Rattle.c25_meaning_placing.specs.MapText.{IsMapOf}
 use Rattle.c25_meaning_objects.specs.Module.{Contents}
-use Rattle.c25_meaning_linking.specs.Place.{Place}
+use Rattle.c25_meaning_placing.specs.Place.{Place}
 use Rattle.c25_meaning_common.specs.Results.{told}
 use Rattle.c25_meaning_commands.specs.declared.command_fault.FaultyCommand.{FaultyCommand}
 use Rattle.c25_chain.specs.Linked.{AreTexts, HasTextsOf, IsLinked, Texts, places_of, texts_of}

@@ -3,7 +3,7 @@ use Rattle.std.specs.Prelude.{ℕ, List, ◌++◌, codes}
 use Rattle.std.specs.Fmt.{decimal}
 use Rattle.c25_meaning_commands.specs.Faults.{command_name}
 use Rattle.c25_meaning_intel_hex.specs.Faults.{hex_name}
-use Rattle.c25_meaning_linking.specs.Faults.{link_name}
+use Rattle.c25_meaning_placing.specs.Faults.{link_name}
 use Rattle.c25_meaning_language.specs.Faults.{numbered_name}
 use Rattle.c25_meaning_objects.specs.Faults.{object_name}
 use Rattle.c25_meaning_common.specs.Faults.{placed_text}
@@ -12,8 +12,8 @@ use Rattle.c25_meaning_commands.specs.declared.command_fault.CommandFault.TheVar
 use Rattle.c25_meaning_common.specs.declared.failure.Failure.TheVariants as failure
 use Rattle.c25_meaning_intel_hex.specs.declared.hex_fault.HexFault.{HexFault}
 use Rattle.c25_meaning_intel_hex.specs.declared.hex_fault.HexFault.TheVariants as hex
-use Rattle.c25_meaning_linking.specs.declared.link_fault.LinkFault.{LinkFault}
-use Rattle.c25_meaning_linking.specs.declared.link_fault.LinkFault.TheVariants as link
+use Rattle.c25_meaning_placing.specs.declared.link_fault.LinkFault.{LinkFault}
+use Rattle.c25_meaning_placing.specs.declared.link_fault.LinkFault.TheVariants as link
 use Rattle.c25_meaning_objects.specs.declared.object.ObjectFault.{ObjectFault}
 use Rattle.c25_meaning_objects.specs.declared.object.ObjectFault.TheVariants as object
 use Rattle.c25_meaning_language.specs.declared.statement.FaultKind.TheVariants as kind

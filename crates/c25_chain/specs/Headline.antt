@@ -11,7 +11,7 @@ use Rattle.c25_meaning_processor.specs.FirstState.{first_of_pages, memory_of_map
 use Rattle.c25_meaning_intel_hex.specs.Hex.{SpellsWords}
 use Rattle.c25_meaning_intel_hex.specs.HexText.{written}
 use Rattle.c25_meaning_linking.specs.Linking.{ImageData}
-use Rattle.c25_meaning_linking.specs.MapText.{IsMapOf, MapData}
+use Rattle.c25_meaning_placing.specs.MapText.{IsMapOf, MapData}
 use Rattle.c25_meaning_objects.specs.Module.{Contents}
 use Rattle.c25_meaning_processor.specs.Run as runs
 use Rattle.c25_meaning_processor.specs.Run.{Ending, Ran}

@@ -3,15 +3,15 @@ use Rattle.std.specs.Prelude.{◌≡◌, ◌⊎◌, ℕ, List, map, Result, Ok, 
 use Rattle.std.specs.String.{string_bytes}
 use Rattle.c25_meaning_commands.specs.Command.{CommandData}
 use Rattle.c25_meaning_commands.specs.CommandText.{command_of}
-use Rattle.c25_meaning_linking.specs.GoodMap.{IsGoodMap}
+use Rattle.c25_meaning_placing.specs.GoodMap.{IsGoodMap}
 use Rattle.c25_meaning_intel_hex.specs.HexText.{written}
 use Rattle.c25_meaning_linking.specs.Linking.{ImageData, IsProgram, IsRefusal, HasWords, HasMarks}
-use Rattle.c25_meaning_linking.specs.MapText.{MapData, IsMapOf}
+use Rattle.c25_meaning_placing.specs.MapText.{MapData, IsMapOf}
 use Rattle.c25_meaning_objects.specs.Module.{Contents}
-use Rattle.c25_meaning_linking.specs.Place.{Place}
+use Rattle.c25_meaning_placing.specs.Place.{Place}
 use Rattle.c25_meaning_common.specs.Results.{told}
 use Rattle.c25_meaning_common.specs.declared.failure.Failure.TheVariants as failure
-use Rattle.c25_meaning_linking.specs.declared.link_fault.FaultyLink.{FaultyLink}
+use Rattle.c25_meaning_placing.specs.declared.link_fault.FaultyLink.{FaultyLink}
 use Rattle.c25_chain.specs.Refusal.{Fault, refusal_of}
 use Rattle.c25_chain.specs.declared.fault.Refusal.{Refusal}
 use Rattle.c25_chain.specs.declared.fault.Refusal.TheVariants.{Command, Link}

@@ -5,8 +5,8 @@ use c25_meaning_commands::command_fault::FaultyCommand;
 use c25_meaning_common::failure::Failure;
 use c25_meaning_intel_hex::hex_fault::PlacedHexFault;
 use c25_meaning_language::statement::FaultKind;
-use c25_meaning_linking::link_fault::FaultyLink;
 use c25_meaning_objects::object::ObjectFault;
+use c25_meaning_placing::link_fault::FaultyLink;
 
 /// Why there is no answer, memory aside. The code has names as texts, the definitions as lists of
 /// bytes.

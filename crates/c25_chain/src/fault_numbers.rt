@@ -7,8 +7,8 @@ ghost use Rattle.c25_chain.specs.FaultText as spec;
 use c25_meaning_commands::command_fault::CommandFault;
 use c25_meaning_intel_hex::hex_fault::HexFault;
 use c25_meaning_language::statement::FaultKind;
-use c25_meaning_linking::link_fault::LinkFault;
 use c25_meaning_objects::object::ObjectFault;
+use c25_meaning_placing::link_fault::LinkFault;
 
 /// That of a source's fault.
 pub(crate) fn source_number(kind: FaultKind) -> u8

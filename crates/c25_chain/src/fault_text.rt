@@ -14,8 +14,8 @@ use c25_meaning_common::failure::Failure;
 use c25_meaning_common::no_memory::NoMemory;
 use c25_meaning_intel_hex::hex_fault::HexFault;
 use c25_meaning_language::statement::FaultKind;
-use c25_meaning_linking::link_fault::LinkFault;
 use c25_meaning_objects::object::ObjectFault;
+use c25_meaning_placing::link_fault::LinkFault;
 use std::alloc::Global;
 
 /// What is wrong with a line of a source.

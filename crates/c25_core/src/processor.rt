@@ -15,8 +15,9 @@ use crate::memory::{read_data, read_program};
 use crate::status::regs_of;
 use crate::step::turn;
 use bitflags::Flags;
+use c25_meaning_arithmetic::accumulator::{Acc, ProductShift};
 use c25_meaning_processor::lines::Lines;
-use c25_meaning_processor::registers::{Acc, ArNumber, DataPage, ProductShift, Registers, Regs};
+use c25_meaning_processor::registers::{ArNumber, DataPage, Registers, Regs};
 use std::marker::Model;
 
 /// The processor: all that it holds between two steps. Memories and ports are the bus's.

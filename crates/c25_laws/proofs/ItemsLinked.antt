@@ -13,7 +13,7 @@ use Rattle.c25_meaning_common.specs.Fields.{field_number, filled}
 use Rattle.c25_meaning_assembly.specs.InstructionStatements.{Instruction}
 use Rattle.c25_meaning_objects.specs.Module.{Contents}
 use Rattle.c25_meaning_common.specs.Fields.{field_values}
-use Rattle.c25_meaning_linking.specs.Place.{Place}
+use Rattle.c25_meaning_placing.specs.Place.{Place}
 use Rattle.c25_meaning_assembly.specs.Sections.{Content, Definitions, Exported, Item, Operands, Progress, Words, Zeros, place}
 use Rattle.c25_meaning_language.specs.Statement.{form_row, insn_of}
 use Rattle.c25_meaning_instructions.specs.Table.{Reads, opcode_word, second_word, size, words}

@@ -9,7 +9,7 @@ use Rattle.c25_meaning_expansion.specs.Files.{Files}
 use Rattle.c25_meaning_assembly.specs.InstructionStatements.{Instruction}
 use Rattle.c25_meaning_linking.specs.Linking.{ImageData, IsProgram}
 use Rattle.c25_meaning_objects.specs.Module.{Contents}
-use Rattle.c25_meaning_linking.specs.Place.{Place, by_modules}
+use Rattle.c25_meaning_placing.specs.Place.{Place, by_modules}
 use Rattle.c25_meaning_language.specs.Statement.{form_row, insn_of}
 use Rattle.c25_meaning_processor.specs.Statements.{Statement, marks_of}
 use Rattle.c25_meaning_processor.specs.Statements as statements

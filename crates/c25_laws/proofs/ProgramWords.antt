@@ -19,7 +19,7 @@ use Rattle.c25_meaning_assembly.specs.InstructionStatements.{Instruction, insn_w
 use Rattle.c25_meaning_linking.specs.Linking.{ImageData, IsProgram, HasWords}
 use Rattle.c25_meaning_objects.specs.Module.{Contents, IsModule, SectionData, body_words, each_fits, has_sections, last_of, lists_fit, mark_after, mark_fits, section_fits}
 use Rattle.c25_meaning_objects.specs.Module as contents
-use Rattle.c25_meaning_linking.specs.Place.{Place, page_of, part_base}
+use Rattle.c25_meaning_placing.specs.Place.{Place, page_of, part_base}
 use Rattle.c25_meaning_language.specs.Statement.{insn_of}
 use Rattle.c25_meaning_instructions.specs.Table.{Reads}
 use Rattle.c25_meaning_linking.specs.Words.{is_relocation_at, linked_word, relocated, section_base, section_page}

@@ -6,7 +6,7 @@ use Rattle.c25_meaning_common.specs.Fields.{field_number}
 use Rattle.c25_meaning_expansion.specs.Files.{Files}
 use Rattle.c25_meaning_assembly.specs.InstructionStatements.{Instruction}
 use Rattle.c25_meaning_objects.specs.Module.{Contents}
-use Rattle.c25_meaning_linking.specs.Place.{Place}
+use Rattle.c25_meaning_placing.specs.Place.{Place}
 use Rattle.c25_meaning_language.specs.Statement.{insn_of}
 use Rattle.c25_meaning_processor.specs.Statements.{Statement}
 use Rattle.c25_meaning_linking.specs.Words.{base_value, section_base, section_page}

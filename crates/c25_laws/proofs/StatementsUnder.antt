@@ -11,7 +11,7 @@ use Rattle.c25_meaning_expansion.specs.Files.{Files}
 use Rattle.c25_meaning_assembly.specs.InstructionStatements.{Instruction, instructions_of}
 use Rattle.c25_meaning_objects.specs.Module.{Contents}
 use Rattle.c25_meaning_sources.specs.ModuleOfSource.{Assembled, Passed, assembled, completed, passed_from}
-use Rattle.c25_meaning_linking.specs.Place.{Place}
+use Rattle.c25_meaning_placing.specs.Place.{Place}
 use Rattle.c25_meaning_common.specs.Results.{◌>>=◌}
 use Rattle.c25_meaning_assembly.specs.Sections.{Content, Definitions, Exported, Item, Operands, Progress, Words, Zeros}
 use Rattle.c25_meaning_language.specs.Statement.{insn_of}

@@ -12,7 +12,7 @@ use Rattle.c25_meaning_linking.specs.Linking.{HasWords}
 use Rattle.c25_meaning_objects.specs.Module as modules
 use Rattle.c25_meaning_objects.specs.Module.{Contents, SectionData, body_words}
 use Rattle.c25_meaning_sources.specs.ModuleOfSource.{Assembled, assembled}
-use Rattle.c25_meaning_linking.specs.Place.{Place, page_of, part_base}
+use Rattle.c25_meaning_placing.specs.Place.{Place, page_of, part_base}
 use Rattle.c25_meaning_assembly.specs.Sections.{Item, Progress}
 use Rattle.c25_meaning_linking.specs.Words.{HasWord, linked_word, section_base, section_page}
 use Rattle.c25_module_laws.proofs.Emitted.{Give, Made, filled_from, words_at}

@@ -10,7 +10,7 @@ use Rattle.c25_meaning_assembly.specs.InstructionStatements.{Instruction, insn_w
 use Rattle.c25_meaning_objects.specs.Module.{Contents, words_at}
 use Rattle.c25_meaning_common.specs.Fields.{field_values}
 use Rattle.c25_meaning_sources.specs.ModuleOfSource.{passed_from}
-use Rattle.c25_meaning_linking.specs.Place.{Covers}
+use Rattle.c25_meaning_placing.specs.Place.{Covers}
 use Rattle.c25_meaning_instructions.specs.RelocatedInsn.{HasField, with_field}
 use Rattle.c25_meaning_common.specs.Results.{◌>>=◌}
 use Rattle.c25_meaning_language.specs.Statement.{form_row, insn_of}

@@ -12,7 +12,7 @@ use Rattle.c25_meaning_expansion.specs.Files.{Files}
 use Rattle.c25_meaning_image.specs.Marks.{fit_from}
 use Rattle.c25_meaning_objects.specs.Module.{Contents}
 use Rattle.c25_meaning_sources.specs.ModuleOfSource.{Assembled, assembled, passed_from}
-use Rattle.c25_meaning_linking.specs.Place.{Place}
+use Rattle.c25_meaning_placing.specs.Place.{Place}
 use Rattle.c25_meaning_common.specs.Results.{◌>>=◌}
 use Rattle.c25_meaning_assembly.specs.Sections.{Content, Definitions, Item, Operands, Progress, start}
 use Rattle.c25_meaning_language.specs.Statement.{insn_of}

@@ -5,7 +5,7 @@ ghost use Rattle.c25_meaning_expansion.specs.Files.{Files};
 ghost use Rattle.c25_meaning_assembly.specs.InstructionStatements.{Instruction};
 ghost use Rattle.c25_meaning_objects.specs.Module.{Contents};
 ghost use Rattle.c25_meaning_sources.specs.ModuleOfSource.{Assembled, assembled};
-ghost use Rattle.c25_meaning_linking.specs.Place.{Place};
+ghost use Rattle.c25_meaning_placing.specs.Place.{Place};
 ghost use Rattle.c25_meaning_assembly.specs.Sections.{Definitions, Item};
 ghost use Rattle.c25_meaning_assembly.specs.ItemPlaces.{total, words_in};
 ghost use Rattle.c25_laws.specs.ModuleStatements.{instructions_in, AreStatements};

@@ -8,7 +8,7 @@ ghost use Rattle.c25_meaning_processor.specs.FirstState.{first_of_pages};
 ghost use Rattle.c25_meaning_linking.specs.Linking.{ImageData, IsProgram};
 ghost use Rattle.c25_meaning_objects.specs.Module.{Contents};
 ghost use Rattle.c25_meaning_sources.specs.ModuleOfSource.{Assembled, assembled};
-ghost use Rattle.c25_meaning_linking.specs.Place.{Place};
+ghost use Rattle.c25_meaning_placing.specs.Place.{Place};
 ghost use Rattle.c25_meaning_assembly.specs.Sections.{Progress, equate, label, size_at};
 ghost use Rattle.c25_meaning_processor.specs.Statements.{IsImageOf, KeepsStatements, RunsAsStatements};
 ghost use Rattle.c25_meaning_language.specs.Tree.{Tree};

@@ -16,7 +16,7 @@ use Rattle.c25_meaning_commands.specs.Command.{Pairwise}
 use Rattle.c25_meaning_linking.specs.Linking.{HasMarks}
 use Rattle.c25_meaning_image.specs.Marks.{fit_from, fits_behind}
 use Rattle.c25_meaning_objects.specs.Module.{SectionBody, Uninitialised, Initialised, SectionData, Contents, is_module, body_size, body_words, words_at, mark_fits, mark_after, is_from, last_of, each_fits, lists_fit, has_sections}
-use Rattle.c25_meaning_linking.specs.Place.{Place, IsPart, LiesIn, page_of, part_base, by_modules}
+use Rattle.c25_meaning_placing.specs.Place.{Place, IsPart, LiesIn, page_of, part_base, by_modules}
 use Rattle.c25_meaning_linking.specs.Words.{section_base, section_page, placed_mark, is_on_program, module_marks, program_marks}
 use Rattle.c25_meaning_image.specs.declared.mark.Mark.{Mark}
 use Rattle.c25_meaning_objects.specs.declared.object.ModuleMark.{ModuleMark}

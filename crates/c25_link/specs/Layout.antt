@@ -2,7 +2,7 @@
 use Rattle.std.specs.Prelude.{◌≡◌, ◌<◌, ℕ, List, Some, All}
 use Rattle.std.specs.List.{slice_get}
 use Rattle.c25_meaning_objects.specs.Module.{SectionData, Contents, IsModule}
-use Rattle.c25_meaning_linking.specs.Place.{Place, IsPart, LiesIn}
+use Rattle.c25_meaning_placing.specs.Place.{Place, IsPart, LiesIn}
 use Rattle.c25_meaning_linking.specs.Words as words
 use Rattle.c25_link.specs.Bases.{HasRoom, KnowsBases}
 use Rattle.c25_link.specs.View.{HasDefinitions}

@@ -2,7 +2,7 @@
 
 ghost use Rattle.std.specs.Prelude.{◌≡◌, ◌≤◌, IfOk, map, string_bytes, if◌then◌else◌, ◌==◌};
 ghost use Rattle.c25_map.specs.View.{map_data, symbol_data};
-ghost use Rattle.c25_meaning_linking.specs.MapText.{IsMapOf, IsPrinted};
+ghost use Rattle.c25_meaning_placing.specs.MapText.{IsMapOf, IsPrinted};
 
 use c25_map::{GlobalSymbol, Map, write_map};
 use c25_meaning_common::no_memory::NoMemory;
@@ -26,7 +26,7 @@ impl Model for Image {
     ghost use Rattle.std.specs.Ordering.{nat_cmp};
     ghost use Rattle.c25_map.specs.View.{map_data};
     ghost use Rattle.c25_meaning_linking.specs.Linking.{ImageData};
-    ghost use Rattle.c25_meaning_linking.specs.MapText.{IsPrinted};
+    ghost use Rattle.c25_meaning_placing.specs.MapText.{IsPrinted};
 
     ghost Value = { ImageData };
 

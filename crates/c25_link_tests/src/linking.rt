@@ -11,7 +11,7 @@ use c25_map::OutputSection;
 use c25_meaning_common::failure::Failure;
 use c25_meaning_image::mark::Mark;
 use c25_meaning_image::word_map::WordMap;
-use c25_meaning_linking::link_fault::FaultyLink;
+use c25_meaning_placing::link_fault::FaultyLink;
 use c25_obj::Module;
 use std::alloc::Global;
 use std::test::Fail;

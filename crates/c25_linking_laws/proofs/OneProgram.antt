@@ -10,11 +10,11 @@ use Rattle.std.proofs.lemmas.List.Sorted.{IsPermutation-sym}
 use Rattle.c25_linking_laws.proofs.Members.{behind_in, first_in, in_front, in_permuted, nothing_in}
 use Rattle.c25_placing_laws.proofs.OneMap.{placed_once}
 use Rattle.c25_meaning_commands.specs.Command.{CommandData}
-use Rattle.c25_meaning_linking.specs.GoodMap.{placings_for, ranges_for, requests}
+use Rattle.c25_meaning_placing.specs.GoodMap.{placings_for, ranges_for, requests}
 use Rattle.c25_meaning_linking.specs.Linking.{HasMarks, HasWords, ImageData, IsProgram, map_of}
 use Rattle.c25_meaning_image.specs.Marks.{fit_from, fits_behind}
 use Rattle.c25_meaning_objects.specs.Module.{Contents}
-use Rattle.c25_meaning_linking.specs.Place.{Place}
+use Rattle.c25_meaning_placing.specs.Place.{Place}
 use Rattle.c25_meaning_linking.specs.Words.{program_marks}
 use Rattle.c25_meaning_image.specs.declared.mark.Mark.{Mark}
 

@@ -3,10 +3,10 @@
 ghost use Rattle.std.specs.Prelude.{◌≡◌, ◌<◌, ◌^◌, All, List, Ok, length, map, ℕ};
 ghost use Rattle.c25_meaning_commands.specs.Command.{CommandData, IsCommand};
 ghost use Rattle.c25_meaning_image.specs.WordMap.{IsWordMap};
-ghost use Rattle.c25_meaning_linking.specs.GoodMap.{IsGoodMap};
+ghost use Rattle.c25_meaning_placing.specs.GoodMap.{IsGoodMap};
 ghost use Rattle.c25_meaning_linking.specs.Linking.{ImageData, IsProgram, map_of, names_checked};
-ghost use Rattle.c25_meaning_linking.specs.MapText.{IsPrinted};
-ghost use Rattle.c25_meaning_linking.specs.Place.{Place};
+ghost use Rattle.c25_meaning_placing.specs.MapText.{IsPrinted};
+ghost use Rattle.c25_meaning_placing.specs.Place.{Place};
 ghost use Rattle.c25_meaning_linking.specs.Words.{HasWord};
 ghost use Rattle.c25_meaning_objects.specs.Module.{Contents, IsModule};
 

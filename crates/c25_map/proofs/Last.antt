@@ -2,7 +2,7 @@
 use Rattle.std.proofs.Common.{◌≡◌, ℕ, zero, suc, List, [], ◌∷◌, ◌++◌, length, get_or, set, map, Option, Some, sym, ap, ◌∙◌, arith}
 use Rattle.std.specs.Option.{option_map}
 use Rattle.std.proofs.lemmas.List.{map-append}
-use Rattle.c25_meaning_linking.specs.MapText.{PartData, SectionPlace}
+use Rattle.c25_meaning_placing.specs.MapText.{PartData, SectionPlace}
 use Rattle.c25_map.specs.Reading.{onto_last}
 use Rattle.c25_map.specs.View.{part_data}
 use Rattle.c25_map.specs.declared.map.Part.{Part}

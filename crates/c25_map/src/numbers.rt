@@ -3,7 +3,7 @@
 ghost use Rattle.std.specs.Prelude.{◌≡◌};
 ghost use Rattle.std.specs.List.{list_all};
 ghost use Rattle.c25_meaning_common.specs.Bytes.{is_digit};
-ghost use Rattle.c25_meaning_linking.specs.MapText.{is_number};
+ghost use Rattle.c25_meaning_placing.specs.MapText.{is_number};
 ghost use Rattle.c25_meaning_common.specs.Results.{Meets};
 ghost use Rattle.c25_map.specs.Reading.{is_upper_digit, word_of, address_of, long_of, size_of, page_of};
 

@@ -3,7 +3,7 @@
 ghost use Rattle.std.specs.Prelude.{◌≡◌, ◌<◌, ◌≤◌, ◌++◌, OnOk, IfOk, All, map, ◌∷◌, [], string_bytes};
 ghost use Rattle.std.specs.List.{flat_map};
 ghost use Rattle.std.specs.Option.{option_map};
-ghost use Rattle.c25_meaning_linking.specs.MapText.{address_text, decimal_digit, five_digits, eight_digits, part_text, place_text, section_text, value_text, symbol_text, entry_text, entry_lines, map_text, HasDigits};
+ghost use Rattle.c25_meaning_placing.specs.MapText.{address_text, decimal_digit, five_digits, eight_digits, part_text, place_text, section_text, value_text, symbol_text, entry_text, entry_lines, map_text, HasDigits};
 ghost use Rattle.c25_meaning_common.specs.Digits.{hex_digit, two_digits, four_digits};
 ghost use Rattle.c25_map.specs.View.{part_data, section_data, symbol_data, map_data};
 
@@ -79,7 +79,7 @@ fn push_five(out: &mut String, number: u32) -> Result<(), NoMemory>
 }
 
 /// Appends eight hexadecimal digits.
-#[tactic(auto, unfolding(c25_meaning_linking::specs::MapText::eight_digits))]
+#[tactic(auto, unfolding(c25_meaning_placing::specs::MapText::eight_digits))]
 fn push_eight(out: &mut String, number: u32) -> Result<(), NoMemory>
     ensures { OnOk result (string_bytes out.new ≡ string_bytes out.old ++ eight_digits number) }
 {
@@ -88,7 +88,7 @@ fn push_eight(out: &mut String, number: u32) -> Result<(), NoMemory>
 }
 
 /// Appends the line of a part.
-#[tactic(auto, unfolding(c25_meaning_linking::specs::MapText::part_text))]
+#[tactic(auto, unfolding(c25_meaning_placing::specs::MapText::part_text))]
 fn push_part(out: &mut String, part: &Part) -> Result<(), NoMemory>
     requires { part.now.base ≤ 65536 }
     ensures { OnOk result (string_bytes out.new ≡ string_bytes out.old ++ part_text (part_data part.now)) }
@@ -103,7 +103,7 @@ fn push_part(out: &mut String, part: &Part) -> Result<(), NoMemory>
 }
 
 /// Appends the line of a section.
-#[tactic(auto, unfolding(c25_meaning_linking::specs::MapText::place_text))]
+#[tactic(auto, unfolding(c25_meaning_placing::specs::MapText::place_text))]
 fn push_place(out: &mut String, section: &OutputSection) -> Result<(), NoMemory>
     requires { section.now.base < 65536 }
     ensures { OnOk result (string_bytes out.new ≡ string_bytes out.old ++ place_text (section_data section.now).place) }
@@ -139,7 +139,7 @@ fn push_section(out: &mut String, section: &OutputSection) -> Result<(), NoMemor
 }
 
 /// Appends a value and its name.
-#[tactic(auto, unfolding(c25_meaning_linking::specs::MapText::value_text))]
+#[tactic(auto, unfolding(c25_meaning_placing::specs::MapText::value_text))]
 fn push_value(out: &mut String, symbol: &GlobalSymbol) -> Result<(), NoMemory>
     ensures { OnOk result (string_bytes out.new ≡ string_bytes out.old ++ value_text (symbol_data symbol.now)) }
 {

@@ -5,7 +5,7 @@ use Rattle.std.specs.Fmt.{decimal}
 use Rattle.std.specs.Ordering.{nat_cmp}
 use Rattle.std.specs.FinMap as map
 use Rattle.c25_meaning_processor.specs.FirstState.{memory_of_map}
-use Rattle.c25_meaning_linking.specs.MapText.{NamedValue, eight_digits, symbol_text}
+use Rattle.c25_meaning_placing.specs.MapText.{NamedValue, eight_digits, symbol_text}
 use Rattle.c25_meaning_processor.specs.RunText.{stop_name}
 use Rattle.c25_meaning_common.specs.Digits.{four_digits, two_digits}
 use Rattle.c25_meaning_instructions.specs.Show.{show}

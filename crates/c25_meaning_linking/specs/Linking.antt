@@ -10,16 +10,16 @@ use Rattle.std.specs.FinMap as finite
 use Rattle.c25_bits.specs.Cut.{cut}
 use Rattle.c25_meaning_commands.specs.Command.{CommandData}
 use Rattle.c25_meaning_common.specs.Fields.{takes}
-use Rattle.c25_meaning_linking.specs.GoodMap.{is_among, IsGoodMap, IsUnplaced, ranges_for, placings_for, requests}
-use Rattle.c25_meaning_linking.specs.MapText.{MapData, PartData, SectionPlace, NamedValue}
+use Rattle.c25_meaning_placing.specs.GoodMap.{is_among, IsGoodMap, IsUnplaced, ranges_for, placings_for, requests}
+use Rattle.c25_meaning_placing.specs.MapText.{MapData, PartData, SectionPlace, NamedValue}
 use Rattle.c25_meaning_image.specs.Marks.{fit_from}
 use Rattle.c25_meaning_objects.specs.Module.{SectionData, Contents, body_size}
-use Rattle.c25_meaning_linking.specs.Place.{Place, by_modules, is_section_named, part_base}
+use Rattle.c25_meaning_placing.specs.Place.{Place, by_modules, is_section_named, part_base}
 use Rattle.c25_meaning_common.specs.Results.{◌>>=◌}
 use Rattle.c25_meaning_linking.specs.Words.{Definition, symbol_name, section_name, definitions, definition_of, definition_value, name_value, relocated_value, HasWord, program_marks}
-use Rattle.c25_meaning_linking.specs.declared.link_fault.LinkFault.{LinkFault}
-use Rattle.c25_meaning_linking.specs.declared.link_fault.LinkFault.TheVariants.{Unresolved, DefinedTwice, RelocRange, NoEntry}
-use Rattle.c25_meaning_linking.specs.declared.link_fault.FaultyLink.{FaultyLink}
+use Rattle.c25_meaning_placing.specs.declared.link_fault.LinkFault.{LinkFault}
+use Rattle.c25_meaning_placing.specs.declared.link_fault.LinkFault.TheVariants.{Unresolved, DefinedTwice, RelocRange, NoEntry}
+use Rattle.c25_meaning_placing.specs.declared.link_fault.FaultyLink.{FaultyLink}
 use Rattle.c25_meaning_image.specs.declared.mark.Mark.{Mark}
 use Rattle.c25_meaning_objects.specs.declared.object.RelocationBase.{RelocationBase}
 use Rattle.c25_meaning_objects.specs.declared.object.RelocationBase.TheVariants as base

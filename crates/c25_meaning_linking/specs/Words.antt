@@ -6,7 +6,7 @@ use Rattle.std.specs.List.{slice_get}
 use Rattle.std.specs.Str.{bytes_eq}
 use Rattle.c25_meaning_objects.specs.Module.{SectionData, SymbolData, Contents, is_global, body_words}
 use Rattle.c25_meaning_common.specs.Fields.{filled, field_number}
-use Rattle.c25_meaning_linking.specs.Place.{Place, by_modules, part_base, page_of, IsPart}
+use Rattle.c25_meaning_placing.specs.Place.{Place, by_modules, part_base, page_of, IsPart}
 use Rattle.c25_meaning_image.specs.declared.mark.Mark.{Mark}
 use Rattle.c25_meaning_objects.specs.declared.object.ModuleMark.{ModuleMark}
 use Rattle.c25_meaning_objects.specs.declared.object.SymbolKind.{SymbolKind}

@@ -1,4 +1,2 @@
-//! Linking: where sections stand, the words and places of a program, and its map.
+//! Linking: the words and places of a program, or the first refusal.
 #![tactic(auto)]
-
-pub mod link_fault;

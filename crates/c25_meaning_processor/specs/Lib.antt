@@ -1,4 +1,3 @@
-pub mod Arithmetic
 pub mod Effect
 pub mod FirstState
 pub mod Memory

@@ -3,6 +3,7 @@
 ghost use Rattle.std.specs.Prelude.{◌≡◌, ◌<◌};
 
 use crate::lines::Lines;
+use c25_meaning_arithmetic::accumulator::{Acc, ProductShift};
 use std::marker::Model;
 
 /// The number of an auxiliary register, 0 to 7.
@@ -77,30 +78,6 @@ impl DataPage {
     {
         self.page_number
     }
-}
-
-/// The accumulator with the two flags that its arithmetic sets.
-#[derive(Clone, Copy, PartialEq, Debug)]
-pub struct Acc {
-    /// Its 32 bits.
-    pub value: u32,
-    /// OV: a result has left 32 signed bits. It stays set.
-    pub ov: bool,
-    /// C: the carry, or no borrow.
-    pub c: bool,
-}
-
-/// PM: how the product is shifted where it is used.
-#[derive(Clone, Copy)]
-pub enum ProductShift {
-    /// Not at all (0).
-    None,
-    /// Left by 1 (1).
-    Left1,
-    /// Left by 4 (2).
-    Left4,
-    /// Right by 6, with its sign (3).
-    Right6,
 }
 
 /// All that the processor itself holds (SPRU014, "Central Arithmetic Logic Unit" and

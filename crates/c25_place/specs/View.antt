@@ -6,10 +6,10 @@ use Rattle.std.specs.Str.{bytes_eq}
 use Rattle.std.specs.declared.alloc.Global.{Global}
 use Rattle.c25_meaning_commands.specs.Command.{RangeData, TargetData}
 use Rattle.c25_meaning_commands.specs.Command as command
-use Rattle.c25_meaning_linking.specs.GoodMap as good
-use Rattle.c25_meaning_linking.specs.Place as place
+use Rattle.c25_meaning_placing.specs.GoodMap as good
+use Rattle.c25_meaning_placing.specs.Place as place
 use Rattle.c25_meaning_objects.specs.Module.{SectionData}
-use Rattle.c25_meaning_linking.specs.declared.link_fault.FaultyLink.{FaultyLink}
+use Rattle.c25_meaning_placing.specs.declared.link_fault.FaultyLink.{FaultyLink}
 use Rattle.c25_obj.specs.declared.parts.Section.{Section}
 use Rattle.c25_obj.specs.View.{section_data}
 use Rattle.c25_place.specs.declared.placement.Place.{Place}

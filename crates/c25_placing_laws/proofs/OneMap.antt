@@ -4,8 +4,8 @@ use Rattle.std.proofs.lemmas.List.Elements.{All-head, All-tail}
 use Rattle.std.proofs.lemmas.Bool.{cases_lt}
 use Rattle.std.proofs.lemmas.List.{reverse-reverse}
 use Rattle.c25_meaning_commands.specs.Command.{RangeData, TargetData, Anywhere, InRange, At}
-use Rattle.c25_meaning_linking.specs.Place.{Place}
-use Rattle.c25_meaning_linking.specs.GoodMap.{Request, IsLeastFit, NoneFits, IsFirstFit, IsBase, IsBaseIn, Stands, Stand, ArePlaced, usable, page_for}
+use Rattle.c25_meaning_placing.specs.Place.{Place}
+use Rattle.c25_meaning_placing.specs.GoodMap.{Request, IsLeastFit, NoneFits, IsFirstFit, IsBase, IsBaseIn, Stands, Stand, ArePlaced, usable, page_for}
 
 least_once : (page size : ℕ) (range : RangeData) (places : List Place) (a b : ℕ) → IsLeastFit page size range places a → IsLeastFit page size range places b → a ≡ b
 least_once page size range places a b x y = omega (arith, x.least b y.fits, y.least a x.fits)

@@ -3,9 +3,9 @@
 ghost use Rattle.std.specs.Prelude.{◌≡◌, List, ℕ, Some, true};
 ghost use Rattle.std.specs.List.{slice_get};
 ghost use Rattle.c25_meaning_commands.specs.Command.{CommandData};
-ghost use Rattle.c25_meaning_linking.specs.GoodMap.{IsGoodMap};
+ghost use Rattle.c25_meaning_placing.specs.GoodMap.{IsGoodMap};
 ghost use Rattle.c25_meaning_objects.specs.Module.{SectionData, Contents, is_module};
-ghost use Rattle.c25_meaning_linking.specs.Place.{Place, IsPart, LiesIn};
+ghost use Rattle.c25_meaning_placing.specs.Place.{Place, IsPart, LiesIn};
 
 /// Modules under a command have one good map at most.
 pub fn one_good_map()

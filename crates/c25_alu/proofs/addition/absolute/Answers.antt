@@ -1,4 +1,4 @@
-use Rattle.c25_meaning_processor.specs.Arithmetic.{absolute}
+use Rattle.c25_meaning_arithmetic.specs.Arithmetic.{absolute}
 use Rattle.c25_alu.proofs.addition.absolute.Goals as goal
 
 pub returns : goal.returns

@@ -1,7 +1,7 @@
 use Rattle.std.proofs.Common.{◌++◌, codes, string_bytes}
 use Rattle.c25_meaning_common.specs.Digits.{four_digits, two_digits}
 use Rattle.c25_meaning_debugger.specs.Texts.{regs_text, spaced}
-use Rattle.c25_meaning_linking.specs.MapText.{eight_digits}
+use Rattle.c25_meaning_placing.specs.MapText.{eight_digits}
 use Rattle.c25_answers.proofs.Joined.{three_parts}
 use Rattle.c25_answers.proofs.registers.push_registers.Goals as goal
 

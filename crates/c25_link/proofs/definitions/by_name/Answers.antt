@@ -1,6 +1,6 @@
 use Rattle.std.proofs.Common.{◌≡◌, ap, sym, ◌∙◌, Err, is_some, false}
 use Rattle.c25_meaning_linking.specs.Linking.{refused_with}
-use Rattle.c25_meaning_linking.specs.declared.link_fault.LinkFault.TheVariants.{DefinedTwice}
+use Rattle.c25_meaning_placing.specs.declared.link_fault.LinkFault.TheVariants.{DefinedTwice}
 use Rattle.c25_place.specs.View.{named}
 use Rattle.c25_link.proofs.First.{copied_some}
 use Rattle.c25_link.proofs.Named.{twice, once, found_next}

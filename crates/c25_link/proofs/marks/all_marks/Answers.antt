@@ -1,6 +1,6 @@
 use Rattle.std.proofs.Common.{List, take, ap, sym, ◌∙◌, ◌++◌}
 use Rattle.c25_meaning_objects.specs.Module.{Contents}
-use Rattle.c25_meaning_linking.specs.Place.{by_modules}
+use Rattle.c25_meaning_placing.specs.Place.{by_modules}
 use Rattle.c25_meaning_linking.specs.Words.{module_marks}
 use Rattle.c25_meaning_image.specs.declared.mark.Mark.{Mark}
 use Rattle.c25_obj.specs.View.{contents}

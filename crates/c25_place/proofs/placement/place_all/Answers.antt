@@ -1,5 +1,5 @@
 use Rattle.std.proofs.Common.{List, Err, take, drop, suc, sym, subst}
-use Rattle.c25_meaning_linking.specs.GoodMap.{Request}
+use Rattle.c25_meaning_placing.specs.GoodMap.{Request}
 use Rattle.c25_place.specs.Placement.{ArePlacedOrRefused}
 use Rattle.c25_place.specs.View.{request_view, requests_view, places_view}
 use Rattle.c25_place.proofs.Listed.{split_at}

@@ -1,7 +1,7 @@
 -- the sections so far are placed
 use Rattle.std.proofs.Common.{List, All, take}
 use Rattle.c25_meaning_commands.specs.Command.{RangeData}
-use Rattle.c25_meaning_linking.specs.GoodMap.{ArePlaced}
+use Rattle.c25_meaning_placing.specs.GoodMap.{ArePlaced}
 use Rattle.c25_place.specs.Placement.{IsWithin}
 use Rattle.c25_place.specs.Ranges.{KnowsRanges}
 use Rattle.c25_place.specs.Room.{KnowsRoom}

@@ -1,7 +1,7 @@
 use Rattle.std.proofs.Common.{List, ℕ, map, take, ap, ◌∙◌}
 use Rattle.c25_cmd.specs.View.{placings_of}
 use Rattle.c25_meaning_commands.specs.Command.{PlacingData}
-use Rattle.c25_meaning_linking.specs.GoodMap.{is_among}
+use Rattle.c25_meaning_placing.specs.GoodMap.{is_among}
 use Rattle.c25_place.proofs.Asked.{names_more}
 use Rattle.c25_place.proofs.Listed.{names_next}
 use Rattle.c25_place.proofs.requests.listed_names.Goals as goal

@@ -1,4 +1,4 @@
-use Rattle.c25_meaning_linking.specs.GoodMap.{ranges_for, placings_for, requests}
+use Rattle.c25_meaning_placing.specs.GoodMap.{ranges_for, placings_for, requests}
 use Rattle.c25_placing_laws.proofs.OneMap.{placed_once}
 use Rattle.c25_placing_laws.proofs.laws.one_good_map.Goals as goal
 

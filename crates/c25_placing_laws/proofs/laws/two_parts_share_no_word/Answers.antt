@@ -1,5 +1,5 @@
-use Rattle.c25_meaning_linking.specs.GoodMap.{ranges_for, placings_for}
-use Rattle.c25_meaning_linking.proofs.Parts.{one_part}
+use Rattle.c25_meaning_placing.specs.GoodMap.{ranges_for, placings_for}
+use Rattle.c25_meaning_placing.proofs.Parts.{one_part}
 use Rattle.c25_placing_laws.proofs.laws.two_parts_share_no_word.Goals as goal
 
 pub returns : goal.returns

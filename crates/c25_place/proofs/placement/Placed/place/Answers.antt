@@ -2,8 +2,8 @@ use Rattle.std.proofs.Common.{List, All, Ok, Err, [], ◌∷◌, ap, sym, subst,
 use Rattle.std.proofs.lemmas.List.{map-append}
 use Rattle.std.proofs.lemmas.List.Elements.{All-filter}
 use Rattle.c25_meaning_commands.specs.Command.{RangeData, IsRange}
-use Rattle.c25_meaning_linking.specs.GoodMap.{is_usable}
-use Rattle.c25_meaning_linking.specs.Place as place
+use Rattle.c25_meaning_placing.specs.GoodMap.{is_usable}
+use Rattle.c25_meaning_placing.specs.Place as place
 use Rattle.c25_place.specs.Room.{KnowsRoom}
 use Rattle.c25_place.specs.View.{wanted_view, ranges_view, request_view, place_view, places_view, refusal_of}
 use Rattle.c25_place.specs.declared.placement.Place.{Place}

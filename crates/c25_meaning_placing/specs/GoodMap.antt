@@ -5,10 +5,10 @@ use Rattle.std.specs.List.{list_any}
 use Rattle.std.specs.Str.{bytes_eq}
 use Rattle.c25_meaning_objects.specs.Module.{Contents}
 use Rattle.c25_meaning_commands.specs.Command.{RangeData, TargetData, Anywhere, InRange, At, PlacingData, CommandData}
-use Rattle.c25_meaning_linking.specs.Place.{Place, Covers, all_sections, size_of_parts, is_there, is_initialised}
-use Rattle.c25_meaning_linking.specs.declared.link_fault.LinkFault.{LinkFault}
-use Rattle.c25_meaning_linking.specs.declared.link_fault.LinkFault.TheVariants.{NoRange, DoesNotFit, Overlap}
-use Rattle.c25_meaning_linking.specs.declared.link_fault.FaultyLink.{FaultyLink}
+use Rattle.c25_meaning_placing.specs.Place.{Place, Covers, all_sections, size_of_parts, is_there, is_initialised}
+use Rattle.c25_meaning_placing.specs.declared.link_fault.LinkFault.{LinkFault}
+use Rattle.c25_meaning_placing.specs.declared.link_fault.LinkFault.TheVariants.{NoRange, DoesNotFit, Overlap}
+use Rattle.c25_meaning_placing.specs.declared.link_fault.FaultyLink.{FaultyLink}
 
 -- ---- the sections to be placed, in the order of placement
 

@@ -11,10 +11,10 @@ use Rattle.std.proofs.lemmas.List.Sums.{sum_by-append, sum_by-cons, sum_by_more,
 use Rattle.std.proofs.lemmas.Option.{slice_get_within, get_or_from_slice_get}
 use Rattle.c25_meaning_commands.specs.Command.{RangeData, PlacingData}
 use Rattle.c25_meaning_objects.specs.Module.{SectionData, Contents, body_size, each_fits, section_fits, has_section, is_module, lists_fit, has_sections}
-use Rattle.c25_meaning_linking.specs.Place.{Place, place_named, base_of, page_of, size_for, size_of_parts, is_section_named, all_sections, part_base, IsPart, LiesIn}
-use Rattle.c25_meaning_linking.specs.GoodMap.{requests, ArePlaced, has_word}
-use Rattle.c25_meaning_linking.proofs.Apart.{placed_apart, named_apart, is_word}
-use Rattle.c25_meaning_linking.proofs.PlaceNames.{place_of, any_section, is_same, same_name}
+use Rattle.c25_meaning_placing.specs.Place.{Place, place_named, base_of, page_of, size_for, size_of_parts, is_section_named, all_sections, part_base, IsPart, LiesIn}
+use Rattle.c25_meaning_placing.specs.GoodMap.{requests, ArePlaced, has_word}
+use Rattle.c25_meaning_placing.proofs.Apart.{placed_apart, named_apart, is_word}
+use Rattle.c25_meaning_placing.proofs.PlaceNames.{place_of, any_section, is_same, same_name}
 
 -- ---- sizes of parts
 

@@ -24,7 +24,7 @@ pub enum LinkFault {
 
 impl fmt::Display for LinkFault {
     ghost use Rattle.std.specs.Prelude.{Some};
-    ghost use Rattle.c25_meaning_linking.specs.Faults.{link_name};
+    ghost use Rattle.c25_meaning_placing.specs.Faults.{link_name};
 
     ghost output = { λ fault. Some (link_name fault) };
 
@@ -52,7 +52,7 @@ pub struct FaultyLink<Name> {
 }
 
 impl<Name: fmt::Display> fmt::Display for FaultyLink<Name> {
-    ghost use Rattle.c25_meaning_linking.specs.Faults.{link_text};
+    ghost use Rattle.c25_meaning_placing.specs.Faults.{link_text};
 
     ghost output = { λ faulty. link_text Name.output faulty };
 

@@ -4,7 +4,7 @@ use Rattle.std.specs.List.{flat_map, list_all}
 use Rattle.std.specs.Fmt.{decimal}
 use Rattle.c25_meaning_common.specs.Bytes.{is_digit}
 use Rattle.c25_meaning_objects.specs.Module.{is_section_name, is_symbol_name}
-use Rattle.c25_meaning_linking.specs.Place.{Place}
+use Rattle.c25_meaning_placing.specs.Place.{Place}
 use Rattle.c25_meaning_common.specs.Digits.{four_digits}
 
 -- ---- maps

@@ -1,8 +1,8 @@
 -- The names of a linker's faults, and what they say.
 use Rattle.std.specs.Prelude.{ℕ, List, ◌++◌, codes, Option, option_map}
-use Rattle.c25_meaning_linking.specs.declared.link_fault.FaultyLink.{FaultyLink}
-use Rattle.c25_meaning_linking.specs.declared.link_fault.LinkFault.{LinkFault}
-use Rattle.c25_meaning_linking.specs.declared.link_fault.LinkFault.TheVariants as link
+use Rattle.c25_meaning_placing.specs.declared.link_fault.FaultyLink.{FaultyLink}
+use Rattle.c25_meaning_placing.specs.declared.link_fault.LinkFault.{LinkFault}
+use Rattle.c25_meaning_placing.specs.declared.link_fault.LinkFault.TheVariants as link
 
 -- the name of a linker's fault
 abbrev pub link_name : LinkFault → List ℕ

@@ -9,8 +9,8 @@ use Rattle.std.proofs.lemmas.Map.Keys.{any_passes_from_place}
 use Rattle.std.proofs.lemmas.Slice.Eq.{bytes_eq-Decides}
 use Rattle.c25_meaning_commands.specs.Command.{RangeData, PlacingData}
 use Rattle.c25_meaning_objects.specs.Module.{SectionData, Contents}
-use Rattle.c25_meaning_linking.specs.Place.{Place, place_named, size_of_parts, is_there, is_section_named, all_sections}
-use Rattle.c25_meaning_linking.specs.GoodMap.{Request, listed_request, unlisted_request, has_address, comes_first, comes_later, is_among, new_names, unlisted_names, requests, Stand, ArePlaced}
+use Rattle.c25_meaning_placing.specs.Place.{Place, place_named, size_of_parts, is_there, is_section_named, all_sections}
+use Rattle.c25_meaning_placing.specs.GoodMap.{Request, listed_request, unlisted_request, has_address, comes_first, comes_later, is_among, new_names, unlisted_names, requests, Stand, ArePlaced}
 
 pub same_name : (a b : List ℕ) → bytes_eq a b ≡ true → a ≡ b
 same_name a b = (bytes_eq-Decides a b).0

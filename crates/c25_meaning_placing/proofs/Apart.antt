@@ -7,8 +7,8 @@ use Rattle.std.proofs.lemmas.List.Elements.{All-nil, All-head, All-tail, All-pus
 use Rattle.std.proofs.lemmas.List.Folds.{list_any_at}
 use Rattle.std.proofs.lemmas.Slice.Eq.{bytes_eq-Decides}
 use Rattle.c25_meaning_commands.specs.Command.{RangeData, TargetData, Anywhere, InRange, At, Pairwise}
-use Rattle.c25_meaning_linking.specs.Place.{Place, Covers, place_named}
-use Rattle.c25_meaning_linking.specs.GoodMap.{Request, has_word, is_taken, IsFree, IsBase, IsBaseIn, Stands, Stand, ArePlaced, usable, page_for}
+use Rattle.c25_meaning_placing.specs.Place.{Place, Covers, place_named}
+use Rattle.c25_meaning_placing.specs.GoodMap.{Request, has_word, is_taken, IsFree, IsBase, IsBaseIn, Stands, Stand, ArePlaced, usable, page_for}
 
 -- ---- a word of a place
 

@@ -1,0 +1,4 @@
+//! The data path in whole numbers: sums, differences, products and shifts of the accumulator.
+#![tactic(auto)]
+
+pub mod accumulator;

@@ -1,0 +1,4 @@
+pub mod Faults
+pub mod GoodMap
+pub mod MapText
+pub mod Place
