@@ -9,6 +9,8 @@ use c25_meaning_common::relocation::RelocationKind;
 use c25_meaning_instructions::mnemonic::{LongName, PlainName, ShiftedName, ShortName};
 use c25_meaning_language::statement::{AddrForm, FaultKind, Field, Form};
 
+/// The field of an operand that says where the memory word is: seven bits of a direct address, or the number of the
+/// next auxiliary register.
 fn addr_field(addr: AddrForm) -> Field
     ensures { result ≡ addr_field addr }
 {
@@ -18,6 +20,8 @@ fn addr_field(addr: AddrForm) -> Field
     }
 }
 
+/// The field at an index where a number below a limit stands beside the memory word: behind a direct address, before
+/// a next auxiliary register.
 fn with_number(addr: AddrForm, limit: u16, index: usize) -> Field
     ensures { result ≡ with_number addr limit index }
 {
@@ -29,6 +33,7 @@ fn with_number(addr: AddrForm, limit: u16, index: usize) -> Field
     }
 }
 
+/// Below which a shift of an instruction lies.
 fn shift_limit(name: ShiftedName) -> u16
     ensures { result ≡ shift_limit name }
 {
@@ -38,6 +43,7 @@ fn shift_limit(name: ShiftedName) -> u16
     }
 }
 
+/// The field of a short constant.
 fn short_field(name: ShortName) -> Field
     ensures { result ≡ short_field name }
 {
@@ -48,6 +54,7 @@ fn short_field(name: ShortName) -> Field
     }
 }
 
+/// The field at an index of an instruction with a short constant: `LARK` has a register first.
 fn field_of_short(name: ShortName, index: usize) -> Field
     ensures { result ≡ field_of_short name index }
 {
@@ -57,6 +64,8 @@ fn field_of_short(name: ShortName, index: usize) -> Field
     }
 }
 
+/// The field at an index of an instruction with a constant of 16 bits: `LRLK` has a register before it, the others a
+/// shift behind it.
 fn field_of_long(name: LongName, index: usize) -> Field
     ensures { result ≡ field_of_long name index }
 {
@@ -68,6 +77,7 @@ fn field_of_long(name: LongName, index: usize) -> Field
     }
 }
 
+/// The field of the constant of an instruction without a memory word.
 fn plain_field(name: PlainName) -> Field
     ensures { result ≡ plain_field name }
 {
@@ -98,24 +108,28 @@ pub fn form_field(form: Form, index: usize) -> Field
     }
 }
 
+/// The low 16 bits.
 fn low16(value: i32) -> u16
     ensures { result ≡ cut value 16 }
 {
     value.rem_euclid(65536) as u16
 }
 
+/// The low eight bits.
 fn low8(value: i32) -> u16
     ensures { result ≡ cut value 8 }
 {
     value.rem_euclid(256) as u16
 }
 
+/// The low seven bits: a value modulo 128.
 fn low7(value: i32) -> u16
     ensures { result ≡ cut value 7 }
 {
     value.rem_euclid(128) as u16
 }
 
+/// This number, where the value lies between these, both included; else FieldRange (53).
 fn within(low: i32, high: i32, value: i32, number: u16) -> Result<u16, FaultKind>
     ensures { result ≡ within low high value number }
 {
@@ -126,6 +140,7 @@ fn within(low: i32, high: i32, value: i32, number: u16) -> Result<u16, FaultKind
     }
 }
 
+/// This number, where the value is at least 0 and below the limit; else FieldRange (53).
 fn below(limit: u16, value: i32, number: u16) -> Result<u16, FaultKind>
     ensures { result ≡ below limit value number }
 {

@@ -7,18 +7,22 @@ use c25_meaning_instructions::insn::{Addr, Change, Insn, PlainOperand};
 use c25_meaning_instructions::mnemonic::{LongName, Mnemonic, PlainName, ShortName};
 use c25_meaning_language::statement::{AddrForm, Form};
 
+/// The number at an index; 0 where there is none.
 fn number_at(numbers: &[u16], index: usize) -> u16
     ensures { result ≡ slice_index numbers.now index }
 {
     numbers.get(index).copied().unwrap_or(0)
 }
 
+/// The number at an index, where one is given.
 fn given_at(numbers: &[u16], index: usize) -> Option<u16>
     ensures { result ≡ slice_get numbers.now index }
 {
     numbers.get(index).copied()
 }
 
+/// Where the memory word is, by the one number of its operand: a direct address, or the next auxiliary register where
+/// one is given.
 fn addr_of(addr: AddrForm, number: Option<u16>) -> Addr
     ensures { result ≡ addr_of addr number }
 {
@@ -28,6 +32,7 @@ fn addr_of(addr: AddrForm, number: Option<u16>) -> Addr
     }
 }
 
+/// Where the memory word is, among the numbers of operands that have one more beside it.
 fn addr_beside(addr: AddrForm, numbers: &[u16]) -> Addr
     ensures { result ≡ addr_beside addr numbers.now }
 {
@@ -37,6 +42,7 @@ fn addr_beside(addr: AddrForm, numbers: &[u16]) -> Addr
     }
 }
 
+/// The number beside the memory word: behind a direct address, before a next auxiliary register.
 fn number_beside(addr: AddrForm, numbers: &[u16]) -> u16
     ensures { result ≡ number_beside addr numbers.now }
 {
@@ -53,6 +59,7 @@ fn beside(addr: AddrForm, numbers: &[u16]) -> (Addr, u16)
     (addr_beside(addr, numbers), number_beside(addr, numbers))
 }
 
+/// An instruction with a short constant, of its numbers.
 fn short_of(name: ShortName, numbers: &[u16]) -> Insn
     ensures { result ≡ short_of name numbers.now }
 {
@@ -68,6 +75,7 @@ fn short_of(name: ShortName, numbers: &[u16]) -> Insn
     }
 }
 
+/// An instruction with a constant of 16 bits, of its numbers.
 fn long_of(name: LongName, numbers: &[u16]) -> Insn
     ensures { result ≡ long_of name numbers.now }
 {
@@ -77,6 +85,7 @@ fn long_of(name: LongName, numbers: &[u16]) -> Insn
     }
 }
 
+/// The operand of an instruction without a memory word.
 fn plain_of(name: PlainName, change: Change, numbers: &[u16]) -> PlainOperand
     ensures { result ≡ plain_of name change numbers.now }
 {

@@ -8,6 +8,7 @@ use c25_bytes::byte_at;
 use c25_meaning_assembly::assembly::Directive;
 use c25_text::line::first_word;
 
+/// Whether the word begins with a point, as each directive's name does.
 fn is_dotted(word: &str) -> bool
     ensures { result ≡ (slice_index word.now 0 == 46) }
 {

@@ -44,6 +44,7 @@ pub(crate) fn some(operands: &[&[Token<'_>]]) -> Result<(), FaultKind>
     }
 }
 
+/// Each operand is an expression, and no string and no indirect form; else OperandForm (52).
 fn all_expressions(operands: &[&[Token<'_>]]) -> Result<(), FaultKind>
     ensures { result ≡ says.all_expressions (operands_view operands.now) }
 {

@@ -27,6 +27,7 @@ pub fn spelled(word: &str) -> Result<Spelling, FaultKind>
     mnemonic(word).ok_or(FaultKind::UnknownMnemonic)
 }
 
+/// What each operand is by its tokens.
 fn kinds_of(alloc: Global, operands: &[&[Token<'_>]]) -> Result<Vec<Written>, NoMemory>
     ensures { IfOk result (λ v. v.items ≡ map written_of (operands_view operands.now)) }
 {

@@ -10,6 +10,7 @@ use c25_meaning_instructions::mnemonic::{
 };
 use c25_meaning_language::statement::{AddrForm, FaultKind, Form, Written};
 
+/// Whether the operand is an expression.
 fn is_expression(operand: Written) -> bool
     ensures { result ≡ forms.is_expression operand }
 {
@@ -19,12 +20,14 @@ fn is_expression(operand: Written) -> bool
     }
 }
 
+/// Whether each operand is an expression.
 fn all_expressions(operands: &[Written]) -> bool
     ensures { result ≡ list_all forms.is_expression operands.now }
 {
     operands.iter().all(|operand| is_expression(*operand))
 }
 
+/// Whether each operand but the one of that index, counted from 0, is an expression.
 fn others(index: usize, operands: &[Written]) -> bool
     ensures { result ≡ forms.others index operands.now }
 {
@@ -40,6 +43,7 @@ fn others(index: usize, operands: &[Written]) -> bool
     }
 }
 
+/// The number of operands lies between these, both included; else OperandCount (51).
 fn counted(low: usize, high: usize, operands: &[Written]) -> Result<(), FaultKind>
     ensures { result ≡ forms.counted low high operands.now }
 {
@@ -50,6 +54,8 @@ fn counted(low: usize, high: usize, operands: &[Written]) -> Result<(), FaultKin
     }
 }
 
+/// How many operands may follow one that says where the memory word is: behind an indirect form the next auxiliary
+/// register.
 fn more_behind(operand: Option<Written>) -> usize
     ensures value { result ≡ forms.more_behind operand }
     ensures bound { result ≤ 1 }
@@ -60,6 +66,7 @@ fn more_behind(operand: Option<Written>) -> usize
     }
 }
 
+/// How the memory word is addressed; OperandForm (52) where the operand is a string or is missing.
 fn addr_written(operand: Option<Written>) -> Result<AddrForm, FaultKind>
     ensures { result ≡ forms.addr_written operand }
 {
@@ -70,6 +77,8 @@ fn addr_written(operand: Option<Written>) -> Result<AddrForm, FaultKind>
     }
 }
 
+/// How the memory word is addressed that the operand of that index names, among so many operands, of which the others
+/// are expressions; else 51, then 52.
 #[tactic(auto, unfolding(c25_meaning_language::specs::Forms::memory))]
 fn memory(
     index: usize,
@@ -90,6 +99,7 @@ fn memory(
     }
 }
 
+/// So many operands, each an expression; else 51, then 52.
 #[tactic(auto, unfolding(c25_meaning_language::specs::Forms::expressions))]
 fn expressions(low: usize, high: usize, operands: &[Written]) -> Result<(), FaultKind>
     ensures { result ≡ forms.expressions low high operands.now }
@@ -102,6 +112,7 @@ fn expressions(low: usize, high: usize, operands: &[Written]) -> Result<(), Faul
     }
 }
 
+/// How an indirect operand changes the auxiliary register; where there is none, as the instruction does without it.
 fn change_written(default: Change, operand: Option<Written>) -> Result<Change, FaultKind>
     ensures { result ≡ forms.change_written default operand }
 {
@@ -112,6 +123,7 @@ fn change_written(default: Change, operand: Option<Written>) -> Result<Change, F
     }
 }
 
+/// How a jump without an indirect operand changes the auxiliary register: `BANZ` counts it down, the others keep it.
 fn jump_change(name: JumpName) -> Change
     ensures { result ≡ forms.jump_change name }
 {
@@ -121,6 +133,7 @@ fn jump_change(name: JumpName) -> Change
     }
 }
 
+/// The operands of a jump: where to, and perhaps an indirect form with the next auxiliary register; else 51, then 52.
 #[tactic(auto, unfolding(c25_meaning_language::specs::Forms::jumping))]
 fn jumping(name: JumpName, operands: &[Written]) -> Result<Change, FaultKind>
     ensures { result ≡ forms.jumping name operands.now }
@@ -135,6 +148,7 @@ fn jumping(name: JumpName, operands: &[Written]) -> Result<Change, FaultKind>
     }
 }
 
+/// The operand of `NORM`: an indirect form, without one `*+`; else 51, then 52.
 #[tactic(auto, unfolding(c25_meaning_language::specs::Forms::norm))]
 fn norm(operands: &[Written]) -> Result<Change, FaultKind>
     ensures { result ≡ forms.norm operands.now }
@@ -143,6 +157,8 @@ fn norm(operands: &[Written]) -> Result<Change, FaultKind>
     change_written(Change::Increment, operands.first().copied())
 }
 
+/// The operands of an instruction without a memory word: one expression for `SPM`, `FORT` and `CMPR`, none for the
+/// others, but for `NORM`.
 fn plain_change(name: PlainName, operands: &[Written]) -> Result<Change, FaultKind>
     ensures { result ≡ forms.plain_change name operands.now }
 {
@@ -159,6 +175,7 @@ fn plain_change(name: PlainName, operands: &[Written]) -> Result<Change, FaultKi
     }
 }
 
+/// The form of an instruction with a short constant: `LARK` has a register before it.
 fn short_form(name: ShortName, operands: &[Written]) -> Result<Form, FaultKind>
     ensures { result ≡ forms.row_form (Mnemonic.Short name) operands.now }
 {
@@ -170,6 +187,8 @@ fn short_form(name: ShortName, operands: &[Written]) -> Result<Form, FaultKind>
     Ok(Form::Short(name))
 }
 
+/// The form of an instruction with a constant of 16 bits: `LRLK` has a register before it, the others perhaps a shift
+/// behind it.
 fn long_form(name: LongName, operands: &[Written]) -> Result<Form, FaultKind>
     ensures { result ≡ forms.row_form (Mnemonic.Long name) operands.now }
 {
@@ -181,6 +200,7 @@ fn long_form(name: LongName, operands: &[Written]) -> Result<Form, FaultKind>
     Ok(Form::Long(name))
 }
 
+/// The form of an instruction by its row of the table of instructions.
 fn row_form(mnemonic: Mnemonic, operands: &[Written]) -> Result<Form, FaultKind>
     ensures { result ≡ forms.row_form mnemonic operands.now }
 {

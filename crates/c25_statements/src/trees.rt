@@ -23,6 +23,7 @@ struct Trees {
 }
 
 impl Trees {
+    /// No expressions.
     fn new(alloc: Global) -> Trees
         ensures { so_far result ≡ no_trees }
     {
@@ -51,6 +52,7 @@ impl Trees {
         Ok(())
     }
 
+    /// All of them, or TooDeep (21) where one was told: a token list that is no expression comes before it.
     fn finish(self) -> Result<Vec<Expr>, Failure<FaultKind>>
         ensures { Meets (λ v. trees_of v.items) (all_trees (so_far self)) result }
     {
