@@ -1,3 +1,4 @@
+pub mod Asides
 pub mod Binding
 pub mod Cuts
 pub mod Folding

@@ -1,6 +1,5 @@
 -- What the types of substitution stand for.
-use Rattle.std.specs.Prelude.{◌≡◌, ◌<◌, ◌≤◌, ℕ, max, List, [], length, map, Some, None, Result, Ok, Err}
-use Rattle.std.specs.Borrow.{Bor}
+use Rattle.std.specs.Prelude.{◌≡◌, ◌<◌, ◌≤◌, max, [], length, Some, None, Result, Ok, Err}
 use Rattle.std.specs.String.{string_bytes}
 use Rattle.c25_meaning_language.specs.Fragments.{Names, visible, without}
 use Rattle.c25_meaning_language.specs.Substitution.{Draft, joined}
@@ -16,10 +15,6 @@ use Rattle.c25_substitution.specs.declared.output.Output.{Output}
 -- what names stand for
 abbrev pub names_of : Visible → Names
 names_of v = visible (elim v.arguments [ None ↦ [] | Some arguments ↦ arguments.now ]) v.texts.now
-
--- what names stand for that are not set aside
-abbrev pub names_in : Visible → List (Bor (List ℕ)) → Names
-names_in v aside = without (map (λ s. s.now) aside) (names_of v)
 
 -- a fragment of a text
 abbrev pub fragment_of : Fragment → meaning.Fragment

@@ -6,8 +6,11 @@ ghost use Rattle.std.specs.Option.{option_map};
 ghost use Rattle.std.specs.Str.{bytes_eq, IsCharBoundary};
 ghost use Rattle.c25_meaning_common.specs.Bytes.{goes_on_name};
 ghost use Rattle.c25_meaning_language.specs.Fragments.{is_beyond_ascii, between_colons, character, forced, front, kept, unforced, unit, whole_name};
-ghost use Rattle.c25_substitution.specs.View.{names_in, fragment_of};
+ghost use Rattle.c25_meaning_language.specs.Fragments.{without};
+ghost use Rattle.c25_substitution.specs.Fresh.{IsFresh};
+ghost use Rattle.c25_substitution.specs.View.{names_of, fragment_of};
 
+use crate::aside::Aside;
 use crate::quoting::inside;
 use crate::visible::Visible;
 use c25_bytes::{begins_name, byte_at, constant_run, is_digit, name_run};
@@ -23,22 +26,11 @@ pub(crate) enum Fragment<'a> {
     Replaced(&'a str, &'a str, Quoting),
 }
 
-fn is_aside(aside: &[&str], name: &str) -> bool
-    ensures { result ≡ list_any (bytes_eq name.now) (map (λ s. s.now) aside.now) }
-{
-    for other in aside {
-        if name == *other {
-            return true;
-        }
-    }
-    false
-}
-
 /// What a name stands for that is not set aside.
-fn text_of<'a>(names: &Visible<'a>, aside: &[&str], name: &str) -> Option<&'a str>
-    ensures { option_map (λ s. s.now) result ≡ names_in names.now aside.now name.now }
+fn text_of<'a>(names: &Visible<'a>, aside: &Aside<'_>, name: &str) -> Option<&'a str>
+    ensures { option_map (λ s. s.now) result ≡ without aside.now (names_of names.now) name.now }
 {
-    if is_aside(aside, name) {
+    if aside.has(name) {
         None
     } else {
         names.get(name)
@@ -101,14 +93,14 @@ fn between_colons(text: &str) -> Option<&str>
 /// A whole name of this length, and the rest.
 fn whole_name<'a>(
     names: &Visible<'a>,
-    aside: &[&str],
+    aside: &Aside<'_>,
     text: &'a str,
     size: usize,
 ) -> (Fragment<'a>, &'a str)
     requires some { 0 < size }
     requires name { size ≡ prefix_len goes_on_name text.now }
-    ensures fragment { fragment_of result.0 ≡ (whole_name (names_in names.now aside.now) (take_while goes_on_name text.now) (slice_index text.now size == 63)).fragment }
-    ensures rest { result.1.now ≡ drop (whole_name (names_in names.now aside.now) (take_while goes_on_name text.now) (slice_index text.now size == 63)).size text.now }
+    ensures fragment { fragment_of result.0 ≡ (whole_name (without aside.now (names_of names.now)) (take_while goes_on_name text.now) (slice_index text.now size == 63)).fragment }
+    ensures rest { result.1.now ≡ drop (whole_name (without aside.now (names_of names.now)) (take_while goes_on_name text.now) (slice_index text.now size == 63)).size text.now }
     ensures shorter { length result.1.now < length text.now }
 {
     let (name, rest) = text.split_at(size);
@@ -133,10 +125,10 @@ fn dotted_name(text: &str) -> (Fragment<'_>, &str)
 }
 
 /// The unit at the front of a text outside quotes, and the rest.
-fn unit<'a>(names: &Visible<'a>, aside: &[&str], text: &'a str) -> (Fragment<'a>, &'a str)
+fn unit<'a>(names: &Visible<'a>, aside: &Aside<'_>, text: &'a str) -> (Fragment<'a>, &'a str)
     requires { 0 < length text.now }
-    ensures fragment { fragment_of result.0 ≡ (unit (names_in names.now aside.now) text.now).fragment }
-    ensures rest { result.1.now ≡ drop (unit (names_in names.now aside.now) text.now).size text.now }
+    ensures fragment { fragment_of result.0 ≡ (unit (without aside.now (names_of names.now)) text.now).fragment }
+    ensures rest { result.1.now ≡ drop (unit (without aside.now (names_of names.now)) text.now).size text.now }
     ensures shorter { length result.1.now < length text.now }
 {
     let bytes = text.as_bytes();
@@ -155,13 +147,13 @@ fn unit<'a>(names: &Visible<'a>, aside: &[&str], text: &'a str) -> (Fragment<'a>
 /// The fragment at the front of a text that no forced substitution begins, and the rest.
 fn unforced<'a>(
     names: &Visible<'a>,
-    aside: &[&str],
+    aside: &Aside<'_>,
     quoting: Quoting,
     text: &'a str,
 ) -> (Fragment<'a>, &'a str)
     requires { 0 < length text.now }
-    ensures fragment { fragment_of result.0 ≡ (unforced (names_in names.now aside.now) quoting text.now).fragment }
-    ensures rest { result.1.now ≡ drop (unforced (names_in names.now aside.now) quoting text.now).size text.now }
+    ensures fragment { fragment_of result.0 ≡ (unforced (without aside.now (names_of names.now)) quoting text.now).fragment }
+    ensures rest { result.1.now ≡ drop (unforced (without aside.now (names_of names.now)) quoting text.now).size text.now }
     ensures shorter { length result.1.now < length text.now }
 {
     match quoting {
@@ -173,11 +165,11 @@ fn unforced<'a>(
 /// The name between two colons at the front of a text, and the text that it stands for.
 fn forced<'a>(
     names: &Visible<'a>,
-    aside: &[&str],
+    aside: &Aside<'_>,
     quoting: Quoting,
     text: &'a str,
 ) -> Option<(&'a str, &'a str)>
-    ensures value { option_map (λ p. (p.0.now, p.1.now)) result ≡ forced (names_in names.now aside.now) quoting text.now }
+    ensures value { option_map (λ p. (p.0.now, p.1.now)) result ≡ forced (without aside.now (names_of names.now)) quoting text.now }
     ensures within { IfSome result (λ p. length p.0.now + 2 ≤ length text.now) }
     ensures closed { IfSome result (λ p. slice_index text.now (length p.0.now + 1) ≡ 58) }
 {
@@ -193,14 +185,15 @@ fn forced<'a>(
 #[tactic(auto, unfolding(c25_meaning_language::specs::Fragments::front))]
 pub(crate) fn first_fragment<'a>(
     names: &Visible<'a>,
-    aside: &[&str],
+    aside: &Aside<'_>,
     quoting: Quoting,
     text: &'a str,
 ) -> (Fragment<'a>, &'a str)
     requires { 0 < length text.now }
-    ensures fragment { fragment_of result.0 ≡ (front (names_in names.now aside.now) quoting text.now).fragment }
-    ensures rest { result.1.now ≡ drop (front (names_in names.now aside.now) quoting text.now).size text.now }
+    ensures fragment { fragment_of result.0 ≡ (front (without aside.now (names_of names.now)) quoting text.now).fragment }
+    ensures rest { result.1.now ≡ drop (front (without aside.now (names_of names.now)) quoting text.now).size text.now }
     ensures shorter { length result.1.now < length text.now }
+    ensures fresh { IsFresh aside.now (fragment_of result.0) }
 {
     match forced(names, aside, quoting, text) {
         Some((name, inner)) => (

@@ -3,6 +3,7 @@
 #![tactic(auto)]
 
 pub mod arguments;
+mod aside;
 mod fragments;
 mod output;
 pub mod parameters;

@@ -1,11 +1,13 @@
 //! Names replaced by their texts in a line.
 
-ghost use Rattle.std.specs.Prelude.{◌≡◌, ◌-◌, ◌≤◌, ◌++◌, ◌∷◌, [], OnOk, length, map};
+ghost use Rattle.std.specs.Prelude.{◌≡◌, ◌-◌, ◌≤◌, ◌++◌, ◌∷◌, [], OnOk, length};
 ghost use Rattle.std.specs.String.{string_bytes};
 ghost use Rattle.c25_meaning_common.specs.Results.{Meets};
 ghost use Rattle.c25_meaning_language.specs.Substitution.{line_quoting, rewritten, substituted, substituted_before_comma, unsubstituted, drafted, drafted_by};
+ghost use Rattle.c25_substitution.specs.Fresh.{IsFresh};
 ghost use Rattle.c25_substitution.specs.View.{names_of, fragment_of, written_so_far, IsAll, IsWithin, Writes};
 
+use crate::aside::Aside;
 use crate::fragments::{Fragment, first_fragment};
 use crate::output::Output;
 use crate::quoting::{behind, last_comma_len};
@@ -22,22 +24,22 @@ use std::alloc::Global;
 fn write<'a>(
     names: &Visible<'a>,
     number: u32,
-    aside: &mut Vec<&'a str>,
+    aside: &mut Aside<'a>,
     mut quoting: Quoting,
     text: &'a str,
     out: &mut Output,
 ) -> Result<(), Failure<LongLine>>
     requires within { IsWithin (written_so_far out.old) }
-    requires deep { length aside.old.items ≤ out.old.replacements }
-    ensures aside { OnOk result (aside.new.items ≡ aside.old.items) }
+    requires deep { length aside.old ≤ out.old.replacements }
+    ensures aside { OnOk result (aside.new ≡ aside.old) }
     ensures out { Writes (written_so_far out.old)
-        (drafted (1025 - length aside.old.items) (names_of names.now) number (map (λ s. s.now) aside.old.items) quoting text.now)
+        (drafted (1025 - length aside.old) (names_of names.now) number aside.old quoting text.now)
         result (written_so_far out.new) }
 {
     let mut rest = text;
     while !rest.is_empty() {
         let first = rest.as_bytes()[0];
-        let (fragment, after) = first_fragment(names, aside.as_slice(), quoting, rest);
+        let (fragment, after) = first_fragment(names, aside, quoting, rest);
         write_fragment(names, number, aside, fragment, out)?;
         quoting = behind(first, quoting);
         rest = after;
@@ -50,15 +52,16 @@ fn write<'a>(
 fn write_fragment<'a>(
     names: &Visible<'a>,
     number: u32,
-    aside: &mut Vec<&'a str>,
+    aside: &mut Aside<'a>,
     fragment: Fragment<'a>,
     out: &mut Output,
 ) -> Result<(), Failure<LongLine>>
     requires within { IsWithin (written_so_far out.old) }
-    requires deep { length aside.old.items ≤ out.old.replacements }
-    ensures aside { OnOk result (aside.new.items ≡ aside.old.items) }
+    requires deep { length aside.old ≤ out.old.replacements }
+    requires fresh { IsFresh aside.old (fragment_of fragment) }
+    ensures aside { OnOk result (aside.new ≡ aside.old) }
     ensures out { Writes (written_so_far out.old)
-        (drafted_by (λ name inner begins. drafted (1024 - length aside.old.items) (names_of names.now) number (map (λ s. s.now) aside.old.items ++ name ∷ []) begins inner) number (fragment_of fragment.entry))
+        (drafted_by (λ name inner begins. drafted (1024 - length aside.old) (names_of names.now) number (aside.old ++ name ∷ []) begins inner) number (fragment_of fragment.entry))
         result (written_so_far out.new) }
 {
     match fragment {
@@ -85,7 +88,7 @@ fn rewrite<'a>(
     ensures { IsAll (rewritten (names_of names.now) number quoting text.now) result }
 {
     let mut out = Output::new(alloc);
-    let mut aside = Vec::new(alloc);
+    let mut aside = Aside::new(alloc);
     write(names, number, &mut aside, quoting, text, &mut out)?;
     Ok(out)
 }

@@ -1,4 +1,4 @@
-use Rattle.std.proofs.Common.{◌≡◌, ◌+◌, ◌-◌, ◌*◌, ◌≤◌, length, map}
+use Rattle.std.proofs.Common.{◌≡◌, ◌+◌, ◌-◌, ◌*◌, ◌≤◌, length}
 use denote.Text.{Utf8}
 use denote.Shadow.{shadow}
 use Rattle.c25_meaning_language.specs.Substitution.{joined}
@@ -7,18 +7,18 @@ use Rattle.c25_substitution.proofs.Writing.{whole}
 use Rattle.c25_substitution.proofs.substitution.+writing.Given as goal
 
 abbrev pub decreases-write : goal.decreases-write
-decreases-write l = 2 * (1025 - length l.aside.now.items) + 1
+decreases-write l = 2 * (1025 - length l.aside.now) + 1
 
 abbrev pub decreases-write_fragment : goal.decreases-write_fragment
-decreases-write_fragment l = 2 * (1025 - length l.aside.now.items)
+decreases-write_fragment l = 2 * (1025 - length l.aside.now)
 
 abbrev pub invariant-write-loop-rest : goal.invariant-write-loop-rest
 invariant-write-loop-rest l = record {
   text : shadow (Utf8 l.rest);
-  so_far : joined (written_so_far l.out) (whole (names_of l.names) l.number (length l.fn.aside.items) (map (λ s. s.now) l.fn.aside.items) l.quoting l.rest) ≡ joined (written_so_far l.fn.out) (whole (names_of l.names) l.number (length l.fn.aside.items) (map (λ s. s.now) l.fn.aside.items) l.fn.quoting l.text);
-  aside : l.aside.items ≡ l.fn.aside.items;
+  so_far : joined (written_so_far l.out) (whole (names_of l.names) l.number (length l.fn.aside) l.fn.aside l.quoting l.rest) ≡ joined (written_so_far l.fn.out) (whole (names_of l.names) l.number (length l.fn.aside) l.fn.aside l.fn.quoting l.text);
+  aside : l.aside ≡ l.fn.aside;
   within : IsWithin (written_so_far l.out);
-  deep : length l.fn.aside.items ≤ l.out.replacements;
+  deep : length l.fn.aside ≤ l.out.replacements;
 }
 
 abbrev pub decreases-write-loop-rest : goal.decreases-write-loop-rest
