@@ -24,6 +24,7 @@ pub struct Total {
 }
 
 /// The sum of the signed numbers of these bits.
+#[inline(always)]
 fn total_sum(first: u32, second: u32) -> Total
     ensures { IsTotal result (signed first 32 +ℤ signed second 32) }
 {
@@ -38,6 +39,7 @@ fn total_sum(first: u32, second: u32) -> Total
 }
 
 /// The difference of the signed numbers of these bits.
+#[inline(always)]
 pub fn total_difference(first: u32, second: u32) -> Total
     ensures { IsTotal result (signed first 32 -ℤ signed second 32) }
 {
@@ -68,6 +70,7 @@ fn total_absolute(bits: u32) -> Total
 
 /// The accumulator with a new value: where that leaves 32 signed bits, OV is set, and with `ovm` the
 /// end of the range stands in its place.
+#[inline(always)]
 fn kept(acc: Acc, total: Total, carry: bool, ovm: bool) -> Acc
     ensures { (number : ℤ) → IsTotal total number → result ≡ with_total number ovm carry acc }
 {
@@ -87,6 +90,7 @@ fn kept(acc: Acc, total: Total, carry: bool, ovm: bool) -> Acc
 /// carry out of the 32 bits. Where the sum leaves 32 signed bits, OV is set, and with `ovm` the
 /// accumulator takes the end of the range that was left.
 #[tactic(auto, unfolding(c25_meaning_arithmetic::specs::Arithmetic::sum))]
+#[inline(always)]
 pub fn add(acc: Acc, addend: u32, ovm: bool) -> Acc
     ensures { result ≡ sum acc (signed addend 32) ovm }
 {
@@ -97,6 +101,7 @@ pub fn add(acc: Acc, addend: u32, ovm: bool) -> Acc
 /// The accumulator after `A -= v`, where v is the signed number of the bits of `amount`. C is 0
 /// where the 32 bits borrow. OV and saturation are as for [`add`].
 #[tactic(auto, unfolding(c25_meaning_arithmetic::specs::Arithmetic::difference))]
+#[inline(always)]
 pub fn subtract(acc: Acc, amount: u32, ovm: bool) -> Acc
     ensures { result ≡ difference acc (signed amount 32) ovm }
 {

@@ -12,6 +12,7 @@ const SIGN: u32 = 0x8000_0000;
 
 /// A value times 2^`shift`, cut to 32 bits.
 #[tactic(auto, using(crate::proofs::Powers::all_out))]
+#[inline(always)]
 pub fn shift_left(value: u32, shift: u16) -> u32
     ensures { result ≡ shifted_left value shift }
 {
@@ -20,12 +21,13 @@ pub fn shift_left(value: u32, shift: u16) -> u32
 
 /// A memory word times 2^`shift` in 32 bits; it is read with its sign where `sxm` says so.
 #[tactic(auto, unfolding(c25_meaning_arithmetic::specs::Arithmetic::scaled))]
+#[inline(always)]
 pub fn scaled(sxm: bool, word: u16, shift: u16) -> u32
     requires { shift < 16 }
     ensures bits { result ≡ cut (scaled sxm word shift) 32 }
     ensures number { signed result 32 ≡ scaled sxm word shift }
 {
-    shift_left(extend(word, sxm), shift)
+    extend(word, sxm) << shift
 }
 
 /// The value shifted once to the left by `NORM`, or None where it is 0 or already has its sign in

@@ -17,6 +17,7 @@ pub fn signed_word(word: u16) -> i16
 }
 
 /// The product of two words with their signs.
+#[inline(always)]
 pub fn word_product(first: u16, second: u16) -> u32
     ensures { result ≡ word_product first second }
 {
@@ -25,6 +26,7 @@ pub fn word_product(first: u16, second: u16) -> u32
 
 /// The accumulator, read field by field: one that was just written alone is then not read as a part
 /// of a wider word, for which a processor has to wait.
+#[inline(always)]
 fn acc_of(registers: &Registers) -> Acc
     ensures { result ≡ registers.now.acc }
 {
@@ -36,6 +38,7 @@ fn acc_of(registers: &Registers) -> Acc
 }
 
 /// Writes the accumulator, field by field.
+#[inline(always)]
 fn set_acc(registers: &mut Registers, acc: Acc)
     ensures { registers.new ≡ record registers.old { acc = acc } }
 {
@@ -46,6 +49,7 @@ fn set_acc(registers: &mut Registers, acc: Acc)
 }
 
 /// P as PM hands it on.
+#[inline(always)]
 pub fn product_word(registers: &Registers) -> u32
     ensures { result ≡ product_word registers.now }
 {
@@ -117,6 +121,7 @@ pub fn minus_scaled(registers: &mut Registers, word: u16, shift: u16)
 }
 
 /// A += p.
+#[inline(always)]
 pub fn plus_product(registers: &mut Registers)
     ensures { registers.new ≡ plus_product registers.old }
 {
@@ -124,6 +129,7 @@ pub fn plus_product(registers: &mut Registers)
 }
 
 /// A -= p.
+#[inline(always)]
 pub fn minus_product(registers: &mut Registers)
     ensures { registers.new ≡ minus_product registers.old }
 {
@@ -131,6 +137,7 @@ pub fn minus_product(registers: &mut Registers)
 }
 
 /// A += a high word, where C stays without a carry.
+#[inline(always)]
 pub fn plus_high(registers: &mut Registers, word: u16)
     ensures { registers.new ≡ plus_high word registers.old }
 {
@@ -140,6 +147,7 @@ pub fn plus_high(registers: &mut Registers, word: u16)
 }
 
 /// A -= a high word, where C stays without a borrow.
+#[inline(always)]
 pub fn minus_high(registers: &mut Registers, word: u16)
     ensures { registers.new ≡ minus_high word registers.old }
 {
@@ -149,6 +157,7 @@ pub fn minus_high(registers: &mut Registers, word: u16)
 }
 
 /// The low half of a value.
+#[inline(always)]
 pub fn low_half(value: u32) -> u16
     ensures { result ≡ value % 2 ^ 16 }
 {
@@ -156,6 +165,7 @@ pub fn low_half(value: u32) -> u16
 }
 
 /// The high half of a value.
+#[inline(always)]
 pub fn high_half(value: u32) -> u16
     ensures { result ≡ value / 2 ^ 16 }
 {

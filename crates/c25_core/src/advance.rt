@@ -20,3 +20,20 @@ pub fn advance(registers: &mut Registers, size: u16)
     registers.repeating = false;
     registers.repeated = 0;
 }
+
+/// The same where it is known beforehand whether a repeat is running: outside a repeat its fields
+/// are not asked for.
+#[inline(always)]
+#[tactic(auto, using(crate::proofs::Alone::alone))]
+pub fn move_on(registers: &mut Registers, repeating: bool, size: u16)
+    requires { registers.old.repeating ≡ repeating }
+    ensures { registers.new ≡ advanced size registers.old }
+{
+    if repeating {
+        advance(registers, size);
+        return;
+    }
+    registers.shadowed = false;
+    registers.pc = registers.pc.wrapping_add(size);
+    registers.repeated = 0;
+}

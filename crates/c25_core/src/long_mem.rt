@@ -15,6 +15,7 @@ use c25_meaning_instructions::mnemonic::LongMemName;
 use c25_meaning_processor::registers::Registers;
 
 /// A += p, T = m and P = m times the program word.
+#[inline(always)]
 fn multiply(registers: &mut Registers, word: u16, factor: u16)
     ensures { registers.new
         ≡ record (plus_product registers.old) { t = word; p = word_product word factor } }
@@ -26,6 +27,7 @@ fn multiply(registers: &mut Registers, word: u16, factor: u16)
 
 /// Any of the instructions, with its operand at this address, before the operand's change; `at` is
 /// the second word, gone up by the repetitions that are done.
+#[inline(always)]
 fn act<B: Bus>(registers: &mut Registers, bus: &mut B, name: LongMemName, at: u16, address: u16)
     ensures after { long_mem_effect name at (data_at registers.old.cnf (B.world bus.old) address)
         address registers.old (B.world bus.old)
@@ -53,6 +55,7 @@ fn act<B: Bus>(registers: &mut Registers, bus: &mut B, name: LongMemName, at: u1
 
 /// Any of the instructions, with its second word and its operand; `repeated` repetitions of it are
 /// done.
+#[inline(always)]
 pub fn long_mem<B: Bus>(
     registers: &mut Registers,
     bus: &mut B,

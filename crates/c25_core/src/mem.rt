@@ -41,6 +41,7 @@ fn square(registers: &mut Registers, word: u16)
 }
 
 /// P = T times m.
+#[inline(always)]
 fn multiply(registers: &mut Registers, word: u16)
     ensures { registers.new
         ≡ record registers.old { p = word_product registers.old.t word } }
@@ -49,6 +50,7 @@ fn multiply(registers: &mut Registers, word: u16)
 }
 
 /// A += p and T = m.
+#[inline(always)]
 fn add_and_load(registers: &mut Registers, word: u16)
     ensures { registers.new ≡ record (plus_product registers.old) { t = word } }
 {
@@ -57,6 +59,7 @@ fn add_and_load(registers: &mut Registers, word: u16)
 }
 
 /// A = p and T = m.
+#[inline(always)]
 fn take_and_load(registers: &mut Registers, word: u16)
     ensures { registers.new
         ≡ record (become (product_word registers.old) registers.old) { t = word } }
@@ -66,6 +69,7 @@ fn take_and_load(registers: &mut Registers, word: u16)
 }
 
 /// A -= p and T = m.
+#[inline(always)]
 fn subtract_and_load(registers: &mut Registers, word: u16)
     ensures { registers.new ≡ record (minus_product registers.old) { t = word } }
 {
@@ -74,6 +78,7 @@ fn subtract_and_load(registers: &mut Registers, word: u16)
 }
 
 /// A += p and P = T times m.
+#[inline(always)]
 fn add_and_multiply(registers: &mut Registers, word: u16)
     ensures { registers.new
         ≡ record (plus_product registers.old) { p = word_product registers.old.t word } }

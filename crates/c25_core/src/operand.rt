@@ -10,6 +10,7 @@ use c25_meaning_instructions::insn::{Addr, Change};
 use c25_meaning_processor::registers::{ArNumber, Registers};
 
 /// The current auxiliary register.
+#[inline(always)]
 pub fn current(registers: &Registers) -> u16
     ensures { result ≡ slice_index registers.now.ar registers.now.arp }
 {
@@ -17,6 +18,7 @@ pub fn current(registers: &Registers) -> u16
 }
 
 /// The address of an operand.
+#[inline(always)]
 pub fn address_of(operand: &Addr, registers: &Registers) -> u16
     ensures { result ≡ address_of operand.now registers.now }
 {
@@ -27,6 +29,7 @@ pub fn address_of(operand: &Addr, registers: &Registers) -> u16
 }
 
 /// An auxiliary register after its change.
+#[inline(always)]
 fn changed(change: Change, ar: u16, ar0: u16) -> u16
     ensures { result ≡ changed change ar ar0 }
 {
@@ -42,6 +45,7 @@ fn changed(change: Change, ar: u16, ar0: u16) -> u16
 }
 
 /// Changes the auxiliary register of a number.
+#[inline(always)]
 pub fn change_ar(registers: &mut Registers, change: Change, arp: ArNumber)
     ensures { registers.new ≡ with_change change arp registers.old }
 {
@@ -50,6 +54,7 @@ pub fn change_ar(registers: &mut Registers, change: Change, arp: ArNumber)
 }
 
 /// Loads ARP, and the old ARP into ARB, where a next register is given.
+#[inline(always)]
 fn load_next(registers: &mut Registers, next: Option<u16>, arp: ArNumber)
     requires { NextInRange next }
     ensures { registers.new ≡ with_next next arp registers.old }

@@ -129,11 +129,16 @@ impl Core {
             ↔ ((begun lines (state_of self.old (B.world bus.old))).asleep ≡ true)) }
         ensures halt { OnErr result (self.new ≡ self.old) }
     {
-        let mut registers = self.registers;
-        begin(&mut registers, bus, lines);
-        let insn = fetch(&registers, bus);
-        let tick = turn(&mut registers, bus, &insn, bio)?;
-        self.registers = registers;
-        Ok(tick)
+        let before = self.registers;
+        let registers = &mut self.registers;
+        begin(registers, bus, lines);
+        let insn = fetch(registers, bus);
+        match turn(registers, bus, &insn, bio) {
+            Ok(tick) => Ok(tick),
+            Err(halt) => {
+                self.registers = before;
+                Err(halt)
+            }
+        }
     }
 }

@@ -12,10 +12,12 @@ number : (sxm : Bool) (word shift : ℕ) → word < 2 ^ 16 → shift < 16 → si
 unfolding scaled
 number sxm word shift p q = scaled_bits (extended sxm word) shift (word_is_small sxm word p) q
 
+bits : (sxm : Bool) (word shift : ℕ) → word < 2 ^ 16 → shift < 16 → cut (extended sxm word) 32 * 2 ^ shift % 2 ^ 32 ≡ cut (scaled sxm word shift) 32
+bits sxm word shift p q =
+    cut_signed (cut (extended sxm word) 32 * 2 ^ shift % 2 ^ 32) (omega arith) ∙ ap (λ z. cut z 32) (number sxm word shift p q)
+
 pub returns-clause-number : goal.returns-clause-number
-returns-clause-number c =
-    rw (c.shift_left.ensures, c.extend.ensures) (number c.args.sxm c.args.word c.args.shift c.ranges.word.fits c.requires)
+returns-clause-number c = rw c.extend.ensures (number c.args.sxm c.args.word c.args.shift c.ranges.word.fits c.requires)
 
 pub returns-clause-bits : goal.returns-clause-bits
-returns-clause-bits c =
-    cut_signed c.shift_left.result (omega arith) ∙ ap (λ z. cut z 32) (returns-clause-number c)
+returns-clause-bits c = rw c.extend.ensures (bits c.args.sxm c.args.word c.args.shift c.ranges.word.fits c.requires)
