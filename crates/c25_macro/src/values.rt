@@ -2,7 +2,8 @@
 
 ghost use Rattle.std.specs.Prelude.{◌≡◌};
 ghost use Rattle.c25_meaning_language.specs.Statement.{valued};
-ghost use Rattle.c25_meaning_expansion.specs.ExpansionRules.{absolute, number_by};
+ghost use Rattle.c25_meaning_expansion.specs.ExpansionRules.{absolute};
+ghost use Rattle.c25_meaning_language.specs.Absolute.{number_by};
 ghost use Rattle.c25_meaning_language.specs.Value.{is_zero};
 ghost use Rattle.c25_expr.specs.View.{tree_of};
 

@@ -6,6 +6,7 @@ use Rattle.std.specs.Str.{bytes_eq}
 use Rattle.c25_meaning_assembly.specs.OperandFields.{target_size}
 use Rattle.c25_meaning_assembly.specs.AssemblyLine.{Act, Nothing, Enter, Reserve, Equate, Put, Load, Space, Declare, Export, Registers, Statement}
 use Rattle.c25_meaning_common.specs.Results.{◌>>=◌, fold_ok}
+use Rattle.c25_meaning_language.specs.Absolute.{number_by}
 use Rattle.c25_meaning_language.specs.Statement.{valued}
 use Rattle.c25_meaning_language.specs.Tree.{Tree}
 use Rattle.c25_meaning_language.specs.Value.{Table, value_named, predefined, start_of_text}
@@ -15,7 +16,6 @@ use Rattle.c25_meaning_objects.specs.declared.object.ModuleMark.{ModuleMark}
 use Rattle.c25_meaning_objects.specs.declared.object.Relocation.{Relocation}
 use Rattle.c25_meaning_language.specs.declared.statement.FaultKind.{FaultKind}
 use Rattle.c25_meaning_language.specs.declared.statement.FaultKind.TheVariants as fault
-use Rattle.c25_meaning_language.specs.declared.value.Base.{Base}
 use Rattle.c25_meaning_language.specs.declared.value.Base.TheVariants as base
 use Rattle.c25_meaning_language.specs.declared.value.Value.{Value}
 
@@ -114,11 +114,6 @@ label None p = Ok p
 label (Some name) p = define name (here p) p
 
 -- ---- counts that are needed now
-
--- the number of a value, which has to be absolute
-abbrev pub number_by : Base → ℤ → Result ℤ FaultKind
-number_by base.Absolute z = Ok z
-number_by _ z = Err fault.NotAbsolute
 
 -- a number that is no less than 0
 abbrev pub count_by : ℤ → Result ℕ FaultKind

@@ -22,6 +22,7 @@
 use Rattle.std.specs.Prelude.{ℕ, ◌+◌, ◌-◌, ◌==◌, List, [], ◌∷◌, ◌++◌, Bool, true, false, not, ◌||◌, Option, Some, None, option_and_then, Result, Ok, Err, ℤ, pos, negsuc, if◌then◌else◌, is_some}
 use Rattle.std.specs.Fmt.{signed_decimal}
 use Rattle.c25_meaning_lines.specs.Line.{first_word}
+use Rattle.c25_meaning_language.specs.Absolute.{number_by}
 use Rattle.c25_meaning_language.specs.Tree.{Tree}
 use Rattle.c25_meaning_language.specs.Value.{Table, is_zero}
 use Rattle.c25_meaning_common.specs.Results.{◌>>=◌}
@@ -33,8 +34,6 @@ use Rattle.c25_meaning_language.specs.Substitution.{substituted, substituted_bef
 use Rattle.c25_meaning_language.specs.Texts.{Texts, with_name}
 use Rattle.c25_meaning_expansion.specs.Acts.{Act, If, ElseIf, Else, EndIf, Define, Stray, Exit, Loop, Break, Assign, Evaluate, Copy, End, Call, Macro, Order, directive_of, order_of, call_of}
 use Rattle.c25_meaning_expansion.specs.Expansion.{Kind, Copied, Expanded, Turn, Reading, Acting, InMacro, InLoop, Dictionary, Config, Rewriting, Gives, Goes, Faults, Misses, unless, is_full, opened, with_branches, left_through, is_expansion, is_turn, stands_in, macro_named, seen, number_of, assigned, called}
-use Rattle.c25_meaning_language.specs.declared.value.Base.{Base}
-use Rattle.c25_meaning_language.specs.declared.value.Base.TheVariants.{Absolute}
 use Rattle.c25_meaning_language.specs.declared.value.Value.{Value}
 use Rattle.c25_meaning_expansion.specs.declared.expansion.Place.{Place}
 use Rattle.c25_meaning_expansion.specs.declared.expansion.Branch.{Branch}
@@ -47,11 +46,6 @@ use Rattle.c25_meaning_language.specs.declared.statement.FaultKind.{FaultKind}
 use Rattle.c25_meaning_language.specs.declared.statement.FaultKind.TheVariants as fault
 
 -- ---- values that are needed now
-
--- the number, if it counts from nothing
-abbrev pub number_by : Base → ℤ → Result ℤ FaultKind
-number_by Absolute number = Ok number
-number_by _ number = Err fault.NotAbsolute
 
 -- an absolute number, or the fault
 abbrev pub absolute : Result Value FaultKind → Result ℤ FaultKind

@@ -1,3 +1,4 @@
+pub mod Absolute
 pub mod Arguments
 pub mod DirectiveOperands
 pub mod ExpansionFault

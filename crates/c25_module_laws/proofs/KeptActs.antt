@@ -16,7 +16,7 @@ use Rattle.c25_meaning_language.specs.declared.value.Base.{Base}
 use Rattle.c25_meaning_language.specs.declared.value.Base.TheVariants.{Absolute, Section as InSection, External}
 use Rattle.c25_meaning_language.specs.declared.value.Value.{Value}
 use Rattle.c25_module_laws.proofs.Valued.{IsGoodValue, good_valued, natural_fits}
-use Rattle.c25_module_laws.proofs.Distinct.{distinct_push, turned}
+use Rattle.c25_meaning_assembly.proofs.Distinct.{distinct_push, turned}
 use Rattle.c25_module_laws.proofs.Kept.{AllKept, AreNames, Head, IsInside, IsKept, first_names, get_last, get_push, grown, head_fits, head_of, heads, is_code, begins, has_head, marks_in, marks_part, mark_there, part_there, pushed, total, weaker}
 use Rattle.c25_module_laws.proofs.ResultSteps.{refused}
 use Rattle.c25_module_laws.proofs.Spoken.{IsSection, IsSymbol}

@@ -32,7 +32,7 @@ use Rattle.std.specs.Int.{w32}
 use Rattle.std.specs.Int.RustNames.{FitsSigned}
 use Rattle.std.proofs.lemmas.List.{append-nil}
 use Rattle.c25_module_laws.proofs.Counted.{IsCount}
-use Rattle.c25_module_laws.proofs.Distinct.{distinct_push}
+use Rattle.c25_meaning_assembly.proofs.Distinct.{distinct_push}
 use Rattle.c25_module_laws.proofs.Kept.{AllBut, AllKept, AreDeclared, AreNames, AreSections, Each, Head, IsGoodContent, IsInside, IsKept, each_changed, head_fits, head_of, heads, heads_changed, is_code, laid_push, length_changed, mark_by, mark_here, mark_there, marks_in, marks_part, marks_push, marks_same, part_here, part_there, pushed, total, total_push, weaker, words_in}
 use Rattle.c25_module_laws.proofs.KeptActs.{code_is, code_section, define_kept, label_kept, opened_kept, place_good, valued_good}
 use Rattle.c25_module_laws.proofs.ResultSteps.{bound, permitted, refused, unless}

@@ -2,7 +2,6 @@ pub mod AddressFields
 pub mod CallsSuffice
 pub mod Chains
 pub mod Counted
-pub mod Distinct
 pub mod Emitted
 pub mod Kept
 pub mod KeptActs

@@ -14,7 +14,7 @@ use Rattle.c25_meaning_language.specs.Value.{named_by, predefined, defined}
 use Rattle.c25_meaning_language.specs.declared.value.Base.{Base}
 use Rattle.c25_meaning_language.specs.declared.value.Base.TheVariants.{Absolute, Section, External}
 use Rattle.c25_meaning_language.specs.declared.value.Value.{Value}
-use Rattle.c25_module_laws.proofs.Distinct.{both, neither, turned}
+use Rattle.c25_meaning_assembly.proofs.Distinct.{both, neither, turned}
 use Rattle.c25_module_laws.proofs.Kept.{IsInside, first_names}
 use Rattle.c25_module_laws.proofs.KeptActs.{IsSmall, not_named, predefined_small}
 use Rattle.c25_module_laws.proofs.Spoken.{IsSymbol}

@@ -1,16 +1,16 @@
 -- Names that are declared: how many of them stand for nothing, and that they come behind the others each once.
 use denote.Ref.{Bor}
-use Rattle.std.proofs.Common.{◌≡◌, ℕ, zero, suc, ◌+◌, ◌≤◌, ◌<◌, Bool, true, false, cond, not, ◌||◌, ◌&&◌, List, [], ◌∷◌, ◌++◌, length, take, get_or, slice_get, Option, Some, None, is_some, pos, refl, sym, ap, ◌∙◌, arith}
+use Rattle.std.proofs.Common.{◌≡◌, ℕ, zero, suc, ◌+◌, ◌≤◌, ◌<◌, Bool, true, false, cond, not, ◌||◌, List, [], ◌∷◌, ◌++◌, length, take, get_or, slice_get, Option, Some, None, is_some, pos, refl, sym, ap, ◌∙◌, arith}
 use Rattle.std.specs.List.{filter}
 use Rattle.std.specs.Option.{option_map}
 use Rattle.std.specs.Str.{bytes_eq}
-use Rattle.std.proofs.lemmas.Bool.Decides.{same_from_decides, Decides-like}
 use Rattle.std.proofs.lemmas.List.{append_assoc, append-nil, length-append}
 use Rattle.std.proofs.lemmas.List.Elements.{filter_more}
 use Rattle.std.proofs.lemmas.Option.{slice_get_within, get_or_from_slice_get, slice_get-get_or}
 use Rattle.std.proofs.lemmas.Slice.Eq.{bytes_eq-Decides}
 use Rattle.c25_meaning_assembly.specs.Emission.{numbered, names_with}
 use Rattle.c25_meaning_assembly.specs.Sections.{Definitions, stands, is_in, once, are_distinct, imports, name_count}
+use Rattle.c25_meaning_assembly.proofs.Distinct.{turned, neither, both}
 use Rattle.c25_meaning_language.specs.Value.{predefined, defined, named_by}
 use Rattle.c25_meaning_language.specs.declared.value.Value.{Value}
 use Rattle.c25_meaning_language.specs.declared.value.Base.TheVariants.{External}
@@ -20,9 +20,6 @@ use Rattle.c25_phases.specs.Imports.{imported}
 
 pub same_text : (a b : List ℕ) → bytes_eq a b ≡ true → a ≡ b
 same_text a b h = (bytes_eq-Decides a b).0 h
-
-pub turned : (a b : List ℕ) → bytes_eq a b ≡ bytes_eq b a
-turned a b = same_from_decides (bytes_eq a b) (bytes_eq b a) (bytes_eq-Decides a b) (Decides-like (bytes_eq b a) sym sym (bytes_eq-Decides b a))
 
 -- ---- what stands for something
 
@@ -67,14 +64,6 @@ head_counts true true d xs ys r h = omega (arith, h)
 head_counts true false d xs ys r h = omega (arith, h)
 head_counts false true d xs ys r h = omega (arith, h)
 head_counts false false d xs ys r h = omega (arith, h)
-
-neither : (a b : Bool) → (a || b) ≡ false → (a ≡ false) × (b ≡ false)
-neither true b h = absurd (cc)
-neither false b h = (refl, h)
-
-both : (a b : Bool) → (not a && b) ≡ true → (a ≡ false) × (b ≡ true)
-both true b h = absurd (cc)
-both false b h = (refl, h)
 
 -- one declared name, by whether it is the one that is defined (same) and whether it stood for something (stood)
 step_counts : (same stood stands_now among : Bool) (x y : ℕ) → (same ≡ true → stood ≡ false) → (same ≡ true → among ≡ false)
@@ -124,27 +113,6 @@ declare_counts names (d ∷ ds) n = on (stands names d) (declare_counts names ds
         → length (cond (not b) (d ∷ imports names (ds ++ n ∷ [])) (imports names (ds ++ n ∷ []))) ≡ length (cond (not b) (d ∷ imports names ds) (imports names ds)) + cond (stands names n) 0 1
     on true h = h
     on false h = omega (arith, h)
-
-pub is_in-push : (ds : List (List ℕ)) (n d : List ℕ) → is_in (ds ++ n ∷ []) d ≡ (is_in ds d || bytes_eq d n)
-is_in-push [] n d = on (bytes_eq d n)
-  where
-    on : (b : Bool) → (b || false) ≡ b
-    on true = refl
-    on false = refl
-is_in-push (x ∷ xs) n d = on (bytes_eq d x) (is_in-push xs n d)
-  where
-    on : (b : Bool) → is_in (xs ++ n ∷ []) d ≡ (is_in xs d || bytes_eq d n) → (b || is_in (xs ++ n ∷ []) d) ≡ ((b || is_in xs d) || bytes_eq d n)
-    on true h = refl
-    on false h = h
-
--- names stay distinct where a new one comes behind them
-pub distinct_push : (ds : List (List ℕ)) (n : List ℕ) → are_distinct ds ≡ true → is_in ds n ≡ false → are_distinct (ds ++ n ∷ []) ≡ true
-distinct_push [] n h new = refl
-distinct_push (d ∷ ds) n h new =
-    let p = both (is_in ds d) (are_distinct ds) h in
-    let q = neither (bytes_eq n d) (is_in ds n) new in
-    let away : is_in (ds ++ n ∷ []) d ≡ false = is_in-push ds n d ∙ ap (λ b. b || bytes_eq d n) p.0 ∙ turned d n ∙ q.0 in
-    ap (λ b. not b && are_distinct (ds ++ n ∷ [])) away ∙ distinct_push ds n p.1 q.1
 
 -- ---- all declared names behind the others
 

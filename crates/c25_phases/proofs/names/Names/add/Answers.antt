@@ -1,6 +1,7 @@
 use Rattle.std.proofs.Common.{◌++◌, [], ◌∷◌, sym, ap, ◌∙◌}
 use Rattle.c25_meaning_assembly.specs.Sections.{are_distinct, is_in}
-use Rattle.c25_phases.proofs.Declared.{distinct_push, once_new}
+use Rattle.c25_meaning_assembly.proofs.Distinct.{distinct_push}
+use Rattle.c25_phases.proofs.Declared.{once_new}
 use Rattle.c25_phases.proofs.Keys.{added}
 use Rattle.c25_phases.proofs.names.Names.add.Goals as goal
 
