@@ -16,7 +16,8 @@ use c25_macro::files::Files;
 use c25_meaning_common::failure::Failure;
 use c25_meaning_common::no_memory::NoMemory;
 use c25_meaning_language::statement::FaultKind;
-use c25_obj::{Module, read_module, write_module};
+use c25_obj::{Module, write_module};
+use c25_records::read_module;
 use std::alloc::Global;
 
 /// A module and its listing.

@@ -3,7 +3,8 @@
 use crate::bench::{alone, built_of, files_of, names_of};
 use c25_chain::linked::Linked;
 use c25_chain::{assemble_all, link_modules};
-use c25_obj::{Module, read_module, write_module};
+use c25_obj::{Module, write_module};
+use c25_records::read_module;
 use std::alloc::Global;
 use std::process::Abort;
 use std::test::Fail;

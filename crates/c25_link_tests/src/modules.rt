@@ -1,7 +1,8 @@
 //! Modules to link, from their object records.
 
 use c25_meaning_common::failure::Failure;
-use c25_obj::{Module, read_module};
+use c25_obj::Module;
+use c25_records::read_module;
 use std::alloc::{AllocError, Global};
 use std::test::Fail;
 

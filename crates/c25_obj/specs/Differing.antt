@@ -3,8 +3,7 @@ use Rattle.std.specs.Prelude.{◌≡◌, ◌≢◌, ℕ, ◌+◌, ◌<◌, false
 use Rattle.std.specs.List.{slice_get}
 use Rattle.std.specs.Ordering.{is_lt, nat_cmp}
 use Rattle.std.specs.Cmp.Lexicographic.{slice_cmp}
-use Rattle.std.specs.BTreeSet.{BTreeSet, contains}
-use Rattle.c25_meaning_objects.specs.Module.{SymbolData, has_symbol}
+use Rattle.c25_meaning_objects.specs.Module.{SymbolData}
 
 -- the name of a symbol, empty where there is none
 abbrev pub name_of : Option SymbolData → List ℕ
@@ -29,7 +28,3 @@ IsSortedByName symbols numbers =
 abbrev pub NeighboursDiffer : List SymbolData → List ℕ → Type 0
 NeighboursDiffer symbols numbers =
     (k : ℕ) → k + 1 < length numbers → name_at symbols (slice_index numbers k) ≢ name_at symbols (slice_index numbers (k + 1))
-
--- the set has the names of these symbols, where a key is seen by its text
-abbrev pub HasNames : {K : Type 0} → (K → List ℕ) → BTreeSet K → List SymbolData → Type 0
-HasNames {K} text names symbols = (key : K) → contains (λ x y. slice_cmp nat_cmp (text x) (text y)) names key ≡ has_symbol symbols (text key)

@@ -11,7 +11,7 @@ ghost use Rattle.c25_obj.specs.View.{symbols_data};
 use crate::parts::Symbol;
 
 /// A module has no more symbols, so that a two-byte number names each.
-pub(crate) const MAX_SYMBOLS: usize = 65_535;
+pub const MAX_SYMBOLS: usize = 65_535;
 
 /// The name of the symbol with that number; empty where there is none.
 fn name_at(symbols: &[Symbol], number: u16) -> &str

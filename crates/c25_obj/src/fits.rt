@@ -44,7 +44,7 @@ fn size_of(body: &Body) -> usize
 }
 
 /// Whether the section may follow these.
-pub(crate) fn section_fits(before: &[Section], section: &Section) -> bool
+pub fn section_fits(before: &[Section], section: &Section) -> bool
     ensures { result ≡ spec.section_fits (sections_data before.now) (section_data section.now) }
 {
     is_section_name(section.name.as_bytes())
@@ -94,7 +94,7 @@ fn mark_after(before: &[ModuleMark], mark: &ModuleMark) -> bool
 }
 
 /// Whether the mark may follow these.
-pub(crate) fn mark_fits(sections: &[Section], before: &[ModuleMark], mark: &ModuleMark) -> bool
+pub fn mark_fits(sections: &[Section], before: &[ModuleMark], mark: &ModuleMark) -> bool
     ensures { result ≡ spec.mark_fits (sections_data sections.now) before.now mark.now }
 {
     (mark.size == 1 || mark.size == 2)
@@ -113,7 +113,7 @@ fn place_fits(sections: &[Section], symbol: &Symbol) -> bool
 }
 
 /// Whether the symbol may stand in a module with these sections, whatever its other symbols are.
-pub(crate) fn symbol_stands(sections: &[Section], symbol: &Symbol) -> bool
+pub fn symbol_stands(sections: &[Section], symbol: &Symbol) -> bool
     ensures { result ≡ spec.symbol_stands (sections_data sections.now) (symbol_data symbol.now) }
 {
     is_symbol_name(symbol.name.as_bytes()) && place_fits(sections, symbol)
@@ -172,7 +172,7 @@ fn field_is_clear(words: &[u16], relocation: &Relocation) -> bool
 }
 
 /// Whether the relocation may follow these.
-pub(crate) fn relocation_fits(
+pub fn relocation_fits(
     sections: &[Section],
     symbols: &[Symbol],
     before: &[Relocation],

@@ -1,4 +1,4 @@
-//! Modules of relocatable words as object records, and back.
+//! Modules of relocatable words, and the object records that spell them.
 //!
 //! An object is `C25O`, a byte 1 for the version, and records of a tag, a four-byte length and a
 //! payload: sections (1), marks of instructions (2), symbols (3) and relocations (4), in this
@@ -8,24 +8,20 @@
 
 mod codes;
 mod differing;
-mod fields;
 mod fits;
-pub mod laws;
 mod made;
 mod making;
-mod named_payloads;
 mod names;
 mod parts;
-mod payloads;
-mod reading;
 mod sized;
 mod spelling;
 mod writing;
 
+pub use differing::MAX_SYMBOLS;
+pub use fits::{mark_fits, relocation_fits, section_fits, symbol_stands};
 pub use made::Module;
 pub use making::module;
 pub use names::{is_section_name, is_symbol_name};
 pub use parts::{Body, Parts, Section, Symbol};
-pub use reading::read_module;
 pub use spelling::spells;
 pub use writing::write_module;

@@ -7,8 +7,7 @@ ghost use Rattle.c25_obj.specs.View.{contents};
 use crate::parts::Parts;
 use std::marker::Model;
 
-/// Lists that are those of a module: [`module`](crate::module) makes one, and so does
-/// [`read_module`](crate::read_module).
+/// Lists that are those of a module: [`module`](crate::module) makes one, and reading records does.
 #[derive(Drop)]
 pub struct Module {
     pub(crate) parts: Parts,

@@ -8,7 +8,8 @@ use c25_meaning_common::relocation::RelocationKind;
 use c25_meaning_objects::object::{
     ModuleMark, ObjectFault, Relocation, RelocationBase, Scope, SymbolKind,
 };
-use c25_obj::{Body, Module, Parts, Section, Symbol, module, read_module, spells, write_module};
+use c25_obj::{Body, Module, Parts, Section, Symbol, module, spells, write_module};
+use c25_records::read_module;
 use std::alloc::{AllocError, Global};
 use std::process::Abort;
 use std::test::Fail;

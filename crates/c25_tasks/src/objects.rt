@@ -13,7 +13,8 @@ use c25_disk::read_binary;
 use c25_meaning_common::failure::Failure;
 use c25_meaning_common::no_memory::NoMemory;
 use c25_meaning_objects::object::ObjectFault;
-use c25_obj::{Module, read_module};
+use c25_obj::Module;
+use c25_records::read_module;
 use std::alloc::Global;
 
 /// The bytes of an object file.

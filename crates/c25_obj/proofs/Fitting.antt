@@ -1,0 +1,54 @@
+-- What it is for items to fit: the lists of a module one by one, and the sizes of single items.
+use Rattle.std.proofs.Common.{◌≡◌, ℕ, ◌<◌, ◌≤◌, Bool, true, not, ◌&&◌, leb, ltb, List, [], ◌∷◌, ◌++◌, length, slice_index, refl, ap, ◌∙◌}
+use Rattle.std.specs.List.{flat_map, list_all}
+use Rattle.std.proofs.lemmas.Bool.{ltb-true, leb-true}
+use Rattle.std.proofs.lemmas.List.{append-nil}
+use Rattle.std.proofs.lemmas.List.Concat.{flat_map-cons, flat_map-append}
+use Rattle.c25_meaning_common.specs.Bytes.{begins_name, goes_on_name}
+use Rattle.c25_meaning_objects.specs.Module.{SectionData, SymbolData, Contents, body_size, section_fits, mark_fits, symbol_fits, relocation_fits, each_fits, lists_fit, has_section, begins_sections, is_section_name, is_section_byte, place_fits, has_symbol, is_symbol_name}
+use Rattle.c25_obj.proofs.Texts.{both}
+
+pub and_true : (a b : Bool) → a ≡ true → b ≡ true → (a && b) ≡ true
+and_true a b p q = rw (p, q) refl
+
+pub one_more : {A : Type 0} (f : A → List ℕ) (xs : List A) (x : A) → flat_map f (xs ++ x ∷ []) ≡ flat_map f xs ++ f x
+one_more f xs x = flat_map-append f xs (x ∷ []) ∙ ap (λ (t : List ℕ). flat_map f xs ++ t) (flat_map-cons f x [] ∙ append-nil (f x))
+
+-- each list fits
+pub record ListsFit (c : Contents) : Type 0 where
+  pub sections : each_fits section_fits [] c.sections ≡ true
+  pub marks : each_fits (mark_fits c.sections) [] c.marks ≡ true
+  pub symbols : each_fits (symbol_fits c.sections) [] c.symbols ≡ true
+  pub relocations : each_fits (relocation_fits c.sections c.symbols) [] c.relocations ≡ true
+
+pub lists_fit_all : (c : Contents) → ListsFit c → lists_fit c ≡ true
+lists_fit_all c h = and_true _ _ h.sections (and_true _ _ h.marks (and_true _ _ h.symbols h.relocations))
+
+pub lists_fit_each : (c : Contents) → lists_fit c ≡ true → ListsFit c
+lists_fit_each c e =
+    let a = both (each_fits section_fits [] c.sections) _ e in
+    let b = both (each_fits (mark_fits c.sections) [] c.marks) _ a.1 in
+    let d = both (each_fits (symbol_fits c.sections) [] c.symbols) _ b.1 in
+    record { sections = a.0; marks = b.0; symbols = d.0; relocations = d.1 }
+
+-- ---- the sizes of items that fit
+
+pub section_small : (ss : List SectionData) (s : SectionData) → section_fits ss s ≡ true → (body_size s.body ≤ 65536) × (length s.name ≤ 32) × (length ss < 255)
+section_small ss s e =
+    let d = both _ (ltb (length ss) 255) e in
+    let c = both _ (not (has_section ss s.name)) d.0 in
+    let b = both _ (begins_sections ss s) c.0 in
+    let a = both (is_section_name s.name) (leb (body_size s.body) 65536) b.0 in
+    let n = both _ (list_all is_section_byte s.name) a.0 in
+    let m = both (leb 1 (length s.name)) (leb (length s.name) 32) n.0 in
+    (leb-true _ _ a.1, leb-true _ _ m.1, ltb-true _ _ d.1)
+
+pub symbol_small : (ss : List SectionData) (ys : List SymbolData) (y : SymbolData) → symbol_fits ss ys y ≡ true → (length y.name ≤ 128) × (length ys < 65535) × (place_fits ss y y.kind ≡ true)
+symbol_small ss ys y e =
+    let c = both _ (ltb (length ys) 65535) e in
+    let b = both _ (not (has_symbol ys y.name)) c.0 in
+    let a = both (is_symbol_name y.name) (place_fits ss y y.kind) b.0 in
+    let n = both _ (list_all goes_on_name y.name) a.0 in
+    let m = both _ (begins_name (slice_index y.name 0)) n.0 in
+    let k = both (leb 1 (length y.name)) (leb (length y.name) 128) m.0 in
+    (leb-true _ _ k.1, ltb-true _ _ c.1, a.1)

@@ -1,0 +1,238 @@
+//! Bytes read as a module, front to back.
+
+ghost use Rattle.std.specs.Prelude.{◌≡◌, true, IfOk, OnOk, Ok};
+ghost use Rattle.c25_meaning_objects.specs.Module.{Contents, IsSized, is_module};
+ghost use Rattle.c25_meaning_objects.specs.Records.{spelling};
+ghost use Rattle.c25_meaning_objects.specs.RecordReading as reading;
+ghost use Rattle.c25_records.specs.Names.{HasNames};
+ghost use Rattle.c25_meaning_common.specs.Results.{Meets};
+ghost use Rattle.c25_obj.specs.View.{contents, symbols_data};
+
+use crate::fields::long_at;
+use crate::named_payloads::{section_after, symbol_after};
+use crate::payloads::{mark_after, relocation_after};
+use c25_meaning_common::failure::Failure;
+use c25_meaning_objects::object::ObjectFault;
+use c25_obj::{Module, Parts, module};
+use std::alloc::Global;
+use std::collections::BTreeSet;
+
+/// A record: its tag, its payload, and the bytes behind it.
+#[derive(Clone, Copy)]
+struct Record<'a> {
+    tag: u8,
+    payload: &'a [u8],
+    rest: &'a [u8],
+}
+
+#[tactic(auto, unfolding(c25_meaning_objects::specs::RecordReading::record_at))]
+fn record_at(bytes: &[u8]) -> Result<Record<'_>, Failure<ObjectFault>>
+    ensures { Meets (λ x. (record { tag = x.tag; payload = x.payload.now }, x.rest.now)) (reading.record_at bytes.now) result }
+{
+    if bytes.len() < 5 {
+        return Err(Failure::Fault(ObjectFault::Short));
+    }
+    let length = long_at(bytes, 1) as usize;
+    let rest = &bytes[5..];
+    if rest.len() < length {
+        return Err(Failure::Fault(ObjectFault::Short));
+    }
+    let (payload, rest) = rest.split_at(length);
+    Ok(Record {
+        tag: bytes[0],
+        payload,
+        rest,
+    })
+}
+
+fn latest(parts: &Parts) -> u8
+    ensures { result ≡ reading.latest (contents parts.now) }
+{
+    if !parts.relocations.is_empty() {
+        4
+    } else if !parts.symbols.is_empty() {
+        3
+    } else if !parts.marks.is_empty() {
+        2
+    } else {
+        1
+    }
+}
+
+fn is_in_order(parts: &Parts, tag: u8) -> bool
+    ensures { result ≡ reading.is_in_order (contents parts.now) tag }
+{
+    latest(parts) <= tag && (tag <= 4 || tag == 255)
+}
+
+/// What has been read: the lists, and the names of the symbols for finding one that comes twice.
+#[derive(Drop)]
+struct Reader<'a> {
+    parts: Parts,
+    names: BTreeSet<&'a str>,
+}
+
+#[tactic(auto, unfolding(c25_meaning_objects::specs::RecordReading::with_section))]
+fn add_section(alloc: Global, parts: &mut Parts, payload: &[u8]) -> Result<(), Failure<ObjectFault>>
+    ensures given { Meets (λ _. contents parts.new) (reading.with_section (contents parts.old) payload.now) result }
+    ensures symbols { parts.new.symbols ≡ parts.old.symbols }
+{
+    let section = section_after(alloc, &parts.sections, payload)?;
+    parts.sections.push(section)?;
+    Ok(())
+}
+
+#[tactic(auto, unfolding(c25_meaning_objects::specs::RecordReading::with_mark))]
+fn add_mark(parts: &mut Parts, payload: &[u8]) -> Result<(), Failure<ObjectFault>>
+    ensures given { Meets (λ _. contents parts.new) (reading.with_mark (contents parts.old) payload.now) result }
+    ensures symbols { parts.new.symbols ≡ parts.old.symbols }
+{
+    let mark = mark_after(&parts.sections, &parts.marks, payload)?;
+    parts.marks.push(mark)?;
+    Ok(())
+}
+
+#[tactic(auto, unfolding(c25_meaning_objects::specs::RecordReading::with_symbol))]
+fn add_symbol<'a>(
+    alloc: Global,
+    reader: &mut Reader<'a>,
+    payload: &'a [u8],
+) -> Result<(), Failure<ObjectFault>>
+    requires { HasNames (λ k. k.now) reader.old.names (symbols_data reader.old.parts.symbols.items) }
+    ensures given { Meets (λ _. contents reader.new.parts) (reading.with_symbol (contents reader.old.parts) payload.now) result }
+    ensures named { OnOk result (HasNames (λ k. k.now) reader.new.names (symbols_data reader.new.parts.symbols.items)) }
+{
+    let parts = &mut reader.parts;
+    let symbol = symbol_after(
+        alloc,
+        &parts.sections,
+        &parts.symbols,
+        &mut reader.names,
+        payload,
+    )?;
+    parts.symbols.push(symbol)?;
+    Ok(())
+}
+
+#[tactic(auto, unfolding(c25_meaning_objects::specs::RecordReading::with_relocation))]
+fn add_relocation(parts: &mut Parts, payload: &[u8]) -> Result<(), Failure<ObjectFault>>
+    ensures given { Meets (λ _. contents parts.new) (reading.with_relocation (contents parts.old) payload.now) result }
+    ensures symbols { parts.new.symbols ≡ parts.old.symbols }
+{
+    let relocation = relocation_after(
+        &parts.sections,
+        &parts.symbols,
+        &parts.relocations,
+        payload,
+    )?;
+    parts.relocations.push(relocation)?;
+    Ok(())
+}
+
+#[tactic(auto, unfolding(c25_meaning_objects::specs::RecordReading::with_record))]
+fn add_record<'a>(
+    alloc: Global,
+    reader: &mut Reader<'a>,
+    tag: u8,
+    payload: &'a [u8],
+) -> Result<(), Failure<ObjectFault>>
+    requires { HasNames (λ k. k.now) reader.old.names (symbols_data reader.old.parts.symbols.items) }
+    ensures given { Meets (λ _. contents reader.new.parts) (reading.with_record (contents reader.old.parts) tag payload.now) result }
+    ensures named { OnOk result (HasNames (λ k. k.now) reader.new.names (symbols_data reader.new.parts.symbols.items)) }
+{
+    if tag == 1 {
+        return add_section(alloc, &mut reader.parts, payload);
+    }
+    if reader.parts.sections.is_empty() {
+        return Err(Failure::Fault(ObjectFault::BadField));
+    }
+    match tag {
+        2 => add_mark(&mut reader.parts, payload),
+        3 => add_symbol(alloc, reader, payload),
+        4 => add_relocation(&mut reader.parts, payload),
+        _ => Err(Failure::Fault(ObjectFault::BadTag)),
+    }
+}
+
+#[tactic(auto, unfolding(c25_meaning_objects::specs::RecordReading::ended))]
+fn ended(parts: Parts, payload: &[u8], rest: &[u8]) -> Result<Parts, Failure<ObjectFault>>
+    ensures { Meets contents (reading.ended (contents parts) payload.now rest.now) result }
+{
+    if parts.sections.is_empty() || !payload.is_empty() {
+        return Err(Failure::Fault(ObjectFault::BadField));
+    }
+    if !rest.is_empty() {
+        return Err(Failure::Fault(ObjectFault::Trailing));
+    }
+    Ok(parts)
+}
+
+#[tactic(auto, unfolding(c25_meaning_objects::specs::RecordReading::read_from))]
+fn read_all(alloc: Global, bytes: &[u8]) -> Result<Parts, Failure<ObjectFault>>
+    ensures { Meets contents (reading.read_all bytes.now) result }
+{
+    let mut reader = Reader {
+        parts: Parts {
+            sections: Vec::new(alloc),
+            marks: Vec::new(alloc),
+            symbols: Vec::new(alloc),
+            relocations: Vec::new(alloc),
+        },
+        names: BTreeSet::new(alloc),
+    };
+    let mut rest = bytes;
+    for _ in 0..bytes.len() {
+        let record = record_at(rest)?;
+        if !is_in_order(&reader.parts, record.tag) {
+            return Err(Failure::Fault(ObjectFault::BadTag));
+        }
+        if record.tag == 255 {
+            return ended(reader.parts, record.payload, record.rest);
+        }
+        add_record(alloc, &mut reader, record.tag, record.payload)?;
+        rest = record.rest;
+    }
+    Err(Failure::Fault(ObjectFault::Short))
+}
+
+#[tactic(auto, unfolding(c25_meaning_objects::specs::RecordReading::module_of))]
+fn parts_of(alloc: Global, bytes: &[u8]) -> Result<Parts, Failure<ObjectFault>>
+    ensures { Meets contents (reading.module_of bytes.now) result }
+{
+    if bytes.len() < 4
+        || bytes[0] != b'C'
+        || bytes[1] != b'2'
+        || bytes[2] != b'5'
+        || bytes[3] != b'O'
+    {
+        return Err(Failure::Fault(ObjectFault::BadMagic));
+    }
+    if bytes.len() < 5 || bytes[4] != 1 {
+        return Err(Failure::Fault(ObjectFault::BadVersion));
+    }
+    read_all(alloc, &bytes[5..])
+}
+
+fn made(alloc: Global, bytes: &[u8]) -> Result<Module, Failure<ObjectFault>>
+    ensures { Meets (λ m. m) (reading.module_of bytes.now) result }
+{
+    Ok(module(parts_of(alloc, bytes)?))
+}
+
+/// The module whose spelling the bytes are, or their first fault, from the front: bytes that do not
+/// begin with `C25O`, then another version, and then for each record first that it is cut off, then
+/// that its tag is unknown or out of order, then that it has not the form of its tag or may not
+/// stand behind the records before it; and bytes after the last record. It refuses for want of
+/// memory too, and takes time near linear in the number of bytes.
+pub fn read_module(alloc: Global, bytes: &[u8]) -> Result<Module, Failure<ObjectFault>>
+    // What is read is spelled so.
+    ensures found { IfOk result (λ m. bytes.now ≡ spelling m) }
+
+    // What is spelled so is read, unless memory runs out.
+    ensures only { (c : Contents) → IsSized c → is_module c ≡ true → bytes.now ≡ spelling c → Meets (λ m. m) (Ok c) result }
+
+    // Which fault it is.
+    ensures exact { Meets (λ m. m) (reading.module_of bytes.now) result }
+{
+    made(alloc, bytes)
+}
