@@ -11,14 +11,13 @@ ghost use Rattle.c25_chain.specs.declared.fault.Refusal.TheVariants as refusal;
 use crate::fault::{Fault, Refusal};
 use c25_asm::assemble;
 use c25_asm::fault::AsmFault;
+pub use c25_asm::listing::Listing;
 use c25_macro::files::Files;
 use c25_meaning_common::failure::Failure;
 use c25_meaning_common::no_memory::NoMemory;
 use c25_meaning_language::statement::FaultKind;
 use c25_obj::{Module, read_module, write_module};
 use std::alloc::Global;
-
-pub use c25_asm::listing::Listing;
 
 /// A wrong line of a file.
 fn wrong_line(alloc: Global, file: &str, line: usize, kind: FaultKind) -> Fault

@@ -36,10 +36,13 @@ pub unwritten : (a b c : Option Files) (outputs : List Output) (i : ℕ) (d outp
 unwritten a b c outputs i d output fault low at first stay is =
     let parts : outputs ≡ take i outputs ++ output ∷ drop (i + 1) outputs =
     sym (take-append-drop i outputs) ∙ ap (λ rest. take i outputs ++ rest) (drop_more outputs i d low ∙ ap (λ (o : Output). o ∷ drop (i + 1) outputs) (sym at))
-    in
-    (contents_of output, record {
-      before = map contents_of (take i outputs);
-      after = map contents_of (drop (i + 1) outputs);
-      split = ap (map contents_of) parts ∙ map-append contents_of (take i outputs) (output ∷ drop (i + 1) outputs);
-      written = subst (Adds a c) (append-nil (map contents_of (take i outputs))) (joined a b c (map contents_of (take i outputs)) [] first stay);
-    }, is)
+    in (
+      contents_of output,
+      record {
+        before = map contents_of (take i outputs);
+        after = map contents_of (drop (i + 1) outputs);
+        split = ap (map contents_of) parts ∙ map-append contents_of (take i outputs) (output ∷ drop (i + 1) outputs);
+        written = subst (Adds a c) (append-nil (map contents_of (take i outputs))) (joined a b c (map contents_of (take i outputs)) [] first stay);
+      },
+      is,
+    )
