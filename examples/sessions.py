@@ -169,7 +169,7 @@ def packed_number(path):
         words = line.split(b" ")
         number += words[0] == b"case"
         if words[0] in (b"input", b"given", b"output", b"errors", b"written"):
-            rest = rest[int(words[1]) + 1:]
+            rest = rest[int(words[1].split(b"*")[0]) + 1:]
     return number
 
 

@@ -17,7 +17,7 @@ use c25_macro::expander::Expander;
 use c25_macro::files::Files;
 use c25_meaning_common::failure::Failure;
 use c25_meaning_common::no_memory::NoMemory;
-use c25_obj::{Module, module};
+use c25_obj::module;
 use c25_phases::fault::AsmFault;
 use c25_phases::finish;
 use std::alloc::Global;
@@ -109,10 +109,13 @@ pub fn assemble<'a>(
     alloc: Global,
     files: &'a Files,
     name: &'a str,
-) -> Result<(Module, Listing), Failure<AsmFault<'a>>>
+) -> Result<Listing, Failure<AsmFault<'a>>>
     ensures { MeetsBy fault_of assembled_of (source.assembled files.now name.now) result }
 {
     let Passed { progress, entries } = pass_all(alloc, files, name)?;
     let parts = finish(progress)?;
-    Ok((module(parts), Listing { entries }))
+    Ok(Listing {
+        module: module(parts),
+        entries,
+    })
 }

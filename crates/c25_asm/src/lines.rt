@@ -35,14 +35,13 @@ pub(crate) fn pass_line<'a>(
     ensures { MeetsBy fault_of passed_of (source.pass_line (shown line.entry) (passed_of passed.entry)) result }
 {
     let Passed { progress, entries } = passed;
-    let mut progress = progress;
     let mut entries = entries;
     let ExpLine { file, line, text } = line;
     let origin = Origin { file, line };
     let section = progress.current;
     let offset = progress.size_at(section);
-    match read_and_pass(&mut progress, origin, text.as_str()) {
-        Ok(()) => {
+    match read_and_pass(progress, origin, text.as_str()) {
+        Ok(progress) => {
             let count = progress.size_at(section).saturating_sub(offset);
             entries.push(Entry {
                 line,

@@ -87,9 +87,9 @@ fn fault_into(out: &mut String, failure: Failure<AsmFault<'_>>) -> Result<(), No
 pub(crate) fn module_text(alloc: Global, files: &Files) -> Result<String, NoMemory> {
     let mut out = String::new(alloc);
     match assemble(alloc, files, "a.asm") {
-        Ok((module, _listing)) => {
-            sections_into(&mut out, module.parts())?;
-            others_into(&mut out, module.parts())?;
+        Ok(listing) => {
+            sections_into(&mut out, listing.module.parts())?;
+            others_into(&mut out, listing.module.parts())?;
         }
         Err(failure) => fault_into(&mut out, failure)?,
     }
@@ -99,7 +99,7 @@ pub(crate) fn module_text(alloc: Global, files: &Files) -> Result<String, NoMemo
 /// What comes of the module `a.asm`: its listing, or its fault.
 pub(crate) fn listing_text(alloc: Global, files: &Files) -> Result<String, NoMemory> {
     match assemble(alloc, files, "a.asm") {
-        Ok((module, listing)) => listing.text(alloc, &module),
+        Ok(listing) => listing.text(alloc),
         Err(failure) => {
             let mut out = String::new(alloc);
             fault_into(&mut out, failure)?;

@@ -35,11 +35,11 @@ fn none(alloc: Global) -> Modules
 fn add_source(alloc: Global, files: &Files, name: &str, all: &mut Modules) -> Result<(), Fault>
     ensures { MeetsBy refusal_of (λ _. modules_view all.new) (with_source files.now (modules_view all.old) name.now) result }
 {
-    let assembled = assemble_source(alloc, files, name)?;
-    let listing = assembled.listing.text(alloc, &assembled.module)?;
-    let module = read_back(alloc, &assembled.module)?;
+    let listing = assemble_source(alloc, files, name)?;
+    let text = listing.text(alloc)?;
+    let module = read_back(alloc, &listing.module)?;
     all.modules.push(module)?;
-    all.listings.push(listing)?;
+    all.listings.push(text)?;
     Ok(())
 }
 

@@ -2,16 +2,16 @@
 
 ghost use Rattle.std.specs.Prelude.{◌≡◌, IfOk, string_bytes};
 ghost use Rattle.c25_phases.specs.View.{fault_of};
+ghost use Rattle.c25_asm.specs.View.{assembled_of};
 ghost use Rattle.c25_meaning_common.specs.Results.{MeetsBy};
 ghost use Rattle.c25_chain.specs.Refusal.{IsRefusedAs, refusal_of};
 ghost use Rattle.c25_chain.specs.Modules.{asm_refusal, assembled_in};
-ghost use Rattle.c25_chain.specs.View.{assembled_of};
 ghost use Rattle.c25_chain.specs.declared.fault.Refusal.TheVariants as refusal;
 
 use crate::fault::{Fault, Refusal};
 use c25_asm::assemble;
 use c25_asm::fault::AsmFault;
-use c25_asm::listing::Listing;
+pub use c25_asm::listing::Listing;
 use c25_macro::files::Files;
 use c25_meaning_common::failure::Failure;
 use c25_meaning_common::no_memory::NoMemory;
@@ -19,13 +19,6 @@ use c25_meaning_language::statement::FaultKind;
 use c25_obj::{Module, write_module};
 use c25_records::read_module;
 use std::alloc::Global;
-
-/// A module and its listing.
-#[derive(Drop)]
-pub struct Assembled {
-    pub module: Module,
-    pub listing: Listing,
-}
 
 /// A wrong line of a file.
 fn wrong_line(alloc: Global, file: &str, line: usize, kind: FaultKind) -> Fault
@@ -60,11 +53,11 @@ fn refused(alloc: Global, fault: AsmFault<'_>) -> Fault
 /// The module of the source of a name among these files, and its listing. It is refused where a line
 /// is wrong (10 to 13, 20 to 26, 31 to 36, 38, 50 to 55), or where a file that it asks for is not there
 /// (30).
-pub fn assemble_source(alloc: Global, files: &Files, name: &str) -> Result<Assembled, Fault>
+pub fn assemble_source(alloc: Global, files: &Files, name: &str) -> Result<Listing, Fault>
     ensures { MeetsBy refusal_of assembled_of (assembled_in files.now name.now) result }
 {
     match assemble(alloc, files, name) {
-        Ok((module, listing)) => Ok(Assembled { module, listing }),
+        Ok(listing) => Ok(listing),
         Err(Failure::NoMemory(error)) => Err(error.into()),
         Err(Failure::Fault(fault)) => Err(refused(alloc, fault)),
     }

@@ -1,14 +1,13 @@
 -- Files that are written one behind another.
 use Rattle.std.proofs.Common.{◌≡◌, ◌∙◌, sym, ap, ℕ, ◌+◌, ◌<◌, ◌≤◌, List, [], ◌∷◌, ◌++◌, length, map, take, drop, get_or, append_assoc, append-nil, Option, None, Some, subst}
-use Rattle.std.proofs.lemmas.List.{map_more, drop_more, drop_all, take-append-drop}
+use Rattle.std.proofs.lemmas.List.{map-append, map_more, drop_more, drop_all, take-append-drop}
 use Rattle.c25_meaning_expansion.specs.Files.{Files}
 use Rattle.c25_meaning_common.specs.declared.failure.Failure.{Failure}
-use Rattle.c25_meaning_common.specs.declared.failure.Failure.TheVariants as failure
 use Rattle.c25_disk.specs.declared.fault.FileFault.{FileFault}
 use Rattle.c25_disk.specs.declared.fault.FileFaultKind.TheVariants.{CannotWrite}
 use Rattle.std.specs.Prelude.{String}
 use Rattle.std.specs.declared.alloc.Global.{Global}
-use Rattle.c25_disk.specs.Held.{Adds, IsOfFile}
+use Rattle.c25_disk.specs.Held.{Adds, IsOfFile, Stay}
 use Rattle.c25_disk.specs.Written.{contents_of, IsUnwritten}
 use Rattle.c25_disk.specs.declared.writing.Output.{Output}
 
@@ -33,7 +32,17 @@ adds_all a b outputs i high done =
     in
     subst (λ xs. Adds a b (map contents_of xs)) all done
 
-pub unwritten : (outputs : List Output) (i : ℕ) (d : Output) (fault : Failure (FileFault (String Global))) → i < length outputs → IsOfFile (get_or outputs i d).name.now CannotWrite fault → IsUnwritten outputs fault
-unwritten outputs i d (failure.NoMemory n) low is = tt
-unwritten outputs i d (failure.Fault f) low is =
-    (is.1, (take i outputs, get_or outputs i d, drop (i + 1) outputs, sym (take-append-drop i outputs) ∙ ap (λ rest. take i outputs ++ rest) (drop_more outputs i d low), is.0))
+pub unwritten : (a b c : Option Files) (outputs : List Output) (i : ℕ) (d output : Output) (fault : Failure (FileFault (String Global))) → i < length outputs → output ≡ get_or outputs i d → Adds a b (map contents_of (take i outputs)) → Stay b c → IsOfFile output.name.now CannotWrite fault → IsUnwritten a c outputs fault
+unwritten a b c outputs i d output fault low at first stay is =
+    let parts : outputs ≡ take i outputs ++ output ∷ drop (i + 1) outputs =
+    sym (take-append-drop i outputs) ∙ ap (λ rest. take i outputs ++ rest) (drop_more outputs i d low ∙ ap (λ (o : Output). o ∷ drop (i + 1) outputs) (sym at))
+    in (
+      contents_of output,
+      record {
+        before = map contents_of (take i outputs);
+        after = map contents_of (drop (i + 1) outputs);
+        split = ap (map contents_of) parts ∙ map-append contents_of (take i outputs) (output ∷ drop (i + 1) outputs);
+        written = subst (Adds a c) (append-nil (map contents_of (take i outputs))) (joined a b c (map contents_of (take i outputs)) [] first stay);
+      },
+      is,
+    )

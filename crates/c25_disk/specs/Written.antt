@@ -1,9 +1,9 @@
 -- Files that are to be written.
-use Rattle.std.specs.Prelude.{◌≡◌, ◌∷◌, ◌++◌, ℕ, List, String}
-use Rattle.std.specs.String.{string_bytes}
+use Rattle.std.specs.Prelude.{◌≡◌, ◌∷◌, ◌++◌, ℕ, List, map, Option, String}
 use Rattle.std.specs.declared.alloc.Global.{Global}
 use Rattle.c25_meaning_common.specs.declared.failure.Failure.{Failure}
-use Rattle.c25_meaning_common.specs.declared.failure.Failure.TheVariants.{NoMemory, Fault}
+use Rattle.c25_meaning_expansion.specs.Files.{Files}
+use Rattle.c25_disk.specs.Held.{Adds, IsOfFile}
 use Rattle.c25_disk.specs.declared.fault.FileFault.{FileFault}
 use Rattle.c25_disk.specs.declared.fault.FileFaultKind.TheVariants.{CannotWrite}
 use Rattle.c25_disk.specs.declared.writing.Output.{Output}
@@ -12,8 +12,14 @@ use Rattle.c25_disk.specs.declared.writing.Output.{Output}
 abbrev pub contents_of : Output → List ℕ × List ℕ
 contents_of output = (output.name.now, output.bytes.items)
 
--- one of these cannot be written (7), unless memory ran out
-abbrev pub IsUnwritten : List Output → Failure (FileFault (String Global)) → Type 0
-IsUnwritten outputs (NoMemory n) = Unit {0}
-IsUnwritten outputs (Fault f) =
-    (f.kind ≡ CannotWrite) × ((before : List Output) × (output : Output) × (after : List Output) × (outputs ≡ before ++ output ∷ after) × (string_bytes f.file ≡ output.name.now))
+-- of these files those before this one were written, and no other
+pub record EndsBefore (old new : Option Files) (files : Files) (file : List ℕ × List ℕ) : Type 0 where
+  pub before : Files
+  pub after : Files
+  pub split : files ≡ before ++ file ∷ after
+  pub written : Adds old new before
+
+-- the first that cannot be written is told (7), unless memory ran out then
+abbrev pub IsUnwritten : Option Files → Option Files → List Output → Failure (FileFault (String Global)) → Type 0
+IsUnwritten old new outputs failure =
+    (file : List ℕ × List ℕ) × EndsBefore old new (map contents_of outputs) file × IsOfFile file.0 CannotWrite failure

@@ -1,7 +1,7 @@
 //! Where files are read and written.
 
-ghost use Rattle.std.specs.Prelude.{◌≡◌, ◌∷◌, [], Some, IfOk, IfSome, OnOk};
-ghost use Rattle.c25_disk.specs.Held.{Adds};
+ghost use Rattle.std.specs.Prelude.{◌≡◌, ◌∷◌, [], Some, IfOk, IfSome, OnErr, OnOk};
+ghost use Rattle.c25_disk.specs.Held.{Adds, Stay};
 
 use std::io::Read;
 
@@ -19,15 +19,16 @@ pub trait Disk {
     /// The bytes of the file of a name, where they are known.
     ghost bytes_of: { Self → List ℕ → Option (List ℕ) };
 
-    /// What was written, where that is known: names and bytes, the oldest first.
+    /// What was written whole, where that is known: names and bytes, the oldest first.
     ghost written: { Self → Option (List (List ℕ × List ℕ)) };
 
     /// Opens a file to read it.
     fn open(&self, name: &str) -> Result<Self::Reader, Refused>
         ensures { IfOk result (λ reader. IfSome (bytes_of self.now name.now) (λ bytes. Self.Reader.remaining reader ≡ Some bytes)) };
 
-    /// Writes all of a file, in the place of one that is there. After a refusal it may have some of the
-    /// bytes.
+    /// Writes all of a file, in the place of one that is there. After a refusal the file may have some of
+    /// the bytes, and counts as not written.
     fn write(&mut self, name: &str, bytes: &[u8]) -> Result<(), Refused>
-        ensures { OnOk result (Adds (written self.old) (written self.new) ((name.now, bytes.now) ∷ [])) };
+        ensures whole { OnOk result (Adds (written self.old) (written self.new) ((name.now, bytes.now) ∷ [])) }
+        ensures refused { OnErr result (Stay (written self.old) (written self.new)) };
 }

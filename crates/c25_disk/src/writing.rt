@@ -16,15 +16,16 @@ pub struct Output<'a> {
     pub bytes: Vec<u8>,
 }
 
-/// Writes files, one behind another. The first that cannot be written ends it (7).
-#[tactic(auto, using(crate::proofs::Added::adds_none, crate::proofs::Added::adds_more, crate::proofs::Added::adds_all, crate::proofs::Added::unwritten))]
+/// Writes files, one behind another. The first that cannot be written ends it (7), and no other is
+/// tried.
+#[tactic(auto, using(crate::proofs::Added::adds_none, crate::proofs::Added::adds_more, crate::proofs::Added::adds_all))]
 pub fn write_outputs<D: Disk>(
     alloc: Global,
     disk: &mut D,
     outputs: &[Output<'_>],
 ) -> Result<(), Failure<FileFault<String>>>
     ensures written { OnOk result (Adds (D.written disk.old) (D.written disk.new) (map contents_of outputs.now)) }
-    ensures fault { IfErr result (IsUnwritten outputs.now) }
+    ensures fault { IfErr result (IsUnwritten (D.written disk.old) (D.written disk.new) outputs.now) }
 {
     for output in outputs {
         match disk.write(output.name, &output.bytes) {

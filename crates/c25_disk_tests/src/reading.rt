@@ -1,11 +1,12 @@
 //! Texts of readers, sources and what is written.
 
 use crate::readers::{Pieces, Stars};
-use crate::shelf::Shelf;
+use crate::shelf::{Counting, Shelf};
 use c25_disk::fault::FileFault;
 use c25_disk::{CannotRead, Output, read_file, read_sources, read_text, write_outputs};
 use c25_meaning_common::failure::Failure;
 use std::alloc::Global;
+use std::cell::Cell;
 use std::io::Read;
 use std::process::Abort;
 use std::test::Fail;
@@ -32,6 +33,17 @@ fn characters_may_be_cut_between_reads(rt: HostRuntime) -> Result<(), Fail> {
         let read = read_text(rt.alloc(), &mut input)?;
         assert_eq!(rt; read.as_str(), text);
     }
+    Ok(())
+}
+
+#[test]
+fn a_byte_a_read_comes_to_the_end(rt: HostRuntime) -> Result<(), Fail> {
+    let mut slow = Stars {
+        left: 20_000,
+        most: 1,
+    };
+    let text = read_text(rt.alloc(), &mut slow)?;
+    assert_eq!(rt; text.len(), 20_000);
     Ok(())
 }
 
@@ -112,6 +124,18 @@ fn sources_are_read_in_their_order(rt: HostRuntime) -> Result<(), Fail> {
     let text = read_file(rt.alloc(), &shelf, "a")?;
     assert_eq!(rt; text.as_str(), " NOP\n");
     is_told(&rt, read_file(rt.alloc(), &shelf, "c"), "c: 8 CannotRead")
+}
+
+#[test]
+fn each_source_is_opened_once(rt: HostRuntime) -> Result<(), Fail> {
+    let disk = Counting {
+        shelf: shelf_of(rt.alloc(), FILES),
+        opened: Cell::new(0),
+    };
+    let files = read_sources(rt.alloc(), &disk, &["b", "a"])?;
+    assert_eq!(rt; files.text("a"), Some(" NOP\n"));
+    assert_eq!(rt; disk.opened.get(), 2);
+    Ok(())
 }
 
 #[test]

@@ -12,12 +12,12 @@ pub(crate) struct Case<'a> {
     pub(crate) name: &'a str,
     /// The program's name first.
     pub(crate) words: Vec<String>,
-    pub(crate) input: &'a [u8],
+    pub(crate) input: Vec<u8>,
     pub(crate) given: Vec<File<'a>>,
     pub(crate) status: u8,
-    pub(crate) output: &'a [u8],
+    pub(crate) output: Vec<u8>,
     /// What goes to standard error, where that is looked at.
-    pub(crate) errors: Option<&'a [u8]>,
+    pub(crate) errors: Option<Vec<u8>>,
     pub(crate) written: Vec<File<'a>>,
 }
 
@@ -29,10 +29,10 @@ impl<'a> Case<'a> {
         Ok(Case {
             name,
             words,
-            input: b"",
+            input: Vec::new(alloc),
             given: Vec::new(alloc),
             status: 0,
-            output: b"",
+            output: Vec::new(alloc),
             errors: None,
             written: Vec::new(alloc),
         })
@@ -42,7 +42,7 @@ impl<'a> Case<'a> {
     pub(crate) fn run<R: Print + AllocGlobal>(&self, rt: &R) -> Result<()> {
         let name = self.name;
         let mut folder = Folder::new(rt.alloc(), &self.given);
-        let mut input = self.input;
+        let mut input = self.input.as_slice();
         let mut output = Vec::<u8>::new(rt.alloc());
         let mut errors = Vec::<u8>::new(rt.alloc());
         let ended = run_words(
@@ -56,12 +56,13 @@ impl<'a> Case<'a> {
         if ended.status() != ExitCode::from(self.status) {
             println!(rt; "{name}: another status than {}", self.status)?;
         }
-        if output.as_slice() != self.output {
+        if output.as_slice() != self.output.as_slice() {
             println!(rt; "{name}: another standard output")?;
         }
         if self
             .errors
-            .is_some_and(|wanted| errors.as_slice() != wanted)
+            .as_ref()
+            .is_some_and(|wanted| errors.as_slice() != wanted.as_slice())
         {
             println!(rt; "{name}: another standard error")?;
         }

@@ -4,10 +4,10 @@ use c25_disk::disk::{Disk, Refused};
 use std::alloc::{AllocError, Global};
 
 /// A file: its name and its bytes.
-#[derive(Clone, Copy)]
+#[derive(Drop)]
 pub(crate) struct File<'a> {
     pub(crate) name: &'a str,
-    pub(crate) bytes: &'a [u8],
+    pub(crate) bytes: Vec<u8>,
 }
 
 /// A file that was written.
@@ -26,7 +26,7 @@ impl Written {
     }
 
     fn is(&self, file: &File<'_>) -> bool {
-        self.name.as_str() == file.name && self.bytes.as_slice() == file.bytes
+        self.name.as_str() == file.name && self.bytes.as_slice() == file.bytes.as_slice()
     }
 }
 
@@ -69,7 +69,7 @@ impl<'a> Disk for Folder<'a> {
     fn open(&self, name: &str) -> Result<&'a [u8], Refused> {
         for file in self.given {
             if file.name == name {
-                return Ok(file.bytes);
+                return Ok(file.bytes.as_slice());
             }
         }
         Err(Refused)

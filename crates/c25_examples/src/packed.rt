@@ -4,7 +4,8 @@
 //! program's name; `input LENGTH`, what stands on standard input; `given LENGTH NAME`, a file; `status NUMBER`;
 //! `output LENGTH` and `errors LENGTH`, what must go to standard output and to standard error, where there is no
 //! line `errors` whatever does; `written LENGTH NAME`, a file that must be written. Behind a line with a length
-//! stand so many bytes and a line feed.
+//! stand so many bytes and a line feed. A length may be `LENGTH*COUNT`, which is so many copies of these bytes; entries of
+//! one kind, of files those of one name, go on one behind another.
 
 use crate::case::Case;
 use crate::files::File;
@@ -29,11 +30,41 @@ fn split_bytes(bytes: &[u8], length: usize) -> Result<(&[u8], &[u8])> {
     }
 }
 
-/// The file that `LENGTH NAME` tells of, and what stands behind it.
-fn split_file<'a>(told: &'a str, bytes: &'a [u8]) -> Result<(File<'a>, &'a [u8])> {
+/// The length and the number of copies of `LENGTH` or `LENGTH*COUNT`.
+fn copies_of(told: &str) -> Result<(usize, usize)> {
+    match told.split_once('*') {
+        Some((length, count)) => Ok((length.parse()?, count.parse()?)),
+        None => Ok((told.parse()?, 1)),
+    }
+}
+
+/// Appends the copies that are told of the bytes in front, and gives what stands behind them.
+fn put_bytes<'a>(all: &mut Vec<u8>, told: &str, bytes: &'a [u8]) -> Result<&'a [u8]> {
+    let (length, count) = copies_of(told)?;
+    let (first, rest) = split_bytes(bytes, length)?;
+    for _ in 0..count {
+        all.extend_from_slice(first)?;
+    }
+    Ok(rest)
+}
+
+/// Puts bytes into the last of these files, if it has the name that `LENGTH NAME` tells, or else into a new one, and gives
+/// what stands behind them.
+fn put_file<'a>(
+    alloc: Global,
+    files: &mut Vec<File<'a>>,
+    told: &'a str,
+    bytes: &'a [u8],
+) -> Result<&'a [u8]> {
     let (length, name) = told.split_once(' ').context("a file without a name")?;
-    let (bytes, rest) = split_bytes(bytes, length.parse()?)?;
-    Ok((File { name, bytes }, rest))
+    if !files.last().is_some_and(|file| file.name == name) {
+        let bytes = Vec::new(alloc);
+        files.push(File { name, bytes })?;
+    }
+    match files.last_mut() {
+        Some(file) => put_bytes(&mut file.bytes, length, bytes),
+        None => bail!("no file"),
+    }
 }
 
 /// Puts an entry, of which the line is told and the bytes lie in front, into its case, and gives what stands
@@ -54,31 +85,16 @@ fn put_entry<'a>(
             case.status = told.parse()?;
             Ok(bytes)
         }
-        "input" => {
-            let (input, rest) = split_bytes(bytes, told.parse()?)?;
-            case.input = input;
-            Ok(rest)
-        }
-        "output" => {
-            let (output, rest) = split_bytes(bytes, told.parse()?)?;
-            case.output = output;
-            Ok(rest)
-        }
+        "input" => put_bytes(&mut case.input, told, bytes),
+        "output" => put_bytes(&mut case.output, told, bytes),
         "errors" => {
-            let (errors, rest) = split_bytes(bytes, told.parse()?)?;
+            let mut errors = Vec::new(alloc);
+            let rest = put_bytes(&mut errors, told, bytes)?;
             case.errors = Some(errors);
             Ok(rest)
         }
-        "given" => {
-            let (file, rest) = split_file(told, bytes)?;
-            case.given.push(file)?;
-            Ok(rest)
-        }
-        "written" => {
-            let (file, rest) = split_file(told, bytes)?;
-            case.written.push(file)?;
-            Ok(rest)
-        }
+        "given" => put_file(alloc, &mut case.given, told, bytes),
+        "written" => put_file(alloc, &mut case.written, told, bytes),
         _ => bail!("no entry: {line}"),
     }
 }

@@ -1,5 +1,5 @@
 -- The marks of a program are the addresses and sizes of its statements.
-use Rattle.std.proofs.Common.{◌≡◌, ℕ, ◌+◌, eqb, List, [], ◌∷◌, ◌++◌, map, filter, refl, sym, ap, ◌∙◌, subst}
+use Rattle.std.proofs.Common.{◌≡◌, ℕ, ◌+◌, eqb, List, [], ◌∷◌, ◌++◌, map, filter, sym, ap, ◌∙◌, subst}
 use Rattle.std.specs.List.Sorted.{IsPermutation}
 use Rattle.std.proofs.lemmas.List.{map-append}
 use Rattle.std.proofs.lemmas.List.Sorted.{IsPermutation-append_left, IsPermutation-append_right, IsPermutation-map, IsPermutation-refl, IsPermutation-sym, IsPermutation-trans}
@@ -7,41 +7,21 @@ use Rattle.std.proofs.lemmas.Simd.{map-map}
 use Rattle.c25_meaning_commands.specs.Command.{CommandData}
 use Rattle.c25_meaning_expansion.specs.Files.{Files}
 use Rattle.c25_meaning_assembly.specs.InstructionStatements.{Instruction}
+use Rattle.c25_meaning_language.proofs.Numbers.{size_of_form}
 use Rattle.c25_meaning_linking.specs.Linking.{ImageData, IsProgram}
 use Rattle.c25_meaning_objects.specs.Module.{Contents}
 use Rattle.c25_meaning_placing.specs.Place.{Place, by_modules}
-use Rattle.c25_meaning_language.specs.Statement.{form_row, insn_of}
 use Rattle.c25_meaning_processor.specs.Statements.{Statement, marks_of}
 use Rattle.c25_meaning_processor.specs.Statements as statements
-use Rattle.c25_meaning_instructions.specs.Table.{size, size_of}
 use Rattle.c25_meaning_linking.specs.Words.{is_on_program, module_marks, placed_mark, program_marks, section_base}
 use Rattle.c25_meaning_image.specs.declared.mark.Mark.{Mark}
-use Rattle.c25_meaning_instructions.specs.declared.mnemonic.LongName.TheVariants as long
-use Rattle.c25_meaning_instructions.specs.declared.mnemonic.ShortName.TheVariants as short
 use Rattle.c25_meaning_objects.specs.declared.object.ModuleMark.{ModuleMark}
-use Rattle.c25_meaning_language.specs.declared.statement.Form.{Form}
-use Rattle.c25_meaning_language.specs.declared.statement.Form.TheVariants as form
 use Rattle.c25_laws.proofs.ByKeys.{alike_filtered, alike_permuted, filter_mapped, map_same}
 use Rattle.c25_laws.proofs.SourcesRead.{AreRead, sources_read}
 use Rattle.c25_laws.specs.ModuleStatements.{AreStatements, mark_of}
 use Rattle.c25_laws.proofs.SheetStatements.{sheet_statements, statements_in, module_statements, operand_numbers, placed_statement, stands_on, statements_by}
 use Rattle.c25_laws.proofs.StatementsUnder.{statements_are}
 use Rattle.c25_laws.specs.ProgramStatements.{AreMarksOf, AreModulesOf, program_statements}
-
--- the size of a statement is that of its instruction, whatever the numbers
-pub size_of_form : (f : Form) (ns : List ℕ) → size_of (insn_of f ns) ≡ size (form_row f)
-size_of_form (form.Mem name a) ns = refl
-size_of_form (form.Shifted name a) ns = refl
-size_of_form (form.ArMem name a) ns = refl
-size_of_form (form.Port name a) ns = refl
-size_of_form (form.Bit name a) ns = refl
-size_of_form (form.Short short.Lark) ns = refl
-size_of_form (form.Short _) ns = refl
-size_of_form (form.Long long.Lrlk) ns = refl
-size_of_form (form.Long _) ns = refl
-size_of_form (form.LongMem name a) ns = refl
-size_of_form (form.Jump name change) ns = refl
-size_of_form (form.Plain name change) ns = refl
 
 module _ (modules : List Contents) (places : List Place) where
   one_mark : (number : ℕ) (m : Contents) (i : Instruction) → placed_mark modules places number m (mark_of i) ≡ statements.mark_of (placed_statement modules places number m i)

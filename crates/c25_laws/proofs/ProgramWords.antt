@@ -28,9 +28,9 @@ use Rattle.c25_meaning_assembly.specs.declared.assembly.Target.TheVariants as ta
 use Rattle.c25_meaning_objects.specs.declared.object.ModuleMark.{ModuleMark}
 use Rattle.c25_meaning_objects.specs.declared.object.Relocation.{Relocation}
 use Rattle.c25_meaning_language.specs.declared.statement.Form.{Form}
+use Rattle.c25_meaning_language.proofs.Numbers.{size_of_form}
 use Rattle.c25_laws.proofs.FieldsFilled.{AreApart, apart, fill, fill_none, fill_one, filled_reads, place}
 use Rattle.c25_linking_laws.proofs.Members.{behind_in, each_in, first_in, fits_in, found_in, from_filter, from_map, from_reversed, in_filter, in_map, in_reversed, none_found}
-use Rattle.c25_laws.proofs.ProgramMarks.{size_of_form}
 use Rattle.c25_laws.proofs.SourcesRead.{AreRead, IsRead, sources_read}
 use Rattle.c25_laws.proofs.StatementWords.{both_hold}
 use Rattle.c25_laws.proofs.StatementsOfSources.{HasOperands}

@@ -2,6 +2,8 @@
 
 ghost use Rattle.std.specs.Prelude.{◌≤◌, ◌+◌};
 
+use c25_obj::Module;
+
 /// A line, and where its words are.
 #[derive(Drop)]
 pub struct Entry {
@@ -18,9 +20,10 @@ pub struct Entry {
     ghost within: { offset + count ≤ 65536 },
 }
 
-/// The lines of a module and the places of their words.
+/// A module, and the lines that made it with the places of their words.
 #[derive(Drop)]
 pub struct Listing {
+    pub module: Module,
     /// One for each line.
     pub entries: Vec<Entry>,
 }

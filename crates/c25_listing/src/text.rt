@@ -8,17 +8,16 @@ ghost use Rattle.c25_listing.specs.View.{entries_of};
 use crate::listing::Listing;
 use crate::printing::with_flags;
 use c25_meaning_common::no_memory::NoMemory;
-use c25_obj::Module;
 use std::alloc::Global;
 
 impl Listing {
-    /// The text of the listing beside its module: for each expanded line its number, the offset
+    /// The text of the listing: for each expanded line its number, the offset
     /// and the word, `'` where the word has a relocation, and the line; for each further word its offset
     /// and itself.
-    pub fn text(&self, alloc: Global, owner: &Module) -> Result<String, NoMemory>
-        ensures { IfOk result (λ text. string_bytes text ≡ listing.listing_text owner.now (entries_of self.now.entries.items)) }
+    pub fn text(&self, alloc: Global) -> Result<String, NoMemory>
+        ensures { IfOk result (λ text. string_bytes text ≡ listing.listing_text self.now.module (entries_of self.now.entries.items)) }
     {
-        let words = with_flags(alloc, owner.parts())?;
+        let words = with_flags(alloc, self.module.parts())?;
         let mut out = String::new(alloc);
         let mut line = String::new(alloc);
         for entry in &self.entries {

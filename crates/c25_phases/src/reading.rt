@@ -1,6 +1,6 @@
 //! A line's text, read and passed.
 
-ghost use Rattle.std.specs.Prelude.{◌≤◌, OnOk};
+ghost use Rattle.std.specs.Prelude.{◌≤◌, IfOk};
 ghost use Rattle.c25_meaning_common.specs.Results.{Meets};
 ghost use Rattle.c25_meaning_assembly.specs.Sections.{name_count};
 ghost use Rattle.c25_phases.specs.Steps.{text_passed};
@@ -12,15 +12,18 @@ use c25_meaning_common::failure::Failure;
 use c25_meaning_language::statement::FaultKind;
 use c25_statements::read_statement;
 
-/// The first phase of one line: its text read, and what it says done.
+/// The first phase of one line: its text read, and what it says done. A refusal ends the source, so it
+/// leaves nothing of what the lines before have made.
 pub fn read_and_pass<'a>(
-    progress: &mut Progress<'a>,
+    progress: Progress<'a>,
     origin: Origin<'a>,
     text: &str,
-) -> Result<(), Failure<FaultKind>>
-    ensures told { Meets (λ _. progress_of progress.new) (text_passed (origin_of origin.entry) text.now (progress_of progress.old)) result }
-    ensures few { OnOk result (name_count (progress_of progress.new).names (progress_of progress.new).declared ≤ 65535) }
+) -> Result<Progress<'a>, Failure<FaultKind>>
+    ensures told { Meets progress_of (text_passed (origin_of origin.entry) text.now (progress_of progress.entry)) result }
+    ensures few { IfOk result (λ p. name_count (progress_of p).names (progress_of p).declared ≤ 65535) }
 {
+    let mut progress = progress;
     let statement = read_statement(progress.alloc, text)?;
-    progress.pass(origin, statement)
+    progress.pass(origin, statement)?;
+    Ok(progress)
 }

@@ -116,7 +116,15 @@ fn words_that_are_no_text_have_status_2(rt: HostRuntime) -> Result<(), Fail> {
 
 #[test]
 fn words_that_are_no_task_have_status_2(rt: HostRuntime) -> Result<(), Fail> {
-    for word in ["asm", "help", "--help", "--version", "--", "a.asm"] {
+    let told = [
+        ("asm", None),
+        ("help", None),
+        ("--help", None),
+        ("--version", Some(b"c25 1.0.0\n".as_slice())),
+        ("--", None),
+        ("a.asm", None),
+    ];
+    for (word, text) in told {
         let mut out = Vec::<u8>::new(rt.alloc());
         let mut err = Vec::<u8>::new(rt.alloc());
         let mut shelf = shelf_of(rt.alloc(), &[]);
@@ -137,7 +145,10 @@ fn words_that_are_no_task_have_status_2(rt: HostRuntime) -> Result<(), Fail> {
         );
         assert_eq!(rt; ended.status(), ExitCode::from(2));
         assert!(rt; out.is_empty());
-        assert!(rt; !err.is_empty());
+        match text {
+            Some(text) => assert_eq!(rt; err.as_slice(), text),
+            None => assert!(rt; !err.is_empty()),
+        }
         assert_eq!(&rt; input.rest, b" NOP\n".as_slice());
     }
     Ok(())

@@ -1,6 +1,5 @@
 -- What stays as it is, and files that cannot be written.
-use Rattle.std.proofs.Common.{◌≡◌, ◌∙◌, ap, inl, inr, refl, sym, subst, ℕ, List, ◌∷◌, ◌++◌, append-nil, map, Option, None, Some}
-use Rattle.std.proofs.lemmas.List.{map-append}
+use Rattle.std.proofs.Common.{◌≡◌, ◌∙◌, ap, inl, inr, refl, sym, subst, ℕ, List, append-nil, map, Option, None, Some}
 use Rattle.std.specs.Io.KnownBytes.{Keeps}
 use Rattle.std.specs.Prelude.{Ok, Result, String, Vec}
 use Rattle.std.specs.String.{string_bytes}
@@ -19,7 +18,7 @@ use Rattle.c25_meaning_common.specs.declared.failure.Failure.TheVariants as fail
 use Rattle.c25_meaning_expansion.specs.Files.{Files}
 use Rattle.c25_report.specs.declared.ending.Ending.{Ending}
 use Rattle.c25_tasks.specs.Files.{IsToldOfFile}
-use Rattle.c25_tasks.specs.Tells.{HasFault, IsEndingOf, IsShort, IsUnwrittenAmong, Wrote, WritesTold}
+use Rattle.c25_tasks.specs.Tells.{HasFault, IsEndingOf, IsUnwrittenAmong, Wrote, WritesTold}
 
 pub stays : (files : Option Files) → Stay files files
 stays None = tt
@@ -34,22 +33,16 @@ keeps (Some xs) = refl
 same_line : (f : FileFault (String Global)) (name : List ℕ) → string_bytes f.file ≡ name → f.kind ≡ CannotWrite → at_file (string_bytes f.file) f.kind ≡ at_file name CannotWrite
 same_line f name named kind = ap (λ k. at_file (string_bytes f.file) k) kind ∙ ap (λ (n : List ℕ). at_file n CannotWrite) named
 
-unwritten : (outputs : List Output) (refusal : Failure (FileFault (String Global))) (fault : Fault) (e : Ending) → IsUnwritten outputs refusal → IsToldOfFile refusal fault → IsEndingOf fault e → IsUnwrittenAmong (map contents_of outputs) e
-unwritten outputs (failure.NoMemory n) (failure.NoMemory m) e is told comes = inr (m, comes)
-unwritten outputs (failure.NoMemory n) (failure.Fault r) e is told comes = absurd told
-unwritten outputs (failure.Fault f) (failure.NoMemory m) e is told comes = absurd told
-unwritten outputs (failure.Fault f) (failure.Fault r) e is told (inr short) = inr short
-unwritten outputs (failure.Fault f) (failure.Fault r) e (kind, (before, output, after, all, named)) told (inl line) =
+unwritten : (old new : Option Files) (outputs : List Output) (refusal : Failure (FileFault (String Global))) (fault : Fault) (e : Ending) → IsUnwritten old new outputs refusal → IsToldOfFile refusal fault → IsEndingOf fault e → IsUnwrittenAmong (map contents_of outputs) e (old, new)
+unwritten old new outputs (failure.NoMemory n) (failure.NoMemory m) e (file, ends, is) told comes = (file, ends, inr (m, comes))
+unwritten old new outputs (failure.NoMemory n) (failure.Fault r) e is told comes = absurd told
+unwritten old new outputs (failure.Fault f) (failure.NoMemory m) e is told comes = absurd told
+unwritten old new outputs (failure.Fault f) (failure.Fault r) e (file, ends, is) told (inr short) = (file, ends, inr short)
+unwritten old new outputs (failure.Fault f) (failure.Fault r) e (file, ends, is) told (inl line) =
     let of_file = subst (λ (g : Refusal (String Global)). HasFault (fault_text (failure.Fault g)) e) told line in
-    inl (
-      map contents_of before,
-      contents_of output,
-      map contents_of after,
-      ap (map contents_of) all ∙ map-append contents_of before (output ∷ after),
-      subst (λ (text : List ℕ). HasFault text e) (same_line f output.name.now named kind) of_file,
-    )
+    (file, ends, inl (subst (λ (text : List ℕ). HasFault text e) (same_line f file.0 is.0 is.1) of_file))
 
-pub told_unwritten : (told : Result (Vec Output Global) Fault) (outputs : Vec Output Global) (shown : List Output) (refusal : Failure (FileFault (String Global))) (fault : Fault) (e : Ending) (written : Wrote) → told ≡ Ok outputs → shown ≡ outputs.items → IsUnwritten shown refusal → IsToldOfFile refusal fault → IsEndingOf fault e → WritesTold told e written
+pub told_unwritten : (told : Result (Vec Output Global) Fault) (outputs : Vec Output Global) (shown : List Output) (refusal : Failure (FileFault (String Global))) (fault : Fault) (e : Ending) (written : Wrote) → told ≡ Ok outputs → shown ≡ outputs.items → IsUnwritten written.0 written.1 shown refusal → IsToldOfFile refusal fault → IsEndingOf fault e → WritesTold told e written
 told_unwritten told outputs shown refusal fault e written is same among as_fault comes =
-    let of_outputs = subst (λ (os : List Output). IsUnwrittenAmong (map contents_of os) e) same (unwritten shown refusal fault e among as_fault comes) in
+    let of_outputs = subst (λ (os : List Output). IsUnwrittenAmong (map contents_of os) e written) same (unwritten written.0 written.1 shown refusal fault e among as_fault comes) in
     subst (λ (t : Result (Vec Output Global) Fault). WritesTold t e written) (sym is) (inr of_outputs)

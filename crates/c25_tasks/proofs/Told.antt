@@ -4,14 +4,14 @@ use Rattle.std.specs.Prelude.{Result, Ok, Err, Vec}
 use Rattle.std.specs.Result.{IsErrAnd}
 use Rattle.std.specs.declared.alloc.Global.{Global}
 use Rattle.c25_chain.specs.Refusal.{Fault}
-use Rattle.c25_chain.specs.declared.sources.Assembled.{Assembled}
+use Rattle.c25_listing.specs.declared.listing.Listing.{Listing}
 use Rattle.c25_disk.specs.Held.{Held}
 use Rattle.c25_disk.specs.declared.writing.Output.{Output}
 use Rattle.c25_meaning_common.specs.declared.failure.Failure.TheVariants as failure
 use Rattle.c25_tasks.specs.Assembly.{AsmOutputs, AssemblesBy}
 use Rattle.c25_tasks.specs.Files.{ReadsAll}
 
-pub told_unread : (held : Held) (source : List ℕ) (answer : Result Assembled Fault) (fault : Fault) → IsErrAnd answer (λ e. e ≡ fault) → ReadsAll held (source ∷ []) (Err fault) → AssemblesBy held source answer
+pub told_unread : (held : Held) (source : List ℕ) (answer : Result Listing Fault) (fault : Fault) → IsErrAnd answer (λ e. e ≡ fault) → ReadsAll held (source ∷ []) (Err fault) → AssemblesBy held source answer
 told_unread held source (Ok a) fault is reads = absurd is
 told_unread held source (Err e) fault is reads = inl (subst (λ f. ReadsAll held (source ∷ []) (Err f)) (sym is) reads)
 

@@ -9,7 +9,7 @@ use Rattle.c25_report.specs.ProgramFiles.{files_of}
 use Rattle.c25_report.specs.declared.ending.Ending.{Ending}
 use Rattle.c25_report.specs.declared.texts.Texts.{Texts}
 use Rattle.c25_tasks.specs.Files.{AfterOptional, AfterSources, ComesTo}
-use Rattle.c25_tasks.specs.Tells.{IsEndingOf, Wrote, Writes}
+use Rattle.c25_tasks.specs.Tells.{IsEndingOf, IsShort, Wrote, Writes}
 
 -- ---- programs
 
@@ -27,7 +27,7 @@ BuildsFrom held names command answer = AfterSources held names (λ given. AfterO
 abbrev pub texts_in : Built → Texts
 texts_in built = record { page0 = built.linked.page0.text; page1 = built.linked.page1.text; map = built.linked.map; listings = built.listings }
 
--- what is written of what was built; where there is nothing, nothing is written
+-- what is written of what was built, unless memory runs out before; where there is nothing, nothing is written
 abbrev pub WritesProgram : List ℕ → Result Built Fault → Ending → Wrote → Type 0
-WritesProgram base (Ok built) e written = Writes (files_of base (texts_in built)) e written
+WritesProgram base (Ok built) e written = Writes (files_of base (texts_in built)) e written ⊎ (IsShort e × Stay written.0 written.1)
 WritesProgram base (Err fault) e written = IsEndingOf fault e × Stay written.0 written.1

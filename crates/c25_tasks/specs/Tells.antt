@@ -1,5 +1,5 @@
 -- What the program prints and writes of answers, and what it comes to.
-use Rattle.std.specs.Prelude.{◌≡◌, ◌⊎◌, ℕ, List, ◌∷◌, ◌++◌, map, Option, Result, Ok, Err, String, Vec}
+use Rattle.std.specs.Prelude.{◌≡◌, ◌⊎◌, ℕ, List, map, Option, Result, Ok, Err, String, Vec}
 use Rattle.std.specs.Io.KnownBytes.{Keeps}
 use Rattle.std.specs.String.{string_bytes}
 use Rattle.std.specs.declared.alloc.Global.{Global}
@@ -8,7 +8,7 @@ use Rattle.c25_chain.specs.OutcomeText.{run_text}
 use Rattle.c25_chain.specs.Refusal.{Fault}
 use Rattle.c25_chain.specs.declared.chain.Chain.{Chain}
 use Rattle.c25_disk.specs.Held.{Adds, Stay}
-use Rattle.c25_disk.specs.Written.{contents_of}
+use Rattle.c25_disk.specs.Written.{EndsBefore, contents_of}
 use Rattle.c25_disk.specs.declared.fault.FileFaultKind.TheVariants.{CannotWrite}
 use Rattle.c25_disk.specs.declared.writing.Output.{Output}
 use Rattle.c25_meaning_common.specs.declared.failure.Failure.TheVariants as failure
@@ -59,14 +59,14 @@ TellsText (Err fault) e out = IsEndingOf fault e × Keeps out.0 out.1
 
 -- ---- files
 
--- one of these files cannot be written (7), or memory runs out
-abbrev pub IsUnwrittenAmong : Files → Ending → Type 0
-IsUnwrittenAmong files e =
-    ((before : Files) × (file : List ℕ × List ℕ) × (after : Files) × (files ≡ before ++ file ∷ after) × HasFault (at_file file.0 CannotWrite) e) ⊎ IsShort e
+-- the first of these files that cannot be written is told (7), unless memory runs out then; those before it were written, and no other
+abbrev pub IsUnwrittenAmong : Files → Ending → Wrote → Type 0
+IsUnwrittenAmong files e written =
+    (file : List ℕ × List ℕ) × EndsBefore written.0 written.1 files file × IsLineOf (at_file file.0 CannotWrite) e
 
 -- these files are written, or one cannot be
 abbrev pub Writes : Files → Ending → Wrote → Type 0
-Writes files e written = ((e ≡ ending.Done) × Adds written.0 written.1 files) ⊎ IsUnwrittenAmong files e
+Writes files e written = ((e ≡ ending.Done) × Adds written.0 written.1 files) ⊎ IsUnwrittenAmong files e written
 
 -- the same of files that all work came to; where there are none, nothing is written
 abbrev pub WritesTold : Result (Vec Output Global) Fault → Ending → Wrote → Type 0

@@ -2,7 +2,7 @@
 
 ghost use Rattle.std.specs.Option.{option_map};
 ghost use Rattle.std.specs.Prelude.{◌≡◌, IfOk, map};
-ghost use Rattle.c25_chain.specs.View.{assembled_of};
+ghost use Rattle.c25_asm.specs.View.{assembled_of};
 ghost use Rattle.c25_disk.specs.Written.{contents_of};
 ghost use Rattle.c25_words.specs.Task.{text_of};
 ghost use Rattle.c25_tasks.specs.Assembly.{AsmOutputs, AssemblesBy, asm_files};
@@ -12,7 +12,7 @@ use crate::files::{fault_of_copies, missing_name};
 use crate::sources::sources_of;
 use c25_chain::assemble_source;
 use c25_chain::fault::{Fault, Refusal};
-use c25_chain::sources::Assembled;
+use c25_chain::sources::Listing;
 use c25_disk::disk::Disk;
 use c25_disk::work::Work;
 use c25_disk::{Output, with_copies};
@@ -31,10 +31,10 @@ impl<'a> Work for Assembly<'a> {
     ghost use Rattle.c25_meaning_common.specs.Results.{MeetsBy};
     ghost use Rattle.c25_chain.specs.Modules.{assembled_in};
     ghost use Rattle.c25_chain.specs.Refusal.{refusal_of};
-    ghost use Rattle.c25_chain.specs.View.{assembled_of};
+    ghost use Rattle.c25_asm.specs.View.{assembled_of};
     ghost use Rattle.c25_tasks.specs.Files.{missing_name};
 
-    type Answer = Assembled;
+    type Answer = Listing;
 
     type Fault = Refusal<String>;
 
@@ -42,7 +42,7 @@ impl<'a> Work for Assembly<'a> {
 
     ghost missing_of = { missing_name };
 
-    fn answer(&self, alloc: Global, files: &Files) -> Result<Assembled, Fault> {
+    fn answer(&self, alloc: Global, files: &Files) -> Result<Listing, Fault> {
         assemble_source(alloc, files, self.source)
     }
 
@@ -54,12 +54,12 @@ impl<'a> Work for Assembly<'a> {
 }
 
 /// The module of a source on a disk and of the files that it copies.
-fn assemble_file<D: Disk>(alloc: Global, disk: &D, source: &str) -> Result<Assembled, Fault>
+fn assemble_file<D: Disk>(alloc: Global, disk: &D, source: &str) -> Result<Listing, Fault>
     ensures { AssemblesBy (D.bytes_of disk.now) source.now result }
 {
     let files = sources_of(alloc, disk, &[source])?;
     match with_copies(alloc, disk, files, &Assembly { source }) {
-        Ok(assembled) => Ok(assembled),
+        Ok(listing) => Ok(listing),
         Err(failure) => Err(fault_of_copies(failure)),
     }
 }
@@ -67,22 +67,22 @@ fn assemble_file<D: Disk>(alloc: Global, disk: &D, source: &str) -> Result<Assem
 /// The files that are written of a module: its object, and its listing where one is asked for.
 fn outputs_of<'a>(
     alloc: Global,
-    assembled: &Assembled,
+    listing: &Listing,
     object: &'a str,
-    listing: Option<&'a str>,
+    list: Option<&'a str>,
 ) -> Result<Vec<Output<'a>>, NoMemory>
-    ensures { IfOk result (λ outputs. map contents_of outputs.items ≡ asm_files (assembled_of assembled.now) object.entry.now (text_of listing.entry)) }
+    ensures { IfOk result (λ outputs. map contents_of outputs.items ≡ asm_files (assembled_of listing.now) object.entry.now (text_of list.entry)) }
 {
-    let bytes = write_module(alloc, &assembled.module)?;
+    let bytes = write_module(alloc, &listing.module)?;
     let mut outputs = Vec::new(alloc);
     outputs.push(Output {
         name: object,
         bytes,
     })?;
-    let Some(name) = listing else {
+    let Some(name) = list else {
         return Ok(outputs);
     };
-    let text = assembled.listing.text(alloc, &assembled.module)?;
+    let text = listing.text(alloc)?;
     let bytes = text.into_bytes();
     outputs.push(Output { name, bytes })?;
     Ok(outputs)

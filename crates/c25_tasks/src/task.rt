@@ -53,6 +53,7 @@ fn assemble_to_disk<D: Disk>(
 }
 
 /// Writes the files of a program behind a base name.
+#[tactic(auto, using(crate::proofs::Quiet::stays))]
 fn write_program<D: Disk>(
     alloc: Global,
     base: &str,
