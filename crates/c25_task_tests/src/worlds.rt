@@ -121,3 +121,45 @@ impl<'a> Disk for Refusing<'a> {
         self.shelf.write(name, bytes)
     }
 }
+
+/// A shelf whose readers give at most so many bytes at a time, and on which the file of one name has these
+/// bytes, and ends or fails behind them.
+#[derive(Drop)]
+pub(crate) struct Reading<'a> {
+    pub(crate) shelf: Shelf<'a>,
+    pub(crate) most: usize,
+    pub(crate) name: &'a str,
+    pub(crate) rest: &'a [u8],
+    pub(crate) fails: bool,
+}
+
+impl<'a> Disk for Reading<'a> {
+    ghost use Rattle.std.specs.Prelude.{None};
+
+    type Reader = Pieces<'a>;
+
+    ghost bytes_of = { λ _ _. None };
+
+    ghost written = { λ _. None };
+
+    fn open(&self, name: &str) -> Result<Pieces<'a>, Refused> {
+        let most = self.most;
+        if name == self.name {
+            return Ok(Pieces {
+                rest: self.rest,
+                most,
+                fails: self.fails,
+            });
+        }
+        let Pieces { rest, .. } = self.shelf.open(name)?;
+        Ok(Pieces {
+            rest,
+            most,
+            fails: false,
+        })
+    }
+
+    fn write(&mut self, name: &str, bytes: &[u8]) -> Result<(), Refused> {
+        self.shelf.write(name, bytes)
+    }
+}

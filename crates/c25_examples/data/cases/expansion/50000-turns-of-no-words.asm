@@ -1,0 +1,3 @@
+ .loop 50000
+ .space 0
+ .endloop
