@@ -5,8 +5,9 @@ use std::error::Error;
 use std::fmt;
 
 /// A growth was refused: the one cause for which every call of the workspace that allocates may
-/// refuse, whatever else it refuses for (9). It is made from the allocator's own refusals and from
-/// nothing else, so whoever holds one was refused a growth.
+/// refuse, whatever else it refuses for (9). It is made from std's own refusals and from nothing else,
+/// so whoever holds one was told of one. std tells of one with ample memory too, where more is asked
+/// for than there can be, or where a `Display` fails that is written into a `String`.
 #[derive(Clone, Copy, PartialEq, Debug)]
 pub struct NoMemory {
     refused: (),
