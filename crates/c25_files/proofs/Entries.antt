@@ -61,19 +61,19 @@ is_place : {X : Type 0} (p : X → Bool) (xs : List X) → place_in p xs ≡ pos
 unfolding place_in
 is_place p xs = is_position_or_len (place_in p) p refl (λ x rest. refl) xs
 
-place_of_key : (name : List ℕ) (es : List (String Global × String Global)) → place_in (λ k. bytes_eq name (string_bytes k)) (keys_of es) ≡ place_in (λ f. bytes_eq name f.0) (views string_bytes es)
+place_of_key : (name : List ℕ) (es : List (String Global × List ℕ)) → place_in (λ k. bytes_eq name (string_bytes k)) (keys_of es) ≡ place_in (λ f. bytes_eq name f.0) (views (λ t. t) es)
 unfolding place_in
 place_of_key name [] = refl
 place_of_key name (e ∷ es) = ap (λ n. cond (bytes_eq name (string_bytes e.0)) 0 (1 + n)) (place_of_key name es)
 
 -- the place of a name among the keys is that among the names
-same_place : (es : List (String Global × String Global)) (name : List ℕ) → position_or_len (λ k. bytes_eq name (string_bytes k)) (keys_of es) ≡ file_number (views string_bytes es) name
+same_place : (es : List (String Global × List ℕ)) (name : List ℕ) → position_or_len (λ k. bytes_eq name (string_bytes k)) (keys_of es) ≡ file_number (views (λ t. t) es) name
 same_place es name =
-    sym (is_place (λ k. bytes_eq name (string_bytes k)) (keys_of es)) ∙ place_of_key name es ∙ is_place (λ f. bytes_eq name f.0) (views string_bytes es)
+    sym (is_place (λ k. bytes_eq name (string_bytes k)) (keys_of es)) ∙ place_of_key name es ∙ is_place (λ f. bytes_eq name f.0) (views (λ t. t) es)
 
 found_at : (b : Bool) (i n : ℕ) → Some i ≡ cond b (Some n) None → i ≡ n
 found_at true i n h = cc
 found_at false i n h = absurd (cc)
 
-pub numbered : (es : List (String Global × String Global)) (name : List ℕ) (i : ℕ) → Some i ≡ position (λ k. bytes_eq name (string_bytes k)) (keys_of es) → i ≡ file_number (views string_bytes es) name
+pub numbered : (es : List (String Global × List ℕ)) (name : List ℕ) (i : ℕ) → Some i ≡ position (λ k. bytes_eq name (string_bytes k)) (keys_of es) → i ≡ file_number (views (λ t. t) es) name
 numbered es name i h = found_at _ i _ h ∙ same_place es name

@@ -1,3 +1,4 @@
+pub mod Added
+pub mod Counted
 pub mod Entries
 pub mod FaultNames
-pub mod Added

@@ -8,6 +8,7 @@ ghost use Rattle.c25_meaning_expansion.specs.Rows.{file_number};
 ghost use Rattle.c25_files.specs.Added.{AddsAll};
 ghost use Rattle.c25_files.specs.declared.files.AddFault.TheVariants as fault;
 
+use crate::text::Text;
 use c25_meaning_common::failure::Failure;
 use c25_meaning_common::no_memory::NoMemory;
 use c25_reading::{CannotRead, read_text};
@@ -63,7 +64,7 @@ impl Error for AddFault {}
 #[derive(Drop)]
 pub struct Files {
     alloc: Global,
-    texts: IndexMap<String, String>,
+    texts: IndexMap<String, Text>,
 }
 
 /// Files are seen as the list of their names and texts.
@@ -98,12 +99,12 @@ impl Files {
     }
 
     /// The number and the text of the file of a name, where there is one.
-    pub fn find(&self, name: &str) -> Option<(usize, &str)>
+    pub fn find(&self, name: &str) -> Option<(usize, &Text)>
         ensures text { option_map (λ f. f.1.now) result ≡ text_named self.now name.now }
         ensures number { IfSome result (λ f. f.0 ≡ file_number self.now name.now) }
     {
         match self.texts.get_full(name) {
-            Some((number, _, text)) => Some((number, text.as_str())),
+            Some((number, _, text)) => Some((number, text)),
             None => None,
         }
     }
@@ -125,7 +126,7 @@ impl Files {
         ensures err { OnErr result (self.new ≡ self.old) }
     {
         let name = String::from_str(self.alloc, name)?;
-        self.texts.insert(name, text)?;
+        self.texts.insert(name, Text::new(text))?;
         Ok(())
     }
 

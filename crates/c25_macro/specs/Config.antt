@@ -1,5 +1,5 @@
 -- The configuration that an expander stands for, and what its rules say of their answers.
-use Rattle.std.specs.Prelude.{◌≡◌, ◌++◌, Option, Some, None, Result, Ok, Err, map}
+use Rattle.std.specs.Prelude.{◌≡◌, ℕ, List, [], ◌∷◌, ◌++◌, Option, Some, None, Result, Ok, Err, map}
 use Rattle.std.specs.String.{string_bytes}
 use Rattle.c25_meaning_expansion.specs.Rows.{Row}
 use Rattle.c25_meaning_expansion.specs.Expansion as exp
@@ -17,20 +17,31 @@ use Rattle.c25_macro.specs.declared.state.Progress.TheVariants as progress
 use Rattle.c25_macro.specs.declared.refusal.Refusal.{Refusal}
 use Rattle.c25_macro.specs.declared.refusal.Refusal.TheVariants.{Faulty, Missing}
 
--- how the next line is looked at
-abbrev pub mode_of : Mode → exp.Mode
-mode_of mode.Reading = exp.Reading
-mode_of (mode.Acting place act) = exp.Acting place (act_of act)
-mode_of (mode.InMacro name parameters body nested) = exp.InMacro (string_bytes name) (bytes_of_names parameters.items) body nested
-mode_of (mode.InLoop turns body nested) = exp.InLoop turns body nested
+-- how the next line is looked at, where these lines were read since the mark
+abbrev pub mode_of : Mode → List Row → exp.Mode
+mode_of mode.Reading body = exp.Reading
+mode_of (mode.Acting place act) body = exp.Acting place (act_of act)
+mode_of (mode.InMacro name parameters nested) body = exp.InMacro (string_bytes name) (bytes_of_names parameters.items) body nested
+mode_of (mode.InLoop turns nested) body = exp.InLoop turns body nested
+
+-- how many blocks of the kind that is collected are nested in it
+abbrev pub nested_in : Mode → ℕ
+nested_in mode.Reading = 0
+nested_in (mode.Acting place act) = 0
+nested_in (mode.InMacro name parameters nested) = nested
+nested_in (mode.InLoop turns nested) = nested
+
+-- this holds of the lines before the one that was read last
+abbrev pub ForBody : List Row → Row → (List Row → Type 0) → Type 0
+ForBody passed row holds = (body : List Row) → passed ≡ body ++ row ∷ [] → holds body
 
 -- all that stands at a line
 abbrev pub config : State → Config
 config s = record {
-  lines = map Read s.top.rows ++ after s.below;
+  lines = map Read s.top.lines.rest ++ after s.below;
   scope = scope_of s.top.scope;
   outer = scopes s.below;
-  mode = mode_of s.mode;
+  mode = mode_of s.mode s.top.lines.passed;
   names = dictionary_of s.names;
   left = s.left;
 }

@@ -7,4 +7,3 @@ pub mod Scopes
 pub mod Macros
 pub mod Refusals
 pub mod Stages
-pub mod Views

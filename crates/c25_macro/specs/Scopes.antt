@@ -23,7 +23,7 @@ scope_of f = record { kind = kind_of f.kind; last = f.last; branches = f.branche
 -- what the sources outside the current one still give, each after an end
 abbrev pub after : List Source → List Item
 after [] = []
-after (s ∷ ss) = Close ∷ (map Read s.rows ++ after ss)
+after (s ∷ ss) = Close ∷ (map Read s.lines.rest ++ after ss)
 
 -- the sources outside the current one
 abbrev pub scopes : List Source → List exp.Scope

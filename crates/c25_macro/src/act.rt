@@ -1,12 +1,12 @@
 //! What a line asks of expansion.
 
-use crate::rows::Rows;
 use c25_expr::tree::Expr;
+use c25_lines::Rows;
 use c25_substitution::parameters::Arguments;
 
 /// What a line asks for.
 #[derive(Drop)]
-pub(crate) enum Act {
+pub(crate) enum Act<'a> {
     If(Expr),
     ElseIf(Expr),
     Else,
@@ -37,14 +37,14 @@ pub(crate) enum Act {
     End,
     /// The lines of a macro come next, with these arguments.
     Call {
-        body: Rows,
+        body: Rows<'a>,
         arguments: Arguments,
     },
 }
 
 /// What a line asks for, and the label that becomes a line of its own before that.
 #[derive(Drop)]
-pub(crate) struct Order {
+pub(crate) struct Order<'a> {
     pub(crate) label: Option<String>,
-    pub(crate) act: Act,
+    pub(crate) act: Act<'a>,
 }

@@ -10,9 +10,9 @@ ghost use Rattle.c25_expr.specs.View.{tree_of};
 ghost use Rattle.c25_macro.specs.Acts.{bytes_of_names};
 ghost use Rattle.c25_macro.specs.Config.{config, GoesOn};
 ghost use Rattle.c25_macro.specs.Scopes.{test_of};
+ghost use Rattle.c25_macro.specs.declared.state.Mode.TheVariants as modes;
 
 use crate::refusal::{Refusal, fault};
-use crate::rows::{Rows, rows_of};
 use crate::scope::{Block, Branches, Kind, Scope, Source, Stack};
 use crate::state::{Mode, State};
 use crate::values::{is_zero, number};
@@ -20,6 +20,7 @@ use c25_expr::symbols::Symbols;
 use c25_expr::tree::Expr;
 use c25_files::files::Files;
 use c25_isa::mnemonic;
+use c25_lines::Rows;
 use c25_meaning_common::failure::Failure;
 use c25_meaning_expansion::expansion::Place;
 use c25_meaning_language::statement::FaultKind;
@@ -42,7 +43,7 @@ fn is_mnemonic(name: &str) -> bool
     mnemonic(name).is_some()
 }
 
-impl State {
+impl<'a> State<'a> {
     /// Whether a macro or a mnemonic has this name.
     fn is_taken(&self, name: &str) -> bool
         ensures { result ≡ (is_some (exp.macro_named (config self.now).names name.now) || is_some (spelling_of name.now)) }
@@ -63,10 +64,10 @@ impl State {
         if self.is_taken(name.as_str()) {
             return Err(fault(FaultKind::Redefined, place));
         }
+        self.top.lines.mark();
         self.mode = Mode::InMacro {
             name,
             parameters,
-            body: Rows::new(self.alloc),
             nested: 0,
         };
         Ok(())
@@ -77,11 +78,12 @@ impl State {
     pub(crate) fn begin_expansion(
         &mut self,
         place: Place,
-        body: Rows,
+        body: Rows<'a>,
         arguments: Arguments,
     ) -> Result<(), Failure<Refusal>>
-        requires { (config self.old).names.count < 2 ^ 31 }
-        ensures { GoesOn (rule.begins_expansion place body arguments (config self.old)) result (config self.new) }
+        requires expansions { (config self.old).names.count < 2 ^ 31 }
+        requires reading { self.old.mode ≡ modes.Reading }
+        ensures { GoesOn (rule.begins_expansion place body.entry arguments (config self.old)) result (config self.new) }
     {
         if self.is_full() {
             return Err(fault(FaultKind::Depth, place));
@@ -94,6 +96,7 @@ impl State {
 
     /// The lines through the end of the innermost such block are dropped.
     pub(crate) fn leave_block(&mut self, block: Block, place: Place) -> Result<(), Failure<Refusal>>
+        requires reading { self.old.mode ≡ modes.Reading }
         ensures { GoesOn (rule.leaves (test_of block) place (config self.old)) result (config self.new) }
     {
         if self.leave(block) {
@@ -110,11 +113,8 @@ impl State {
         if self.is_full() {
             return Err(fault(FaultKind::Depth, place));
         }
-        self.mode = Mode::InLoop {
-            turns,
-            body: Rows::new(self.alloc),
-            nested: 0,
-        };
+        self.top.lines.mark();
+        self.mode = Mode::InLoop { turns, nested: 0 };
         Ok(())
     }
 
@@ -142,6 +142,7 @@ impl State {
 
     /// `.break` whose condition holds or not.
     fn break_if(&mut self, holds: bool, place: Place) -> Result<(), Failure<Refusal>>
+        requires reading { self.old.mode ≡ modes.Reading }
         ensures { GoesOn (rule.breaks_if holds place (config self.old)) result (config self.new) }
     {
         if !self.stands_in(Block::Turn) {
@@ -162,6 +163,7 @@ impl State {
         place: Place,
         condition: Option<Expr>,
     ) -> Result<(), Failure<Refusal>>
+        requires reading { self.old.mode ≡ modes.Reading }
         ensures { GoesOn (rule.breaks symbols.now place (option_map tree_of condition) (config self.old)) result (config self.new) }
     {
         match condition {
@@ -208,10 +210,11 @@ impl State {
     #[tactic(auto, unfolding(c25_meaning_expansion::specs::ExpansionRules::copies))]
     pub(crate) fn copy(
         &mut self,
-        files: &Files,
+        files: &'a Files,
         place: Place,
         name: String,
     ) -> Result<(), Failure<Refusal>>
+        requires reading { self.old.mode ≡ modes.Reading }
         ensures { GoesOn (rule.copies files.now place (string_bytes name) (config self.old)) result (config self.new) }
     {
         match files.find(name.as_str()) {
@@ -219,7 +222,7 @@ impl State {
                 if self.is_full() {
                     return Err(fault(FaultKind::Depth, place));
                 }
-                let rows = rows_of(self.alloc, file, text)?;
+                let rows = text.rows(file);
                 let last = rows.last_place(place);
                 self.open(Kind::Copied, last, rows)?;
                 Ok(())
@@ -231,10 +234,11 @@ impl State {
     /// `.end`
     #[tactic(auto, unfolding(c25_meaning_expansion::specs::ExpansionRules::ends_all))]
     pub(crate) fn end_all(&mut self, place: Place) -> Result<(), Failure<Refusal>>
+        requires reading { self.old.mode ≡ modes.Reading }
         ensures { GoesOn (rule.ends_all place (config self.old)) result (config self.new) }
     {
         self.top = Source {
-            rows: Rows::new(self.alloc),
+            lines: Rows::none().into_passage(),
             scope: Scope {
                 kind: Kind::Copied,
                 last: place,

@@ -5,48 +5,47 @@ ghost use Rattle.std.specs.String.{string_bytes};
 ghost use Rattle.c25_meaning_lines.specs.Line.{first_word};
 ghost use Rattle.c25_meaning_expansion.specs.ExpansionRules as rule;
 ghost use Rattle.c25_macro.specs.Acts.{bytes_of_names};
-ghost use Rattle.c25_macro.specs.Config.{config, GoesOn};
+ghost use Rattle.c25_macro.specs.Config.{config, ForBody, GoesOn};
+ghost use Rattle.c25_macro.specs.declared.state.Mode.TheVariants as modes;
 
 use crate::directive::directive_in;
 use crate::macros::Macro;
 use crate::refusal::Refusal;
-use crate::rows::{Row, Rows};
 use crate::scope::Kind;
 use crate::state::{Mode, State};
+use c25_lines::{Row, Rows};
 use c25_meaning_common::failure::Failure;
 use c25_meaning_expansion::expansion::{Directive, Place};
 
-impl State {
+impl<'a> State<'a> {
     /// A line of a macro's body, or its end.
     #[tactic(auto, unfolding(c25_meaning_expansion::specs::ExpansionRules::in_macro))]
     pub(crate) fn collect_macro(
         &mut self,
-        row: Row,
+        row: Row<'a>,
         name: String,
         parameters: Vec<String>,
-        mut body: Rows,
         nested: usize,
     ) -> Result<(), Failure<Refusal>>
-        requires { nested < 2 ^ 32 }
-        ensures { GoesOn (rule.in_macro row (rule.directive_in (first_word row.text)) (string_bytes name) (bytes_of_names parameters.items) body nested (config self.old)) result (config self.new) }
+        requires few { nested < 2 ^ 32 }
+        requires reading { self.old.mode ≡ modes.Reading }
+        ensures { ForBody self.old.top.lines.passed row.entry (λ body. GoesOn (rule.in_macro row.entry (rule.directive_in (first_word row.entry.text)) (string_bytes name) (bytes_of_names parameters.items) body nested (config self.old)) result (config self.new)) }
     {
         let nested = match directive_in(row.text()) {
             Some(Directive::Macro) => nested + 1,
             Some(Directive::EndMacro) => {
                 if nested == 0 {
+                    let body = self.top.lines.body();
                     self.names.define(name, Macro { parameters, body })?;
-                    self.mode = Mode::Reading;
                     return Ok(());
                 }
                 nested - 1
             }
             _ => nested,
         };
-        body.push(row)?;
         self.mode = Mode::InMacro {
             name,
             parameters,
-            body,
             nested,
         };
         Ok(())
@@ -57,15 +56,16 @@ impl State {
         &mut self,
         place: Place,
         turns: usize,
-        body: Rows,
+        body: Rows<'a>,
     ) -> Result<(), Failure<Refusal>>
-        ensures { GoesOn (rule.turns_begin place turns body (config self.old)) result (config self.new) }
+        requires reading { self.old.mode ≡ modes.Reading }
+        ensures { GoesOn (rule.turns_begin place turns body.entry (config self.old)) result (config self.new) }
     {
         if turns == 0 {
             return Ok(());
         }
         let last = body.last_place(place);
-        let rows = body.copy(self.alloc)?;
+        let rows = body.copy();
         let more = turns - 1;
         self.open(Kind::Turn { body, more }, last, rows)?;
         Ok(())
@@ -75,31 +75,26 @@ impl State {
     #[tactic(auto, unfolding(c25_meaning_expansion::specs::ExpansionRules::in_loop))]
     pub(crate) fn collect_loop(
         &mut self,
-        row: Row,
+        row: Row<'a>,
         turns: usize,
-        mut body: Rows,
         nested: usize,
     ) -> Result<(), Failure<Refusal>>
-        requires { nested < 2 ^ 32 }
-        ensures { GoesOn (rule.in_loop row (rule.directive_in (first_word row.text)) turns body nested (config self.old)) result (config self.new) }
+        requires few { nested < 2 ^ 32 }
+        requires reading { self.old.mode ≡ modes.Reading }
+        ensures { ForBody self.old.top.lines.passed row.entry (λ body. GoesOn (rule.in_loop row.entry (rule.directive_in (first_word row.entry.text)) turns body nested (config self.old)) result (config self.new)) }
     {
         let nested = match directive_in(row.text()) {
             Some(Directive::Loop) => nested + 1,
             Some(Directive::EndLoop) => {
                 if nested == 0 {
-                    self.mode = Mode::Reading;
+                    let body = self.top.lines.body();
                     return self.begin_turns(row.place(), turns, body);
                 }
                 nested - 1
             }
             _ => nested,
         };
-        body.push(row)?;
-        self.mode = Mode::InLoop {
-            turns,
-            body,
-            nested,
-        };
+        self.mode = Mode::InLoop { turns, nested };
         Ok(())
     }
 }

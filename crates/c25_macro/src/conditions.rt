@@ -36,7 +36,7 @@ fn phase_of(number: i32) -> Phase
     }
 }
 
-impl State {
+impl State<'_> {
     /// `.if`
     #[tactic(auto, unfolding(c25_meaning_expansion::specs::ExpansionRules::begins_if))]
     pub(crate) fn begin_if(

@@ -22,18 +22,18 @@ use std::alloc::Global;
 /// What names stand for: macros, the names of `.asg` and `.eval`, and the parameters of the expansions
 /// that are open.
 #[derive(Drop)]
-pub(crate) struct Dictionary {
+pub(crate) struct Dictionary<'a> {
     alloc: Global,
-    macros: Macros,
+    macros: Macros<'a>,
     texts: Texts,
     expansions: Expansions,
     /// How many expansions there have been.
     count: u32,
 }
 
-impl Dictionary {
+impl<'a> Dictionary<'a> {
     /// No names.
-    pub(crate) fn new(alloc: Global) -> Dictionary
+    pub(crate) fn new(alloc: Global) -> Dictionary<'a>
         ensures { dictionary_of result ≡ record { macros = []; texts = []; expansions = []; count = 0 } }
     {
         Dictionary {
@@ -46,7 +46,7 @@ impl Dictionary {
     }
 
     /// The macro of a name.
-    pub(crate) fn macro_named(&self, name: &str) -> Option<&Macro>
+    pub(crate) fn macro_named(&self, name: &str) -> Option<&Macro<'a>>
         ensures { option_map (λ m. macro_of m.now) result ≡ exp.macro_named (dictionary_of self.now) name.now }
     {
         self.macros.get(name)
@@ -60,8 +60,8 @@ impl Dictionary {
     }
 
     /// A macro of a new name.
-    pub(crate) fn define(&mut self, name: String, definition: Macro) -> Result<(), NoMemory>
-        ensures { OnOk result (dictionary_of self.new ≡ record (dictionary_of self.old) { macros = with_name (dictionary_of self.old).macros (string_bytes name) (macro_of definition) }) }
+    pub(crate) fn define(&mut self, name: String, definition: Macro<'a>) -> Result<(), NoMemory>
+        ensures { OnOk result (dictionary_of self.new ≡ record (dictionary_of self.old) { macros = with_name (dictionary_of self.old).macros (string_bytes name) (macro_of definition.entry) }) }
     {
         self.macros.put(name, definition)
     }
@@ -126,7 +126,7 @@ impl Dictionary {
     }
 
     /// A file, expansion or turn has ended.
-    pub(crate) fn end(&mut self, kind: &Kind)
+    pub(crate) fn end(&mut self, kind: &Kind<'_>)
         ensures { dictionary_of self.new ≡ exp.without_ended (kind_of kind.now) (dictionary_of self.old) }
     {
         if let Kind::Expanded = kind {

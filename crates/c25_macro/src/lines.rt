@@ -12,17 +12,19 @@ ghost use Rattle.c25_macro.specs.Acts.{act_of, order_of};
 ghost use Rattle.c25_macro.specs.Config.{config, Follows, GoesOn};
 ghost use Rattle.c25_macro.specs.Dictionary.{dictionary_of};
 ghost use Rattle.c25_macro.specs.Scopes.{other_branches};
+ghost use Rattle.c25_macro.specs.declared.state.Mode.TheVariants as modes;
 
 use crate::act::{Act, Order};
 use crate::conditions::takes_lines;
 use crate::directive::directive_in;
+use crate::line::Line;
 use crate::orders::{read_call, read_order};
 use crate::refusal::{Refusal, at_place, fault};
-use crate::rows::Row;
 use crate::scope::Block;
 use crate::state::{Mode, Progress, State};
 use c25_expr::symbols::Symbols;
 use c25_files::files::Files;
+use c25_lines::Row;
 use c25_meaning_common::failure::Failure;
 use c25_meaning_expansion::expansion::{Branch, Directive, Phase, Place};
 use c25_meaning_language::long_line::LongLine;
@@ -30,18 +32,19 @@ use c25_meaning_language::statement::FaultKind;
 use c25_substitution::substitution::{substitute, substitute_before_comma, unsubstituted};
 use c25_text::line::first_word;
 
-impl State {
+impl<'a> State<'a> {
     /// What a line asks for is done.
     #[tactic(auto, unfolding(c25_meaning_expansion::specs::ExpansionRules::acts))]
     pub(crate) fn act(
         &mut self,
-        files: &Files,
+        files: &'a Files,
         symbols: &Symbols,
         place: Place,
-        act: Act,
+        act: Act<'a>,
     ) -> Result<(), Failure<Refusal>>
-        requires { (config self.old).names.count < 2 ^ 31 }
-        ensures { GoesOn (rule.acts files.now symbols.now place (act_of act) (config self.old)) result (config self.new) }
+        requires expansions { (config self.old).names.count < 2 ^ 31 }
+        requires reading { self.old.mode ≡ modes.Reading }
+        ensures { GoesOn (rule.acts files.now symbols.now place (act_of act.entry) (config self.old)) result (config self.new) }
     {
         match act {
             Act::If(condition) => self.begin_if(symbols, place, &condition),
@@ -66,19 +69,20 @@ impl State {
     /// The label of a consumed line is given, or else what the line asks for is done.
     fn label(
         &mut self,
-        files: &Files,
+        files: &'a Files,
         symbols: &Symbols,
         place: Place,
-        order: Order,
+        order: Order<'a>,
     ) -> Result<Progress, Failure<Refusal>>
-        requires { (config self.old).names.count < 2 ^ 31 }
-        ensures { Follows (rule.labelled files.now symbols.now place (order_of order).label (order_of order).act (config self.old)) result (config self.new) }
+        requires expansions { (config self.old).names.count < 2 ^ 31 }
+        requires reading { self.old.mode ≡ modes.Reading }
+        ensures { Follows (rule.labelled files.now symbols.now place (order_of order.entry).label (order_of order.entry).act (config self.old)) result (config self.new) }
     {
         let Order { label, act } = order;
         match label {
             Some(name) => {
                 self.mode = Mode::Acting { place, act };
-                Ok(Progress::Given(Row::new(place, name)))
+                Ok(Progress::Given(Line::new(place, name)))
             }
             None => {
                 self.act(files, symbols, place, act)?;
@@ -90,13 +94,14 @@ impl State {
     /// A line that is consumed, or its fault.
     fn consume(
         &mut self,
-        files: &Files,
+        files: &'a Files,
         symbols: &Symbols,
         place: Place,
-        order: Result<Order, Failure<FaultKind>>,
+        order: Result<Order<'a>, Failure<FaultKind>>,
     ) -> Result<Progress, Failure<Refusal>>
-        requires { (config self.old).names.count < 2 ^ 31 }
-        ensures { (told : Result acts.Order FaultKind) → Meets order_of told order
+        requires expansions { (config self.old).names.count < 2 ^ 31 }
+        requires reading { self.old.mode ≡ modes.Reading }
+        ensures { (told : Result acts.Order FaultKind) → Meets order_of told order.entry
             → Follows (rule.consumed files.now symbols.now place told (config self.old)) result (config self.new) }
     {
         match order {
@@ -109,41 +114,43 @@ impl State {
     /// given.
     fn call(
         &mut self,
-        files: &Files,
+        files: &'a Files,
         symbols: &Symbols,
-        row: Row,
+        line: Line,
     ) -> Result<Progress, Failure<Refusal>>
-        requires { (config self.old).names.count < 2 ^ 31 }
-        ensures { Follows (rule.calls files.now symbols.now row (rule.macro_of (first_word row.text) (config self.old).names) (config self.old)) result (config self.new) }
+        requires expansions { (config self.old).names.count < 2 ^ 31 }
+        requires reading { self.old.mode ≡ modes.Reading }
+        ensures { Follows (rule.calls files.now symbols.now line (rule.macro_of (first_word line.text) (config self.old).names) (config self.old)) result (config self.new) }
     {
-        let Some(word) = first_word(row.text()) else {
-            return Ok(Progress::Given(row));
+        let Some(word) = first_word(line.text()) else {
+            return Ok(Progress::Given(line));
         };
         match self.names.macro_named(word) {
             Some(called) => {
-                let order = read_call(self.alloc, called, row.text());
-                self.consume(files, symbols, row.place(), order)
+                let order = read_call(self.alloc, called, line.text());
+                self.consume(files, symbols, line.place(), order)
             }
-            None => Ok(Progress::Given(row)),
+            None => Ok(Progress::Given(line)),
         }
     }
 
     /// A line that was substituted.
     fn use_substituted(
         &mut self,
-        files: &Files,
+        files: &'a Files,
         symbols: &Symbols,
-        row: Row,
+        line: Line,
     ) -> Result<Progress, Failure<Refusal>>
-        requires { (config self.old).names.count < 2 ^ 31 }
-        ensures { Follows (rule.uses files.now symbols.now row (rule.directive_in (first_word row.text)) (config self.old)) result (config self.new) }
+        requires expansions { (config self.old).names.count < 2 ^ 31 }
+        requires reading { self.old.mode ≡ modes.Reading }
+        ensures { Follows (rule.uses files.now symbols.now line (rule.directive_in (first_word line.text)) (config self.old)) result (config self.new) }
     {
-        match directive_in(row.text()) {
+        match directive_in(line.text()) {
             Some(directive) => {
-                let order = read_order(self.alloc, directive, row.text());
-                self.consume(files, symbols, row.place(), order)
+                let order = read_order(self.alloc, directive, line.text());
+                self.consume(files, symbols, line.place(), order)
             }
-            None => self.call(files, symbols, row),
+            None => self.call(files, symbols, line),
         }
     }
 
@@ -169,16 +176,17 @@ impl State {
     #[tactic(auto, unfolding(c25_meaning_expansion::specs::ExpansionRules::used))]
     fn use_line(
         &mut self,
-        files: &Files,
+        files: &'a Files,
         symbols: &Symbols,
-        row: Row,
+        row: Row<'a>,
         directive: Option<Directive>,
     ) -> Result<Progress, Failure<Refusal>>
-        requires { (config self.old).names.count < 2 ^ 31 }
-        ensures { Follows (rule.used files.now symbols.now row directive (config self.old)) result (config self.new) }
+        requires expansions { (config self.old).names.count < 2 ^ 31 }
+        requires reading { self.old.mode ≡ modes.Reading }
+        ensures { Follows (rule.used files.now symbols.now row.entry directive (config self.old)) result (config self.new) }
     {
         match self.substituted(directive, row.text()) {
-            Ok(text) => self.use_substituted(files, symbols, Row::new(row.place(), text)),
+            Ok(text) => self.use_substituted(files, symbols, Line::new(row.place(), text)),
             Err(Failure::NoMemory(error)) => Err(Failure::NoMemory(error)),
             Err(Failure::Fault(_)) => Err(fault(FaultKind::LongLine, row.place())),
         }
@@ -187,13 +195,14 @@ impl State {
     /// A substituted line of this directive.
     fn obey(
         &mut self,
-        files: &Files,
+        files: &'a Files,
         symbols: &Symbols,
         place: Place,
         directive: Directive,
         text: &str,
     ) -> Result<Progress, Failure<Refusal>>
-        requires { (config self.old).names.count < 2 ^ 31 }
+        requires expansions { (config self.old).names.count < 2 ^ 31 }
+        requires reading { self.old.mode ≡ modes.Reading }
         ensures { Follows (rule.consumed files.now symbols.now place (acts.order_of directive text.now) (config self.old)) result (config self.new) }
     {
         let order = read_order(self.alloc, directive, text);
@@ -204,13 +213,14 @@ impl State {
     #[tactic(auto, unfolding(c25_meaning_expansion::specs::ExpansionRules::resumes))]
     fn resume(
         &mut self,
-        files: &Files,
+        files: &'a Files,
         symbols: &Symbols,
-        row: Row,
+        row: Row<'a>,
         directive: Directive,
     ) -> Result<Progress, Failure<Refusal>>
-        requires { (config self.old).names.count < 2 ^ 31 }
-        ensures { Follows (rule.resumes files.now symbols.now row directive (config self.old)) result (config self.new) }
+        requires expansions { (config self.old).names.count < 2 ^ 31 }
+        requires reading { self.old.mode ≡ modes.Reading }
+        ensures { Follows (rule.resumes files.now symbols.now row.entry directive (config self.old)) result (config self.new) }
     {
         match self.substituted(Some(directive), row.text()) {
             Ok(text) => self.obey(files, symbols, row.place(), directive, text.as_str()),
@@ -233,13 +243,14 @@ impl State {
     /// A line whose first word is `.elseif` before substitution.
     fn read_elseif(
         &mut self,
-        files: &Files,
+        files: &'a Files,
         symbols: &Symbols,
-        row: Row,
+        row: Row<'a>,
         branch: Branch,
     ) -> Result<Progress, Failure<Refusal>>
-        requires { (config self.old).names.count < 2 ^ 31 }
-        ensures { Follows (rule.reads_elseif files.now symbols.now row branch (other_branches (config self.old).scope.branches) (config self.old)) result (config self.new) }
+        requires expansions { (config self.old).names.count < 2 ^ 31 }
+        requires reading { self.old.mode ≡ modes.Reading }
+        ensures { Follows (rule.reads_elseif files.now symbols.now row.entry branch (other_branches (config self.old).scope.branches) (config self.old)) result (config self.new) }
     {
         match branch.phase {
             Phase::Seeking => self.resume(files, symbols, row, Directive::ElseIf),
@@ -254,13 +265,14 @@ impl State {
     /// A line whose first word is `.else` before substitution, in lines that are skipped.
     fn skip_else(
         &mut self,
-        files: &Files,
+        files: &'a Files,
         symbols: &Symbols,
-        row: Row,
+        row: Row<'a>,
         branch: Branch,
     ) -> Result<Progress, Failure<Refusal>>
-        requires { (config self.old).names.count < 2 ^ 31 }
-        ensures { Follows (rule.else_in branch.phase row.place (λ _. rule.resumes files.now symbols.now row Directive.Else (config self.old))) result (config self.new) }
+        requires expansions { (config self.old).names.count < 2 ^ 31 }
+        requires reading { self.old.mode ≡ modes.Reading }
+        ensures { Follows (rule.else_in branch.phase row.entry.place (λ _. rule.resumes files.now symbols.now row.entry Directive.Else (config self.old))) result (config self.new) }
     {
         match branch.phase {
             Phase::Seeking | Phase::Taking | Phase::Passing => {
@@ -273,14 +285,15 @@ impl State {
     /// A line that is skipped, in no nested `.if`.
     fn skip_outer(
         &mut self,
-        files: &Files,
+        files: &'a Files,
         symbols: &Symbols,
-        row: Row,
+        row: Row<'a>,
         directive: Option<Directive>,
         branch: Branch,
     ) -> Result<Progress, Failure<Refusal>>
-        requires { (config self.old).names.count < 2 ^ 31 }
-        ensures { Follows (rule.skips_outer files.now symbols.now row directive branch (other_branches (config self.old).scope.branches) (config self.old)) result (config self.new) }
+        requires expansions { (config self.old).names.count < 2 ^ 31 }
+        requires reading { self.old.mode ≡ modes.Reading }
+        ensures { Follows (rule.skips_outer files.now symbols.now row.entry directive branch (other_branches (config self.old).scope.branches) (config self.old)) result (config self.new) }
     {
         match directive {
             Some(Directive::If) => self.nest(branch, 1),
@@ -312,15 +325,16 @@ impl State {
     #[tactic(auto, unfolding(c25_meaning_expansion::specs::ExpansionRules::skips))]
     fn skip(
         &mut self,
-        files: &Files,
+        files: &'a Files,
         symbols: &Symbols,
-        row: Row,
+        row: Row<'a>,
         directive: Option<Directive>,
         branch: Branch,
     ) -> Result<Progress, Failure<Refusal>>
         requires expansions { (config self.old).names.count < 2 ^ 31 }
+        requires reading { self.old.mode ≡ modes.Reading }
         requires few { branch.nested < 2 ^ 31 }
-        ensures { Follows (rule.skips files.now symbols.now row directive branch (other_branches (config self.old).scope.branches) (config self.old)) result (config self.new) }
+        ensures { Follows (rule.skips files.now symbols.now row.entry directive branch (other_branches (config self.old).scope.branches) (config self.old)) result (config self.new) }
     {
         if branch.nested == 0 {
             self.skip_outer(files, symbols, row, directive, branch)
@@ -332,14 +346,15 @@ impl State {
     /// A line in lines that are taken by an `.if`.
     fn take(
         &mut self,
-        files: &Files,
+        files: &'a Files,
         symbols: &Symbols,
-        row: Row,
+        row: Row<'a>,
         directive: Option<Directive>,
         branch: Branch,
     ) -> Result<Progress, Failure<Refusal>>
         requires expansions { (config self.old).names.count < 2 ^ 31 }
-        ensures { Follows (rule.takes files.now symbols.now row directive branch (other_branches (config self.old).scope.branches) (config self.old)) result (config self.new) }
+        requires reading { self.old.mode ≡ modes.Reading }
+        ensures { Follows (rule.takes files.now symbols.now row.entry directive branch (other_branches (config self.old).scope.branches) (config self.old)) result (config self.new) }
     {
         match directive {
             Some(Directive::ElseIf) => self.read_elseif(files, symbols, row, branch),
@@ -350,13 +365,14 @@ impl State {
     /// A line that is neither part of a macro's body nor of a loop's.
     pub(crate) fn read_line(
         &mut self,
-        files: &Files,
+        files: &'a Files,
         symbols: &Symbols,
-        row: Row,
+        row: Row<'a>,
     ) -> Result<Progress, Failure<Refusal>>
         requires expansions { (config self.old).names.count < 2 ^ 31 }
+        requires reading { self.old.mode ≡ modes.Reading }
         requires nested { nesting (config self.old).scope.branches < 2 ^ 31 }
-        ensures { Follows (rule.reads_by files.now symbols.now row (rule.directive_in (first_word row.text)) (config self.old).scope.branches (config self.old)) result (config self.new) }
+        ensures { Follows (rule.reads_by files.now symbols.now row.entry (rule.directive_in (first_word row.entry.text)) (config self.old).scope.branches (config self.old)) result (config self.new) }
     {
         let directive = directive_in(row.text());
         match self.top.scope.branches.innermost() {

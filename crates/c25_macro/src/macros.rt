@@ -8,26 +8,26 @@ ghost use Rattle.std.specs.String.{string_bytes};
 ghost use Rattle.c25_meaning_language.specs.Texts.{with_name};
 ghost use Rattle.c25_macro.specs.Acts.{macro_of};
 
-use crate::rows::Rows;
+use c25_lines::Rows;
 use c25_meaning_common::no_memory::NoMemory;
 use indexmap::IndexMap;
 use std::alloc::Global;
 use std::marker::Model;
 
-/// A macro: the names of its parameters, at most 32, and its lines as they were written.
+/// A macro: the names of its parameters, at most 32, and its lines where they were written.
 #[derive(Drop)]
-pub(crate) struct Macro {
+pub(crate) struct Macro<'a> {
     pub(crate) parameters: Vec<String>,
-    pub(crate) body: Rows,
+    pub(crate) body: Rows<'a>,
 }
 
 /// The macros of a module, in order of definition.
 #[derive(Drop)]
-pub(crate) struct Macros {
-    entries: IndexMap<String, Macro>,
+pub(crate) struct Macros<'a> {
+    entries: IndexMap<String, Macro<'a>>,
 }
 
-impl Model for Macros {
+impl<'a> Model for Macros<'a> {
     ghost use Rattle.c25_meaning_expansion.specs.Acts as acts;
     ghost use Rattle.c25_meaning_language.specs.Texts.{Named};
     ghost use Rattle.c25_macro.specs.Macros.{named_macros};
@@ -37,8 +37,8 @@ impl Model for Macros {
     ghost view = { λ macros. named_macros macros.entries.entries };
 }
 
-impl Macros {
-    pub(crate) fn new(alloc: Global) -> Macros
+impl<'a> Macros<'a> {
+    pub(crate) fn new(alloc: Global) -> Macros<'a>
         ensures { result ≡ [] }
     {
         Macros {
@@ -46,14 +46,14 @@ impl Macros {
         }
     }
 
-    pub(crate) fn get(&self, name: &str) -> Option<&Macro>
+    pub(crate) fn get(&self, name: &str) -> Option<&Macro<'a>>
         ensures { option_map (λ m. macro_of m.now) result ≡ lookup (bytes_eq name.now) self.now }
     {
         self.entries.get(name)
     }
 
-    pub(crate) fn put(&mut self, name: String, definition: Macro) -> Result<(), NoMemory>
-        ensures { OnOk result (self.new ≡ with_name self.old (string_bytes name) (macro_of definition)) }
+    pub(crate) fn put(&mut self, name: String, definition: Macro<'a>) -> Result<(), NoMemory>
+        ensures { OnOk result (self.new ≡ with_name self.old (string_bytes name) (macro_of definition.entry)) }
     {
         self.entries.insert(name, definition)?;
         Ok(())

@@ -30,8 +30,8 @@ use std::alloc::Global;
 const MOST_PARAMETERS: usize = 32;
 
 /// A directive that takes no operand.
-fn without(act: Act, operands: &[&[Token<'_>]]) -> Result<Act, Failure<FaultKind>>
-    ensures { Meets view.act_of (acts.without (view.act_of act) (operands_view operands.now)) result }
+fn without<'a>(act: Act<'a>, operands: &[&[Token<'_>]]) -> Result<Act<'a>, Failure<FaultKind>>
+    ensures { Meets view.act_of (acts.without (view.act_of act.entry) (operands_view operands.now)) result }
 {
     match operands {
         [] => Ok(act),
@@ -40,11 +40,11 @@ fn without(act: Act, operands: &[&[Token<'_>]]) -> Result<Act, Failure<FaultKind
 }
 
 /// `.macro`
-fn definition_in(
+fn definition_in<'a>(
     alloc: Global,
     line: &Line<'_>,
     operands: &[&[Token<'_>]],
-) -> Result<Act, Failure<FaultKind>>
+) -> Result<Act<'a>, Failure<FaultKind>>
     ensures { Meets view.act_of (acts.definition_in (parts_of line.now) (operands_view operands.now)) result }
 {
     let parameters = names_in(alloc, operands)?;
@@ -66,11 +66,11 @@ fn last_of_two<'a, 'b>(operands: &'b [&'b [Token<'a>]]) -> Option<&'b [Token<'a>
 }
 
 /// `.asg`
-fn assignment_in(
+fn assignment_in<'a>(
     alloc: Global,
     text: &str,
     operands: &[&[Token<'_>]],
-) -> Result<Act, Failure<FaultKind>>
+) -> Result<Act<'a>, Failure<FaultKind>>
     ensures { Meets view.act_of (acts.assignment_in text.now (operands_view operands.now)) result }
 {
     match last_of_two(operands) {
@@ -84,11 +84,11 @@ fn assignment_in(
 }
 
 /// The operands of `.eval` in their order, the first being one that is read as an expression.
-fn evaluation_of(
+fn evaluation_of<'a>(
     alloc: Global,
     first: &[Token<'_>],
     second: &[Token<'_>],
-) -> Result<Act, Failure<FaultKind>>
+) -> Result<Act<'a>, Failure<FaultKind>>
     ensures { Meets view.act_of (acts.evaluation_in (pieces_of first.now ∷ pieces_of second.now ∷ [])) result }
 {
     match written_of(first) {
@@ -102,7 +102,10 @@ fn evaluation_of(
 }
 
 /// `.eval`
-fn evaluation_in(alloc: Global, operands: &[&[Token<'_>]]) -> Result<Act, Failure<FaultKind>>
+fn evaluation_in<'a>(
+    alloc: Global,
+    operands: &[&[Token<'_>]],
+) -> Result<Act<'a>, Failure<FaultKind>>
     ensures { Meets view.act_of (acts.evaluation_in (operands_view operands.now)) result }
 {
     match operands {
@@ -112,7 +115,7 @@ fn evaluation_in(alloc: Global, operands: &[&[Token<'_>]]) -> Result<Act, Failur
 }
 
 /// `.copy`
-fn copy_in(alloc: Global, operands: &[&[Token<'_>]]) -> Result<Act, Failure<FaultKind>>
+fn copy_in<'a>(alloc: Global, operands: &[&[Token<'_>]]) -> Result<Act<'a>, Failure<FaultKind>>
     ensures { Meets view.act_of (acts.copy_in (operands_view operands.now)) result }
 {
     match operands {
@@ -123,13 +126,13 @@ fn copy_in(alloc: Global, operands: &[&[Token<'_>]]) -> Result<Act, Failure<Faul
 
 /// What a directive with these operands asks for.
 #[tactic(auto, unfolding(c25_meaning_expansion::specs::Acts::act_of))]
-fn act_of(
+fn act_of<'a>(
     alloc: Global,
     directive: Directive,
     text: &str,
     line: &Line<'_>,
     operands: &[&[Token<'_>]],
-) -> Result<Act, Failure<FaultKind>>
+) -> Result<Act<'a>, Failure<FaultKind>>
     ensures { Meets view.act_of (acts.act_of directive text.now (parts_of line.now) (operands_view operands.now)) result }
 {
     match directive {
@@ -197,11 +200,11 @@ fn label_for(
 
 /// What a line with a directive asks for.
 #[tactic(auto, unfolding(c25_meaning_expansion::specs::Acts::order_of))]
-pub(crate) fn read_order(
+pub(crate) fn read_order<'a>(
     alloc: Global,
     directive: Directive,
     text: &str,
-) -> Result<Order, Failure<FaultKind>>
+) -> Result<Order<'a>, Failure<FaultKind>>
     ensures { Meets view.order_of (acts.order_of directive text.now) result }
 {
     let line = parts_for(directive, text)?;
@@ -214,16 +217,16 @@ pub(crate) fn read_order(
 
 /// What a line that calls a macro asks for.
 #[tactic(auto, unfolding(c25_meaning_expansion::specs::Acts::call_of))]
-pub(crate) fn read_call(
+pub(crate) fn read_call<'a>(
     alloc: Global,
-    called: &Macro,
+    called: &Macro<'a>,
     text: &str,
-) -> Result<Order, Failure<FaultKind>>
+) -> Result<Order<'a>, Failure<FaultKind>>
     ensures { Meets view.order_of (acts.call_of (view.macro_of called.now) text.now) result }
 {
     let line = parts_in(text)?;
     let label = text_of(alloc, line.label)?;
-    let body = called.body.copy(alloc)?;
+    let body = called.body.copy();
     let arguments = arguments(alloc, called.parameters.as_slice(), text)?;
     Ok(Order {
         label,

@@ -5,7 +5,7 @@ ghost use Rattle.std.specs.List.{list_any};
 ghost use Rattle.c25_meaning_expansion.specs.ExpansionRuns.{is_empty};
 ghost use Rattle.c25_macro.specs.Scopes.{scopes, kind_of, test_of, other_branches};
 
-use crate::rows::Rows;
+use c25_lines::{Passage, Rows};
 use c25_meaning_common::no_memory::NoMemory;
 use c25_meaning_expansion::expansion::{Branch, Place};
 use std::alloc::Global;
@@ -82,13 +82,13 @@ impl Branches {
 
 /// What the lines of a source are.
 #[derive(Drop)]
-pub(crate) enum Kind {
+pub(crate) enum Kind<'a> {
     /// The module's file, or a copied one.
     Copied,
     /// An expansion of a macro.
     Expanded,
     /// A turn of a loop with this body, and how many more are to come.
-    Turn { body: Rows, more: usize },
+    Turn { body: Rows<'a>, more: usize },
 }
 
 /// What may be left before its end.
@@ -98,7 +98,7 @@ pub(crate) enum Block {
     Turn,
 }
 
-impl Kind {
+impl Kind<'_> {
     pub(crate) fn is(&self, block: Block) -> bool
         ensures { result ≡ test_of block (kind_of self.now) }
     {
@@ -112,8 +112,8 @@ impl Kind {
 
 /// A file, expansion or turn that is open.
 #[derive(Drop)]
-pub(crate) struct Scope {
-    pub(crate) kind: Kind,
+pub(crate) struct Scope<'a> {
+    pub(crate) kind: Kind<'a>,
     /// Where its last line stands.
     pub(crate) last: Place,
     /// The `.if`s begun in it.
@@ -122,18 +122,18 @@ pub(crate) struct Scope {
 
 /// The lines still to come of a file, an expansion or a turn.
 #[derive(Drop)]
-pub(crate) struct Source {
-    pub(crate) rows: Rows,
-    pub(crate) scope: Scope,
+pub(crate) struct Source<'a> {
+    pub(crate) lines: Passage<'a>,
+    pub(crate) scope: Scope<'a>,
 }
 
 /// The sources in which the current one stands, the innermost first.
 #[derive(Drop)]
-pub(crate) struct Stack {
-    sources: Vec<Source>,
+pub(crate) struct Stack<'a> {
+    sources: Vec<Source<'a>>,
 }
 
-impl Model for Stack {
+impl<'a> Model for Stack<'a> {
     ghost use Rattle.std.specs.Prelude.{List, reverse};
     ghost use Rattle.c25_macro.specs.declared.scope.Source.{Source};
 
@@ -142,8 +142,8 @@ impl Model for Stack {
     ghost view = { λ s. reverse s.sources.items };
 }
 
-impl Stack {
-    pub(crate) fn new(alloc: Global) -> Stack
+impl<'a> Stack<'a> {
+    pub(crate) fn new(alloc: Global) -> Stack<'a>
         ensures { result ≡ [] }
     {
         Stack {
@@ -165,8 +165,8 @@ impl Stack {
     }
 
     /// One more, inside the others.
-    pub(crate) fn push(&mut self, source: Source) -> Result<(), NoMemory>
-        ensures { OnOk result (self.new ≡ source ∷ self.old) }
+    pub(crate) fn push(&mut self, source: Source<'a>) -> Result<(), NoMemory>
+        ensures { OnOk result (self.new ≡ source.entry ∷ self.old) }
     {
         self.sources.push(source)?;
         Ok(())
@@ -181,7 +181,7 @@ impl Stack {
     }
 
     /// Takes the innermost.
-    pub(crate) fn pop(&mut self) -> Option<Source>
+    pub(crate) fn pop(&mut self) -> Option<Source<'a>>
         ensures taken { self.old ≡ option_to_list result ++ self.new }
         ensures none { IfNone result (self.old ≡ []) }
     {
@@ -189,7 +189,7 @@ impl Stack {
     }
 }
 
-fn count(sources: &[Source]) -> usize
+fn count(sources: &[Source<'_>]) -> usize
     ensures { result ≡ min 32 (sum_by (λ s. length s.scope.branches + 1) sources.now) }
 {
     let mut total = 0;
@@ -200,7 +200,7 @@ fn count(sources: &[Source]) -> usize
     total
 }
 
-fn has(sources: &[Source], block: Block) -> bool
+fn has(sources: &[Source<'_>], block: Block) -> bool
     ensures { result ≡ list_any (λ s. test_of block (kind_of s.scope.kind)) sources.now }
 {
     sources.iter().any(|source| source.scope.kind.is(block))

@@ -9,8 +9,8 @@ ghost use Rattle.c25_macro.specs.Expander.{shown, begun_at, Comes, IsNextAt, IsK
 ghost use Rattle.c25_macro.specs.Stages.{stage_of, IsRefused};
 
 use crate::answer::{ExpLine, ExpandFault};
+use crate::line::Line;
 use crate::refusal::Refusal;
-use crate::rows::Row;
 use crate::standing::Standing;
 use crate::state::State;
 use c25_expr::symbols::Symbols;
@@ -27,7 +27,7 @@ pub(crate) enum Stage<'a> {
     /// Before the first line.
     Before,
     /// Behind a line.
-    Standing(Standing),
+    Standing(Standing<'a>),
     /// The module is not there.
     NoModule,
     /// A growth was refused.
@@ -46,14 +46,14 @@ pub(crate) enum Stage<'a> {
 type Answer<'a> = Result<Option<ExpLine<'a>>, Failure<ExpandFault<'a>>>;
 
 /// A line with the name of its file.
-fn show<'a>(files: &'a Files, row: Row) -> ExpLine<'a>
-    ensures { shown result ≡ expanded_line files.now row }
+fn show<'a>(files: &'a Files, given: Line) -> ExpLine<'a>
+    ensures { shown result ≡ expanded_line files.now given }
 {
-    let Place { file, line } = row.place();
+    let Place { file, line } = given.place();
     ExpLine {
         file: files.name(file),
         line,
-        text: row.into_text(),
+        text: given.into_text(),
     }
 }
 
@@ -95,17 +95,17 @@ fn refuse<'a>(files: &'a Files, name: &'a str, failure: Failure<Refusal>) -> (St
 fn go_on<'a>(
     files: &'a Files,
     name: &'a str,
-    state: State,
+    state: State<'a>,
     symbols: &Symbols,
 ) -> (Stage<'a>, Answer<'a>)
     requires { IsBounded (config state) }
-    ensures next { Comes files.now (first files.now symbols.now (config state)) result.1 (stage_of files.now name.now result.0) }
+    ensures next { Comes files.now (first files.now symbols.now (config state.entry)) result.1 (stage_of files.now name.now result.0) }
     ensures kept { IsKept (stage_of files.now name.now result.0) }
 {
     let mut state = state;
     match state.next(files, symbols) {
-        Ok(Some(row)) => {
-            let line = show(files, row);
+        Ok(Some(given)) => {
+            let line = show(files, given);
             (Stage::Standing(Standing { state }), Ok(Some(line)))
         }
         Ok(None) => (Stage::Standing(Standing { state }), Ok(None)),
@@ -124,10 +124,7 @@ fn begin<'a>(
     ensures kept { IsKept (stage_of files.now name.now result.0) }
 {
     match files.find(name) {
-        Some((file, text)) => match State::new(alloc, file, text) {
-            Ok(state) => go_on(files, name, state, symbols),
-            Err(error) => (Stage::NoMemory(error), Err(Failure::NoMemory(error))),
-        },
+        Some((file, text)) => go_on(files, name, State::new(alloc, file, text), symbols),
         None => (Stage::NoModule, Err(Failure::Fault(no_file(name, 0)))),
     }
 }

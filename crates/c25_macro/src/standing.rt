@@ -7,7 +7,7 @@ use crate::state::State;
 
 /// A state in which no more blocks are open, and no more lines and expansions counted, than may be.
 #[derive(Drop)]
-pub(crate) struct Standing {
-    pub(crate) state: State,
+pub(crate) struct Standing<'a> {
+    pub(crate) state: State<'a>,
     ghost bounded: { IsBounded (config state) },
 }

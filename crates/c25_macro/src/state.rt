@@ -1,41 +1,43 @@
 //! What an expander works on: the sources that are open, and how the next line is looked at.
 
-ghost use Rattle.std.specs.Prelude.{◌≡◌, ◌<◌, ◌^◌, ◌++◌, Some, None, OnOk, IfOk, MatchBool};
+ghost use Rattle.std.specs.Prelude.{◌≡◌, ◌<◌, ◌^◌, ◌++◌, Some, None, OnOk, MatchBool};
 ghost use Rattle.c25_meaning_expansion.specs.Expansion as exp;
 ghost use Rattle.c25_meaning_expansion.specs.ExpansionRuns.{start};
 ghost use Rattle.c25_macro.specs.Config.{config, mode_of};
 ghost use Rattle.c25_macro.specs.Scopes.{kind_of, test_of};
+ghost use Rattle.c25_macro.specs.declared.state.Mode.TheVariants as modes;
 
 use crate::act::Act;
 use crate::dictionary::Dictionary;
-use crate::rows::{Row, Rows, rows_of};
+use crate::line::Line;
 use crate::scope::{Block, Branches, Kind, Scope, Source, Stack};
+use c25_files::text::Text;
+use c25_lines::Rows;
 use c25_meaning_common::no_memory::NoMemory;
 use c25_meaning_expansion::expansion::Place;
 use std::alloc::Global;
 use std::mem;
 
-/// How the next line is looked at.
+/// How the next line is looked at. The lines of a body that is collected are those that the innermost
+/// source has passed since its mark.
 #[derive(Drop)]
-pub(crate) enum Mode {
+pub(crate) enum Mode<'a> {
     /// It is read.
     Reading,
     /// The label of the line that stands there was given, and what the line asks for is still to be done.
     Acting {
         place: Place,
-        act: Act,
+        act: Act<'a>,
     },
     /// It goes into the body of a macro, in which so many macros are nested.
     InMacro {
         name: String,
         parameters: Vec<String>,
-        body: Rows,
         nested: usize,
     },
     /// It goes into the body of a loop of so many turns, in which so many loops are nested.
     InLoop {
         turns: usize,
-        body: Rows,
         nested: usize,
     },
 }
@@ -44,7 +46,7 @@ pub(crate) enum Mode {
 #[derive(Drop)]
 pub(crate) enum Progress {
     /// A line is given.
-    Given(Row),
+    Given(Line),
     /// The line did its work.
     Went,
     /// No line comes any more.
@@ -53,14 +55,14 @@ pub(crate) enum Progress {
 
 /// All that stands at a line.
 #[derive(Drop)]
-pub(crate) struct State {
+pub(crate) struct State<'a> {
     pub(crate) alloc: Global,
     /// The innermost file, expansion or turn.
-    pub(crate) top: Source,
+    pub(crate) top: Source<'a>,
     /// Those in which it stands.
-    pub(crate) below: Stack,
-    pub(crate) mode: Mode,
-    pub(crate) names: Dictionary,
+    pub(crate) below: Stack<'a>,
+    pub(crate) mode: Mode<'a>,
+    pub(crate) names: Dictionary<'a>,
     /// How many lines may still be read.
     pub(crate) left: usize,
 }
@@ -71,17 +73,17 @@ const MOST_LINES: usize = 200_000;
 /// How many blocks may be open.
 pub(crate) const MOST_OPEN: usize = 32;
 
-impl State {
+impl<'a> State<'a> {
     /// Before the first line of a file with this text.
-    pub(crate) fn new(alloc: Global, file: usize, text: &str) -> Result<State, NoMemory>
-        ensures { IfOk result (λ s. config s ≡ start file text.now) }
+    pub(crate) fn new(alloc: Global, file: usize, text: &'a Text) -> State<'a>
+        ensures { config result ≡ start file text.now }
     {
-        let rows = rows_of(alloc, file, text)?;
+        let rows = text.rows(file);
         let last = rows.last_place(Place { file, line: 0 });
-        Ok(State {
+        State {
             alloc,
             top: Source {
-                rows,
+                lines: rows.into_passage(),
                 scope: Scope {
                     kind: Kind::Copied,
                     last,
@@ -92,15 +94,21 @@ impl State {
             mode: Mode::Reading,
             names: Dictionary::new(alloc),
             left: MOST_LINES,
-        })
+        }
     }
 
     /// Opens a file, an expansion or a turn.
-    pub(crate) fn open(&mut self, kind: Kind, last: Place, rows: Rows) -> Result<(), NoMemory>
-        ensures { OnOk result (config self.new ≡ exp.opened (kind_of kind) last rows (config self.old)) }
+    pub(crate) fn open(
+        &mut self,
+        kind: Kind<'a>,
+        last: Place,
+        rows: Rows<'a>,
+    ) -> Result<(), NoMemory>
+        requires reading { self.old.mode ≡ modes.Reading }
+        ensures { OnOk result (config self.new ≡ exp.opened (kind_of kind.entry) last rows.entry (config self.old)) }
     {
         let source = Source {
-            rows,
+            lines: rows.into_passage(),
             scope: Scope {
                 kind,
                 last,
@@ -129,6 +137,7 @@ impl State {
     /// opened is closed.
     #[tactic(auto, using(crate::proofs::Lists::after_closes))]
     pub(crate) fn leave(&mut self, block: Block) -> bool
+        requires reading { self.old.mode ≡ modes.Reading }
         ensures { MatchBool result
             (exp.left_through (test_of block) (config self.old).lines (config self.old).scope (config self.old).outer (config self.old).names (config self.old) ≡ Some (config self.new))
             (exp.left_through (test_of block) (config self.old).lines (config self.old).scope (config self.old).outer (config self.old).names (config self.old) ≡ None) }

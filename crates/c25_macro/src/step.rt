@@ -1,24 +1,25 @@
 //! Rewriting the lines still to come until one is given.
 
 ghost use Rattle.std.specs.Prelude.{◌≡◌, ◌<◌, ◌^◌, [], OnOk};
-ghost use Rattle.c25_meaning_expansion.specs.Expansion as exp;
-ghost use Rattle.c25_meaning_expansion.specs.ExpansionBounds.{IsBounded, nested_of, nesting};
+ghost use Rattle.c25_meaning_expansion.specs.ExpansionBounds.{IsBounded, nesting};
 ghost use Rattle.c25_meaning_expansion.specs.ExpansionRuns as runs;
 ghost use Rattle.c25_meaning_expansion.specs.Files as meaning;
 ghost use Rattle.c25_meaning_language.specs.Value.{Table};
-ghost use Rattle.c25_macro.specs.Config.{config, mode_of, Follows, Answers};
+ghost use Rattle.c25_macro.specs.Config.{config, mode_of, nested_in, Follows, ForBody, Answers};
+ghost use Rattle.c25_macro.specs.declared.state.Mode.TheVariants as modes;
 
+use crate::line::Line;
 use crate::refusal::{Refusal, fault};
-use crate::rows::Row;
 use crate::scope::Kind;
 use crate::state::{Mode, Progress, State};
 use c25_expr::symbols::Symbols;
 use c25_files::files::Files;
+use c25_lines::Row;
 use c25_meaning_common::failure::Failure;
 use c25_meaning_language::statement::FaultKind;
 use std::mem;
 
-impl State {
+impl<'a> State<'a> {
     /// No block is open that began in the innermost file, expansion or turn.
     fn is_closed(&self) -> bool
         ensures { result ≡ runs.is_closed (config self.now) }
@@ -33,7 +34,7 @@ impl State {
 
     /// The next turn of a loop, or what stood behind the file, expansion or turn that ends here.
     fn end_source(&mut self) -> Result<Progress, Failure<Refusal>>
-        requires { self.old.top.rows ≡ [] }
+        requires { self.old.top.lines.rest ≡ [] }
         ensures { (files : meaning.Files) (s : Table) → Follows (runs.front files s (config self.old).lines (config self.old)) result (config self.new) }
     {
         if !self.is_closed() {
@@ -42,12 +43,14 @@ impl State {
         if self.below.is_empty() {
             return Ok(Progress::Finished);
         }
-        if let Kind::Turn { body, more } = &mut self.top.scope.kind
+        if let Kind::Turn { body, more } = &self.top.scope.kind
             && *more > 0
             && !body.is_empty()
         {
-            self.top.rows = body.copy(self.alloc)?;
-            *more -= 1;
+            let body = body.copy();
+            let more = *more - 1;
+            self.top.lines = body.copy().into_passage();
+            self.top.scope.kind = Kind::Turn { body, more };
             return Ok(Progress::Went);
         }
         match self.below.pop() {
@@ -63,32 +66,28 @@ impl State {
     /// A line that was read: it goes into the body that is collected, or does what it asks for.
     fn take_row(
         &mut self,
-        files: &Files,
+        files: &'a Files,
         symbols: &Symbols,
-        row: Row,
-        mode: Mode,
+        row: Row<'a>,
+        mode: Mode<'a>,
     ) -> Result<Progress, Failure<Refusal>>
         requires expansions { (config self.old).names.count < 2 ^ 31 }
         requires skipped { nesting (config self.old).scope.branches < 2 ^ 31 }
-        requires collected { nested_of (mode_of mode) < 2 ^ 31 }
-        ensures { Follows (runs.read_by files.now symbols.now row (mode_of mode) (config self.old)) result (config self.new) }
+        requires collected { nested_in mode < 2 ^ 31 }
+        requires reading { self.old.mode ≡ modes.Reading }
+        ensures { ForBody self.old.top.lines.passed row.entry (λ body. Follows (runs.read_by files.now symbols.now row.entry (mode_of mode.entry body) (config self.old)) result (config self.new)) }
     {
         match mode {
             Mode::InMacro {
                 name,
                 parameters,
-                body,
                 nested,
             } => {
-                self.collect_macro(row, name, parameters, body, nested)?;
+                self.collect_macro(row, name, parameters, nested)?;
                 Ok(Progress::Went)
             }
-            Mode::InLoop {
-                turns,
-                body,
-                nested,
-            } => {
-                self.collect_loop(row, turns, body, nested)?;
+            Mode::InLoop { turns, nested } => {
+                self.collect_loop(row, turns, nested)?;
                 Ok(Progress::Went)
             }
             Mode::Reading => self.read_line(files, symbols, row),
@@ -99,15 +98,15 @@ impl State {
     /// The next line is read, or else the innermost file, expansion or turn ends.
     fn read(
         &mut self,
-        files: &Files,
+        files: &'a Files,
         symbols: &Symbols,
-        mode: Mode,
+        mode: Mode<'a>,
     ) -> Result<Progress, Failure<Refusal>>
-        requires bounded { IsBounded (record (config self.old) { mode = mode_of mode }) }
-        requires reading { (config self.old).mode ≡ exp.Reading }
-        ensures { Follows (runs.front files.now symbols.now (config self.old).lines (record (config self.old) { mode = mode_of mode })) result (config self.new) }
+        requires bounded { IsBounded (record (config self.old) { mode = mode_of mode self.old.top.lines.passed }) }
+        requires reading { self.old.mode ≡ modes.Reading }
+        ensures { Follows (runs.front files.now symbols.now (config self.old).lines (record (config self.old) { mode = mode_of mode.entry self.old.top.lines.passed })) result (config self.new) }
     {
-        let Some(row) = self.top.rows.next() else {
+        let Some(row) = self.top.lines.next() else {
             self.mode = mode;
             return self.end_source();
         };
@@ -120,7 +119,7 @@ impl State {
 
     /// One rewriting.
     #[tactic(auto, unfolding(c25_meaning_expansion::specs::ExpansionRuns::rewrite))]
-    fn step(&mut self, files: &Files, symbols: &Symbols) -> Result<Progress, Failure<Refusal>>
+    fn step(&mut self, files: &'a Files, symbols: &Symbols) -> Result<Progress, Failure<Refusal>>
         requires { IsBounded (config self.old) }
         ensures { Follows (runs.rewrite files.now symbols.now (config self.old)) result (config self.new) }
     {
@@ -136,16 +135,16 @@ impl State {
     /// The next line, or None where none comes any more.
     pub(crate) fn next(
         &mut self,
-        files: &Files,
+        files: &'a Files,
         symbols: &Symbols,
-    ) -> Result<Option<Row>, Failure<Refusal>>
+    ) -> Result<Option<Line>, Failure<Refusal>>
         requires { IsBounded (config self.old) }
         ensures answer { Answers (runs.first files.now symbols.now (config self.old)) result (config self.new) }
         ensures bounded { OnOk result (IsBounded (config self.new)) }
     {
         loop {
             match self.step(files, symbols) {
-                Ok(Progress::Given(row)) => return Ok(Some(row)),
+                Ok(Progress::Given(line)) => return Ok(Some(line)),
                 Ok(Progress::Finished) => return Ok(None),
                 Ok(Progress::Went) => {}
                 Err(failure) => return Err(failure),

@@ -7,7 +7,9 @@ use Rattle.c25_files.proofs.files.Files.put.Goals as goal
 pub returns-clause-ok : goal.returns-clause-ok
 returns-clause-ok c =
     let name = c.in_ok-name.name in
-    ap (views string_bytes) c.in_ok-insert.ensures.entries ∙ views-insert string_bytes c.self.inside.texts.entries name c.args.text
-    ∙ ap (λ es. with_name es (string_bytes name) (string_bytes c.args.text)) c.self.view_is
-    ∙ ap (λ n. with_name c.args.self.now n (string_bytes c.args.text)) c.in_ok-name.ensures.ok
+    let text = c.new.result in
+    ap (views (λ t. t)) c.in_ok-insert.ensures.entries ∙ views-insert (λ t. t) c.self.inside.texts.entries name text
+    ∙ ap (λ es. with_name es (string_bytes name) text) c.self.view_is
+    ∙ ap (λ n. with_name c.args.self.now n text) c.in_ok-name.ensures.ok
+    ∙ ap (with_name c.args.self.now c.args.name.now) c.new.ensures
     ∙ with_new_name c.args.self.now c.args.name.now (string_bytes c.args.text) (none_there _ c.requires)
