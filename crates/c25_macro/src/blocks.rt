@@ -13,7 +13,7 @@ ghost use Rattle.c25_macro.specs.Scopes.{test_of};
 ghost use Rattle.c25_macro.specs.declared.state.Mode.TheVariants as modes;
 
 use crate::refusal::{Refusal, fault};
-use crate::scope::{Block, Branches, Kind, Scope, Source, Stack};
+use crate::scope::{Block, Branches, Kind, Scope, Source};
 use crate::state::{Mode, State};
 use crate::values::{is_zero, number};
 use c25_expr::symbols::Symbols;
@@ -245,7 +245,7 @@ impl<'a> State<'a> {
                 branches: Branches::new(self.alloc),
             },
         };
-        self.below = Stack::new(self.alloc);
+        self.below.clear();
         self.names.end_all();
         Ok(())
     }

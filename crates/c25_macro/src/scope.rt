@@ -180,6 +180,13 @@ impl<'a> Stack<'a> {
         count(self.sources.as_slice())
     }
 
+    /// None is left.
+    pub(crate) fn clear(&mut self)
+        ensures { self.new ≡ [] }
+    {
+        self.sources.clear();
+    }
+
     /// Takes the innermost.
     pub(crate) fn pop(&mut self) -> Option<Source<'a>>
         ensures taken { self.old ≡ option_to_list result ++ self.new }

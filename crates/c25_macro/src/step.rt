@@ -144,7 +144,7 @@ impl<'a> State<'a> {
     {
         loop {
             match self.step(files, symbols) {
-                Ok(Progress::Given(line)) => return Ok(Some(line)),
+                Ok(Progress::Given(row)) => return Ok(Some(row)),
                 Ok(Progress::Finished) => return Ok(None),
                 Ok(Progress::Went) => {}
                 Err(failure) => return Err(failure),

@@ -21,7 +21,7 @@ loop-row-preserved c =
 
 pub returns-in-Ok-Given-clause-bounded : goal.returns-in-Ok-Given-clause-bounded
 returns-in-Ok-Given-clause-bounded c =
-    let e : rewrite c.args.files.now c.args.symbols.now (config c.loop-row.self) ≡ Gives c.in-Ok-Given.line (config c.step.new.self) = rw (c.in-Ok-Given.is, c.in-Ok-Given.field-0-is) at c.step.ensures in
+    let e : rewrite c.args.files.now c.args.symbols.now (config c.loop-row.self) ≡ Gives c.in-Ok-Given.row (config c.step.new.self) = rw (c.in-Ok-Given.is, c.in-Ok-Given.field-0-is) at c.step.ensures in
     bounded_giving c.args.files.now c.args.symbols.now _ _ _ c.loop-row.invariant.bounded e
 
 pub returns-in-Ok-Finished-clause-bounded : goal.returns-in-Ok-Finished-clause-bounded
@@ -31,7 +31,7 @@ returns-in-Ok-Finished-clause-bounded c =
 
 pub returns-in-Ok-Given-clause-answer : goal.returns-in-Ok-Given-clause-answer
 returns-in-Ok-Given-clause-answer c =
-    let e : rewrite c.args.files.now c.args.symbols.now (config c.loop-row.self) ≡ Gives c.in-Ok-Given.line (config c.step.new.self) = rw (c.in-Ok-Given.is, c.in-Ok-Given.field-0-is) at c.step.ensures in
+    let e : rewrite c.args.files.now c.args.symbols.now (config c.loop-row.self) ≡ Gives c.in-Ok-Given.row (config c.step.new.self) = rw (c.in-Ok-Given.is, c.in-Ok-Given.field-0-is) at c.step.ensures in
     let leads = c.loop-row.invariant.leads in
     comes_to_first c.args.files.now c.args.symbols.now (config c.args.self.now) _ (leads.0, config c.loop-row.self, leads.1, e) tt
 
