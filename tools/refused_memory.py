@@ -1,7 +1,7 @@
 #!/usr/bin/env python3
 """Runs the program c25 with its requests for memory refused, one at a time or all from one on, and looks at what it does.
 
-usage: python3 tools/refused_memory.py PROGRAM [--rest] [--most N] [--groups WORD] [--calls CALLS] [--no-groups]
+usage: python3 tools/refused_memory.py PROGRAM [--rest] [--most N] [--groups WORD]
 
 What is run are the calls of the gate's examples (tools/cases.py): the manual's commands, the larger programs, the cases and the
 faults of docs/FAULTS.md; --groups keeps to the groups whose names hold the word (random/.. only where it says so). Each call is
@@ -10,9 +10,6 @@ where there are more than N requests (400), for the first N/2 and N/2 of the oth
 
   told   status 1, `memory: 9 NoMemory` on standard error, nothing on standard output, and no file written or changed
   full   the status, the outputs and the files of the run with every request granted: the request could be done without
-
---calls sweeps crates/c25_calls (its program as built) the same way: what it prints must be what it prints with every request granted,
-but for the call that was refused (told, and nothing changed by it), or end before its next call, where making that ready was refused.
 
 It prints a row for each group, then what was neither, and ends with status 1 if anything was. PROGRAM must be linked dynamically;
 `cc` makes the library that refuses (tools/refuse.c), in a temporary folder.
@@ -123,53 +120,6 @@ def swept(sweep, name, calls, most, rest):
     return tally, lines
 
 
-def is_call_told(full, lines):
-    """Whether lines are those of the full answer but for calls that were told of refused memory and changed nothing."""
-    left, at, before = [], 0, {}
-    while at < len(lines):
-        name, _, rest = lines[at].partition(": ")
-        if rest == "NoMemory" and name != "next_line":
-            after = "%s leaves " % name
-            if at + 1 < len(lines) and lines[at + 1].startswith(after):
-                if lines[at + 1] != before.get(name):
-                    return False
-                at += 1
-        else:
-            if " leaves " in lines[at]:
-                before[lines[at].partition(" leaves ")[0]] = lines[at]
-            left.append(lines[at])
-        at += 1
-    refused = [line == "next_line: NoMemory" for line in left]
-    if any(refused):
-        # an expansion that was refused memory answers so from then on
-        own = [at for at, line in enumerate(left) if line.startswith("next_line: ")]
-        first = next(at for at in own if refused[at])
-        if not all(refused[at] for at in own if at >= first):
-            return False
-        left = [theirs if mine == "next_line: NoMemory" else mine for mine, theirs in zip(left, full)]
-    return left == full[:len(left)]
-
-
-def swept_calls(sweep, most, rest):
-    call = cases.Call("calls", [], b"", {})
-    sweep.lay({})
-    full = sweep.run(call, 1, 0)
-    wanted = full.output.decode().splitlines()
-    tally, lines = [1, full.requests, 0, 0, 0, 0], []
-    for number in chosen(full.requests, most):
-        answer = sweep.run(call, number, full.requests * 2 if rest else number)
-        found = answer.output.decode().splitlines()
-        tally[2] += 1
-        if answer.same(full):
-            tally[4] += 1
-        elif answer.status in (0, 1) and is_call_told(wanted, found) and (answer.status == 1 or len(found) >= len(wanted)):
-            tally[3] += 1
-        else:
-            tally[5] += 1
-            lines.append("calls, request %d: %s" % (number, answer))
-    return tally, lines
-
-
 def row(name, cells):
     print("%-36s %8s %10s %10s %10s %8s %8s" % ((name,) + tuple(cells)), flush=True)
 
@@ -177,10 +127,10 @@ def row(name, cells):
 def main(words):
     if not words or words[0].startswith("-"):
         sys.exit(__doc__)
-    options = {"--most": "400", "--groups": None, "--calls": None}
+    options = {"--most": "400", "--groups": None}
     flags, rest = set(), words[1:]
     while rest:
-        if rest[0] in ("--rest", "--no-groups"):
+        if rest[0] == "--rest":
             flags.add(rest[0])
             rest = rest[1:]
         elif rest[0] in options and len(rest) > 1:
@@ -192,15 +142,11 @@ def main(words):
     whole, wrong = [0] * 6, []
     row("Group", ("calls", "requests", "runs", "told", "full", "neither"))
     with tempfile.TemporaryDirectory(dir="/dev/shm" if os.path.isdir("/dev/shm") else None) as room:
-        for name, calls in ({} if "--no-groups" in flags else cases.groups()).items():
+        for name, calls in cases.groups().items():
             if name.startswith("random/") if wanted is None else wanted not in name:
                 continue
             tally, lines = swept(Sweep(words[0], room), name, calls, most, behind)
             row(name, tally)
-            whole, wrong = [a + b for a, b in zip(whole, tally)], wrong + lines
-        if options["--calls"]:
-            tally, lines = swept_calls(Sweep(options["--calls"], room), most, behind)
-            row("crates/c25_calls", tally)
             whole, wrong = [a + b for a, b in zip(whole, tally)], wrong + lines
     row("all", whole)
     for line in wrong[:40]:
