@@ -59,11 +59,13 @@ def packed_calls(path):
         elif kind == "word":
             calls[-1].words.append(told)
         elif kind != "status":
-            held, rest = rest[:int(length)], rest[int(length) + 1:]
+            size, _, copies = length.partition("*")
+            held, rest = rest[:int(size)] * int(copies or 1), rest[int(size) + 1:]
             if kind == "input":
-                calls[-1].given = held
+                calls[-1].given += held
             elif kind == "given":
-                calls[-1].files[told.partition(" ")[2]] = held
+                name = told.partition(" ")[2]
+                calls[-1].files[name] = calls[-1].files.get(name, b"") + held
     return calls
 
 
