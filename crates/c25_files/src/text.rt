@@ -34,7 +34,7 @@ impl Text {
         Text { text, count }
     }
 
-    pub fn as_str(&self) -> &str
+    pub(crate) fn as_str(&self) -> &str
         ensures { result.now ≡ self.now }
     {
         self.text.as_str()
