@@ -24,22 +24,9 @@ macro_rules! refuses {
 }
 
 #[test]
-fn sinks_of_0_to_4_words_refuse_the_next(rt: HostRuntime) -> Result<(), Fail> {
+fn an_empty_sink_and_one_of_a_word_refuse(rt: HostRuntime) -> Result<(), Fail> {
     refuses!(rt, 0, 2);
     refuses!(rt, 1, 4);
-    refuses!(rt, 2, 6);
-    refuses!(rt, 3, 8);
-    refuses!(rt, 4, 10);
-    Ok(())
-}
-
-#[test]
-fn sinks_of_5_to_9_words_refuse_the_next(rt: HostRuntime) -> Result<(), Fail> {
-    refuses!(rt, 5, 12);
-    refuses!(rt, 6, 14);
-    refuses!(rt, 7, 16);
-    refuses!(rt, 8, 18);
-    refuses!(rt, 9, 20);
     Ok(())
 }
 
