@@ -130,7 +130,6 @@ fn the_first_fault_of_the_files_is_told(rt: HostRuntime) -> Result<(), Fail> {
         ("run a.asm", "link:GO: 70 Unresolved\n"),
         ("link q r --out b", "q: 8 CannotRead\n"),
         ("link bad.cmd bad.obj r --out b", "r: 8 CannotRead\n"),
-        ("link no.cmd r q --out b", "r: 8 CannotRead\n"),
         (
             "link bad.cmd a.obj bad.obj none.obj --out b",
             "bad.obj: 42 Short\n",

@@ -12,8 +12,6 @@ mod many;
 #[cfg(test)]
 mod program;
 #[cfg(test)]
-mod readers;
-#[cfg(test)]
 mod told;
 #[cfg(test)]
 mod worlds;

@@ -1,10 +1,10 @@
 //! What is long, and what comes often.
 
-use crate::told::{Told, does, does_on, fault, prints, succeeds};
+use crate::told::{Told, does, fault, prints, run_line, succeeds};
 use crate::worlds::{Refusing, shelf_of};
 use c25_disk_tests::shelf::Shelf;
 use std::alloc::Global;
-use std::process::Abort;
+use std::process::ExitCode;
 use std::test::Fail;
 
 /// A line that is given so often.
@@ -71,37 +71,24 @@ fn many_files_are_written(rt: HostRuntime) -> Result<(), Fail> {
     Ok(())
 }
 
-/// Of the files of a program all before the one that is refused are written, and that one is told.
-fn is_refused(
-    rt: &(impl Abort + AllocGlobal),
-    refused: &str,
-    written: &str,
-    err: &str,
-) -> Result<(), Fail> {
+#[test]
+fn nothing_is_written_behind_a_file_that_cannot_be(rt: HostRuntime) -> Result<(), Fail> {
     let files = [("a.asm", b" .word 5\n".as_slice())];
     let mut disk = Refusing {
         shelf: shelf_of(rt.alloc(), &files),
-        refused,
+        refused: "b.p1.hex",
     };
+    let mut out = Vec::<u8>::new(rt.alloc());
+    let mut err = Vec::<u8>::new(rt.alloc());
+    let line = "build a.asm --out b";
+    let status = run_line(rt.alloc(), line, &mut disk, &mut out, &mut err)?;
     let told = Told {
-        written: written.as_bytes(),
-        ..fault(err)
+        written: b"b.p0.hex\n:020000000005F9\n:00000001FF\n",
+        ..fault("b.p1.hex: 7 CannotWrite\n")
     };
-    does_on(rt, "build a.asm --out b", &mut disk, &told)?;
+    assert_eq!(rt; out.as_slice(), told.out.as_bytes());
+    assert_eq!(rt; err.as_slice(), told.err.as_bytes());
     assert_eq!(rt; disk.shelf.written.as_slice(), told.written);
+    assert_eq!(rt; status, ExitCode::FAILURE);
     Ok(())
-}
-
-#[test]
-fn nothing_is_written_behind_a_file_that_cannot_be(rt: HostRuntime) -> Result<(), Fail> {
-    let all = "b.p0.hex\n:020000000005F9\n:00000001FF\n\
-b.p1.hex\n:00000001FF\n\
-b.map\nC25 MAP 1\nSECTION 0 0000 00001 .text\nPART 0 0000 00001\nEND\n";
-    let (first, rest) = all.split_once("b.p1").ok_or("no second file")?;
-    let (second, _) = rest.split_once("b.map").ok_or("no map")?;
-    is_refused(&rt, "b.p0.hex", "", "b.p0.hex: 7 CannotWrite\n")?;
-    is_refused(&rt, "b.p1.hex", first, "b.p1.hex: 7 CannotWrite\n")?;
-    let both = format!(in rt.alloc(); "{first}b.p1{second}")?;
-    is_refused(&rt, "b.map", both.as_str(), "b.map: 7 CannotWrite\n")?;
-    is_refused(&rt, "b.1.lst", all, "b.1.lst: 7 CannotWrite\n")
 }

@@ -70,22 +70,6 @@ pub(crate) fn run_line<D: Disk>(
     Ok(ended.status())
 }
 
-/// The program prints this with a line of words, and has this status.
-pub(crate) fn does_on<D: Disk>(
-    rt: &(impl Abort + AllocGlobal),
-    line: &str,
-    disk: &mut D,
-    told: &Told<'_>,
-) -> Result<(), Fail> {
-    let mut out = Vec::<u8>::new(rt.alloc());
-    let mut err = Vec::<u8>::new(rt.alloc());
-    let status = run_line(rt.alloc(), line, disk, &mut out, &mut err)?;
-    assert_eq!(rt; out.as_slice(), told.out.as_bytes());
-    assert_eq!(rt; err.as_slice(), told.err.as_bytes());
-    assert_eq!(rt; status, ExitCode::from(told.status));
-    Ok(())
-}
-
 /// The program does this with a line of words.
 pub(crate) fn does(
     rt: &(impl Abort + AllocGlobal),
@@ -93,8 +77,13 @@ pub(crate) fn does(
     shelf: &mut Shelf<'_>,
     told: Told<'_>,
 ) -> Result<(), Fail> {
-    does_on(rt, line, shelf, &told)?;
+    let mut out = Vec::<u8>::new(rt.alloc());
+    let mut err = Vec::<u8>::new(rt.alloc());
+    let status = run_line(rt.alloc(), line, shelf, &mut out, &mut err)?;
+    assert_eq!(rt; out.as_slice(), told.out.as_bytes());
+    assert_eq!(rt; err.as_slice(), told.err.as_bytes());
     assert_eq!(rt; shelf.written.as_slice(), told.written);
+    assert_eq!(rt; status, ExitCode::from(told.status));
     Ok(())
 }
 
