@@ -37,6 +37,8 @@ BESIDE = ("expected.py", "output.txt", "README.md", "samples.csv", "samples.wav"
 PAGES = ["README.md", "docs/MANUAL.md"] + ["docs/manual/%s.md" % name for name in (
     "language", "macros", "linking", "program", "formats", "limits", "debugging")]
 FAULTS = "docs/FAULTS.md"
+# Programs whose samples are made of another file, and the words with which examples/tools/signals.py makes them.
+RECORDED = {"mulaw": ["samples.wav"], "fir": ["samples.csv", "--column", "2", "--fractions"]}
 # Commands that show something and are none of the program's: what they show is not looked at.
 OTHERS = ("ls", "od ", "cmp ")
 
@@ -240,7 +242,7 @@ def faults(data):
 def recorded():
     """The samples that are others than signals.py makes of their recording or table."""
     for name, words in RECORDED.items():
-        folder = os.path.join(CRATE, "data", name)
+        folder = os.path.join(TOP, "examples", name)
         script = os.path.join(TOP, "examples", "tools", "signals.py")
         made = subprocess.run([sys.executable, script, "samples"] + words, cwd=folder, capture_output=True, text=True, check=True)
         if made.stdout.splitlines() != lines_of(os.path.join(folder, "samples.txt")):
@@ -272,12 +274,13 @@ def make(made):
 
 
 def check(pairs):
-    """The files that stand and are others than those that were made."""
+    """The files that stand and are others than those that were made, or than signals.py makes."""
     for one, other in pairs:
         if os.path.isdir(one):
             yield from differing(one, other)
         elif not (os.path.exists(other) and filecmp.cmp(one, other, shallow=False)):
             yield other
+    yield from recorded()
 
 
 def main():

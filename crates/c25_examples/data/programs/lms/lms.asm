@@ -39,7 +39,7 @@ START   LDPK    0
         SACL    IMR
         LDPK    XNEW
         SSXM
-        SOVM                    ; a weight beyond 1 becomes 1
+        SOVM                    ; a weight or an e(n) beyond 1 becomes 1
         SPM     1               ; Q15 times Q15 is Q30: shifted left, Q31
         LALK    4000h           ; mu is 0.5
         SACL    MU
@@ -79,9 +79,9 @@ SAMPLE  IN      XNEW,PA0
         SACH    OUTPUT
         CNFD
 
-        LAC     WANTED
-        SUB     OUTPUT
-        SACL    ERROR
+        ZALH    WANTED          ; in the high half, within its limits
+        SUBH    OUTPUT
+        SACH    ERROR
         OUT     ERROR,PA2
         LT      ERROR
         MPY     MU
