@@ -3,7 +3,7 @@
 
     python3 tools/unproved.py
 
-After some two minutes it is tools/out/c25-unproved. No contract has been looked at for it: what it answers may be wrong,
+After two or three minutes it is tools/out/c25-unproved. No contract has been looked at for it: what it answers may be wrong,
 and says nothing of what is claimed here. It stops at an index out of bounds, a sum that overflows and a bad access, and
 so is slow: a second or two to start, and some seconds for a million steps. The proved one is crates/c25/out/c25.
 
@@ -55,7 +55,7 @@ def main():
     os.makedirs(os.path.dirname(KEPT), exist_ok=True)
     if os.path.exists(KEPT):
         os.remove(KEPT)
-    print("takes some two minutes, and shows nothing meanwhile", file=sys.stderr)
+    print("takes two or three minutes, and shows nothing meanwhile", file=sys.stderr)
     with tempfile.TemporaryDirectory(dir=os.path.abspath(os.path.dirname(KEPT))) as folder:
         try:
             said = try_program(folder)
