@@ -45,6 +45,9 @@ fn others_into(out: &mut String, parts: &Parts) -> Result<(), NoMemory> {
             SymbolKind::Absolute => write!(out, "{scope} {name} {value}\n")?,
             SymbolKind::InSection(number) => write!(out, "{scope} {name} {number}:{value}\n")?,
             SymbolKind::External => write!(out, "external {name}\n")?,
+            SymbolKind::Loaded(number) => {
+                write!(out, "{scope} {name} loaded {number}:{value}\n")?;
+            }
         }
     }
     for relocation in &parts.relocations {
@@ -63,6 +66,12 @@ fn others_into(out: &mut String, parts: &Parts) -> Result<(), NoMemory> {
                 write!(
                     out,
                     "{kind:?} {section}:{offset} symbol {number} {addend}\n"
+                )?;
+            }
+            RelocationBase::Loaded(number) => {
+                write!(
+                    out,
+                    "{kind:?} {section}:{offset} loaded {number} {addend}\n"
                 )?;
             }
         }

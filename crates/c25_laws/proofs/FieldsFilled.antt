@@ -89,7 +89,7 @@ others_clear f ns k number list h =
     let same = length-set ns k number in
     subst (λ n. Chain (λ (a : Address). a.operand) (IsAddress (λ b. Unit {0}) (target.Instruction f) (set ns k number)) (k + 1) n list) (sym same)
     (chain_behind (λ (a : Address). a.operand) (IsAddress (λ b. Unit {0}) (target.Instruction f) ns) (IsAddress (λ b. Unit {0}) (target.Instruction f) (set ns k number)) (k + 1) (length ns) list
-    (λ a l g. record { clear = get_or-set_other ns k a.operand number 0 (λ e. omega (arith, l, e)) ∙ g.clear; kind = g.kind; base = tt; fits = g.fits }) h)
+    (λ a l g. record { clear = get_or-set_other ns k a.operand number 0 (λ e. omega (arith, l, e)) ∙ g.clear; kind = g.kind; base = g.base; fits = g.fits }) h)
 
 -- filling each field in turn
 pub filled_reads : (number : Address → ℕ) (f : Form) (ns : List ℕ) (low : ℕ) (list : List Address) (first second : ℕ) → ((a : Address) → number a < field_values a.kind) → FitForm f (length ns) → Ascend f ns low list

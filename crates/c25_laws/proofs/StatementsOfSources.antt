@@ -16,6 +16,8 @@ use Rattle.c25_meaning_instructions.specs.Table.{Reads}
 use Rattle.c25_meaning_assembly.specs.declared.assembly.Address.{Address}
 use Rattle.c25_meaning_assembly.specs.declared.assembly.Target.TheVariants as target
 use Rattle.c25_meaning_objects.specs.declared.object.Relocation.{Relocation}
+use Rattle.c25_meaning_objects.specs.declared.object.RelocationBase.{RelocationBase}
+use Rattle.c25_meaning_objects.specs.declared.object.RelocationBase.TheVariants as relocated
 use Rattle.c25_meaning_common.specs.declared.relocation.RelocationKind.TheVariants.{Word16}
 use Rattle.c25_meaning_language.specs.declared.value.Base.{Base}
 use Rattle.c25_module_laws.proofs.AddressFields.{form_fields}
@@ -28,7 +30,7 @@ use Rattle.c25_module_laws.proofs.KeptLines.{IsMade, source_made}
 use Rattle.c25_module_laws.proofs.LineWords.{IsFilled}
 use Rattle.c25_module_laws.proofs.ModuleFits.{AllFrom, all_sections}
 use Rattle.c25_module_laws.proofs.ModulesOfSources.{base_in, finished_is, items_placed, made_good, words_in_module}
-use Rattle.c25_module_laws.proofs.OperandSheets.{AreAddresses, IsAddress}
+use Rattle.c25_module_laws.proofs.OperandSheets.{AreAddresses, HoldsOf, IsAddress}
 use Rattle.c25_module_laws.proofs.ResultSteps.{bound}
 use Rattle.c25_module_laws.proofs.SectionsFilled.{AreMadeOf, laid_within, section_filled}
 use Rattle.c25_laws.proofs.StatementItems.{IsStatementOf, all_said, marks_of_section, marks_said, said_by, said_in}
@@ -51,11 +53,16 @@ pub record HasOperands (x : Instruction) : Type 0 where
   pub few : FitForm x.form (length x.sheet.numbers)
   pub addresses : AreAddresses (λ b. Unit {0}) (target.Instruction x.form) x.sheet.numbers x.sheet.addresses
 
+some_base : (B : Base → Type 0) (b : RelocationBase) → HoldsOf B b → HoldsOf (λ b. Unit {0}) b
+some_base B (relocated.Section n) h = tt
+some_base B (relocated.Loaded n) h = h
+some_base B (relocated.External n) h = tt
+
 operands_of : (B : Base → Type 0) (m : Made) (x : Instruction) → IsStatementOf B m x → HasOperands x
 operands_of B m x h = record {
   few = h.few;
   addresses = chain_weaker (λ (a : Address). a.operand) (IsAddress B (target.Instruction x.form) x.sheet.numbers) (IsAddress (λ b. Unit {0}) (target.Instruction x.form) x.sheet.numbers) 0 (length x.sheet.numbers) x.sheet.addresses
-      (λ a l g. record { clear = g.clear; kind = g.kind; base = tt; fits = g.fits }) h.addresses;
+      (λ a l g. record { clear = g.clear; kind = g.kind; base = some_base B a.base g.base; fits = g.fits }) h.addresses;
 }
 
 -- what holds of a statement by itself: its section is there, and its addresses have fields

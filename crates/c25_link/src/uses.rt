@@ -55,7 +55,7 @@ fn missing_base<'a>(
         (λ name. (missing_base ds (contents owner.now) base ≡ true) × (name.now ≡ base_name (contents owner.now) base)) }
 {
     match base {
-        RelocationBase::Section(_) => None,
+        RelocationBase::Section(_) | RelocationBase::Loaded(_) => None,
         RelocationBase::External(index) => {
             let name = symbol_name(owner, index);
             if is_missing(definitions, name) {

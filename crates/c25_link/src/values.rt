@@ -41,7 +41,9 @@ fn kind_value(layout: &Layout<'_, '_>, number: usize, kind: SymbolKind, value: i
 {
     match kind {
         SymbolKind::Absolute => i64::from(value),
-        SymbolKind::InSection(index) => sum(section_base(layout, number, index), value),
+        SymbolKind::InSection(index) | SymbolKind::Loaded(index) => {
+            sum(section_base(layout, number, index), value)
+        }
         SymbolKind::External => 0,
     }
 }
@@ -80,7 +82,9 @@ fn base_value(layout: &Layout<'_, '_>, number: usize, owner: &Parts, base: Reloc
     ensures value { result ≡ base_value layout.now.modules.now (places_in layout.now) number (contents owner.now) base }
 {
     match base {
-        RelocationBase::Section(index) => section_base(layout, number, index),
+        RelocationBase::Section(index) | RelocationBase::Loaded(index) => {
+            section_base(layout, number, index)
+        }
         RelocationBase::External(index) => name_value(layout, symbol_name(owner, index)),
     }
 }

@@ -12,7 +12,8 @@ use Rattle.c25_meaning_placing.proofs.PlaceNames.{same_name}
 use Rattle.c25_meaning_commands.specs.Command.{PlacingData}
 use Rattle.c25_meaning_placing.specs.GoodMap.{Request, listed_request, unlisted_request, has_address, comes_first, comes_later, is_among, new_names, unlisted_names, requests}
 use Rattle.c25_meaning_linking.specs.Linking.{names_checked, first_again, defined_names, first_unresolved, missing_entry, refused_with}
-use Rattle.c25_meaning_objects.specs.Module.{SectionData, SymbolData, Contents, IsModule, is_module, lists_fit, has_sections, each_fits, section_fits, symbol_fits, symbol_stands, place_fits, has_section, has_symbol, begins_sections, body_size, is_section_name, is_symbol_name}
+use Rattle.c25_meaning_objects.specs.Module.{SectionData, SymbolData, Contents, IsModule, is_module, lists_fit, has_sections, each_fits, section_fits, symbol_fits, symbol_stands, kind_allowed, place_fits, has_section, has_symbol, begins_sections, body_size, is_section_name, is_symbol_name}
+use Rattle.c25_meaning_objects.specs.declared.object.Version.{Version}
 use Rattle.c25_meaning_placing.specs.Place.{by_modules, all_sections, is_section_named, is_there}
 use Rattle.c25_meaning_common.specs.Results.{◌>>=◌}
 use Rattle.c25_meaning_linking.specs.Words.{Definition, definition, definitions, definition_of, is_definition, module_definitions}
@@ -47,17 +48,18 @@ fine_sections c is = each_holds section_fits IsFine fine_section [] c.sections (
 abbrev IsNamed : SymbolData → Type 0
 IsNamed y = is_symbol_name y.name ≡ true
 
-named_symbol : (sections : List SectionData) (before : List SymbolData) (y : SymbolData) → symbol_fits sections before y ≡ true → IsNamed y
-named_symbol sections before y e =
-    let a = and_parts (symbol_stands sections y && not (has_symbol before y.name)) (nat_lt (length before) 65535) e in
-    let b = and_parts (symbol_stands sections y) (not (has_symbol before y.name)) a.0 in
-    (and_parts (is_symbol_name y.name) (place_fits sections y y.kind) b.0).0
+named_symbol : (version : Version) (sections : List SectionData) (before : List SymbolData) (y : SymbolData) → symbol_fits version sections before y ≡ true → IsNamed y
+named_symbol version sections before y e =
+    let a = and_parts (symbol_stands version sections y && not (has_symbol before y.name)) (nat_lt (length before) 65535) e in
+    let b = and_parts (symbol_stands version sections y) (not (has_symbol before y.name)) a.0 in
+    let d = and_parts (is_symbol_name y.name && kind_allowed version y.kind) (place_fits sections y y.kind) b.0 in
+    (and_parts (is_symbol_name y.name) (kind_allowed version y.kind) d.0).0
 
-symbols_of_module : (c : Contents) → is_module c ≡ true → each_fits (symbol_fits c.sections) [] c.symbols ≡ true
+symbols_of_module : (c : Contents) → is_module c ≡ true → each_fits (symbol_fits c.version c.sections) [] c.symbols ≡ true
 symbols_of_module c h = (and_parts _ _ (and_parts _ _ (and_parts _ _ (and_parts (has_sections c) (lists_fit c) h).1).1).1).0
 
 named_symbols : (c : Contents) → IsModule c → All IsNamed c.symbols
-named_symbols c is = each_holds (symbol_fits c.sections) IsNamed (named_symbol c.sections) [] c.symbols (symbols_of_module c is.lists)
+named_symbols c is = each_holds (symbol_fits c.version c.sections) IsNamed (named_symbol c.version c.sections) [] c.symbols (symbols_of_module c is.lists)
 
 -- ---- all modules
 

@@ -13,6 +13,7 @@ use Rattle.c25_meaning_objects.specs.declared.object.Scope.{Scope}
 use Rattle.c25_meaning_objects.specs.declared.object.Scope.TheVariants as scope
 use Rattle.c25_meaning_objects.specs.declared.object.SymbolKind.{SymbolKind}
 use Rattle.c25_meaning_objects.specs.declared.object.SymbolKind.TheVariants as symbol
+use Rattle.c25_meaning_objects.specs.declared.object.Version.TheVariants.{One}
 use Rattle.c25_meaning_language.specs.declared.statement.FaultKind.{FaultKind}
 use Rattle.c25_meaning_language.specs.declared.statement.FaultKind.TheVariants as fault
 use Rattle.c25_meaning_language.specs.declared.value.Base.{Base}
@@ -111,13 +112,17 @@ abbrev pub symbol_of : List (List ℕ) → List ℕ × Value → SymbolData
 symbol_of exported pair =
     record { kind = kind_of pair.1.base; scope = scope_of (is_in exported pair.0); value = pair.1.offset; name = pair.0 }
 
--- the module of sections and symbols
+-- the module of sections and symbols, of version 1
 abbrev pub module_with : List Section → Definitions → List (List ℕ) → Contents
 module_with sections names exported = record {
   sections = map section_of sections;
   marks = flat_map (λ s. s.marks) sections;
   symbols = map (symbol_of exported) names;
   relocations = flat_map (λ s. s.relocations) sections;
+  version = One;
+  files = [];
+  lines = [];
+  blocks = [];
 }
 
 -- the module of all lines, or the first fault of their operands

@@ -61,6 +61,7 @@ is_missing ds name = is_none (definition_of name ds)
 -- whether a base is such a name
 abbrev pub missing_base : List Definition → Contents → RelocationBase → Bool
 missing_base ds m (base.Section index) = false
+missing_base ds m (base.Loaded index) = false
 missing_base ds m (base.External index) = is_missing ds (symbol_name m index)
 
 -- whether a relocation counts from such a name
@@ -70,6 +71,7 @@ is_unresolved ds u = missing_base ds u.owner u.relocation.base
 -- the name that a relocation counts from
 abbrev pub base_name : Contents → RelocationBase → List ℕ
 base_name m (base.Section index) = section_name m index
+base_name m (base.Loaded index) = section_name m index
 base_name m (base.External index) = symbol_name m index
 
 -- the first name that a relocation counts from and that no module defines

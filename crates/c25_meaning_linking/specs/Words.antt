@@ -72,6 +72,7 @@ definition_of name ds = find (λ d. bytes_eq name d.symbol.name) ds
 abbrev pub kind_value : List Contents → List Place → ℕ → Contents → SymbolKind → ℤ → ℤ
 kind_value modules places number m kind.Absolute z = z
 kind_value modules places number m (kind.InSection index) z = pos (section_base modules places number m index) +ℤ z
+kind_value modules places number m (kind.Loaded index) z = pos (section_base modules places number m index) +ℤ z
 kind_value modules places number m kind.External z = pos 0
 
 -- what a definition stands for
@@ -87,6 +88,7 @@ name_value modules places name = option_map_or (definition_value modules places)
 -- what a relocation adds its addend to
 abbrev pub base_value : List Contents → List Place → ℕ → Contents → RelocationBase → ℤ
 base_value modules places number m (base.Section index) = pos (section_base modules places number m index)
+base_value modules places number m (base.Loaded index) = pos (section_base modules places number m index)
 base_value modules places number m (base.External index) = name_value modules places (symbol_name m index)
 
 -- the value that a field is filled with

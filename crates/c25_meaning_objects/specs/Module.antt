@@ -1,19 +1,23 @@
 -- What a module of relocatable words consists of, and which lists are a module. Sections, symbols and relocation
 -- are those of SPRU018's chapters on sections and on the assembler; the records that hold them are this project's own.
-use Rattle.std.specs.Prelude.{◌≡◌, ◌<◌, ℕ, ℤ, pos, ◌+◌, ◌-◌, ◌%◌, Bool, true, false, ◌||◌, ◌&&◌, ◌==◌, not, nat_lt, nat_le, slice_index, List, [], ◌∷◌, ◌++◌, length, Option, Some, None, ◌^◌, FitsSigned}
+use Rattle.std.specs.Prelude.{◌≡◌, ◌<◌, ℕ, ℤ, pos, ◌+◌, ◌-◌, ◌%◌, Bool, true, false, ◌||◌, ◌&&◌, ◌==◌, not, nat_lt, nat_le, slice_index, if◌then◌else◌, List, [], ◌∷◌, ◌++◌, length, Option, Some, None, ◌^◌, FitsSigned}
 use Rattle.std.specs.Int.{w32}
-use Rattle.std.specs.List.{slice_get, list_all, list_any, AllByRecursion}
+use Rattle.std.specs.List.{slice_get, list_all, list_any, fold, AllByRecursion}
 use Rattle.std.specs.Ordering.{int_eq}
-use Rattle.std.specs.Str.{bytes_eq}
+use Rattle.std.specs.Str.{bytes_eq, is_utf8}
 use Rattle.c25_meaning_common.specs.Bytes.{is_visible, begins_name, goes_on_name}
+use Rattle.c25_meaning_objects.specs.declared.object.Version.{Version}
+use Rattle.c25_meaning_objects.specs.declared.object.Version.TheVariants.{One, Two}
 use Rattle.c25_meaning_objects.specs.declared.object.SymbolKind.{SymbolKind}
-use Rattle.c25_meaning_objects.specs.declared.object.SymbolKind.TheVariants.{Absolute, InSection, External}
+use Rattle.c25_meaning_objects.specs.declared.object.SymbolKind.TheVariants.{Absolute, InSection, Loaded, External}
 use Rattle.c25_meaning_objects.specs.declared.object.Scope.{Scope}
 use Rattle.c25_meaning_objects.specs.declared.object.Scope.TheVariants.{Local, Global}
 use Rattle.c25_meaning_objects.specs.declared.object.ModuleMark.{ModuleMark}
 use Rattle.c25_meaning_objects.specs.declared.object.RelocationBase.{RelocationBase}
 use Rattle.c25_meaning_objects.specs.declared.object.RelocationBase.TheVariants as base
 use Rattle.c25_meaning_objects.specs.declared.object.Relocation.{Relocation}
+use Rattle.c25_meaning_objects.specs.declared.object.LineMark.{LineMark}
+use Rattle.c25_meaning_objects.specs.declared.object.Block.{Block}
 use Rattle.c25_meaning_common.specs.Fields.{field_values}
 
 -- what a section has: room for words, or words
@@ -33,12 +37,16 @@ pub record SymbolData : Type 0 where
   pub value : ℤ
   pub name : List ℕ
 
--- the lists of a module
+-- the lists of a module; the last three are those of version 2 alone
 pub record Contents : Type 0 where
   pub sections : List SectionData
   pub marks : List ModuleMark
   pub symbols : List SymbolData
   pub relocations : List Relocation
+  pub version : Version
+  pub files : List (List ℕ)
+  pub lines : List LineMark
+  pub blocks : List Block
 
 -- ---- names
 
@@ -122,10 +130,19 @@ abbrev pub is_global : Scope → Bool
 is_global Local = false
 is_global Global = true
 
+-- version 1 has no place that counts from where a section is loaded
+abbrev pub kind_allowed : Version → SymbolKind → Bool
+kind_allowed Two kind = true
+kind_allowed One Absolute = true
+kind_allowed One (InSection number) = true
+kind_allowed One (Loaded number) = false
+kind_allowed One External = true
+
 -- a section that there is; no local external symbol and none with a value
 abbrev pub place_fits : List SectionData → SymbolData → SymbolKind → Bool
 place_fits sections y Absolute = true
 place_fits sections y (InSection number) = nat_lt number (length sections)
+place_fits sections y (Loaded number) = nat_lt number (length sections)
 place_fits sections y External = is_global y.scope && int_eq y.value (pos 0)
 
 -- whether a symbol has that name
@@ -133,13 +150,13 @@ abbrev pub has_symbol : List SymbolData → List ℕ → Bool
 has_symbol before name = list_any (λ y. bytes_eq y.name name) before
 
 -- what a symbol has to be by itself
-abbrev pub symbol_stands : List SectionData → SymbolData → Bool
-symbol_stands sections y = is_symbol_name y.name && place_fits sections y y.kind
+abbrev pub symbol_stands : Version → List SectionData → SymbolData → Bool
+symbol_stands version sections y = is_symbol_name y.name && kind_allowed version y.kind && place_fits sections y y.kind
 
 -- the symbol may follow these
-abbrev pub symbol_fits : List SectionData → List SymbolData → SymbolData → Bool
-symbol_fits sections before y =
-    symbol_stands sections y && not (has_symbol before y.name) && nat_lt (length before) 65535
+abbrev pub symbol_fits : Version → List SectionData → List SymbolData → SymbolData → Bool
+symbol_fits version sections before y =
+    symbol_stands version sections y && not (has_symbol before y.name) && nat_lt (length before) 65535
 
 -- ---- relocations
 
@@ -150,12 +167,19 @@ is_external (Some y) = is_external_kind y.kind where
   is_external_kind : SymbolKind → Bool
   is_external_kind Absolute = false
   is_external_kind (InSection number) = false
+  is_external_kind (Loaded number) = false
   is_external_kind External = true
 
--- a section that there is, or a symbol that is external
-abbrev pub base_fits : List SectionData → List SymbolData → RelocationBase → Bool
-base_fits sections symbols (base.Section number) = nat_lt number (length sections)
-base_fits sections symbols (base.External number) = is_external (slice_get symbols number)
+-- whether it is version 2
+abbrev pub is_two : Version → Bool
+is_two One = false
+is_two Two = true
+
+-- a section that there is, in version 2 where it is loaded too, or a symbol that is external
+abbrev pub base_fits : Version → List SectionData → List SymbolData → RelocationBase → Bool
+base_fits version sections symbols (base.Section number) = nat_lt number (length sections)
+base_fits version sections symbols (base.Loaded number) = is_two version && nat_lt number (length sections)
+base_fits version sections symbols (base.External number) = is_external (slice_get symbols number)
 
 -- the relocation ascends: no two are of one word
 abbrev pub relocation_after : Option Relocation → Relocation → Bool
@@ -167,9 +191,59 @@ abbrev pub field_is_clear : List ℕ → Relocation → Bool
 field_is_clear words r = nat_lt r.offset (length words) && slice_index words r.offset % field_values r.kind == 0
 
 -- the relocation may follow these
-abbrev pub relocation_fits : List SectionData → List SymbolData → List Relocation → Relocation → Bool
-relocation_fits sections symbols before r =
-    base_fits sections symbols r.base && relocation_after (last_of before) r && field_is_clear (words_at sections r.section) r
+abbrev pub relocation_fits : Version → List SectionData → List SymbolData → List Relocation → Relocation → Bool
+relocation_fits version sections symbols before r =
+    base_fits version sections symbols r.base && relocation_after (last_of before) r && field_is_clear (words_at sections r.section) r
+
+-- ---- files
+
+-- whether a file has that name
+abbrev pub has_file : List (List ℕ) → List ℕ → Bool
+has_file before name = list_any (λ f. bytes_eq f name) before
+
+-- the file may follow these: a text that is no other file's name, and that a record has room for
+abbrev pub file_fits : List (List ℕ) → List ℕ → Bool
+file_fits before name = is_utf8 name && nat_lt (length name) (2 ^ 32) && not (has_file before name)
+
+-- ---- lines
+
+-- how many files are used once a line is behind these: files are used in their order
+abbrev pub used_with : ℕ → LineMark → ℕ
+used_with count l = if nat_lt l.file count then count else l.file + 1
+
+-- how many files the lines use
+abbrev pub used : List LineMark → ℕ
+used lines = fold used_with 0 lines
+
+-- the line may follow these: of a mark, in a file that is used already or is the next
+abbrev pub line_fits : List ModuleMark → List (List ℕ) → List LineMark → LineMark → Bool
+line_fits marks files before l =
+    nat_lt (length before) (length marks) && nat_lt l.file (length files) && nat_le l.file (used before) && nat_le 1 l.line
+
+-- each mark has a line, and each file is used
+abbrev pub are_told : Contents → Bool
+are_told c = length c.lines == length c.marks && used c.lines == length c.files
+
+-- ---- blocks
+
+-- the words that are reserved, and not loaded
+abbrev pub reserved : SectionBody → ℕ
+reserved (Uninitialised size) = size
+reserved (Initialised words) = 0
+
+-- the words that an uninitialised section reserves, by its number: none where it is initialised, or where there is no such section
+abbrev pub reserved_at : List SectionData → ℕ → ℕ
+reserved_at sections number = elim (slice_get sections number) [ None ↦ 0 | Some s ↦ reserved s.body ]
+
+-- the block ascends and does not overlap the last one
+abbrev pub block_after : Option Block → Block → Bool
+block_after None b = true
+block_after (Some last) b = is_from last.section (last.offset + last.size) b.section b.offset
+
+-- the block may follow these
+abbrev pub block_fits : List SectionData → List Block → Block → Bool
+block_fits sections before b =
+    nat_le 1 b.size && nat_le b.size 128 && nat_le (b.offset + b.size) (reserved_at sections b.section) && block_after (last_of before) b
 
 -- ---- modules
 
@@ -182,11 +256,18 @@ each_fits fits before (x ∷ xs) = fits before x && each_fits fits (before ++ x 
 abbrev pub has_sections : Contents → Bool
 has_sections c = nat_lt 0 (length c.sections)
 
+-- version 1 has no files, lines and blocks; version 2 tells each mark's line
+abbrev pub told_by : Version → Contents → Bool
+told_by One c = length c.files == 0 && length c.lines == 0 && length c.blocks == 0
+told_by Two c = are_told c
+
 -- each item of a list may follow those before it
 abbrev pub lists_fit : Contents → Bool
 lists_fit c =
     each_fits section_fits [] c.sections && (each_fits (mark_fits c.sections) [] c.marks
-    && (each_fits (symbol_fits c.sections) [] c.symbols && each_fits (relocation_fits c.sections c.symbols) [] c.relocations))
+    && (each_fits (symbol_fits c.version c.sections) [] c.symbols && (each_fits (relocation_fits c.version c.sections c.symbols) [] c.relocations
+    && (each_fits file_fits [] c.files && (each_fits (line_fits c.marks c.files) [] c.lines
+    && (told_by c.version c && each_fits (block_fits c.sections) [] c.blocks))))))
 
 -- the lists are those of a module
 abbrev pub is_module : Contents → Bool
@@ -197,6 +278,7 @@ pub record IsSized (c : Contents) : Type 0 where
   pub words : AllByRecursion (λ s. AllByRecursion (λ w. w < 2 ^ 16) (body_words s.body)) c.sections
   pub values : AllByRecursion (λ y. FitsSigned w32 y.value) c.symbols
   pub addends : AllByRecursion (λ r. FitsSigned w32 r.addend) c.relocations
+  pub lines : AllByRecursion (λ l. (l.file < 2 ^ 16) × (l.line < 2 ^ 32)) c.lines
 
 -- the contents of a module
 pub record IsModule (c : Contents) : Type 0 where

@@ -3,8 +3,10 @@
 use Rattle.std.specs.Prelude.{ℕ, zero, suc, ◌+◌, Bool, ◌||◌, ◌&&◌, ◌==◌, not, nat_lt, nat_le, slice_index, if◌then◌else◌, List, [], ◌∷◌, ◌++◌, length, take, drop, Option, Some, None, Result, Ok, Err}
 use Rattle.std.specs.Int.{w16, w32, from_be_bytes, cast_signed}
 use Rattle.std.specs.Option.{option_and_then, option_map}
+use Rattle.c25_meaning_objects.specs.declared.object.Version.{Version}
+use Rattle.c25_meaning_objects.specs.declared.object.Version.TheVariants.{One, Two}
 use Rattle.c25_meaning_objects.specs.declared.object.SymbolKind.{SymbolKind}
-use Rattle.c25_meaning_objects.specs.declared.object.SymbolKind.TheVariants.{Absolute, InSection, External}
+use Rattle.c25_meaning_objects.specs.declared.object.SymbolKind.TheVariants.{Absolute, InSection, Loaded, External}
 use Rattle.c25_meaning_objects.specs.declared.object.Scope.{Scope}
 use Rattle.c25_meaning_objects.specs.declared.object.Scope.TheVariants.{Local, Global}
 use Rattle.c25_meaning_objects.specs.declared.object.ModuleMark.{ModuleMark}
@@ -13,10 +15,12 @@ use Rattle.c25_meaning_common.specs.declared.relocation.RelocationKind.TheVarian
 use Rattle.c25_meaning_objects.specs.declared.object.RelocationBase.{RelocationBase}
 use Rattle.c25_meaning_objects.specs.declared.object.RelocationBase.TheVariants as base
 use Rattle.c25_meaning_objects.specs.declared.object.Relocation.{Relocation}
+use Rattle.c25_meaning_objects.specs.declared.object.LineMark.{LineMark}
+use Rattle.c25_meaning_objects.specs.declared.object.Block.{Block}
 use Rattle.c25_meaning_objects.specs.declared.object.ObjectFault.{ObjectFault}
 use Rattle.c25_meaning_objects.specs.declared.object.ObjectFault.TheVariants.{BadMagic, BadVersion, Short, BadTag, BadField, Trailing}
 use Rattle.c25_meaning_common.specs.Results.{◌>>=◌}
-use Rattle.c25_meaning_objects.specs.Module.{SectionBody, Uninitialised, Initialised, SectionData, SymbolData, Contents, section_fits, mark_fits, symbol_fits, relocation_fits, has_sections}
+use Rattle.c25_meaning_objects.specs.Module.{SectionBody, Uninitialised, Initialised, SectionData, SymbolData, Contents, section_fits, mark_fits, symbol_fits, relocation_fits, file_fits, line_fits, are_told, told_by, block_fits, has_sections}
 
 -- ---- the parts of payloads, by their places
 
@@ -49,7 +53,8 @@ kind_of code section =
     if code == 0 then (if section == 0 then Some Absolute else None)
     else (if code == 1 then Some (InSection section)
     else (if code == 2 then (if section == 0 then Some External else None)
-    else None))
+    else (if code == 3 then Some (Loaded section)
+    else None)))
 
 -- the scope of a code
 abbrev pub scope_of : ℕ → Option Scope
@@ -73,7 +78,11 @@ field_of code = if code == 1 then Some Word16 else (if code == 2 then Some Low7 
 
 -- the base of a code, with its number
 abbrev pub base_of : ℕ → ℕ → Option RelocationBase
-base_of code index = if code == 0 then Some (base.Section index) else (if code == 1 then Some (base.External index) else None)
+base_of code index =
+    if code == 0 then Some (base.Section index)
+    else (if code == 1 then Some (base.External index)
+    else (if code == 2 then Some (base.Loaded index)
+    else None))
 
 -- a relocation of this field and base with the place and the addend that the payload holds
 abbrev pub relocation_with : List ℕ → RelocationKind → RelocationBase → Relocation
@@ -103,6 +112,17 @@ section_of bytes =
     else option_map (λ body. record { name = take (slice_index bytes 1) (drop 2 bytes); body = body })
     (body_of (slice_index bytes 0) (drop (slice_index bytes 1) (drop 2 bytes))))
 
+-- file, line
+unfoldable pub line_of : List ℕ → Option LineMark
+line_of bytes = if length bytes == 6 then Some (record { file = short_at bytes 0; line = long_at bytes 2 }) else None
+
+-- section, offset, size
+unfoldable pub block_of : List ℕ → Option Block
+block_of bytes =
+    if length bytes == 5
+    then Some (record { section = short_at bytes 0; offset = short_at bytes 2; size = slice_index bytes 4 })
+    else None
+
 -- ---- a record after others
 
 -- an item that may follow, or else the payload is bad
@@ -113,13 +133,21 @@ checked fits (Some x) = if fits x then Ok x else Err BadField
 -- the tag of the list that grew last, that of the sections before any has grown
 abbrev pub latest : Contents → ℕ
 latest c =
-    if nat_lt 0 (length c.relocations) then 4
+    if nat_lt 0 (length c.blocks) then 7
+    else (if nat_lt 0 (length c.lines) then 6
+    else (if nat_lt 0 (length c.files) then 5
+    else (if nat_lt 0 (length c.relocations) then 4
     else (if nat_lt 0 (length c.symbols) then 3
-    else (if nat_lt 0 (length c.marks) then 2 else 1))
+    else (if nat_lt 0 (length c.marks) then 2 else 1)))))
+
+-- the greatest tag of a list
+abbrev pub last_tag : Version → ℕ
+last_tag One = 4
+last_tag Two = 7
 
 -- the tag is known, and none that is over
 abbrev pub is_in_order : Contents → ℕ → Bool
-is_in_order c tag = nat_le (latest c) tag && (nat_le tag 4 || tag == 255)
+is_in_order c tag = nat_le (latest c) tag && (nat_le tag (last_tag c.version) || tag == 255)
 
 -- the next section
 unfoldable pub with_section : Contents → List ℕ → Result Contents ObjectFault
@@ -136,16 +164,34 @@ with_mark c payload = do
 -- the next symbol
 unfoldable pub with_symbol : Contents → List ℕ → Result Contents ObjectFault
 with_symbol c payload = do
-  y ← checked (symbol_fits c.sections c.symbols) (symbol_of payload)
+  y ← checked (symbol_fits c.version c.sections c.symbols) (symbol_of payload)
   Ok (record c { symbols = c.symbols ++ y ∷ [] })
 
 -- the next relocation
 unfoldable pub with_relocation : Contents → List ℕ → Result Contents ObjectFault
 with_relocation c payload = do
-  r ← checked (relocation_fits c.sections c.symbols c.relocations) (relocation_of payload)
+  r ← checked (relocation_fits c.version c.sections c.symbols c.relocations) (relocation_of payload)
   Ok (record c { relocations = c.relocations ++ r ∷ [] })
 
--- the record of a tag, 1 to 4: a section, or, behind a section at least, a mark, a symbol or a relocation
+-- the next file
+unfoldable pub with_file : Contents → List ℕ → Result Contents ObjectFault
+with_file c payload = do
+  name ← checked (file_fits c.files) (Some payload)
+  Ok (record c { files = c.files ++ name ∷ [] })
+
+-- the next line
+unfoldable pub with_line : Contents → List ℕ → Result Contents ObjectFault
+with_line c payload = do
+  l ← checked (line_fits c.marks c.files c.lines) (line_of payload)
+  Ok (record c { lines = c.lines ++ l ∷ [] })
+
+-- the next block, behind all lines
+unfoldable pub with_block : Contents → List ℕ → Result Contents ObjectFault
+with_block c payload =
+    if not (are_told c) then Err BadField
+    else (checked (block_fits c.sections c.blocks) (block_of payload) >>= λ b. Ok (record c { blocks = c.blocks ++ b ∷ [] }))
+
+-- the record of a tag, 1 to 7: a section, or, behind a section at least, an item of another list
 unfoldable pub with_record : Contents → ℕ → List ℕ → Result Contents ObjectFault
 with_record c tag payload =
     if tag == 1 then with_section c payload
@@ -153,7 +199,10 @@ with_record c tag payload =
     else (if tag == 2 then with_mark c payload
     else (if tag == 3 then with_symbol c payload
     else (if tag == 4 then with_relocation c payload
-    else Err BadTag))))
+    else (if tag == 5 then with_file c payload
+    else (if tag == 6 then with_line c payload
+    else (if tag == 7 then with_block c payload
+    else Err BadTag)))))))
 
 -- ---- all of the bytes
 
@@ -172,7 +221,7 @@ record_at bytes =
 -- after the record FF
 unfoldable pub ended : Contents → List ℕ → List ℕ → Result Contents ObjectFault
 ended c payload rest =
-    if has_sections c && length payload == 0 then (if length rest == 0 then Ok c else Err Trailing) else Err BadField
+    if has_sections c && told_by c.version c && length payload == 0 then (if length rest == 0 then Ok c else Err Trailing) else Err BadField
 
 -- the records after those of `c`, at most so many: first that one is cut off, then that its tag may not follow, then its payload
 unfoldable pub read_from : ℕ → Contents → List ℕ → Result Contents ObjectFault
@@ -184,12 +233,25 @@ read_from (suc n) c bytes = do
       else (with_record c found.0.tag found.0.payload >>= λ d. read_from n d found.1))
 
 -- before the first record
-abbrev pub nothing_read : Contents
-nothing_read = record { sections = []; marks = []; symbols = []; relocations = [] }
+abbrev pub nothing_read : Version → Contents
+nothing_read version = record {
+  sections = [];
+  marks = [];
+  symbols = [];
+  relocations = [];
+  version = version;
+  files = [];
+  lines = [];
+  blocks = [];
+}
 
 -- all of them; a record takes a byte at least, so there are no more than bytes
-abbrev pub read_all : List ℕ → Result Contents ObjectFault
-read_all bytes = read_from (length bytes) nothing_read bytes
+abbrev pub read_all : Version → List ℕ → Result Contents ObjectFault
+read_all version bytes = read_from (length bytes) (nothing_read version) bytes
+
+-- the version of a byte
+abbrev pub version_of : ℕ → Result Version ObjectFault
+version_of byte = if byte == 1 then Ok One else (if byte == 2 then Ok Two else Err BadVersion)
 
 -- `C25O` in front
 abbrev pub has_magic : List ℕ → Bool
@@ -200,5 +262,5 @@ has_magic bytes =
 unfoldable pub module_of : List ℕ → Result Contents ObjectFault
 module_of bytes =
     if not (has_magic bytes) then Err BadMagic
-    else (if not (nat_le 5 (length bytes) && slice_index bytes 4 == 1) then Err BadVersion
-    else read_all (drop 5 bytes))
+    else (if not (nat_le 5 (length bytes)) then Err BadVersion
+    else (version_of (slice_index bytes 4) >>= λ version. read_all version (drop 5 bytes)))

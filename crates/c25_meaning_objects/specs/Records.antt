@@ -3,8 +3,10 @@
 use Rattle.std.specs.Prelude.{ℕ, List, [], ◌∷◌, ◌++◌, length}
 use Rattle.std.specs.List.{flat_map}
 use Rattle.std.specs.Int.{w16, w32, to_be_bytes, cast_unsigned}
+use Rattle.c25_meaning_objects.specs.declared.object.Version.{Version}
+use Rattle.c25_meaning_objects.specs.declared.object.Version.TheVariants.{One, Two}
 use Rattle.c25_meaning_objects.specs.declared.object.SymbolKind.{SymbolKind}
-use Rattle.c25_meaning_objects.specs.declared.object.SymbolKind.TheVariants.{Absolute, InSection, External}
+use Rattle.c25_meaning_objects.specs.declared.object.SymbolKind.TheVariants.{Absolute, InSection, Loaded, External}
 use Rattle.c25_meaning_objects.specs.declared.object.Scope.{Scope}
 use Rattle.c25_meaning_objects.specs.declared.object.Scope.TheVariants.{Local, Global}
 use Rattle.c25_meaning_objects.specs.declared.object.ModuleMark.{ModuleMark}
@@ -13,6 +15,8 @@ use Rattle.c25_meaning_common.specs.declared.relocation.RelocationKind.TheVarian
 use Rattle.c25_meaning_objects.specs.declared.object.RelocationBase.{RelocationBase}
 use Rattle.c25_meaning_objects.specs.declared.object.RelocationBase.TheVariants as base
 use Rattle.c25_meaning_objects.specs.declared.object.Relocation.{Relocation}
+use Rattle.c25_meaning_objects.specs.declared.object.LineMark.{LineMark}
+use Rattle.c25_meaning_objects.specs.declared.object.Block.{Block}
 use Rattle.c25_meaning_objects.specs.Module.{SectionBody, Uninitialised, Initialised, SectionData, SymbolData, Contents}
 
 -- a length byte, and that many bytes
@@ -42,12 +46,14 @@ abbrev pub kind_code : SymbolKind → ℕ
 kind_code Absolute = 0
 kind_code (InSection number) = 1
 kind_code External = 2
+kind_code (Loaded number) = 3
 
 -- its two bytes for a section: 0 where there is none
 abbrev pub kind_section : SymbolKind → ℕ
 kind_section Absolute = 0
 kind_section (InSection number) = number
 kind_section External = 0
+kind_section (Loaded number) = number
 
 -- the code of a scope
 abbrev pub scope_code : Scope → ℕ
@@ -69,17 +75,27 @@ field_code Page9 = 3
 abbrev pub base_code : RelocationBase → ℕ
 base_code (base.Section number) = 0
 base_code (base.External number) = 1
+base_code (base.Loaded number) = 2
 
 -- the number of the section or symbol
 abbrev pub base_index : RelocationBase → ℕ
 base_index (base.Section number) = number
 base_index (base.External number) = number
+base_index (base.Loaded number) = number
 
 -- section, offset, field, base, number, addend
 abbrev pub relocation_payload : Relocation → List ℕ
 relocation_payload r =
     to_be_bytes w16 r.section ++ (to_be_bytes w16 r.offset
     ++ (field_code r.kind ∷ (base_code r.base ∷ (to_be_bytes w16 (base_index r.base) ++ to_be_bytes w32 (cast_unsigned w32 r.addend)))))
+
+-- file, line
+abbrev pub line_payload : LineMark → List ℕ
+line_payload l = to_be_bytes w16 l.file ++ to_be_bytes w32 l.line
+
+-- section, offset, size
+abbrev pub block_payload : Block → List ℕ
+block_payload b = to_be_bytes w16 b.section ++ to_be_bytes w16 b.offset ++ b.size ∷ []
 
 -- a tag, a four-byte length and the payload
 abbrev pub entry : ℕ → List ℕ → List ℕ
@@ -101,15 +117,33 @@ symbol_entry y = entry 3 (symbol_payload y)
 abbrev pub relocation_entry : Relocation → List ℕ
 relocation_entry r = entry 4 (relocation_payload r)
 
+-- that of a file: its name
+abbrev pub file_entry : List ℕ → List ℕ
+file_entry name = entry 5 name
+
+-- that of a line
+abbrev pub line_entry : LineMark → List ℕ
+line_entry l = entry 6 (line_payload l)
+
+-- that of a block
+abbrev pub block_entry : Block → List ℕ
+block_entry b = entry 7 (block_payload b)
+
+-- the byte of a version
+abbrev pub version_code : Version → ℕ
+version_code One = 1
+version_code Two = 2
+
 -- `C25O` and the version
-abbrev pub head : List ℕ
-head = 67 ∷ 50 ∷ 53 ∷ 79 ∷ 1 ∷ []
+abbrev pub head : Version → List ℕ
+head version = 67 ∷ 50 ∷ 53 ∷ 79 ∷ version_code version ∷ []
 
 -- the records of the lists, in their order
 abbrev pub records : Contents → List ℕ
 records c =
     flat_map section_entry c.sections ++ (flat_map mark_entry c.marks
-    ++ (flat_map symbol_entry c.symbols ++ flat_map relocation_entry c.relocations))
+    ++ (flat_map symbol_entry c.symbols ++ (flat_map relocation_entry c.relocations
+    ++ (flat_map file_entry c.files ++ (flat_map line_entry c.lines ++ flat_map block_entry c.blocks)))))
 
 -- the last record
 abbrev pub last_entry : List ℕ
@@ -117,4 +151,4 @@ last_entry = entry 255 []
 
 -- the bytes of a module
 abbrev pub spelling : Contents → List ℕ
-spelling c = head ++ (records c ++ last_entry)
+spelling c = head c.version ++ (records c ++ last_entry)

@@ -4,6 +4,15 @@ use c25_meaning_common::relocation::RelocationKind;
 use std::error::Error;
 use std::fmt;
 
+/// Which records may hold a module.
+#[derive(Clone, Copy, PartialEq, Debug)]
+pub enum Version {
+    /// Sections, marks, symbols and relocations.
+    One,
+    /// Files, lines and blocks too, and places that count from where a section is loaded.
+    Two,
+}
+
 /// What a symbol's value counts from.
 #[derive(Clone, Copy, PartialEq)]
 pub enum SymbolKind {
@@ -11,6 +20,8 @@ pub enum SymbolKind {
     Absolute,
     /// From the section of that number, counted from 0.
     InSection(u16),
+    /// From where the section of that number is loaded.
+    Loaded(u16),
     /// The symbol is another module's, and has no value here.
     External,
 }
@@ -37,6 +48,8 @@ pub struct ModuleMark {
 pub enum RelocationBase {
     /// The address of the section of that number.
     Section(u16),
+    /// The address where the section of that number is loaded.
+    Loaded(u16),
     /// The value of the external symbol of that number, counted from 0 among the module's symbols.
     External(u16),
 }
@@ -50,6 +63,23 @@ pub struct Relocation {
     pub kind: RelocationKind,
     pub base: RelocationBase,
     pub addend: i32,
+}
+
+/// Where the instruction of a mark stands in the sources: the number of its file, counted from 0
+/// among the module's files, and its line, counted from 1.
+#[derive(Clone, Copy, PartialEq, Debug)]
+pub struct LineMark {
+    pub file: u16,
+    pub line: u32,
+}
+
+/// Words of an uninitialised section that have to lie in one page of 128 words of data memory: the
+/// section, counted from 0, their offset there, and how many they are.
+#[derive(Clone, Copy, PartialEq, Debug)]
+pub struct Block {
+    pub section: u16,
+    pub offset: u16,
+    pub size: u8,
 }
 
 /// Why bytes are no module: the first fault that stands in them, from the front.

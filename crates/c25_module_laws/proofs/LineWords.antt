@@ -26,7 +26,7 @@ use Rattle.c25_meaning_language.specs.declared.value.Base.{Base}
 use Rattle.c25_module_laws.proofs.AddressFields.{IsAlone, alone, form_fields, form_size, long_mem_first, word_in_form}
 use Rattle.c25_module_laws.proofs.Chains.{Chain, chain_bound}
 use Rattle.c25_module_laws.proofs.Counted.{FitForm, IsCount}
-use Rattle.c25_module_laws.proofs.OperandSheets.{AreAddresses, IsAddress, as_base}
+use Rattle.c25_module_laws.proofs.OperandSheets.{AreAddresses, HoldsOf, IsAddress}
 use Rattle.c25_module_laws.proofs.Spoken.{AreWords}
 
 -- ---- words
@@ -80,7 +80,7 @@ pub record IsFilled (B : Base → Type 0) (section offset : ℕ) (ws : List ℕ)
   pub offset_is : r.offset ≡ offset + word
   pub within : word < length ws
   pub clear : slice_index ws word % field_values r.kind ≡ 0
-  pub base : B (as_base r.base)
+  pub base : HoldsOf B r.base
   pub fits : FitsSigned w32 r.addend
 
 -- the relocations of such words ascend

@@ -14,6 +14,7 @@ use Rattle.c25_meaning_sources.specs.ModuleOfSource.{Assembled, assembled, compl
 use Rattle.c25_meaning_assembly.specs.Sections.{Definitions, Item, Progress, Section, place}
 use Rattle.c25_meaning_objects.specs.declared.object.ModuleMark.{ModuleMark}
 use Rattle.c25_meaning_objects.specs.declared.object.Relocation.{Relocation}
+use Rattle.c25_meaning_objects.specs.declared.object.Version.TheVariants.{One}
 use Rattle.c25_meaning_language.specs.declared.value.Base.{Base}
 use Rattle.c25_module_laws.proofs.Emitted.{Give, Made, all_emitted, filled_from, relocations_at, words_at}
 use Rattle.c25_module_laws.proofs.Kept.{AllKept, Head, heads, is_code, marks_in, part_there, total}
@@ -147,15 +148,15 @@ module_fits p ms made good =
     marks_fit D ms 0 p.sections [] (all_sections (λ n s. AreMarks n 0 (length (modules.words_at (data_in p ms) n)) s.marks) p.sections (λ k s at. marks_in_module p ms k s kept good at)) tt in
     let count = all_count p.names p.declared in
     let few = made.few in
-    let names : each_fits (symbol_fits D) [] symbols ≡ true =
+    let names : each_fits (symbol_fits One D) [] symbols ≡ true =
     symbols_fit D p.exported [] (all_names p) (all_good D (length p.sections) p.names p.declared p.exported (sym size) kept.names.symbols kept.declared.symbols kept.declared.seen)
     (all_distinct p.names p.declared kept.names.distinct kept.declared.distinct) (none_before (all_names p)) (omega (arith, count, few)) in
-    let relocations : each_fits (relocation_fits D symbols) [] (flat_map (λ s. s.relocations) (filled_from 0 p.sections ms)) ≡ true =
+    let relocations : each_fits (relocation_fits One D symbols) [] (flat_map (λ s. s.relocations) (filled_from 0 p.sections ms)) ≡ true =
     relocations_fit D symbols ms 0 p.sections []
     (all_sections (λ n s. (s.relocations ≡ []) × ((high : ℕ) × AreFilled (IsBase (length (data_in p ms)) (map (symbol_of p.exported) (all_names p))) n 0 (modules.words_at (data_in p ms) n) 0 high (relocations_at n ms))) p.sections
     (λ k s at. relocations_in_module p ms k s kept good at)) tt in
     and_from (ltb 0 (length D)) (modules.lists_fit (module_with (filled_from 0 p.sections ms) (all_names p) p.exported)) (lt-ltb 0 (length D) (omega (arith, size, some)))
-    (and_from _ _ sections (and_from _ _ marks (and_from _ _ names relocations)))
+    (and_from _ _ sections (and_from _ _ marks (and_from _ _ names (and_from _ true relocations refl))))
 
 -- ---- its numbers
 
@@ -193,6 +194,7 @@ module_sized p ms made good =
       values = sized_values (data_in p ms) p.exported (all_names p) (all_good (data_in p ms) (length p.sections) p.names p.declared p.exported (sym (length_data p ms)) kept.names.symbols kept.declared.symbols kept.declared.seen);
       addends = sized_addends (base_in p) ms 0 p.sections (all_sections (λ n s. (s.relocations ≡ []) × ((ws : List ℕ) × (high : ℕ) × AreFilled (base_in p) n 0 ws 0 high (relocations_at n ms))) p.sections
           (λ k s at. ((kept.items.each k s at).relocations, (words_at k ms, 0 + total k p.items, section_filled (base_in p) k (λ k. 0) [] p.items ms refl kept.items.laid good))));
+      lines = tt;
     }
 
 -- ---- sources

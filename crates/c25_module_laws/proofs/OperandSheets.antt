@@ -25,16 +25,17 @@ use Rattle.c25_module_laws.proofs.Chains.{Chain, chain_push, chain_weaker, chain
 use Rattle.c25_module_laws.proofs.ResultSteps.{bound}
 use Rattle.c25_module_laws.proofs.Valued.{IsGoodValue, good_valued}
 
--- what a relocation's base counts from, as that of a value
-abbrev pub as_base : RelocationBase → Base
-as_base (relocated.Section n) = Section n
-as_base (relocated.External n) = External n
+-- what holds of a value's base, of the relocation's base that comes of it; no value counts from where a section is loaded
+abbrev pub HoldsOf : (Base → Type 0) → RelocationBase → Type 0
+HoldsOf B (relocated.Section n) = B (Section n)
+HoldsOf B (relocated.Loaded n) = ⊥
+HoldsOf B (relocated.External n) = B (External n)
 
 -- an address among these numbers
 pub record IsAddress (B : Base → Type 0) (t : Target) (ns : List ℕ) (a : Address) : Type 0 where
   pub clear : slice_index ns a.operand ≡ 0
   pub kind : relocation_of (field_of t a.operand) ≡ Some a.kind
-  pub base : B (as_base a.base)
+  pub base : HoldsOf B a.base
   pub fits : FitsSigned w32 a.addend
 
 abbrev pub AreAddresses : (Base → Type 0) → Target → List ℕ → List Address → Type 0
@@ -79,7 +80,7 @@ module _ (B : Base → Type 0) (none : B Absolute) (t : Target) where
         addresses = chain_longer (λ (a : Address). a.operand) (IsAddress B t (s.numbers ++ m ∷ [])) 0 (length s.numbers) (length (s.numbers ++ m ∷ [])) s.addresses (omega (arith, count)) (addresses_stay s.numbers m s.addresses h.addresses);
       }
 
-  more_address : (s new : Sheet) (n : ℕ) (o : Option RelocationKind) (base : RelocationBase) (z : ℤ) → relocation_of (field_of t (length s.numbers)) ≡ o → B (as_base base) → FitsSigned w32 z
+  more_address : (s new : Sheet) (n : ℕ) (o : Option RelocationKind) (base : RelocationBase) (z : ℤ) → relocation_of (field_of t (length s.numbers)) ≡ o → HoldsOf B base → FitsSigned w32 z
       → IsSheet B t n s → with_address o base z s ≡ Ok new → IsSheet B t (n + 1) new
   more_address s new n None base z is good fits h e = absurd (cc)
   more_address s new n (Some kind) base z is good fits h e =

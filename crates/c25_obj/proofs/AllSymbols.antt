@@ -5,6 +5,7 @@ use Rattle.std.specs.Str.{bytes_eq}
 use Rattle.std.proofs.lemmas.Bool.{cases_lt, lt-ltb, ltb-true}
 use Rattle.std.proofs.lemmas.List.{append-nil, length-append}
 use Rattle.std.proofs.lemmas.Slice.Eq.{bytes_eq-Decides}
+use Rattle.c25_meaning_objects.specs.declared.object.Version.{Version}
 use Rattle.c25_meaning_objects.specs.Module.{SectionData, SymbolData, symbol_stands, symbol_fits, has_symbol, each_fits}
 use Rattle.c25_obj.specs.Differing.{name_at, NamesDiffer}
 use Rattle.c25_obj.proofs.Texts.{both}
@@ -79,45 +80,45 @@ NamesDiffer-none xs y zs h = not_true (has_symbol xs y.name) (λ e.
 
 -- ---- a list of symbols
 
-pub record AllFit (sections : List SectionData) (before ys : List SymbolData) : Type 0 where
+pub record AllFit (version : Version) (sections : List SectionData) (before ys : List SymbolData) : Type 0 where
   pub few : length before + length ys ≤ 65535
-  pub stand : list_all (symbol_stands sections) ys ≡ true
+  pub stand : list_all (symbol_stands version sections) ys ≡ true
   pub differ : NamesDiffer (before ++ ys)
 
-pub symbols_fit-from_all : (sections : List SectionData) (before ys : List SymbolData) → AllFit sections before ys → each_fits (symbol_fits sections) before ys ≡ true
-symbols_fit-from_all sections before [] h = refl
-symbols_fit-from_all sections before (y ∷ ys) h =
+pub symbols_fit-from_all : (version : Version) (sections : List SectionData) (before ys : List SymbolData) → AllFit version sections before ys → each_fits (symbol_fits version sections) before ys ≡ true
+symbols_fit-from_all version sections before [] h = refl
+symbols_fit-from_all version sections before (y ∷ ys) h =
     let few : length before + length (y ∷ ys) ≤ 65535 = h.few in
-    let stand = both (symbol_stands sections y) (list_all (symbol_stands sections) ys) h.stand in
+    let stand = both (symbol_stands version sections y) (list_all (symbol_stands version sections) ys) h.stand in
     let none = NamesDiffer-none before y ys h.differ in
     let n : length (before ++ y ∷ []) ≡ length before + 1 = length-append before (y ∷ []) in
-    let here : symbol_fits sections before y ≡ true =
-    and_true (symbol_stands sections y && not (has_symbol before y.name)) (ltb (length before) 65535)
-    (and_true (symbol_stands sections y) (not (has_symbol before y.name)) stand.0 (ap not none)) (lt-ltb (length before) 65535 (omega arith)) in
-    let rest : AllFit sections (before ++ y ∷ []) ys = record {
+    let here : symbol_fits version sections before y ≡ true =
+    and_true (symbol_stands version sections y && not (has_symbol before y.name)) (ltb (length before) 65535)
+    (and_true (symbol_stands version sections y) (not (has_symbol before y.name)) stand.0 (ap not none)) (lt-ltb (length before) 65535 (omega arith)) in
+    let rest : AllFit version sections (before ++ y ∷ []) ys = record {
       few = omega arith;
       stand = stand.1;
       differ = subst NamesDiffer (sym (append_assoc before (y ∷ []) ys)) h.differ;
     } in
-    and_true (symbol_fits sections before y) (each_fits (symbol_fits sections) (before ++ y ∷ []) ys) here (symbols_fit-from_all sections (before ++ y ∷ []) ys rest)
+    and_true (symbol_fits version sections before y) (each_fits (symbol_fits version sections) (before ++ y ∷ []) ys) here (symbols_fit-from_all version sections (before ++ y ∷ []) ys rest)
 
-pub all-from_symbols_fit : (sections : List SectionData) (before ys : List SymbolData) → each_fits (symbol_fits sections) before ys ≡ true → length before ≤ 65535 → NamesDiffer before → AllFit sections before ys
-all-from_symbols_fit sections before [] e few differ = record {
+pub all-from_symbols_fit : (version : Version) (sections : List SectionData) (before ys : List SymbolData) → each_fits (symbol_fits version sections) before ys ≡ true → length before ≤ 65535 → NamesDiffer before → AllFit version sections before ys
+all-from_symbols_fit version sections before [] e few differ = record {
   few = omega arith;
   stand = refl;
   differ = subst NamesDiffer (sym (append-nil before)) differ;
 }
-all-from_symbols_fit sections before (y ∷ ys) e few differ =
-    let parts = both (symbol_fits sections before y) (each_fits (symbol_fits sections) (before ++ y ∷ []) ys) e in
-    let last = both (symbol_stands sections y && not (has_symbol before y.name)) (ltb (length before) 65535) parts.0 in
-    let first = both (symbol_stands sections y) (not (has_symbol before y.name)) last.0 in
+all-from_symbols_fit version sections before (y ∷ ys) e few differ =
+    let parts = both (symbol_fits version sections before y) (each_fits (symbol_fits version sections) (before ++ y ∷ []) ys) e in
+    let last = both (symbol_stands version sections y && not (has_symbol before y.name)) (ltb (length before) 65535) parts.0 in
+    let first = both (symbol_stands version sections y) (not (has_symbol before y.name)) last.0 in
     let n : length (before ++ y ∷ []) ≡ length before + 1 = length-append before (y ∷ []) in
     let room : length before < 65535 = ltb-true (length before) 65535 last.1 in
-    let rest = all-from_symbols_fit sections (before ++ y ∷ []) ys parts.1 (omega arith) (NamesDiffer-push before y differ (not_is (has_symbol before y.name) first.1)) in
+    let rest = all-from_symbols_fit version sections (before ++ y ∷ []) ys parts.1 (omega arith) (NamesDiffer-push before y differ (not_is (has_symbol before y.name) first.1)) in
     let less : length (before ++ y ∷ []) + length ys ≤ 65535 = rest.few in
     record {
       few = omega arith;
-      stand = and_true (symbol_stands sections y) (list_all (symbol_stands sections) ys) first.0 rest.stand;
+      stand = and_true (symbol_stands version sections y) (list_all (symbol_stands version sections) ys) first.0 rest.stand;
       differ = subst NamesDiffer (append_assoc before (y ∷ []) ys) rest.differ;
     }
   where
@@ -127,28 +128,28 @@ all-from_symbols_fit sections before (y ∷ ys) e few differ =
 
 -- ---- what the code finds
 
-abbrev fits : List SectionData → List SymbolData → Bool
-fits sections ys = each_fits (symbol_fits sections) [] ys
+abbrev fits : Version → List SectionData → List SymbolData → Bool
+fits version sections ys = each_fits (symbol_fits version sections) [] ys
 
 NamesDiffer-nil : NamesDiffer []
 NamesDiffer-nil i j p q e = absurd (omega arith)
 
-pub too_many : (sections : List SectionData) (ys : List SymbolData) → 65535 < length ys → fits sections ys ≡ false
-too_many sections ys more = not_true (fits sections ys) (λ e.
-    let few : 0 + length ys ≤ 65535 = (all-from_symbols_fit sections [] ys e (lit≤ tt) NamesDiffer-nil).few in
+pub too_many : (version : Version) (sections : List SectionData) (ys : List SymbolData) → 65535 < length ys → fits version sections ys ≡ false
+too_many version sections ys more = not_true (fits version sections ys) (λ e.
+    let few : 0 + length ys ≤ 65535 = (all-from_symbols_fit version sections [] ys e (lit≤ tt) NamesDiffer-nil).few in
     absurd (omega arith))
 
-pub some_stands_not : (sections : List SectionData) (ys : List SymbolData) → list_all (symbol_stands sections) ys ≡ false → fits sections ys ≡ false
-some_stands_not sections ys not_all = not_true (fits sections ys) (λ e.
-    let stand = (all-from_symbols_fit sections [] ys e (lit≤ tt) NamesDiffer-nil).stand in
+pub some_stands_not : (version : Version) (sections : List SectionData) (ys : List SymbolData) → list_all (symbol_stands version sections) ys ≡ false → fits version sections ys ≡ false
+some_stands_not version sections ys not_all = not_true (fits version sections ys) (λ e.
+    let stand = (all-from_symbols_fit version sections [] ys e (lit≤ tt) NamesDiffer-nil).stand in
     absurd cc)
 
-pub fits_if_names_differ : (sections : List SectionData) (ys : List SymbolData) (r : Bool) → length ys ≤ 65535 → list_all (symbol_stands sections) ys ≡ true
-    → (IsTrue r ↔ NamesDiffer ys) → r ≡ fits sections ys
-fits_if_names_differ sections ys true few stand h =
-    sym (symbols_fit-from_all sections [] ys (record { few = omega arith; stand = stand; differ = h.0 (search rules) }))
-fits_if_names_differ sections ys false few stand h =
-    sym (not_true (fits sections ys) (λ e. false_is (h.1 (all-from_symbols_fit sections [] ys e (lit≤ tt) NamesDiffer-nil).differ)))
+pub fits_if_names_differ : (version : Version) (sections : List SectionData) (ys : List SymbolData) (r : Bool) → length ys ≤ 65535 → list_all (symbol_stands version sections) ys ≡ true
+    → (IsTrue r ↔ NamesDiffer ys) → r ≡ fits version sections ys
+fits_if_names_differ version sections ys true few stand h =
+    sym (symbols_fit-from_all version sections [] ys (record { few = omega arith; stand = stand; differ = h.0 (search rules) }))
+fits_if_names_differ version sections ys false few stand h =
+    sym (not_true (fits version sections ys) (λ e. false_is (h.1 (all-from_symbols_fit version sections [] ys e (lit≤ tt) NamesDiffer-nil).differ)))
   where
     false_is : IsTrue false → ⊥
     false_is h = search rules

@@ -1,11 +1,13 @@
 -- What it is for items to fit: the lists of a module one by one, and the sizes of single items.
-use Rattle.std.proofs.Common.{◌≡◌, ℕ, ◌<◌, ◌≤◌, Bool, true, not, ◌&&◌, leb, ltb, List, [], ◌∷◌, ◌++◌, length, slice_index, refl, ap, ◌∙◌}
+use Rattle.std.proofs.Common.{◌≡◌, ℕ, ◌<◌, ◌≤◌, ◌^◌, Bool, true, not, ◌&&◌, leb, ltb, List, [], ◌∷◌, ◌++◌, length, slice_index, refl, ap, ◌∙◌}
 use Rattle.std.specs.List.{flat_map, list_all}
+use Rattle.std.specs.Str.{is_utf8}
 use Rattle.std.proofs.lemmas.Bool.{ltb-true, leb-true}
 use Rattle.std.proofs.lemmas.List.{append-nil}
 use Rattle.std.proofs.lemmas.List.Concat.{flat_map-cons, flat_map-append}
 use Rattle.c25_meaning_common.specs.Bytes.{begins_name, goes_on_name}
-use Rattle.c25_meaning_objects.specs.Module.{SectionData, SymbolData, Contents, body_size, section_fits, mark_fits, symbol_fits, relocation_fits, each_fits, lists_fit, has_section, begins_sections, is_section_name, is_section_byte, place_fits, has_symbol, is_symbol_name}
+use Rattle.c25_meaning_objects.specs.declared.object.Version.{Version}
+use Rattle.c25_meaning_objects.specs.Module.{SectionData, SymbolData, Contents, body_size, section_fits, mark_fits, symbol_fits, relocation_fits, file_fits, line_fits, block_fits, each_fits, told_by, lists_fit, has_section, begins_sections, is_section_name, is_section_byte, place_fits, kind_allowed, has_symbol, has_file, is_symbol_name}
 use Rattle.c25_obj.proofs.Texts.{both}
 
 pub and_true : (a b : Bool) → a ≡ true → b ≡ true → (a && b) ≡ true
@@ -18,18 +20,27 @@ one_more f xs x = flat_map-append f xs (x ∷ []) ∙ ap (λ (t : List ℕ). fla
 pub record ListsFit (c : Contents) : Type 0 where
   pub sections : each_fits section_fits [] c.sections ≡ true
   pub marks : each_fits (mark_fits c.sections) [] c.marks ≡ true
-  pub symbols : each_fits (symbol_fits c.sections) [] c.symbols ≡ true
-  pub relocations : each_fits (relocation_fits c.sections c.symbols) [] c.relocations ≡ true
+  pub symbols : each_fits (symbol_fits c.version c.sections) [] c.symbols ≡ true
+  pub relocations : each_fits (relocation_fits c.version c.sections c.symbols) [] c.relocations ≡ true
+  pub files : each_fits file_fits [] c.files ≡ true
+  pub lines : each_fits (line_fits c.marks c.files) [] c.lines ≡ true
+  pub blocks : each_fits (block_fits c.sections) [] c.blocks ≡ true
 
-pub lists_fit_all : (c : Contents) → ListsFit c → lists_fit c ≡ true
-lists_fit_all c h = and_true _ _ h.sections (and_true _ _ h.marks (and_true _ _ h.symbols h.relocations))
+pub lists_fit_all : (c : Contents) → ListsFit c → told_by c.version c ≡ true → lists_fit c ≡ true
+lists_fit_all c h told =
+    and_true _ _ h.sections (and_true _ _ h.marks (and_true _ _ h.symbols (and_true _ _ h.relocations
+    (and_true _ _ h.files (and_true _ _ h.lines (and_true _ _ told h.blocks))))))
 
-pub lists_fit_each : (c : Contents) → lists_fit c ≡ true → ListsFit c
+pub lists_fit_each : (c : Contents) → lists_fit c ≡ true → ListsFit c × (told_by c.version c ≡ true)
 lists_fit_each c e =
     let a = both (each_fits section_fits [] c.sections) _ e in
     let b = both (each_fits (mark_fits c.sections) [] c.marks) _ a.1 in
-    let d = both (each_fits (symbol_fits c.sections) [] c.symbols) _ b.1 in
-    record { sections = a.0; marks = b.0; symbols = d.0; relocations = d.1 }
+    let d = both (each_fits (symbol_fits c.version c.sections) [] c.symbols) _ b.1 in
+    let f = both (each_fits (relocation_fits c.version c.sections c.symbols) [] c.relocations) _ d.1 in
+    let g = both (each_fits file_fits [] c.files) _ f.1 in
+    let h = both (each_fits (line_fits c.marks c.files) [] c.lines) _ g.1 in
+    let k = both (told_by c.version c) _ h.1 in
+    (record { sections = a.0; marks = b.0; symbols = d.0; relocations = f.0; files = g.0; lines = h.0; blocks = k.1 }, k.0)
 
 -- ---- the sizes of items that fit
 
@@ -43,12 +54,19 @@ section_small ss s e =
     let m = both (leb 1 (length s.name)) (leb (length s.name) 32) n.0 in
     (leb-true _ _ a.1, leb-true _ _ m.1, ltb-true _ _ d.1)
 
-pub symbol_small : (ss : List SectionData) (ys : List SymbolData) (y : SymbolData) → symbol_fits ss ys y ≡ true → (length y.name ≤ 128) × (length ys < 65535) × (place_fits ss y y.kind ≡ true)
-symbol_small ss ys y e =
+pub symbol_small : (version : Version) (ss : List SectionData) (ys : List SymbolData) (y : SymbolData) → symbol_fits version ss ys y ≡ true → (length y.name ≤ 128) × (length ys < 65535) × (place_fits ss y y.kind ≡ true)
+symbol_small version ss ys y e =
     let c = both _ (ltb (length ys) 65535) e in
     let b = both _ (not (has_symbol ys y.name)) c.0 in
-    let a = both (is_symbol_name y.name) (place_fits ss y y.kind) b.0 in
-    let n = both _ (list_all goes_on_name y.name) a.0 in
+    let a = both _ (place_fits ss y y.kind) b.0 in
+    let s = both (is_symbol_name y.name) (kind_allowed version y.kind) a.0 in
+    let n = both _ (list_all goes_on_name y.name) s.0 in
     let m = both _ (begins_name (slice_index y.name 0)) n.0 in
     let k = both (leb 1 (length y.name)) (leb (length y.name) 128) m.0 in
     (leb-true _ _ k.1, ltb-true _ _ c.1, a.1)
+
+pub file_short : (before : List (List ℕ)) (name : List ℕ) → file_fits before name ≡ true → length name < 2 ^ 32
+file_short before name e =
+    let b = both _ (not (has_file before name)) e in
+    let a = both (is_utf8 name) (ltb (length name) (2 ^ 32)) b.0 in
+    ltb-true _ _ a.1

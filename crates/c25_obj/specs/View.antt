@@ -1,5 +1,6 @@
 -- How the lists of a module are seen: texts and vectors as lists.
-use Rattle.std.specs.Prelude.{List, map, string_bytes}
+use Rattle.std.specs.Prelude.{ℕ, List, map, String, string_bytes}
+use Rattle.std.specs.declared.alloc.Global.{Global}
 use Rattle.c25_meaning_objects.specs.Module.{SectionBody, Uninitialised, Initialised, SectionData, SymbolData, Contents}
 use Rattle.c25_obj.specs.declared.parts.Body.{Body}
 use Rattle.c25_obj.specs.declared.parts.Body.TheVariants as body
@@ -28,6 +29,10 @@ sections_data sections = map section_data sections
 abbrev pub symbols_data : List Symbol → List SymbolData
 symbols_data symbols = map symbol_data symbols
 
+-- names of files, one after the other
+abbrev pub files_data : List (String Global) → List (List ℕ)
+files_data files = map string_bytes files
+
 -- all the lists of a module
 abbrev pub contents : Parts → Contents
 contents parts = record {
@@ -35,4 +40,8 @@ contents parts = record {
   marks = parts.marks.items;
   symbols = symbols_data parts.symbols.items;
   relocations = parts.relocations.items;
+  version = parts.version;
+  files = files_data parts.files.items;
+  lines = parts.lines.items;
+  blocks = parts.blocks.items;
 }

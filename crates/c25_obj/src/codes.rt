@@ -4,7 +4,7 @@ ghost use Rattle.std.specs.Prelude.{◌≡◌};
 ghost use Rattle.c25_meaning_objects.specs.Records as bytes;
 
 use c25_meaning_common::relocation::RelocationKind;
-use c25_meaning_objects::object::{RelocationBase, Scope, SymbolKind};
+use c25_meaning_objects::object::{RelocationBase, Scope, SymbolKind, Version};
 
 /// The code of a kind.
 pub(crate) fn kind_code(kind: SymbolKind) -> u8
@@ -14,6 +14,7 @@ pub(crate) fn kind_code(kind: SymbolKind) -> u8
         SymbolKind::Absolute => 0,
         SymbolKind::InSection(_) => 1,
         SymbolKind::External => 2,
+        SymbolKind::Loaded(_) => 3,
     }
 }
 
@@ -22,7 +23,7 @@ pub(crate) fn kind_section(kind: SymbolKind) -> u16
     ensures { result ≡ bytes.kind_section kind }
 {
     match kind {
-        SymbolKind::InSection(number) => number,
+        SymbolKind::InSection(number) | SymbolKind::Loaded(number) => number,
         SymbolKind::Absolute | SymbolKind::External => 0,
     }
 }
@@ -55,6 +56,7 @@ pub(crate) fn base_code(base: RelocationBase) -> u8
     match base {
         RelocationBase::Section(_) => 0,
         RelocationBase::External(_) => 1,
+        RelocationBase::Loaded(_) => 2,
     }
 }
 
@@ -65,5 +67,16 @@ pub(crate) fn base_index(base: RelocationBase) -> u16
     match base {
         RelocationBase::Section(number) => number,
         RelocationBase::External(number) => number,
+        RelocationBase::Loaded(number) => number,
+    }
+}
+
+/// The byte of a version.
+pub(crate) fn version_code(version: Version) -> u8
+    ensures { result ≡ bytes.version_code version }
+{
+    match version {
+        Version::One => 1,
+        Version::Two => 2,
     }
 }

@@ -1,6 +1,8 @@
 //! The lists that a module consists of.
 
-use c25_meaning_objects::object::{ModuleMark, Relocation, Scope, SymbolKind};
+use c25_meaning_objects::object::{
+    Block, LineMark, ModuleMark, Relocation, Scope, SymbolKind, Version,
+};
 
 /// What a section has: a number of reserved words, or its words.
 #[derive(Drop)]
@@ -18,8 +20,8 @@ pub struct Section {
     pub body: Body,
 }
 
-/// A symbol. Its value is an offset in words where its kind is [`SymbolKind::InSection`], which may
-/// lie outside the section; it is 0 where its kind is [`SymbolKind::External`].
+/// A symbol. Its value is an offset in words where its kind is [`SymbolKind::InSection`] or
+/// [`SymbolKind::Loaded`], which may lie outside the section; it is 0 where its kind is [`SymbolKind::External`].
 #[derive(Drop)]
 pub struct Symbol {
     pub kind: SymbolKind,
@@ -29,11 +31,18 @@ pub struct Symbol {
 }
 
 /// The lists of a module, each in the order in which its records are written. Sections and symbols
-/// are named by their numbers from 0; marks and relocations ascend by section and offset.
+/// are named by their numbers from 0; marks, relocations and blocks ascend by section and offset.
+/// In version 2 there is a line for each mark, in the order of marks, and `files` has the names of
+/// the lines' files in the order in which lines first use them; in version 1 there are none of the
+/// last three.
 #[derive(Drop)]
 pub struct Parts {
     pub sections: Vec<Section>,
     pub marks: Vec<ModuleMark>,
     pub symbols: Vec<Symbol>,
     pub relocations: Vec<Relocation>,
+    pub version: Version,
+    pub files: Vec<String>,
+    pub lines: Vec<LineMark>,
+    pub blocks: Vec<Block>,
 }

@@ -8,7 +8,7 @@ ghost use Rattle.c25_meaning_objects.specs.Module.{IsSized, body_words};
 ghost use Rattle.c25_obj.specs.View.{body_data, sections_data, symbols_data, contents};
 
 use crate::parts::{Body, Parts, Section, Symbol};
-use c25_meaning_objects::object::Relocation;
+use c25_meaning_objects::object::{LineMark, Relocation};
 
 fn sized_words(words: &[u16])
     ensures { AllByRecursion (λ w. w < 2 ^ 16) words.now }
@@ -53,6 +53,20 @@ fn sized_relocations(relocations: &[Relocation])
     }
 }
 
+fn sized_line(line: &LineMark)
+    ensures { (line.now.file < 2 ^ 16) × (line.now.line < 2 ^ 32) }
+{
+    let (_file, _line) = (line.file, line.line);
+}
+
+fn sized_lines(lines: &[LineMark])
+    ensures { AllByRecursion (λ l. (l.file < 2 ^ 16) × (l.line < 2 ^ 32)) lines.now }
+{
+    for line in lines {
+        sized_line(line);
+    }
+}
+
 /// The numbers of the lists fit.
 pub(crate) fn sized(parts: &Parts)
     ensures { IsSized (contents parts.now) }
@@ -60,4 +74,5 @@ pub(crate) fn sized(parts: &Parts)
     sized_sections(&parts.sections);
     sized_symbols(&parts.symbols);
     sized_relocations(&parts.relocations);
+    sized_lines(&parts.lines);
 }

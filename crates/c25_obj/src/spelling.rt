@@ -3,12 +3,15 @@
 ghost use Rattle.std.specs.Prelude.{◌≡◌, []};
 ghost use Rattle.std.specs.List.{list_all};
 ghost use Rattle.c25_meaning_objects.specs.Module as spec;
-ghost use Rattle.c25_obj.specs.View.{sections_data, symbols_data, contents};
+ghost use Rattle.c25_obj.specs.View.{sections_data, symbols_data, files_data, contents};
 
 use crate::differing::{MAX_SYMBOLS, names_differ};
-use crate::fits::{mark_fits, relocation_fits, section_fits, symbol_stands};
+use crate::fits::{
+    block_fits, file_fits, line_fits, mark_fits, relocation_fits, section_fits, symbol_stands,
+    used_with,
+};
 use crate::parts::{Parts, Section, Symbol};
-use c25_meaning_objects::object::{ModuleMark, Relocation};
+use c25_meaning_objects::object::{Block, LineMark, ModuleMark, Relocation, Version};
 
 fn sections_fit(sections: &[Section]) -> bool
     ensures { result ≡ spec.each_fits spec.section_fits [] (sections_data sections.now) }
@@ -32,31 +35,103 @@ fn marks_fit(sections: &[Section], marks: &[ModuleMark]) -> bool
     true
 }
 
-fn all_symbols_stand(sections: &[Section], symbols: &[Symbol]) -> bool
-    ensures { result ≡ list_all (spec.symbol_stands (sections_data sections.now)) (symbols_data symbols.now) }
+fn all_symbols_stand(version: Version, sections: &[Section], symbols: &[Symbol]) -> bool
+    ensures { result ≡ list_all (spec.symbol_stands version (sections_data sections.now)) (symbols_data symbols.now) }
 {
     for symbol in symbols {
-        if !symbol_stands(sections, symbol) {
+        if !symbol_stands(version, sections, symbol) {
             return false;
         }
     }
     true
 }
 
-fn symbols_fit(sections: &[Section], symbols: &[Symbol]) -> bool
-    ensures { result ≡ spec.each_fits (spec.symbol_fits (sections_data sections.now)) [] (symbols_data symbols.now) }
+fn symbols_fit(version: Version, sections: &[Section], symbols: &[Symbol]) -> bool
+    ensures { result ≡ spec.each_fits (spec.symbol_fits version (sections_data sections.now)) [] (symbols_data symbols.now) }
 {
     if symbols.len() > MAX_SYMBOLS {
         return false;
     }
-    all_symbols_stand(sections, symbols) && names_differ(symbols)
+    all_symbols_stand(version, sections, symbols) && names_differ(symbols)
 }
 
-fn relocations_fit(sections: &[Section], symbols: &[Symbol], relocations: &[Relocation]) -> bool
-    ensures { result ≡ spec.each_fits (spec.relocation_fits (sections_data sections.now) (symbols_data symbols.now)) [] relocations.now }
+fn relocations_fit(
+    version: Version,
+    sections: &[Section],
+    symbols: &[Symbol],
+    relocations: &[Relocation],
+) -> bool
+    ensures { result ≡ spec.each_fits (spec.relocation_fits version (sections_data sections.now) (symbols_data symbols.now)) [] relocations.now }
 {
     for i in 0..relocations.len() {
-        if !relocation_fits(sections, symbols, &relocations[..i], &relocations[i]) {
+        if !relocation_fits(
+            version,
+            sections,
+            symbols,
+            &relocations[..i],
+            &relocations[i],
+        ) {
+            return false;
+        }
+    }
+    true
+}
+
+fn files_fit(files: &[String]) -> bool
+    ensures { result ≡ spec.each_fits spec.file_fits [] (files_data files.now) }
+{
+    for i in 0..files.len() {
+        if !file_fits(&files[..i], &files[i]) {
+            return false;
+        }
+    }
+    true
+}
+
+fn lines_fit(marks: &[ModuleMark], files: &[String], lines: &[LineMark]) -> bool
+    ensures { result ≡ spec.each_fits (spec.line_fits marks.now (files_data files.now)) [] lines.now }
+{
+    let mut used = 0;
+    for i in 0..lines.len() {
+        if !line_fits(marks, files, &lines[..i], used, &lines[i]) {
+            return false;
+        }
+        used = used_with(used, &lines[i]);
+    }
+    true
+}
+
+fn used(lines: &[LineMark]) -> u32
+    ensures { result ≡ spec.used lines.now }
+{
+    let mut count = 0;
+    for line in lines {
+        count = used_with(count, line);
+    }
+    count
+}
+
+/// Whether the lists have what their version tells: no lines, files and blocks, or a line for each
+/// mark and no file that lines do not use.
+fn told(parts: &Parts) -> bool
+    ensures { result ≡ spec.told_by parts.now.version (contents parts.now) }
+{
+    match parts.version {
+        Version::One => {
+            parts.files.is_empty() && parts.lines.is_empty() && parts.blocks.is_empty()
+        }
+        Version::Two => {
+            parts.lines.len() == parts.marks.len()
+                && used(&parts.lines) as usize == parts.files.len()
+        }
+    }
+}
+
+fn blocks_fit(sections: &[Section], blocks: &[Block]) -> bool
+    ensures { result ≡ spec.each_fits (spec.block_fits (sections_data sections.now)) [] blocks.now }
+{
+    for i in 0..blocks.len() {
+        if !block_fits(sections, &blocks[..i], &blocks[i]) {
             return false;
         }
     }
@@ -69,13 +144,28 @@ fn relocations_fit(sections: &[Section], symbols: &[Symbol], relocations: &[Relo
 /// sections or among symbols; marks and relocations ascend, lie inside initialised sections and do
 /// not overlap; numbers of sections and symbols are those of one; relocated fields are 0.
 ///
-/// It takes no memory, and time near linear in the size of the lists.
+/// In version 2 each mark has a line of 1 or more, no file's name stands twice, and files are used,
+/// each, in their order; blocks of 1 to 128 words ascend, lie inside uninitialised sections and do
+/// not overlap. Version 1 has none of these lists, and nothing that counts from where a section is
+/// loaded.
+///
+/// It takes no memory, and time near linear in the size of the lists, but for the names of files,
+/// each of which is held against those before it.
 pub fn spells(parts: &Parts) -> bool
     ensures { result ≡ spec.is_module (contents parts.now) }
 {
     !parts.sections.is_empty()
         && sections_fit(&parts.sections)
         && marks_fit(&parts.sections, &parts.marks)
-        && symbols_fit(&parts.sections, &parts.symbols)
-        && relocations_fit(&parts.sections, &parts.symbols, &parts.relocations)
+        && symbols_fit(parts.version, &parts.sections, &parts.symbols)
+        && relocations_fit(
+            parts.version,
+            &parts.sections,
+            &parts.symbols,
+            &parts.relocations,
+        )
+        && files_fit(&parts.files)
+        && lines_fit(&parts.marks, &parts.files, &parts.lines)
+        && told(parts)
+        && blocks_fit(&parts.sections, &parts.blocks)
 }

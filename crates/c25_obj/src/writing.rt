@@ -1,18 +1,20 @@
 //! The bytes of a module.
 
-ghost use Rattle.std.specs.Prelude.{◌≡◌, ◌++◌, ◌≤◌, ◌∷◌, length, IfOk, OnOk, string_bytes, [], true, All};
+ghost use Rattle.std.specs.Prelude.{◌≡◌, ◌++◌, ◌≤◌, ◌<◌, ◌^◌, ◌∷◌, length, IfOk, OnOk, string_bytes, [], true, All};
 ghost use Rattle.std.specs.List.{flat_map};
 ghost use Rattle.std.specs.Int.{w16, w32, to_be_bytes};
 ghost use Rattle.c25_meaning_objects.specs.Module.{body_size, each_fits, section_fits};
 ghost use Rattle.c25_meaning_objects.specs.Records as bytes;
-ghost use Rattle.c25_obj.specs.View.{body_data, section_data, symbol_data, sections_data, symbols_data};
+ghost use Rattle.c25_obj.specs.View.{body_data, section_data, symbol_data, sections_data, symbols_data, files_data, contents};
 
-use crate::codes::{base_code, base_index, field_code, kind_code, kind_section, scope_code};
+use crate::codes::{
+    base_code, base_index, field_code, kind_code, kind_section, scope_code, version_code,
+};
 use crate::made::Module;
-use crate::parts::{Body, Section, Symbol};
+use crate::parts::{Body, Parts, Section, Symbol};
 use c25_meaning_common::no_memory::NoMemory;
 use c25_meaning_common::relocation::RelocationKind;
-use c25_meaning_objects::object::{ModuleMark, Relocation, RelocationBase};
+use c25_meaning_objects::object::{Block, LineMark, ModuleMark, Relocation, RelocationBase};
 use std::alloc::Global;
 
 /// What stands before a payload: its tag and its length.
@@ -196,17 +198,108 @@ fn put_relocations(out: &mut Vec<u8>, relocations: &[Relocation]) -> Result<(), 
     Ok(())
 }
 
+fn put_file(out: &mut Vec<u8>, name: &str) -> Result<(), NoMemory>
+    requires { length name.now < 2 ^ 32 }
+    ensures { OnOk result (out.new.items ≡ out.old.items ++ bytes.file_entry name.now) }
+{
+    put_head(out, 5, name.len() as u32)?;
+    out.extend_from_slice(name.as_bytes())?;
+    Ok(())
+}
+
+fn put_line_payload(out: &mut Vec<u8>, line: LineMark) -> Result<(), NoMemory>
+    ensures { OnOk result (out.new.items ≡ out.old.items ++ bytes.line_payload line) }
+{
+    out.extend_from_slice(&line.file.to_be_bytes())?;
+    out.extend_from_slice(&line.line.to_be_bytes())?;
+    Ok(())
+}
+
+fn put_line(out: &mut Vec<u8>, line: LineMark) -> Result<(), NoMemory>
+    ensures { OnOk result (out.new.items ≡ out.old.items ++ bytes.line_entry line) }
+{
+    put_head(out, 6, 6)?;
+    put_line_payload(out, line)
+}
+
+fn put_block_payload(out: &mut Vec<u8>, block: Block) -> Result<(), NoMemory>
+    ensures { OnOk result (out.new.items ≡ out.old.items ++ bytes.block_payload block) }
+{
+    put_place(out, block.section, block.offset)?;
+    out.push(block.size)?;
+    Ok(())
+}
+
+fn put_block(out: &mut Vec<u8>, block: Block) -> Result<(), NoMemory>
+    ensures { OnOk result (out.new.items ≡ out.old.items ++ bytes.block_entry block) }
+{
+    put_head(out, 7, 5)?;
+    put_block_payload(out, block)
+}
+
+fn put_files(out: &mut Vec<u8>, files: &[String]) -> Result<(), NoMemory>
+    requires { All (λ f. length (string_bytes f) < 2 ^ 32) files.now }
+    ensures { OnOk result (out.new.items ≡ out.old.items ++ flat_map bytes.file_entry (files_data files.now)) }
+{
+    for file in files {
+        put_file(out, file)?;
+    }
+    Ok(())
+}
+
+fn put_lines(out: &mut Vec<u8>, lines: &[LineMark]) -> Result<(), NoMemory>
+    ensures { OnOk result (out.new.items ≡ out.old.items ++ flat_map bytes.line_entry lines.now) }
+{
+    for line in lines {
+        put_line(out, *line)?;
+    }
+    Ok(())
+}
+
+fn put_blocks(out: &mut Vec<u8>, blocks: &[Block]) -> Result<(), NoMemory>
+    ensures { OnOk result (out.new.items ≡ out.old.items ++ flat_map bytes.block_entry blocks.now) }
+{
+    for block in blocks {
+        put_block(out, *block)?;
+    }
+    Ok(())
+}
+
+/// The lists that version 1 has too.
+fn put_first(out: &mut Vec<u8>, parts: &Parts) -> Result<(), NoMemory>
+    requires sections { each_fits section_fits [] (sections_data parts.now.sections.items) ≡ true }
+    requires symbols { All (λ y. length (string_bytes y.name) ≤ 128) parts.now.symbols.items }
+    ensures { OnOk result (out.new.items ≡ out.old.items
+        ++ (flat_map bytes.section_entry (contents parts.now).sections ++ (flat_map bytes.mark_entry (contents parts.now).marks
+        ++ (flat_map bytes.symbol_entry (contents parts.now).symbols ++ flat_map bytes.relocation_entry (contents parts.now).relocations)))) }
+{
+    put_sections(out, &parts.sections)?;
+    put_marks(out, &parts.marks)?;
+    put_symbols(out, &parts.symbols)?;
+    put_relocations(out, &parts.relocations)
+}
+
+/// The lists that version 2 alone has.
+fn put_second(out: &mut Vec<u8>, parts: &Parts) -> Result<(), NoMemory>
+    requires { All (λ f. length (string_bytes f) < 2 ^ 32) parts.now.files.items }
+    ensures { OnOk result (out.new.items ≡ out.old.items
+        ++ (flat_map bytes.file_entry (contents parts.now).files
+        ++ (flat_map bytes.line_entry (contents parts.now).lines ++ flat_map bytes.block_entry (contents parts.now).blocks))) }
+{
+    put_files(out, &parts.files)?;
+    put_lines(out, &parts.lines)?;
+    put_blocks(out, &parts.blocks)
+}
+
 /// The bytes of the module: its one spelling. It refuses for want of memory alone.
 pub fn write_module(alloc: Global, object: &Module) -> Result<Vec<u8>, NoMemory>
     ensures { IfOk result (λ v. v.items ≡ bytes.spelling object.now) }
 {
     let parts = object.parts();
     let mut out = Vec::new(alloc);
-    out.extend_from_slice(&[b'C', b'2', b'5', b'O', 1])?;
-    put_sections(&mut out, &parts.sections)?;
-    put_marks(&mut out, &parts.marks)?;
-    put_symbols(&mut out, &parts.symbols)?;
-    put_relocations(&mut out, &parts.relocations)?;
+    out.extend_from_slice(&[b'C', b'2', b'5', b'O', version_code(parts.version)])?;
+    put_first(&mut out, parts)?;
+    put_second(&mut out, parts)?;
     put_head(&mut out, 255, 0)?;
     Ok(out)
 }

@@ -16,7 +16,7 @@ use c25_expr::symbols::Symbols;
 use c25_meaning_common::failure::Failure;
 use c25_meaning_common::no_memory::NoMemory;
 use c25_meaning_language::value::{Base, Value};
-use c25_meaning_objects::object::{Scope, SymbolKind};
+use c25_meaning_objects::object::{Scope, SymbolKind, Version};
 use c25_obj::{Parts, Symbol};
 use std::alloc::Global;
 
@@ -103,5 +103,9 @@ pub fn finish(progress: Progress<'_>) -> Result<Parts, Failure<AsmFault<'_>>>
         marks,
         symbols,
         relocations,
+        version: Version::One,
+        files: Vec::new(alloc),
+        lines: Vec::new(alloc),
+        blocks: Vec::new(alloc),
     })
 }

@@ -10,7 +10,7 @@ use Rattle.c25_cmd.specs.View.{placing_of, placings_of}
 use Rattle.c25_cmd.specs.declared.command.Placing.{Placing}
 use Rattle.c25_meaning_commands.specs.Command.{PlacingData}
 use Rattle.c25_meaning_placing.specs.GoodMap.{is_among}
-use Rattle.c25_meaning_objects.specs.Module.{Contents, IsModule, body_size, each_fits, section_fits, mark_fits, symbol_fits, relocation_fits, has_sections, lists_fit}
+use Rattle.c25_meaning_objects.specs.Module.{Contents, IsModule, body_size, each_fits, section_fits, has_sections, lists_fit}
 use Rattle.c25_obj.proofs.Small.{sections_small}
 use Rattle.c25_obj.proofs.Texts.{both}
 use Rattle.c25_obj.specs.View.{body_data, sections_data}
@@ -86,4 +86,4 @@ small_sections m ss is are = λ k d lt. (sections_small ss fits k d lt).1 where
   lists = (both (has_sections m) (lists_fit m) is.lists).1
 
   fits : each_fits section_fits [] (sections_data ss) ≡ true
-  fits = ap (each_fits section_fits []) are ∙ (both (each_fits section_fits [] m.sections) (each_fits (mark_fits m.sections) [] m.marks && (each_fits (symbol_fits m.sections) [] m.symbols && each_fits (relocation_fits m.sections m.symbols) [] m.relocations)) lists).0
+  fits = ap (each_fits section_fits []) are ∙ (both (each_fits section_fits [] m.sections) _ lists).0

@@ -11,4 +11,8 @@ mod object_cases;
 #[cfg(test)]
 mod objects;
 #[cfg(test)]
+mod second_cases;
+#[cfg(test)]
+mod second_version;
+#[cfg(test)]
 mod words;

@@ -6,7 +6,7 @@ use crate::object_cases::CASES;
 use c25_meaning_common::failure::Failure;
 use c25_meaning_common::relocation::RelocationKind;
 use c25_meaning_objects::object::{
-    ModuleMark, ObjectFault, Relocation, RelocationBase, Scope, SymbolKind,
+    ModuleMark, ObjectFault, Relocation, RelocationBase, Scope, SymbolKind, Version,
 };
 use c25_obj::{Body, Module, Parts, Section, Symbol, module, spells, write_module};
 use c25_records::read_module;
@@ -20,7 +20,7 @@ const EMPTY: [u8; 26] = [
     0xff, 0, 0, 0, 0,
 ];
 
-fn fault_of(rt: &HostRuntime, bytes: &[u8]) -> Option<ObjectFault> {
+pub(crate) fn fault_of(rt: &HostRuntime, bytes: &[u8]) -> Option<ObjectFault> {
     match read_module(rt.alloc(), bytes) {
         Err(Failure::Fault(fault)) => Some(fault),
         _ => None,
@@ -37,7 +37,7 @@ fn value_of(digit: u8) -> u8
     }
 }
 
-fn bytes_of(alloc: Global, digits: &str) -> Result<Vec<u8>, AllocError> {
+pub(crate) fn bytes_of(alloc: Global, digits: &str) -> Result<Vec<u8>, AllocError> {
     let mut bytes = Vec::new(alloc);
     for pair in digits.as_bytes().chunks(2) {
         if let [high, low] = pair {
@@ -97,7 +97,10 @@ fn a_byte_more_than_an_empty_module_is_refused(rt: HostRuntime) -> Result<(), Fa
 }
 
 /// What an answer is told as: `ok`, or the refusal as it is printed.
-fn told(alloc: Global, read: &Result<Module, Failure<ObjectFault>>) -> Result<String, AllocError> {
+pub(crate) fn told(
+    alloc: Global,
+    read: &Result<Module, Failure<ObjectFault>>,
+) -> Result<String, AllocError> {
     match read {
         Ok(_) => String::from_str(alloc, "ok"),
         Err(failure) => failure.to_string(alloc),
@@ -105,7 +108,7 @@ fn told(alloc: Global, read: &Result<Module, Failure<ObjectFault>>) -> Result<St
 }
 
 /// Reading the bytes of a case answers what the case says.
-fn answers(rt: &(impl Abort + AllocGlobal), case: &str) -> Result<(), Fail> {
+pub(crate) fn answers(rt: &(impl Abort + AllocGlobal), case: &str) -> Result<(), Fail> {
     let (wanted, rest) = case.split_once(" ").ok_or("an answer")?;
     let (digits, what) = rest.split_once(" ").ok_or("digits")?;
     let bytes = bytes_of(rt.alloc(), digits)?;
@@ -138,7 +141,7 @@ const EVERY_KIND: &str = "4332354F01\
     040000000C000000030200000100000008\
     FF00000000";
 
-fn symbol(
+pub(crate) fn symbol(
     alloc: Global,
     kind: SymbolKind,
     scope: Scope,
@@ -153,7 +156,12 @@ fn symbol(
     })
 }
 
-fn relocation(offset: u16, kind: RelocationKind, base: RelocationBase, addend: i32) -> Relocation {
+pub(crate) fn relocation(
+    offset: u16,
+    kind: RelocationKind,
+    base: RelocationBase,
+    addend: i32,
+) -> Relocation {
     Relocation {
         section: 0,
         offset,
@@ -163,7 +171,7 @@ fn relocation(offset: u16, kind: RelocationKind, base: RelocationBase, addend: i
     }
 }
 
-fn mark(offset: u16, size: u8) -> ModuleMark {
+pub(crate) fn mark(offset: u16, size: u8) -> ModuleMark {
     ModuleMark {
         section: 0,
         offset,
@@ -193,6 +201,10 @@ fn every_kind(alloc: Global) -> Result<Parts, AllocError> {
             relocation(2, RelocationKind::Page9, RelocationBase::Section(1), 7),
             relocation(3, RelocationKind::Low7, RelocationBase::Section(1), 8),
         ]?,
+        version: Version::One,
+        files: Vec::new(alloc),
+        lines: Vec::new(alloc),
+        blocks: Vec::new(alloc),
     })
 }
 
@@ -228,6 +240,10 @@ fn lists_of_no_module_spell_nothing(rt: HostRuntime) -> Result<(), Fail> {
     parts.symbols.push(symbol(rt.alloc(), SymbolKind::Absolute, Scope::Local, 0, "GO")?)?;
     assert!(rt; !spells(&parts));
     let _last = parts.symbols.pop();
+    assert!(rt; spells(&parts));
+    parts.files.push(String::from_str(rt.alloc(), "a.asm")?)?;
+    assert!(rt; !spells(&parts));
+    parts.files.clear();
     assert!(rt; spells(&parts));
     parts.sections.clear();
     assert!(rt; !spells(&parts));

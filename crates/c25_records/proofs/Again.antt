@@ -12,18 +12,22 @@ use Rattle.c25_meaning_objects.specs.declared.object.ObjectFault.{ObjectFault}
 use Rattle.c25_meaning_objects.specs.declared.object.ObjectFault.TheVariants.{BadMagic, BadVersion, BadTag, BadField, Trailing}
 use Rattle.c25_meaning_objects.specs.declared.object.ModuleMark.{ModuleMark}
 use Rattle.c25_meaning_objects.specs.declared.object.Relocation.{Relocation}
+use Rattle.c25_meaning_objects.specs.declared.object.Version.{Version}
+use Rattle.c25_meaning_objects.specs.declared.object.Version.TheVariants.{One, Two}
+use Rattle.c25_meaning_objects.specs.declared.object.LineMark.{LineMark}
+use Rattle.c25_meaning_objects.specs.declared.object.Block.{Block}
 use Rattle.c25_meaning_objects.specs.declared.object.RelocationBase.{RelocationBase}
 use Rattle.c25_meaning_objects.specs.declared.object.RelocationBase.TheVariants as base
 use Rattle.c25_meaning_objects.specs.declared.object.SymbolKind.{SymbolKind}
-use Rattle.c25_meaning_objects.specs.declared.object.SymbolKind.TheVariants.{Absolute, InSection, External}
-use Rattle.c25_meaning_objects.specs.Module.{IsModule, SectionBody, Uninitialised, Initialised, SectionData, SymbolData, Contents, body_words, body_size, section_fits, mark_fits, symbol_fits, relocation_fits, each_fits, lists_fit, has_sections, is_module, IsSized, words_at, mark_after, last_of, place_fits, is_external, base_fits, relocation_after, field_is_clear}
-use Rattle.c25_meaning_objects.specs.Records.{section_payload, mark_payload, symbol_payload, relocation_payload, section_entry, mark_entry, symbol_entry, relocation_entry, entry, body_bytes, records, last_entry, spelling, kind_section, base_index}
+use Rattle.c25_meaning_objects.specs.declared.object.SymbolKind.TheVariants.{Absolute, InSection, Loaded, External}
+use Rattle.c25_meaning_objects.specs.Module.{IsModule, SectionBody, Uninitialised, Initialised, SectionData, SymbolData, Contents, body_words, body_size, section_fits, mark_fits, symbol_fits, relocation_fits, file_fits, line_fits, block_fits, block_after, reserved_at, reserved, is_two, are_told, told_by, each_fits, lists_fit, has_sections, is_module, IsSized, words_at, mark_after, last_of, place_fits, is_external, base_fits, relocation_after, field_is_clear}
+use Rattle.c25_meaning_objects.specs.Records.{section_payload, mark_payload, symbol_payload, relocation_payload, line_payload, block_payload, section_entry, mark_entry, symbol_entry, relocation_entry, file_entry, line_entry, block_entry, version_code, entry, body_bytes, records, last_entry, spelling, kind_section, base_index}
 use Rattle.c25_meaning_common.specs.Results.{◌>>=◌}
-use Rattle.c25_meaning_objects.specs.RecordReading.{checked, latest, is_in_order, with_section, with_mark, with_symbol, with_relocation, with_record, Record, ended, read_from, read_all, nothing_read, module_of, section_of, mark_of, symbol_of, relocation_of}
+use Rattle.c25_meaning_objects.specs.RecordReading.{checked, latest, is_in_order, with_section, with_mark, with_symbol, with_relocation, with_file, with_line, with_block, with_record, last_tag, Record, ended, read_from, read_all, nothing_read, version_of, module_of, section_of, mark_of, symbol_of, relocation_of, line_of, block_of}
 use Rattle.c25_obj.proofs.Texts.{both}
-use Rattle.c25_obj.proofs.Fitting.{and_true, lists_fit_each, section_small, symbol_small}
+use Rattle.c25_obj.proofs.Fitting.{and_true, ListsFit, lists_fit_each, section_small, symbol_small, file_short}
 use Rattle.c25_records.proofs.Loop.{next_turn, after_record}
-use Rattle.c25_records.proofs.Taken.{mark_again, symbol_again, relocation_again, IsSmall}
+use Rattle.c25_records.proofs.Taken.{mark_again, symbol_again, relocation_again, line_again, block_again, IsSmall}
 use Rattle.c25_records.proofs.Sections.{section_again, record_again, ok_is}
 use Rattle.c25_records.proofs.Found.{allowed}
 
@@ -119,105 +123,199 @@ mark_small ss ms m all e =
     let few = sections_few [] ss (omega arith) all in
     (omega (arith, w.0), omega (arith, w.1))
 
-symbols_few : (ss : List SectionData) (before ys : List SymbolData) → length before ≤ 65535 → each_fits (symbol_fits ss) before ys ≡ true → length before + length ys ≤ 65535
-symbols_few ss before [] le e = omega arith
-symbols_few ss before (y ∷ ys) le e =
-    let g = both (symbol_fits ss before y) (each_fits (symbol_fits ss) (before ++ y ∷ []) ys) e in
-    let small = symbol_small ss before y g.0 in
-    omega (arith, symbols_few ss (before ++ y ∷ []) ys (omega (arith, small.1, length-append before (y ∷ []))) g.1, length-append before (y ∷ []))
+symbols_few : (version : Version) (ss : List SectionData) (before ys : List SymbolData) → length before ≤ 65535 → each_fits (symbol_fits version ss) before ys ≡ true → length before + length ys ≤ 65535
+symbols_few version ss before [] le e = omega arith
+symbols_few version ss before (y ∷ ys) le e =
+    let g = both (symbol_fits version ss before y) (each_fits (symbol_fits version ss) (before ++ y ∷ []) ys) e in
+    let small = symbol_small version ss before y g.0 in
+    omega (arith, symbols_few version ss (before ++ y ∷ []) ys (omega (arith, small.1, length-append before (y ∷ []))) g.1, length-append before (y ∷ []))
 
 kind_small : (ss : List SectionData) (y : SymbolData) (k : SymbolKind) → length ss ≤ 255 → place_fits ss y k ≡ true → kind_section k < 2 ^ 16
 kind_small ss y Absolute few e = omega arith
 kind_small ss y (InSection number) few e = omega (arith, ltb-true number (length ss) e)
+kind_small ss y (Loaded number) few e = omega (arith, ltb-true number (length ss) e)
 kind_small ss y External few e = omega arith
 
 external_at : (ys : List SymbolData) (o : Option SymbolData) (number : ℕ) → slice_get ys number ≡ o → is_external o ≡ true → number < length ys
 external_at ys None number e h = absurd cc
 external_at ys (Some y) number e h = slice_get_within ys number y e
 
-base_small : (ss : List SectionData) (ys : List SymbolData) (b : RelocationBase) → length ss ≤ 255 → length ys ≤ 65535 → base_fits ss ys b ≡ true → base_index b < 2 ^ 16
-base_small ss ys (base.Section number) p q e = omega (arith, ltb-true number (length ss) e)
-base_small ss ys (base.External number) p q e = omega (arith, external_at ys (slice_get ys number) number refl e)
+base_small : (version : Version) (ss : List SectionData) (ys : List SymbolData) (b : RelocationBase) → length ss ≤ 255 → length ys ≤ 65535 → base_fits version ss ys b ≡ true → base_index b < 2 ^ 16
+base_small version ss ys (base.Section number) p q e = omega (arith, ltb-true number (length ss) e)
+base_small version ss ys (base.Loaded number) p q e = omega (arith, ltb-true number (length ss) (both (is_two version) _ e).1)
+base_small version ss ys (base.External number) p q e = omega (arith, external_at ys (slice_get ys number) number refl e)
 
-relocation_small : (ss : List SectionData) (ys : List SymbolData) (rs : List Relocation) (r : Relocation) → each_fits section_fits [] ss ≡ true → length ys ≤ 65535 → FitsSigned w32 r.addend → relocation_fits ss ys rs r ≡ true → IsSmall r
-relocation_small ss ys rs r all q addend e =
+relocation_small : (version : Version) (ss : List SectionData) (ys : List SymbolData) (rs : List Relocation) (r : Relocation) → each_fits section_fits [] ss ≡ true → length ys ≤ 65535 → FitsSigned w32 r.addend → relocation_fits version ss ys rs r ≡ true → IsSmall r
+relocation_small version ss ys rs r all q addend e =
     let b = both _ (field_is_clear (words_at ss r.section) r) e in
-    let a = both (base_fits ss ys r.base) (relocation_after (last_of rs) r) b.0 in
+    let a = both (base_fits version ss ys r.base) (relocation_after (last_of rs) r) b.0 in
     let f = both (ltb r.offset (length (words_at ss r.section))) _ b.1 in
     let w = word_small [] ss r.section r.offset all (ltb-true _ _ f.0) in
     let few = sections_few [] ss (omega arith) all in
-    record { section = omega (arith, w.0); offset = omega (arith, w.1); index = base_small ss ys r.base (omega (arith, few)) q a.0; addend = addend }
+    record { section = omega (arith, w.0); offset = omega (arith, w.1); index = base_small version ss ys r.base (omega (arith, few)) q a.0; addend = addend }
+
+-- a block's section and offset
+reserved_small : (before ss : List SectionData) (number size : ℕ) → each_fits section_fits before ss ≡ true → 0 < size → size ≤ reserved_at ss number → (number < length ss) × (size ≤ 65536)
+reserved_small before [] number size e some le = absurd (omega arith)
+reserved_small before (s ∷ ss) zero size e some le =
+    let small = section_small before s (both (section_fits before s) (each_fits section_fits (before ++ s ∷ []) ss) e).0 in
+    (omega arith, omega (arith, small.0, reserved_below s.body))
+  where
+    reserved_below : (b : SectionBody) → reserved b ≤ body_size b
+    reserved_below (Uninitialised n) = omega arith
+    reserved_below (Initialised ws) = omega arith
+reserved_small before (s ∷ ss) (suc number) size e some le =
+    let g = both (section_fits before s) (each_fits section_fits (before ++ s ∷ []) ss) e in
+    let later = reserved_small (before ++ s ∷ []) ss number size g.1 some le in
+    (omega (arith, later.0), later.1)
+
+block_small : (ss : List SectionData) (bs : List Block) (b : Block) → each_fits section_fits [] ss ≡ true → block_fits ss bs b ≡ true → (b.section < 2 ^ 16) × (b.offset < 2 ^ 16)
+block_small ss bs b all e =
+    let d = both _ (block_after (last_of bs) b) e in
+    let c = both _ (leb (b.offset + b.size) (reserved_at ss b.section)) d.0 in
+    let a = both (leb 1 b.size) (leb b.size 128) c.0 in
+    let one : 1 ≤ b.size = leb-true _ _ a.0 in
+    let w = reserved_small [] ss b.section (b.offset + b.size) all (omega arith) (leb-true _ _ c.1) in
+    let few = sections_few [] ss (omega arith) all in
+    (omega (arith, w.0), omega (arith, w.1))
 
 -- ---- each kind of record is taken
+
+-- a record of a tag up to 7 is taken where it comes in order and fits
+taking : (c d : Contents) (tag : ℕ) (payload : List ℕ) → leb (latest c) tag ≡ true → leb tag (last_tag c.version) ≡ true → eqb tag 255 ≡ false → length payload < 2 ^ 32 → with_record c tag payload ≡ Ok d → Taking c d tag payload
+taking c d tag payload late known inner short adds = record {
+  order = and_true (leb (latest c) tag) (leb tag (last_tag c.version) || eqb tag 255) late (rw known refl);
+  inner = inner;
+  short = short;
+  adds = adds;
+}
 
 below_cond : (b : Bool) (x y k : ℕ) → leb x k ≡ true → leb y k ≡ true → leb (cond b x y) k ≡ true
 below_cond true x y k p q = p
 below_cond false x y k p q = q
 
-latest_below : (c : Contents) (k : ℕ) → leb 4 k ≡ true → leb 3 k ≡ true → leb 2 k ≡ true → leb 1 k ≡ true → leb (latest c) k ≡ true
-latest_below c k p q r s =
-    below_cond (ltb 0 (length c.relocations)) 4 _ k p (below_cond (ltb 0 (length c.symbols)) 3 _ k q (below_cond (ltb 0 (length c.marks)) 2 1 k r s))
+or_true : (b : Bool) → (b || true) ≡ true
+or_true true = refl
+or_true false = refl
 
-regrouped : (s m y r l t : List ℕ) → ((s ++ (m ++ (y ++ r))) ++ l) ++ t ≡ s ++ (m ++ (y ++ (r ++ (l ++ t))))
-regrouped s m y r l t = simp append_assoc
+latest_below : (c : Contents) (k : ℕ) → 7 ≤ k → leb (latest c) k ≡ true
+latest_below c k le =
+    let p : (n : ℕ) → n ≤ 7 → leb n k ≡ true = λ n lt. le-leb n k (omega arith) in
+    below_cond (ltb 0 (length c.blocks)) 7 _ k (p 7 (omega arith)) (below_cond (ltb 0 (length c.lines)) 6 _ k (p 6 (omega arith))
+    (below_cond (ltb 0 (length c.files)) 5 _ k (p 5 (omega arith)) (below_cond (ltb 0 (length c.relocations)) 4 _ k (p 4 (omega arith))
+    (below_cond (ltb 0 (length c.symbols)) 3 _ k (p 3 (omega arith)) (below_cond (ltb 0 (length c.marks)) 2 1 k (p 2 (omega arith)) (p 1 (omega arith)))))))
 
-section_taking : (ss : List SectionData) (s : SectionData) → section_fits ss s ≡ true → AllByRecursion (λ w. w < 2 ^ 16) (body_words s.body)
-    → Taking (record { sections = ss; marks = []; symbols = []; relocations = [] }) (record { sections = ss ++ s ∷ []; marks = []; symbols = []; relocations = [] }) 1 (section_payload s)
+-- the tags that both versions have
+early : (v : Version) (tag : ℕ) → tag ≤ 4 → leb tag (last_tag v) ≡ true
+early One tag le = le-leb tag 4 le
+early Two tag le = le-leb tag 7 (omega arith)
+
+late : (v : Version) (tag : ℕ) → v ≡ Two → tag ≤ 7 → leb tag (last_tag v) ≡ true
+late One tag is le = absurd cc
+late Two tag is le = le-leb tag 7 le
+
+-- lists with nothing behind sections, behind marks and so on
+abbrev to_sections : Version → List SectionData → Contents
+to_sections v ss = record (nothing_read v) { sections = ss }
+
+abbrev to_marks : Version → List SectionData → List ModuleMark → Contents
+to_marks v ss ms = record (to_sections v ss) { marks = ms }
+
+abbrev to_symbols : Version → List SectionData → List ModuleMark → List SymbolData → Contents
+to_symbols v ss ms ys = record (to_marks v ss ms) { symbols = ys }
+
+abbrev to_relocations : Version → List SectionData → List ModuleMark → List SymbolData → List Relocation → Contents
+to_relocations v ss ms ys rs = record (to_symbols v ss ms ys) { relocations = rs }
+
+abbrev to_files : Contents → List (List ℕ) → Contents
+to_files c fs = record c { files = fs; lines = []; blocks = [] }
+
+abbrev to_lines : Contents → List LineMark → Contents
+to_lines c ls = record c { lines = ls; blocks = [] }
+
+abbrev to_blocks : Contents → List Block → Contents
+to_blocks c bs = record c { blocks = bs }
+
+section_taking : (v : Version) (ss : List SectionData) (s : SectionData) → section_fits ss s ≡ true → AllByRecursion (λ w. w < 2 ^ 16) (body_words s.body)
+    → Taking (to_sections v ss) (to_sections v (ss ++ s ∷ [])) 1 (section_payload s)
 unfolding with_record with_section
-section_taking ss s e words =
+section_taking v ss s e words =
     let small = section_small ss s e in
-    record {
-      order = refl;
-      inner = refl;
-      short = section_short s small.0 small.1;
-      adds = ap (λ (r : Result SectionData ObjectFault). r >>= λ s. Ok (record { sections = ss ++ s ∷ []; marks = []; symbols = []; relocations = [] }))
-          (checked_again (section_fits ss) (section_of (section_payload s)) s (section_again s (omega (arith, small.0)) words) e);
-    }
+    taking (to_sections v ss) (to_sections v (ss ++ s ∷ [])) 1 (section_payload s) refl (early v 1 (omega arith)) refl (section_short s small.0 small.1)
+    (ap (λ (r : Result SectionData ObjectFault). r >>= λ s. Ok (to_sections v (ss ++ s ∷ [])))
+    (checked_again (section_fits ss) (section_of (section_payload s)) s (section_again s (omega (arith, small.0)) words) e))
 
-mark_taking : (ss : List SectionData) (ms : List ModuleMark) (m : ModuleMark) → ltb 0 (length ss) ≡ true → each_fits section_fits [] ss ≡ true → mark_fits ss ms m ≡ true
-    → Taking (record { sections = ss; marks = ms; symbols = []; relocations = [] }) (record { sections = ss; marks = ms ++ m ∷ []; symbols = []; relocations = [] }) 2 (mark_payload m)
+mark_taking : (v : Version) (ss : List SectionData) (ms : List ModuleMark) (m : ModuleMark) → ltb 0 (length ss) ≡ true → each_fits section_fits [] ss ≡ true → mark_fits ss ms m ≡ true
+    → Taking (to_marks v ss ms) (to_marks v ss (ms ++ m ∷ [])) 2 (mark_payload m)
 unfolding with_record with_mark
-mark_taking ss ms m some all e =
+mark_taking v ss ms m some all e =
     let small = mark_small ss ms m all e in
-    let c : Contents = record { sections = ss; marks = ms; symbols = []; relocations = [] } in
-    record {
-      order = and_true (leb (latest c) 2) true (below_cond (ltb 0 (length ms)) 2 1 2 refl refl) refl;
-      inner = refl;
-      short = omega arith;
-      adds = ap (λ (b : Bool). cond (not b) (Err BadField) (with_mark c (mark_payload m))) some
-          ∙ ap (λ (r : Result ModuleMark ObjectFault). r >>= λ m. Ok (record { sections = ss; marks = ms ++ m ∷ []; symbols = []; relocations = [] }))
-          (checked_again (mark_fits ss ms) (mark_of (mark_payload m)) m (mark_again m small.0 small.1) e);
-    }
+    let c = to_marks v ss ms in
+    taking c (to_marks v ss (ms ++ m ∷ [])) 2 (mark_payload m) (below_cond (ltb 0 (length ms)) 2 1 2 refl refl) (early v 2 (omega arith)) refl (omega arith)
+    (ap (λ (b : Bool). cond (not b) (Err BadField) (with_mark c (mark_payload m))) some
+    ∙ ap (λ (r : Result ModuleMark ObjectFault). r >>= λ m. Ok (to_marks v ss (ms ++ m ∷ [])))
+    (checked_again (mark_fits ss ms) (mark_of (mark_payload m)) m (mark_again m small.0 small.1) e))
 
-symbol_taking : (ss : List SectionData) (ms : List ModuleMark) (ys : List SymbolData) (y : SymbolData) → ltb 0 (length ss) ≡ true → each_fits section_fits [] ss ≡ true → FitsSigned w32 y.value → symbol_fits ss ys y ≡ true
-    → Taking (record { sections = ss; marks = ms; symbols = ys; relocations = [] }) (record { sections = ss; marks = ms; symbols = ys ++ y ∷ []; relocations = [] }) 3 (symbol_payload y)
+symbol_taking : (v : Version) (ss : List SectionData) (ms : List ModuleMark) (ys : List SymbolData) (y : SymbolData) → ltb 0 (length ss) ≡ true → each_fits section_fits [] ss ≡ true → FitsSigned w32 y.value → symbol_fits v ss ys y ≡ true
+    → Taking (to_symbols v ss ms ys) (to_symbols v ss ms (ys ++ y ∷ [])) 3 (symbol_payload y)
 unfolding with_record with_symbol
-symbol_taking ss ms ys y some all value e =
-    let small = symbol_small ss ys y e in
+symbol_taking v ss ms ys y some all value e =
+    let small = symbol_small v ss ys y e in
     let few = sections_few [] ss (omega arith) all in
-    let c : Contents = record { sections = ss; marks = ms; symbols = ys; relocations = [] } in
-    record {
-      order = and_true (leb (latest c) 3) true (below_cond (ltb 0 (length ys)) 3 (cond (ltb 0 (length ms)) 2 1) 3 refl (below_cond (ltb 0 (length ms)) 2 1 3 refl refl)) refl;
-      inner = refl;
-      short = omega (arith, small.0);
-      adds = ap (λ (b : Bool). cond (not b) (Err BadField) (with_symbol c (symbol_payload y))) some
-          ∙ ap (λ (r : Result SymbolData ObjectFault). r >>= λ y. Ok (record { sections = ss; marks = ms; symbols = ys ++ y ∷ []; relocations = [] }))
-          (checked_again (symbol_fits ss ys) (symbol_of (symbol_payload y)) y (symbol_again y (kind_small ss y y.kind (omega (arith, few)) small.2) value) e);
-    }
+    let c = to_symbols v ss ms ys in
+    taking c (to_symbols v ss ms (ys ++ y ∷ [])) 3 (symbol_payload y)
+    (below_cond (ltb 0 (length ys)) 3 (cond (ltb 0 (length ms)) 2 1) 3 refl (below_cond (ltb 0 (length ms)) 2 1 3 refl refl)) (early v 3 (omega arith)) refl (omega (arith, small.0))
+    (ap (λ (b : Bool). cond (not b) (Err BadField) (with_symbol c (symbol_payload y))) some
+    ∙ ap (λ (r : Result SymbolData ObjectFault). r >>= λ y. Ok (to_symbols v ss ms (ys ++ y ∷ [])))
+    (checked_again (symbol_fits v ss ys) (symbol_of (symbol_payload y)) y (symbol_again y (kind_small ss y y.kind (omega (arith, few)) small.2) value) e))
 
-relocation_taking : (ss : List SectionData) (ms : List ModuleMark) (ys : List SymbolData) (rs : List Relocation) (r : Relocation) → ltb 0 (length ss) ≡ true → each_fits section_fits [] ss ≡ true → length ys ≤ 65535 → FitsSigned w32 r.addend → relocation_fits ss ys rs r ≡ true
-    → Taking (record { sections = ss; marks = ms; symbols = ys; relocations = rs }) (record { sections = ss; marks = ms; symbols = ys; relocations = rs ++ r ∷ [] }) 4 (relocation_payload r)
+relocation_taking : (v : Version) (ss : List SectionData) (ms : List ModuleMark) (ys : List SymbolData) (rs : List Relocation) (r : Relocation) → ltb 0 (length ss) ≡ true → each_fits section_fits [] ss ≡ true → length ys ≤ 65535 → FitsSigned w32 r.addend → relocation_fits v ss ys rs r ≡ true
+    → Taking (to_relocations v ss ms ys rs) (to_relocations v ss ms ys (rs ++ r ∷ [])) 4 (relocation_payload r)
 unfolding with_record with_relocation
-relocation_taking ss ms ys rs r some all count addend e =
-    let c : Contents = record { sections = ss; marks = ms; symbols = ys; relocations = rs } in
-    record {
-      order = and_true (leb (latest c) 4) true (latest_below c 4 refl refl refl refl) refl;
-      inner = refl;
-      short = omega arith;
-      adds = ap (λ (b : Bool). cond (not b) (Err BadField) (with_relocation c (relocation_payload r))) some
-          ∙ ap (λ (x : Result Relocation ObjectFault). x >>= λ r. Ok (record { sections = ss; marks = ms; symbols = ys; relocations = rs ++ r ∷ [] }))
-          (checked_again (relocation_fits ss ys rs) (relocation_of (relocation_payload r)) r (relocation_again r (relocation_small ss ys rs r all count addend e)) e);
-    }
+relocation_taking v ss ms ys rs r some all count addend e =
+    let c = to_relocations v ss ms ys rs in
+    taking c (to_relocations v ss ms ys (rs ++ r ∷ [])) 4 (relocation_payload r)
+    (below_cond (ltb 0 (length rs)) 4 (cond (ltb 0 (length ys)) 3 (cond (ltb 0 (length ms)) 2 1)) 4 refl (below_cond (ltb 0 (length ys)) 3 (cond (ltb 0 (length ms)) 2 1) 4 refl (below_cond (ltb 0 (length ms)) 2 1 4 refl refl)))
+    (early v 4 (omega arith)) refl (omega arith)
+    (ap (λ (b : Bool). cond (not b) (Err BadField) (with_relocation c (relocation_payload r))) some
+    ∙ ap (λ (x : Result Relocation ObjectFault). x >>= λ r. Ok (to_relocations v ss ms ys (rs ++ r ∷ [])))
+    (checked_again (relocation_fits v ss ys rs) (relocation_of (relocation_payload r)) r (relocation_again r (relocation_small v ss ys rs r all count addend e)) e))
+
+-- the tag of files is not below those before it
+before_files : (c : Contents) (k : ℕ) → 4 ≤ k → leb (cond (ltb 0 (length c.relocations)) 4 (cond (ltb 0 (length c.symbols)) 3 (cond (ltb 0 (length c.marks)) 2 1))) k ≡ true
+before_files c k le =
+    below_cond (ltb 0 (length c.relocations)) 4 _ k (le-leb 4 k le) (below_cond (ltb 0 (length c.symbols)) 3 _ k (le-leb 3 k (omega arith))
+    (below_cond (ltb 0 (length c.marks)) 2 1 k (le-leb 2 k (omega arith)) (le-leb 1 k (omega arith))))
+
+file_taking : (c : Contents) (fs : List (List ℕ)) (f : List ℕ) → c.version ≡ Two → has_sections c ≡ true → file_fits fs f ≡ true
+    → Taking (to_files c fs) (to_files c (fs ++ f ∷ [])) 5 f
+unfolding with_record with_file
+file_taking c fs f two some e =
+    taking (to_files c fs) (to_files c (fs ++ f ∷ [])) 5 f
+    (below_cond (ltb 0 (length fs)) 5 _ 5 refl (before_files c 5 (omega arith))) (late c.version 5 two (omega arith)) refl (file_short fs f e)
+    (ap (λ (b : Bool). cond (not b) (Err BadField) (with_file (to_files c fs) f)) some
+    ∙ ap (λ (r : Result (List ℕ) ObjectFault). r >>= λ f. Ok (to_files c (fs ++ f ∷ []))) (checked_again (file_fits fs) (Some f) f refl e))
+
+line_taking : (c : Contents) (ls : List LineMark) (l : LineMark) → c.version ≡ Two → has_sections c ≡ true → (l.file < 2 ^ 16) × (l.line < 2 ^ 32) → line_fits c.marks c.files ls l ≡ true
+    → Taking (to_lines c ls) (to_lines c (ls ++ l ∷ [])) 6 (line_payload l)
+unfolding with_record with_line
+line_taking c ls l two some small e =
+    taking (to_lines c ls) (to_lines c (ls ++ l ∷ [])) 6 (line_payload l)
+    (below_cond (ltb 0 (length ls)) 6 _ 6 refl (below_cond (ltb 0 (length c.files)) 5 _ 6 refl (before_files c 6 (omega arith)))) (late c.version 6 two (omega arith)) refl (omega arith)
+    (ap (λ (b : Bool). cond (not b) (Err BadField) (with_line (to_lines c ls) (line_payload l))) some
+    ∙ ap (λ (r : Result LineMark ObjectFault). r >>= λ l. Ok (to_lines c (ls ++ l ∷ [])))
+    (checked_again (line_fits c.marks c.files ls) (line_of (line_payload l)) l (line_again l small.0 small.1) e))
+
+block_taking : (c : Contents) (bs : List Block) (b : Block) → c.version ≡ Two → has_sections c ≡ true → are_told c ≡ true → each_fits section_fits [] c.sections ≡ true → block_fits c.sections bs b ≡ true
+    → Taking (to_blocks c bs) (to_blocks c (bs ++ b ∷ [])) 7 (block_payload b)
+unfolding with_record with_block
+block_taking c bs b two some told all e =
+    let small = block_small c.sections bs b all e in
+    taking (to_blocks c bs) (to_blocks c (bs ++ b ∷ [])) 7 (block_payload b) (latest_below (to_blocks c bs) 7 (omega arith)) (late c.version 7 two (omega arith)) refl (omega arith)
+    (ap (λ (t : Bool). cond (not t) (Err BadField) (with_block (to_blocks c bs) (block_payload b))) some
+    ∙ ap (λ (t : Bool). cond (not t) (Err BadField) (checked (block_fits c.sections bs) (block_of (block_payload b)) >>= λ b. Ok (to_blocks c (bs ++ b ∷ [])))) told
+    ∙ ap (λ (r : Result Block ObjectFault). r >>= λ b. Ok (to_blocks c (bs ++ b ∷ [])))
+    (checked_again (block_fits c.sections bs) (block_of (block_payload b)) b (block_again b small.0 small.1) e))
 
 -- ---- the whole
 
@@ -227,64 +325,119 @@ entries_long tag payload (x ∷ xs) =
     let e = ap (λ (t : List ℕ). length t) (flat_map-cons (λ x. entry tag (payload x)) x xs) in
     omega (arith, e, length-append (entry tag (payload x)) (flat_map (λ x. entry tag (payload x)) xs), entries_long tag payload xs)
 
-last_taken : (k : ℕ) (c : Contents) (tail : List ℕ) → has_sections c ≡ true → read_from (suc k) c (last_entry ++ tail) ≡ cond (eqb (length tail) 0) (Ok c) (Err Trailing)
+last_taken : (k : ℕ) (c : Contents) (tail : List ℕ) → has_sections c ≡ true → told_by c.version c ≡ true → read_from (suc k) c (last_entry ++ tail) ≡ cond (eqb (length tail) 0) (Ok c) (Err Trailing)
 unfolding ended
-last_taken k c tail some =
+last_taken k c tail some told =
     let r = record_again 255 [] tail (omega arith) in
-    let order : is_in_order c 255 ≡ true = and_true (leb (latest c) 255) true (latest_below c 255 refl refl refl refl) refl in
+    let order : is_in_order c 255 ≡ true = and_true (leb (latest c) 255) (leb 255 (last_tag c.version) || true) (latest_below c 255 (omega arith)) (or_true (leb 255 (last_tag c.version))) in
     next_turn k c (last_entry ++ tail) ∙ ap (λ (x : Result (Record × List ℕ) ObjectFault). x >>= after_record k c) r
     ∙ ap (λ (b : Bool). cond (not b) (Err BadTag) (ended c [] tail)) order
-    ∙ ap (λ (b : Bool). cond (b && true) (cond (eqb (length tail) 0) (Ok c) (Err Trailing)) (Err BadField)) some
+    ∙ ap (λ (b : Bool). cond (b && told_by c.version c && true) (cond (eqb (length tail) 0) (Ok c) (Err Trailing)) (Err BadField)) some
+    ∙ ap (λ (b : Bool). cond (b && true) (cond (eqb (length tail) 0) (Ok c) (Err Trailing)) (Err BadField)) told
+
+-- a module with an item of version 2 alone is of version 2
+is_second : (v : Version) (c : Contents) → told_by v c ≡ true → 0 < length c.files + (length c.lines + length c.blocks) → v ≡ Two
+is_second Two c e lt = refl
+is_second One c e lt =
+    let a = both (eqb (length c.files) 0 && eqb (length c.lines) 0) (eqb (length c.blocks) 0) e in
+    let b = both (eqb (length c.files) 0) (eqb (length c.lines) 0) a.0 in
+    absurd (omega (arith, eqb-true _ _ b.0, eqb-true _ _ b.1, eqb-true _ _ a.1))
+
+some_in : {A : Type 0} (front back xs : List A) (x : A) → front ++ (x ∷ back) ≡ xs → 0 < length xs
+some_in {A} front back xs x h = omega (arith, ap (λ (ys : List A). length ys) h, length-append front (x ∷ back))
+
+-- the records of version 2 alone
+behind_again : (c : Contents) (k : ℕ) (rest : List ℕ) → IsSized c → has_sections c ≡ true → ListsFit c → told_by c.version c ≡ true
+    → read_from (length c.files + (length c.lines + (length c.blocks + k))) (to_files c [])
+    (flat_map file_entry c.files ++ (flat_map line_entry c.lines ++ (flat_map block_entry c.blocks ++ rest))) ≡ read_from k c rest
+behind_again c k rest sized some fit told =
+    let B = flat_map block_entry c.blocks ++ rest in
+    let L = flat_map line_entry c.lines ++ B in
+    all_taken (to_files c) 5 (λ f. f) [] c.files (length c.lines + (length c.blocks + k)) L
+    (λ front back x h. file_taking c front x (is_second c.version c told (omega (arith, some_in front back c.files x h))) some
+    (fits_at file_fits [] front back x (ap (λ (xs : List (List ℕ)). each_fits file_fits [] xs) h ∙ fit.files)))
+    ∙ all_taken (to_lines c) 6 line_payload [] c.lines (length c.blocks + k) B
+    (λ front back x h. line_taking c front x (is_second c.version c told (omega (arith, some_in front back c.lines x h))) some
+    (all_at (λ l. (l.file < 2 ^ 16) × (l.line < 2 ^ 32)) front back x (subst (λ (xs : List LineMark). AllByRecursion (λ l. (l.file < 2 ^ 16) × (l.line < 2 ^ 32)) xs) (sym h) sized.lines))
+    (fits_at (line_fits c.marks c.files) [] front back x (ap (λ (xs : List LineMark). each_fits (line_fits c.marks c.files) [] xs) h ∙ fit.lines)))
+    ∙ all_taken (to_blocks c) 7 block_payload [] c.blocks k rest
+    (λ front back x h.
+    let two = is_second c.version c told (omega (arith, some_in front back c.blocks x h)) in
+    block_taking c front x two some (subst (λ (v : Version). told_by v c ≡ true) two told) fit.sections
+    (fits_at (block_fits c.sections) [] front back x (ap (λ (xs : List Block). each_fits (block_fits c.sections) [] xs) h ∙ fit.blocks)))
 
 -- the records of a module are read, whatever follows
 pub records_again : (c : Contents) (k : ℕ) (rest : List ℕ) → IsSized c → is_module c ≡ true
-    → read_from (length c.sections + (length c.marks + (length c.symbols + (length c.relocations + k)))) nothing_read
-    (flat_map section_entry c.sections ++ (flat_map mark_entry c.marks ++ (flat_map symbol_entry c.symbols ++ (flat_map relocation_entry c.relocations ++ rest)))) ≡ read_from k c rest
+    → read_from (length c.sections + (length c.marks + (length c.symbols + (length c.relocations + (length c.files + (length c.lines + (length c.blocks + k))))))) (nothing_read c.version)
+    (flat_map section_entry c.sections ++ (flat_map mark_entry c.marks ++ (flat_map symbol_entry c.symbols ++ (flat_map relocation_entry c.relocations
+    ++ (flat_map file_entry c.files ++ (flat_map line_entry c.lines ++ (flat_map block_entry c.blocks ++ rest))))))) ≡ read_from k c rest
 records_again c k rest sized e =
     let g = both (has_sections c) (lists_fit c) e in
-    let fit = lists_fit_each c g.1 in
+    let all = lists_fit_each c g.1 in
+    let fit = all.0 in
+    let v = c.version in
     let ss = c.sections in
     let ms = c.marks in
     let ys = c.symbols in
     let rs = c.relocations in
-    let few = symbols_few ss [] ys (omega arith) fit.symbols in
-    let R = flat_map relocation_entry rs ++ rest in
+    let few = symbols_few v ss [] ys (omega arith) fit.symbols in
+    let n = length c.files + (length c.lines + (length c.blocks + k)) in
+    let F = flat_map file_entry c.files ++ (flat_map line_entry c.lines ++ (flat_map block_entry c.blocks ++ rest)) in
+    let R = flat_map relocation_entry rs ++ F in
     let Y = flat_map symbol_entry ys ++ R in
     let M = flat_map mark_entry ms ++ Y in
-    all_taken (λ xs. record { sections = xs; marks = []; symbols = []; relocations = [] }) 1 section_payload [] ss (length ms + (length ys + (length rs + k))) M
-    (λ front back x h. section_taking front x (fits_at section_fits [] front back x (ap (λ (xs : List SectionData). each_fits section_fits [] xs) h ∙ fit.sections)) (all_at (λ s. AllByRecursion (λ w. w < 2 ^ 16) (body_words s.body)) front back x (subst (λ (xs : List SectionData). AllByRecursion (λ s. AllByRecursion (λ w. w < 2 ^ 16) (body_words s.body)) xs) (sym h) sized.words)))
-    ∙ all_taken (λ xs. record { sections = ss; marks = xs; symbols = []; relocations = [] }) 2 mark_payload [] ms (length ys + (length rs + k)) Y
-    (λ front back x h. mark_taking ss front x g.0 fit.sections (fits_at (mark_fits ss) [] front back x (ap (λ (xs : List ModuleMark). each_fits (mark_fits ss) [] xs) h ∙ fit.marks)))
-    ∙ all_taken (λ xs. record { sections = ss; marks = ms; symbols = xs; relocations = [] }) 3 symbol_payload [] ys (length rs + k) R
-    (λ front back x h. symbol_taking ss ms front x g.0 fit.sections (all_at (λ y. FitsSigned w32 y.value) front back x (subst (λ (xs : List SymbolData). AllByRecursion (λ y. FitsSigned w32 y.value) xs) (sym h) sized.values)) (fits_at (symbol_fits ss) [] front back x (ap (λ (xs : List SymbolData). each_fits (symbol_fits ss) [] xs) h ∙ fit.symbols)))
-    ∙ all_taken (λ xs. record { sections = ss; marks = ms; symbols = ys; relocations = xs }) 4 relocation_payload [] rs k rest
-    (λ front back x h. relocation_taking ss ms ys front x g.0 fit.sections (omega (arith, few)) (all_at (λ r. FitsSigned w32 r.addend) front back x (subst (λ (xs : List Relocation). AllByRecursion (λ r. FitsSigned w32 r.addend) xs) (sym h) sized.addends)) (fits_at (relocation_fits ss ys) [] front back x (ap (λ (xs : List Relocation). each_fits (relocation_fits ss ys) [] xs) h ∙ fit.relocations)))
+    all_taken (to_sections v) 1 section_payload [] ss (length ms + (length ys + (length rs + n))) M
+    (λ front back x h. section_taking v front x (fits_at section_fits [] front back x (ap (λ (xs : List SectionData). each_fits section_fits [] xs) h ∙ fit.sections)) (all_at (λ s. AllByRecursion (λ w. w < 2 ^ 16) (body_words s.body)) front back x (subst (λ (xs : List SectionData). AllByRecursion (λ s. AllByRecursion (λ w. w < 2 ^ 16) (body_words s.body)) xs) (sym h) sized.words)))
+    ∙ all_taken (to_marks v ss) 2 mark_payload [] ms (length ys + (length rs + n)) Y
+    (λ front back x h. mark_taking v ss front x g.0 fit.sections (fits_at (mark_fits ss) [] front back x (ap (λ (xs : List ModuleMark). each_fits (mark_fits ss) [] xs) h ∙ fit.marks)))
+    ∙ all_taken (to_symbols v ss ms) 3 symbol_payload [] ys (length rs + n) R
+    (λ front back x h. symbol_taking v ss ms front x g.0 fit.sections (all_at (λ y. FitsSigned w32 y.value) front back x (subst (λ (xs : List SymbolData). AllByRecursion (λ y. FitsSigned w32 y.value) xs) (sym h) sized.values)) (fits_at (symbol_fits v ss) [] front back x (ap (λ (xs : List SymbolData). each_fits (symbol_fits v ss) [] xs) h ∙ fit.symbols)))
+    ∙ all_taken (to_relocations v ss ms ys) 4 relocation_payload [] rs n F
+    (λ front back x h. relocation_taking v ss ms ys front x g.0 fit.sections (omega (arith, few)) (all_at (λ r. FitsSigned w32 r.addend) front back x (subst (λ (xs : List Relocation). AllByRecursion (λ r. FitsSigned w32 r.addend) xs) (sym h) sized.addends)) (fits_at (relocation_fits v ss ys) [] front back x (ap (λ (xs : List Relocation). each_fits (relocation_fits v ss ys) [] xs) h ∙ fit.relocations)))
+    ∙ behind_again c k rest sized g.0 fit all.1
 
-all_again : (c : Contents) (tail : List ℕ) → IsSized c → is_module c ≡ true → read_all ((records c ++ last_entry) ++ tail) ≡ cond (eqb (length tail) 0) (Ok c) (Err Trailing)
+regrouped : (s m y r f l b e t : List ℕ) → ((s ++ (m ++ (y ++ (r ++ (f ++ (l ++ b)))))) ++ e) ++ t ≡ s ++ (m ++ (y ++ (r ++ (f ++ (l ++ (b ++ (e ++ t)))))))
+regrouped s m y r f l b e t = simp append_assoc
+
+all_again : (c : Contents) (tail : List ℕ) → IsSized c → is_module c ≡ true → read_all c.version ((records c ++ last_entry) ++ tail) ≡ cond (eqb (length tail) 0) (Ok c) (Err Trailing)
 all_again c tail sized e =
-    let some = (both (has_sections c) (lists_fit c) e).0 in
+    let g = both (has_sections c) (lists_fit c) e in
     let S = flat_map section_entry c.sections in
     let M = flat_map mark_entry c.marks in
     let Y = flat_map symbol_entry c.symbols in
     let R = flat_map relocation_entry c.relocations in
-    let nested : List ℕ = S ++ (M ++ (Y ++ (R ++ (last_entry ++ tail)))) in
-    let text : (records c ++ last_entry) ++ tail ≡ nested = regrouped S M Y R last_entry tail in
-    let count = length c.sections + (length c.marks + (length c.symbols + (length c.relocations + 0))) in
+    let F = flat_map file_entry c.files in
+    let L = flat_map line_entry c.lines in
+    let B = flat_map block_entry c.blocks in
+    let end = last_entry ++ tail in
+    let nested : List ℕ = S ++ (M ++ (Y ++ (R ++ (F ++ (L ++ (B ++ end)))))) in
+    let text : (records c ++ last_entry) ++ tail ≡ nested = regrouped S M Y R F L B last_entry tail in
+    let count = length c.sections + (length c.marks + (length c.symbols + (length c.relocations + (length c.files + (length c.lines + (length c.blocks + 0)))))) in
     let long : count < length nested = omega (
       arith,
-      length-append S (M ++ (Y ++ (R ++ (last_entry ++ tail)))),
-      length-append M (Y ++ (R ++ (last_entry ++ tail))),
-      length-append Y (R ++ (last_entry ++ tail)),
-      length-append R (last_entry ++ tail),
+      length-append S (M ++ (Y ++ (R ++ (F ++ (L ++ (B ++ end)))))),
+      length-append M (Y ++ (R ++ (F ++ (L ++ (B ++ end))))),
+      length-append Y (R ++ (F ++ (L ++ (B ++ end)))),
+      length-append R (F ++ (L ++ (B ++ end))),
+      length-append F (L ++ (B ++ end)),
+      length-append L (B ++ end),
+      length-append B end,
       length-append last_entry tail,
       entries_long 1 section_payload c.sections,
       entries_long 2 mark_payload c.marks,
       entries_long 3 symbol_payload c.symbols,
       entries_long 4 relocation_payload c.relocations,
+      entries_long 5 (λ f. f) c.files,
+      entries_long 6 line_payload c.lines,
+      entries_long 7 block_payload c.blocks,
     ) in
     let k = length nested - (count + 1) in
-    let fuel : length nested ≡ length c.sections + (length c.marks + (length c.symbols + (length c.relocations + suc k))) = omega arith in
-    ap read_all text ∙ ap (λ (n : ℕ). read_from n nothing_read nested) fuel ∙ records_again c (suc k) (last_entry ++ tail) sized e ∙ last_taken k c tail some
+    let fuel : length nested ≡ length c.sections + (length c.marks + (length c.symbols + (length c.relocations + (length c.files + (length c.lines + (length c.blocks + suc k)))))) = omega arith in
+    ap (λ (t : List ℕ). read_all c.version t) text ∙ ap (λ (n : ℕ). read_from n (nothing_read c.version) nested) fuel ∙ records_again c (suc k) end sized e ∙ last_taken k c tail g.0 (lists_fit_each c g.1).1
+
+version_again : (v : Version) → version_of (version_code v) ≡ Ok v
+version_again One = refl
+version_again Two = refl
 
 -- the spelling of a module, and bytes behind it
 pub module_again : (c : Contents) (tail : List ℕ) → IsSized c → is_module c ≡ true → module_of (spelling c ++ tail) ≡ cond (eqb (length tail) 0) (Ok c) (Err Trailing)
@@ -293,9 +446,10 @@ module_again c tail sized e =
     let bytes = spelling c ++ tail in
     let four : leb 4 (length bytes) ≡ true = le-leb _ _ (omega arith) in
     let five : leb 5 (length bytes) ≡ true = le-leb _ _ (omega arith) in
-    let rest = read_all ((records c ++ last_entry) ++ tail) in
-    ap (λ (b : Bool). cond (not (b && true && true && true && true)) (Err BadMagic) (cond (not (leb 5 (length bytes) && true)) (Err BadVersion) rest)) four
-    ∙ ap (λ (b : Bool). cond (not (b && true)) (Err BadVersion) rest) five
+    let rest = (records c ++ last_entry) ++ tail in
+    ap (λ (b : Bool). cond (not (b && true && true && true && true)) (Err BadMagic) (cond (not (leb 5 (length bytes))) (Err BadVersion) (version_of (version_code c.version) >>= λ v. read_all v rest))) four
+    ∙ ap (λ (b : Bool). cond (not b) (Err BadVersion) (version_of (version_code c.version) >>= λ v. read_all v rest)) five
+    ∙ ap (λ (r : Result Version ObjectFault). r >>= λ v. read_all v rest) (version_again c.version)
     ∙ all_again c tail sized e
 
 pub spelling_read : (c : Contents) → IsSized c → is_module c ≡ true → module_of (spelling c) ≡ Ok c

@@ -10,7 +10,7 @@ use Rattle.std.proofs.lemmas.Int.{of_z-to_z, to_z-of_z}
 use Rattle.std.proofs.lemmas.List.{length-take, length-drop, get_or-drop, get_or-take, get_or_past, nil_from_length}
 use Rattle.std.proofs.lemmas.Nat.{be_bytes_2, be_bytes_4, from_be_bytes-to_be_bytes_2, from_be_bytes-to_be_bytes_4}
 use Rattle.c25_meaning_objects.specs.declared.object.SymbolKind.{SymbolKind}
-use Rattle.c25_meaning_objects.specs.declared.object.SymbolKind.TheVariants.{Absolute, InSection, External}
+use Rattle.c25_meaning_objects.specs.declared.object.SymbolKind.TheVariants.{Absolute, InSection, Loaded, External}
 use Rattle.c25_meaning_objects.specs.declared.object.Scope.{Scope}
 use Rattle.c25_meaning_objects.specs.declared.object.Scope.TheVariants.{Local, Global}
 use Rattle.c25_meaning_common.specs.declared.relocation.RelocationKind.{RelocationKind}
@@ -19,9 +19,11 @@ use Rattle.c25_meaning_objects.specs.declared.object.RelocationBase.{RelocationB
 use Rattle.c25_meaning_objects.specs.declared.object.RelocationBase.TheVariants as base
 use Rattle.c25_meaning_objects.specs.declared.object.ModuleMark.{ModuleMark}
 use Rattle.c25_meaning_objects.specs.declared.object.Relocation.{Relocation}
+use Rattle.c25_meaning_objects.specs.declared.object.LineMark.{LineMark}
+use Rattle.c25_meaning_objects.specs.declared.object.Block.{Block}
 use Rattle.c25_meaning_objects.specs.Module.{SymbolData}
-use Rattle.c25_meaning_objects.specs.Records.{mark_payload, symbol_payload, relocation_payload, kind_code, kind_section, scope_code, field_code, base_code, base_index, counted}
-use Rattle.c25_meaning_objects.specs.RecordReading.{short_at, long_at, mark_of, kind_of, scope_of, symbol_with, symbol_of, field_of, base_of, relocation_with, relocation_of}
+use Rattle.c25_meaning_objects.specs.Records.{mark_payload, symbol_payload, relocation_payload, line_payload, block_payload, kind_code, kind_section, scope_code, field_code, base_code, base_index, counted}
+use Rattle.c25_meaning_objects.specs.RecordReading.{short_at, long_at, mark_of, line_of, block_of, kind_of, scope_of, symbol_with, symbol_of, field_of, base_of, relocation_with, relocation_of}
 
 abbrev pub IsBytes : List ℕ → Type 0
 IsBytes bytes = (i : ℕ) → get_or bytes i 0 < 256
@@ -107,6 +109,7 @@ kind_again : (k : SymbolKind) → kind_of (kind_code k) (kind_section k) ≡ Som
 kind_again Absolute = refl
 kind_again (InSection n) = refl
 kind_again External = refl
+kind_again (Loaded n) = refl
 
 scope_again : (s : Scope) → scope_of (scope_code s) ≡ Some s
 scope_again Local = refl
@@ -120,6 +123,7 @@ field_again Page9 = refl
 base_again : (b : RelocationBase) → base_of (base_code b) (base_index b) ≡ Some b
 base_again (base.Section n) = refl
 base_again (base.External n) = refl
+base_again (base.Loaded n) = refl
 
 -- ---- options
 
@@ -167,6 +171,45 @@ mark_again m p q =
     let b : short_at (mark_payload m) 2 ≡ m.offset = from_be_bytes-to_be_bytes_2 m.offset q in
     ap (λ (n : ℕ). Some (record { section = n; offset = short_at (mark_payload m) 2; size = m.size })) a
     ∙ ap (λ (n : ℕ). Some (record { section = m.section; offset = n; size = m.size })) b
+
+-- ---- lines
+
+pub line_takes : (bytes : List ℕ) (l : LineMark) → IsBytes bytes → line_of bytes ≡ Some l → bytes ≡ line_payload l
+unfolding line_of
+line_takes bytes l fits e =
+    let g = guarded (eqb (length bytes) 6) (Some (record { file = short_at bytes 0; line = long_at bytes 2 })) l e in
+    let long : length bytes ≡ 6 = eqb-true _ _ g.0 in
+    let last : to_be_bytes w32 (long_at bytes 2) ≡ drop 2 bytes = ap (λ (t : List ℕ). to_be_bytes w32 (long_at bytes 2) ++ t) (sym (drop_whole 6 bytes long)) ∙ four 2 bytes fits (omega arith) in
+    let first : to_be_bytes w16 (short_at bytes 0) ++ to_be_bytes w32 (long_at bytes 2) ≡ bytes = ap (λ (t : List ℕ). to_be_bytes w16 (short_at bytes 0) ++ t) last ∙ two 0 bytes fits (omega arith) in
+    subst (λ (x : LineMark). bytes ≡ line_payload x) (some_is _ l g.1) (sym first)
+
+pub line_again : (l : LineMark) → l.file < 2 ^ 16 → l.line < 2 ^ 32 → line_of (line_payload l) ≡ Some l
+unfolding line_of
+line_again l p q =
+    let a : short_at (line_payload l) 0 ≡ l.file = from_be_bytes-to_be_bytes_2 l.file p in
+    let b : long_at (line_payload l) 2 ≡ l.line = from_be_bytes-to_be_bytes_4 l.line q in
+    ap (λ (n : ℕ). Some (record { file = n; line = long_at (line_payload l) 2 })) a
+    ∙ ap (λ (n : ℕ). Some (record { file = l.file; line = n })) b
+
+-- ---- blocks
+
+pub block_takes : (bytes : List ℕ) (b : Block) → IsBytes bytes → block_of bytes ≡ Some b → bytes ≡ block_payload b
+unfolding block_of
+block_takes bytes b fits e =
+    let g = guarded (eqb (length bytes) 5) (Some (record { section = short_at bytes 0; offset = short_at bytes 2; size = slice_index bytes 4 })) b e in
+    let long : length bytes ≡ 5 = eqb-true _ _ g.0 in
+    let last : slice_index bytes 4 ∷ [] ≡ drop 4 bytes = ap (λ (r : List ℕ). slice_index bytes 4 ∷ r) (sym (drop_whole 5 bytes long)) ∙ one 4 bytes (omega arith) in
+    let second : to_be_bytes w16 (short_at bytes 2) ++ (slice_index bytes 4 ∷ []) ≡ drop 2 bytes = ap (λ (r : List ℕ). to_be_bytes w16 (short_at bytes 2) ++ r) last ∙ two 2 bytes fits (omega arith) in
+    let first : to_be_bytes w16 (short_at bytes 0) ++ (to_be_bytes w16 (short_at bytes 2) ++ (slice_index bytes 4 ∷ [])) ≡ bytes = ap (λ (r : List ℕ). to_be_bytes w16 (short_at bytes 0) ++ r) second ∙ two 0 bytes fits (omega arith) in
+    subst (λ (k : Block). bytes ≡ block_payload k) (some_is _ b g.1) (sym first)
+
+pub block_again : (b : Block) → b.section < 2 ^ 16 → b.offset < 2 ^ 16 → block_of (block_payload b) ≡ Some b
+unfolding block_of
+block_again b p q =
+    let s : short_at (block_payload b) 0 ≡ b.section = from_be_bytes-to_be_bytes_2 b.section p in
+    let o : short_at (block_payload b) 2 ≡ b.offset = from_be_bytes-to_be_bytes_2 b.offset q in
+    ap (λ (n : ℕ). Some (record { section = n; offset = short_at (block_payload b) 2; size = b.size })) s
+    ∙ ap (λ (n : ℕ). Some (record { section = b.section; offset = n; size = b.size })) o
 
 -- ---- relocations
 

@@ -1,10 +1,22 @@
--- A set of the names of symbols.
+-- What a reader keeps beside the lists so far: the names of symbols and of files, and how many files lines use.
 use Rattle.std.specs.Prelude.{◌≡◌, ℕ, List}
 use Rattle.std.specs.Ordering.{nat_cmp}
 use Rattle.std.specs.Cmp.Lexicographic.{slice_cmp}
 use Rattle.std.specs.BTreeSet.{BTreeSet, contains}
-use Rattle.c25_meaning_objects.specs.Module.{SymbolData, has_symbol}
+use Rattle.c25_meaning_objects.specs.Module.{SymbolData, Contents, has_symbol, has_file, used}
 
 -- the set has the names of these symbols, where a key is seen by its text
 abbrev pub HasNames : {K : Type 0} → (K → List ℕ) → BTreeSet K → List SymbolData → Type 0
 HasNames {K} text names symbols = (key : K) → contains (λ x y. slice_cmp nat_cmp (text x) (text y)) names key ≡ has_symbol symbols (text key)
+
+-- the set has these names of files, where a key is seen by its text
+abbrev pub HasFiles : {K : Type 0} → (K → List ℕ) → BTreeSet K → List (List ℕ) → Type 0
+HasFiles {K} text names files = (key : K) → contains (λ x y. slice_cmp nat_cmp (text x) (text y)) names key ≡ has_file files (text key)
+
+-- sets and count are those of the lists
+abbrev pub Keeps : {K : Type 0} → (K → List ℕ) → BTreeSet K → BTreeSet K → ℕ → Contents → Type 0
+Keeps text names file_names count c = HasNames text names c.symbols × HasFiles text file_names c.files × (count ≡ used c.lines)
+
+-- the lists of which a reader keeps something are the same
+abbrev pub HasSame : Contents → Contents → Type 0
+HasSame old new = (new.symbols ≡ old.symbols) × (new.files ≡ old.files) × (new.lines ≡ old.lines)

@@ -4,7 +4,7 @@ ghost use Rattle.std.specs.Prelude.{◌≡◌};
 ghost use Rattle.c25_meaning_objects.specs.RecordReading as reading;
 
 use c25_meaning_common::relocation::RelocationKind;
-use c25_meaning_objects::object::{RelocationBase, Scope, SymbolKind};
+use c25_meaning_objects::object::{ObjectFault, RelocationBase, Scope, SymbolKind, Version};
 
 /// The kind of a symbol by its code and its two bytes for a section.
 pub(crate) fn kind_of(code: u8, section: u16) -> Option<SymbolKind>
@@ -14,6 +14,7 @@ pub(crate) fn kind_of(code: u8, section: u16) -> Option<SymbolKind>
         1 => Some(SymbolKind::InSection(section)),
         0 if section == 0 => Some(SymbolKind::Absolute),
         2 if section == 0 => Some(SymbolKind::External),
+        3 => Some(SymbolKind::Loaded(section)),
         _ => None,
     }
 }
@@ -48,6 +49,18 @@ pub(crate) fn base_of(code: u8, index: u16) -> Option<RelocationBase>
     match code {
         0 => Some(RelocationBase::Section(index)),
         1 => Some(RelocationBase::External(index)),
+        2 => Some(RelocationBase::Loaded(index)),
         _ => None,
+    }
+}
+
+/// The version by its byte.
+pub(crate) fn version_of(byte: u8) -> Result<Version, ObjectFault>
+    ensures { result ≡ reading.version_of byte }
+{
+    match byte {
+        1 => Ok(Version::One),
+        2 => Ok(Version::Two),
+        _ => Err(ObjectFault::BadVersion),
     }
 }

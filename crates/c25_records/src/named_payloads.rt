@@ -1,18 +1,18 @@
 //! What the payloads of sections and symbols say, each behind the items before it.
 
-ghost use Rattle.std.specs.Prelude.{◌≡◌, ◌&&◌, not, nat_lt, true, length, ◌++◌, [], ◌∷◌, IfOk, IfErr};
+ghost use Rattle.std.specs.Prelude.{◌≡◌, ◌&&◌, not, nat_lt, true, length, ◌++◌, [], ◌∷◌, Some, IfOk, IfErr, string_bytes};
 ghost use Rattle.std.specs.Option.{ok_or, option_map};
 ghost use Rattle.std.specs.Str.{IsUtf8};
 ghost use Rattle.c25_meaning_objects.specs.Module as spec;
 ghost use Rattle.c25_meaning_objects.specs.RecordReading as reading;
-ghost use Rattle.c25_records.specs.Names.{HasNames};
+ghost use Rattle.c25_records.specs.Names.{HasNames, HasFiles};
 ghost use Rattle.c25_meaning_common.specs.Results.{IsNoMemory, Meets};
-ghost use Rattle.c25_obj.specs.View.{body_data, section_data, symbol_data, sections_data, symbols_data};
+ghost use Rattle.c25_obj.specs.View.{body_data, section_data, symbol_data, sections_data, symbols_data, files_data};
 
 use crate::codes::{kind_of, scope_of};
 use crate::fields::{long_at, short_at, signed_at};
 use c25_meaning_common::failure::Failure;
-use c25_meaning_objects::object::{ObjectFault, Scope, SymbolKind};
+use c25_meaning_objects::object::{ObjectFault, Scope, SymbolKind, Version};
 use c25_obj::{
     Body, MAX_SYMBOLS, Section, Symbol, is_section_name, is_symbol_name, section_fits,
     symbol_stands,
@@ -77,6 +77,7 @@ fn takes_name<'a>(
 /// The symbol that a payload says, where it may follow these.
 pub(crate) fn symbol_after<'a>(
     alloc: Global,
+    version: Version,
     sections: &[Section],
     before: &[Symbol],
     names: &mut BTreeSet<&'a str>,
@@ -84,7 +85,7 @@ pub(crate) fn symbol_after<'a>(
 ) -> Result<Symbol, Failure<ObjectFault>>
     requires { HasNames (λ k. k.now) names.old (symbols_data before.now) }
     ensures given { Meets symbol_data
-        (reading.checked (spec.symbol_fits (sections_data sections.now) (symbols_data before.now)) (reading.symbol_of bytes.now)) result }
+        (reading.checked (spec.symbol_fits version (sections_data sections.now) (symbols_data before.now)) (reading.symbol_of bytes.now)) result }
     ensures named { IfOk result (λ y. HasNames (λ k. k.now) names.new (symbols_data before.now ++ symbol_data y ∷ [])) }
 {
     let Some(found) = symbol_of(bytes) else {
@@ -100,7 +101,7 @@ pub(crate) fn symbol_after<'a>(
         value: found.value,
         name: String::from_str(alloc, name)?,
     };
-    if !symbol_stands(sections, &symbol) {
+    if !symbol_stands(version, sections, &symbol) {
         return Err(Failure::Fault(ObjectFault::BadField));
     }
     if !takes_name(before, names, name)? {
@@ -174,4 +175,29 @@ pub(crate) fn section_after(
         return Err(Failure::Fault(ObjectFault::BadField));
     }
     Ok(section)
+}
+
+/// The name of a file that a payload is, where it may follow these; the set of their names, which is
+/// given, gains it.
+pub(crate) fn file_after<'a>(
+    alloc: Global,
+    before: &[String],
+    names: &mut BTreeSet<&'a str>,
+    bytes: &'a [u8],
+) -> Result<String, Failure<ObjectFault>>
+    requires { HasFiles (λ k. k.now) names.old (files_data before.now) }
+    ensures given { Meets string_bytes (reading.checked (spec.file_fits (files_data before.now)) (Some bytes.now)) result }
+    ensures named { IfOk result (λ f. HasFiles (λ k. k.now) names.new (files_data before.now ++ string_bytes f ∷ [])) }
+{
+    let name = match str::from_utf8(bytes) {
+        Ok(name) => name,
+        Err(_) => return Err(Failure::Fault(ObjectFault::BadField)),
+    };
+    if bytes.len() >= 1 << 32 {
+        return Err(Failure::Fault(ObjectFault::BadField));
+    }
+    if !names.insert(name)? {
+        return Err(Failure::Fault(ObjectFault::BadField));
+    }
+    Ok(String::from_str(alloc, name)?)
 }

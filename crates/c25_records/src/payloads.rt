@@ -4,13 +4,13 @@ ghost use Rattle.std.specs.Prelude.{◌≡◌};
 ghost use Rattle.c25_meaning_objects.specs.Module as spec;
 ghost use Rattle.c25_meaning_objects.specs.RecordReading as reading;
 ghost use Rattle.c25_meaning_common.specs.Results.{Meets};
-ghost use Rattle.c25_obj.specs.View.{sections_data, symbols_data};
+ghost use Rattle.c25_obj.specs.View.{sections_data, symbols_data, files_data};
 
 use crate::codes::{base_of, field_of};
-use crate::fields::{short_at, signed_at};
+use crate::fields::{long_at, short_at, signed_at};
 use c25_meaning_common::failure::Failure;
-use c25_meaning_objects::object::{ModuleMark, ObjectFault, Relocation};
-use c25_obj::{Section, Symbol, mark_fits, relocation_fits};
+use c25_meaning_objects::object::{Block, LineMark, ModuleMark, ObjectFault, Relocation, Version};
+use c25_obj::{Section, Symbol, block_fits, line_fits, mark_fits, relocation_fits};
 
 #[tactic(auto, unfolding(c25_meaning_objects::specs::RecordReading::mark_of))]
 fn mark_of(bytes: &[u8]) -> Option<ModuleMark>
@@ -64,19 +64,84 @@ fn relocation_of(bytes: &[u8]) -> Option<Relocation>
 
 /// The relocation that a payload says, where it may follow these.
 pub(crate) fn relocation_after(
+    version: Version,
     sections: &[Section],
     symbols: &[Symbol],
     before: &[Relocation],
     bytes: &[u8],
 ) -> Result<Relocation, Failure<ObjectFault>>
     ensures { Meets (λ r. r)
-        (reading.checked (spec.relocation_fits (sections_data sections.now) (symbols_data symbols.now) before.now) (reading.relocation_of bytes.now)) result }
+        (reading.checked (spec.relocation_fits version (sections_data sections.now) (symbols_data symbols.now) before.now) (reading.relocation_of bytes.now)) result }
 {
     let Some(relocation) = relocation_of(bytes) else {
         return Err(Failure::Fault(ObjectFault::BadField));
     };
-    if !relocation_fits(sections, symbols, before, &relocation) {
+    if !relocation_fits(version, sections, symbols, before, &relocation) {
         return Err(Failure::Fault(ObjectFault::BadField));
     }
     Ok(relocation)
+}
+
+#[tactic(auto, unfolding(c25_meaning_objects::specs::RecordReading::line_of))]
+fn line_of(bytes: &[u8]) -> Option<LineMark>
+    ensures { result ≡ reading.line_of bytes.now }
+{
+    if bytes.len() != 6 {
+        return None;
+    }
+    Some(LineMark {
+        file: short_at(bytes, 0),
+        line: long_at(bytes, 2),
+    })
+}
+
+/// The line that a payload says, where it may follow these, which use so many files.
+pub(crate) fn line_after(
+    marks: &[ModuleMark],
+    files: &[String],
+    before: &[LineMark],
+    used: u32,
+    bytes: &[u8],
+) -> Result<LineMark, Failure<ObjectFault>>
+    requires { used ≡ spec.used before.now }
+    ensures { Meets (λ l. l) (reading.checked (spec.line_fits marks.now (files_data files.now) before.now) (reading.line_of bytes.now)) result }
+{
+    let Some(line) = line_of(bytes) else {
+        return Err(Failure::Fault(ObjectFault::BadField));
+    };
+    if !line_fits(marks, files, before, used, &line) {
+        return Err(Failure::Fault(ObjectFault::BadField));
+    }
+    Ok(line)
+}
+
+#[tactic(auto, unfolding(c25_meaning_objects::specs::RecordReading::block_of))]
+fn block_of(bytes: &[u8]) -> Option<Block>
+    ensures { result ≡ reading.block_of bytes.now }
+{
+    if bytes.len() != 5 {
+        return None;
+    }
+    Some(Block {
+        section: short_at(bytes, 0),
+        offset: short_at(bytes, 2),
+        size: bytes[4],
+    })
+}
+
+/// The block that a payload says, where it may follow these.
+pub(crate) fn block_after(
+    sections: &[Section],
+    before: &[Block],
+    bytes: &[u8],
+) -> Result<Block, Failure<ObjectFault>>
+    ensures { Meets (λ b. b) (reading.checked (spec.block_fits (sections_data sections.now) before.now) (reading.block_of bytes.now)) result }
+{
+    let Some(block) = block_of(bytes) else {
+        return Err(Failure::Fault(ObjectFault::BadField));
+    };
+    if !block_fits(sections, before, &block) {
+        return Err(Failure::Fault(ObjectFault::BadField));
+    }
+    Ok(block)
 }

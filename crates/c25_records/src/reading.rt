@@ -2,18 +2,20 @@
 
 ghost use Rattle.std.specs.Prelude.{◌≡◌, true, IfOk, OnOk, Ok};
 ghost use Rattle.c25_meaning_objects.specs.Module.{Contents, IsSized, is_module};
+ghost use Rattle.c25_meaning_objects.specs.Module as spec;
 ghost use Rattle.c25_meaning_objects.specs.Records.{spelling};
 ghost use Rattle.c25_meaning_objects.specs.RecordReading as reading;
-ghost use Rattle.c25_records.specs.Names.{HasNames};
+ghost use Rattle.c25_records.specs.Names.{HasSame, Keeps};
 ghost use Rattle.c25_meaning_common.specs.Results.{Meets};
-ghost use Rattle.c25_obj.specs.View.{contents, symbols_data};
+ghost use Rattle.c25_obj.specs.View.{contents};
 
+use crate::codes::version_of;
 use crate::fields::long_at;
-use crate::named_payloads::{section_after, symbol_after};
-use crate::payloads::{mark_after, relocation_after};
+use crate::named_payloads::{file_after, section_after, symbol_after};
+use crate::payloads::{block_after, line_after, mark_after, relocation_after};
 use c25_meaning_common::failure::Failure;
-use c25_meaning_objects::object::ObjectFault;
-use c25_obj::{Module, Parts, module};
+use c25_meaning_objects::object::{ObjectFault, Version};
+use c25_obj::{Module, Parts, module, used_with};
 use std::alloc::Global;
 use std::collections::BTreeSet;
 
@@ -48,7 +50,13 @@ fn record_at(bytes: &[u8]) -> Result<Record<'_>, Failure<ObjectFault>>
 fn latest(parts: &Parts) -> u8
     ensures { result ≡ reading.latest (contents parts.now) }
 {
-    if !parts.relocations.is_empty() {
+    if !parts.blocks.is_empty() {
+        7
+    } else if !parts.lines.is_empty() {
+        6
+    } else if !parts.files.is_empty() {
+        5
+    } else if !parts.relocations.is_empty() {
         4
     } else if !parts.symbols.is_empty() {
         3
@@ -59,23 +67,35 @@ fn latest(parts: &Parts) -> u8
     }
 }
 
+fn last_tag(version: Version) -> u8
+    ensures { result ≡ reading.last_tag version }
+{
+    match version {
+        Version::One => 4,
+        Version::Two => 7,
+    }
+}
+
 fn is_in_order(parts: &Parts, tag: u8) -> bool
     ensures { result ≡ reading.is_in_order (contents parts.now) tag }
 {
-    latest(parts) <= tag && (tag <= 4 || tag == 255)
+    latest(parts) <= tag && (tag <= last_tag(parts.version) || tag == 255)
 }
 
-/// What has been read: the lists, and the names of the symbols for finding one that comes twice.
+/// What has been read: the lists, the names of symbols and of files for finding one that comes
+/// twice, and how many files the lines use.
 #[derive(Drop)]
 struct Reader<'a> {
     parts: Parts,
     names: BTreeSet<&'a str>,
+    file_names: BTreeSet<&'a str>,
+    used: u32,
 }
 
 #[tactic(auto, unfolding(c25_meaning_objects::specs::RecordReading::with_section))]
 fn add_section(alloc: Global, parts: &mut Parts, payload: &[u8]) -> Result<(), Failure<ObjectFault>>
     ensures given { Meets (λ _. contents parts.new) (reading.with_section (contents parts.old) payload.now) result }
-    ensures symbols { parts.new.symbols ≡ parts.old.symbols }
+    ensures same { HasSame (contents parts.old) (contents parts.new) }
 {
     let section = section_after(alloc, &parts.sections, payload)?;
     parts.sections.push(section)?;
@@ -85,7 +105,7 @@ fn add_section(alloc: Global, parts: &mut Parts, payload: &[u8]) -> Result<(), F
 #[tactic(auto, unfolding(c25_meaning_objects::specs::RecordReading::with_mark))]
 fn add_mark(parts: &mut Parts, payload: &[u8]) -> Result<(), Failure<ObjectFault>>
     ensures given { Meets (λ _. contents parts.new) (reading.with_mark (contents parts.old) payload.now) result }
-    ensures symbols { parts.new.symbols ≡ parts.old.symbols }
+    ensures same { HasSame (contents parts.old) (contents parts.new) }
 {
     let mark = mark_after(&parts.sections, &parts.marks, payload)?;
     parts.marks.push(mark)?;
@@ -98,13 +118,14 @@ fn add_symbol<'a>(
     reader: &mut Reader<'a>,
     payload: &'a [u8],
 ) -> Result<(), Failure<ObjectFault>>
-    requires { HasNames (λ k. k.now) reader.old.names (symbols_data reader.old.parts.symbols.items) }
+    requires { Keeps (λ k. k.now) reader.old.names reader.old.file_names reader.old.used (contents reader.old.parts) }
     ensures given { Meets (λ _. contents reader.new.parts) (reading.with_symbol (contents reader.old.parts) payload.now) result }
-    ensures named { OnOk result (HasNames (λ k. k.now) reader.new.names (symbols_data reader.new.parts.symbols.items)) }
+    ensures kept { OnOk result (Keeps (λ k. k.now) reader.new.names reader.new.file_names reader.new.used (contents reader.new.parts)) }
 {
     let parts = &mut reader.parts;
     let symbol = symbol_after(
         alloc,
+        parts.version,
         &parts.sections,
         &parts.symbols,
         &mut reader.names,
@@ -117,15 +138,73 @@ fn add_symbol<'a>(
 #[tactic(auto, unfolding(c25_meaning_objects::specs::RecordReading::with_relocation))]
 fn add_relocation(parts: &mut Parts, payload: &[u8]) -> Result<(), Failure<ObjectFault>>
     ensures given { Meets (λ _. contents parts.new) (reading.with_relocation (contents parts.old) payload.now) result }
-    ensures symbols { parts.new.symbols ≡ parts.old.symbols }
+    ensures same { HasSame (contents parts.old) (contents parts.new) }
 {
     let relocation = relocation_after(
+        parts.version,
         &parts.sections,
         &parts.symbols,
         &parts.relocations,
         payload,
     )?;
     parts.relocations.push(relocation)?;
+    Ok(())
+}
+
+#[tactic(auto, unfolding(c25_meaning_objects::specs::RecordReading::with_file))]
+fn add_file<'a>(
+    alloc: Global,
+    reader: &mut Reader<'a>,
+    payload: &'a [u8],
+) -> Result<(), Failure<ObjectFault>>
+    requires { Keeps (λ k. k.now) reader.old.names reader.old.file_names reader.old.used (contents reader.old.parts) }
+    ensures given { Meets (λ _. contents reader.new.parts) (reading.with_file (contents reader.old.parts) payload.now) result }
+    ensures kept { OnOk result (Keeps (λ k. k.now) reader.new.names reader.new.file_names reader.new.used (contents reader.new.parts)) }
+{
+    let parts = &mut reader.parts;
+    let name = file_after(alloc, &parts.files, &mut reader.file_names, payload)?;
+    parts.files.push(name)?;
+    Ok(())
+}
+
+#[tactic(auto, unfolding(c25_meaning_objects::specs::RecordReading::with_line))]
+fn add_line(reader: &mut Reader<'_>, payload: &[u8]) -> Result<(), Failure<ObjectFault>>
+    requires { Keeps (λ k. k.now) reader.old.names reader.old.file_names reader.old.used (contents reader.old.parts) }
+    ensures given { Meets (λ _. contents reader.new.parts) (reading.with_line (contents reader.old.parts) payload.now) result }
+    ensures kept { OnOk result (Keeps (λ k. k.now) reader.new.names reader.new.file_names reader.new.used (contents reader.new.parts)) }
+{
+    let parts = &mut reader.parts;
+    let line = line_after(
+        &parts.marks,
+        &parts.files,
+        &parts.lines,
+        reader.used,
+        payload,
+    )?;
+    parts.lines.push(line)?;
+    reader.used = used_with(reader.used, &line);
+    Ok(())
+}
+
+/// Whether each mark has a line, and each file is used.
+fn are_told(parts: &Parts, used: u32) -> bool
+    requires { used ≡ spec.used (contents parts.now).lines }
+    ensures { result ≡ spec.are_told (contents parts.now) }
+{
+    parts.lines.len() == parts.marks.len() && used as usize == parts.files.len()
+}
+
+#[tactic(auto, unfolding(c25_meaning_objects::specs::RecordReading::with_block))]
+fn add_block(parts: &mut Parts, used: u32, payload: &[u8]) -> Result<(), Failure<ObjectFault>>
+    requires { used ≡ spec.used (contents parts.old).lines }
+    ensures given { Meets (λ _. contents parts.new) (reading.with_block (contents parts.old) payload.now) result }
+    ensures same { HasSame (contents parts.old) (contents parts.new) }
+{
+    if !are_told(parts, used) {
+        return Err(Failure::Fault(ObjectFault::BadField));
+    }
+    let block = block_after(&parts.sections, &parts.blocks, payload)?;
+    parts.blocks.push(block)?;
     Ok(())
 }
 
@@ -136,9 +215,9 @@ fn add_record<'a>(
     tag: u8,
     payload: &'a [u8],
 ) -> Result<(), Failure<ObjectFault>>
-    requires { HasNames (λ k. k.now) reader.old.names (symbols_data reader.old.parts.symbols.items) }
+    requires { Keeps (λ k. k.now) reader.old.names reader.old.file_names reader.old.used (contents reader.old.parts) }
     ensures given { Meets (λ _. contents reader.new.parts) (reading.with_record (contents reader.old.parts) tag payload.now) result }
-    ensures named { OnOk result (HasNames (λ k. k.now) reader.new.names (symbols_data reader.new.parts.symbols.items)) }
+    ensures kept { OnOk result (Keeps (λ k. k.now) reader.new.names reader.new.file_names reader.new.used (contents reader.new.parts)) }
 {
     if tag == 1 {
         return add_section(alloc, &mut reader.parts, payload);
@@ -150,15 +229,37 @@ fn add_record<'a>(
         2 => add_mark(&mut reader.parts, payload),
         3 => add_symbol(alloc, reader, payload),
         4 => add_relocation(&mut reader.parts, payload),
+        5 => add_file(alloc, reader, payload),
+        6 => add_line(reader, payload),
+        7 => add_block(&mut reader.parts, reader.used, payload),
         _ => Err(Failure::Fault(ObjectFault::BadTag)),
     }
 }
 
+/// Whether the lists have what their version tells.
+fn told(parts: &Parts, used: u32) -> bool
+    requires { used ≡ spec.used (contents parts.now).lines }
+    ensures { result ≡ spec.told_by parts.now.version (contents parts.now) }
+{
+    match parts.version {
+        Version::One => {
+            parts.files.is_empty() && parts.lines.is_empty() && parts.blocks.is_empty()
+        }
+        Version::Two => are_told(parts, used),
+    }
+}
+
 #[tactic(auto, unfolding(c25_meaning_objects::specs::RecordReading::ended))]
-fn ended(parts: Parts, payload: &[u8], rest: &[u8]) -> Result<Parts, Failure<ObjectFault>>
+fn ended(
+    parts: Parts,
+    used: u32,
+    payload: &[u8],
+    rest: &[u8],
+) -> Result<Parts, Failure<ObjectFault>>
+    requires { used ≡ spec.used (contents parts).lines }
     ensures { Meets contents (reading.ended (contents parts) payload.now rest.now) result }
 {
-    if parts.sections.is_empty() || !payload.is_empty() {
+    if parts.sections.is_empty() || !told(&parts, used) || !payload.is_empty() {
         return Err(Failure::Fault(ObjectFault::BadField));
     }
     if !rest.is_empty() {
@@ -168,8 +269,8 @@ fn ended(parts: Parts, payload: &[u8], rest: &[u8]) -> Result<Parts, Failure<Obj
 }
 
 #[tactic(auto, unfolding(c25_meaning_objects::specs::RecordReading::read_from))]
-fn read_all(alloc: Global, bytes: &[u8]) -> Result<Parts, Failure<ObjectFault>>
-    ensures { Meets contents (reading.read_all bytes.now) result }
+fn read_all(alloc: Global, version: Version, bytes: &[u8]) -> Result<Parts, Failure<ObjectFault>>
+    ensures { Meets contents (reading.read_all version bytes.now) result }
 {
     let mut reader = Reader {
         parts: Parts {
@@ -177,8 +278,14 @@ fn read_all(alloc: Global, bytes: &[u8]) -> Result<Parts, Failure<ObjectFault>>
             marks: Vec::new(alloc),
             symbols: Vec::new(alloc),
             relocations: Vec::new(alloc),
+            version,
+            files: Vec::new(alloc),
+            lines: Vec::new(alloc),
+            blocks: Vec::new(alloc),
         },
         names: BTreeSet::new(alloc),
+        file_names: BTreeSet::new(alloc),
+        used: 0,
     };
     let mut rest = bytes;
     for _ in 0..bytes.len() {
@@ -187,7 +294,7 @@ fn read_all(alloc: Global, bytes: &[u8]) -> Result<Parts, Failure<ObjectFault>>
             return Err(Failure::Fault(ObjectFault::BadTag));
         }
         if record.tag == 255 {
-            return ended(reader.parts, record.payload, record.rest);
+            return ended(reader.parts, reader.used, record.payload, record.rest);
         }
         add_record(alloc, &mut reader, record.tag, record.payload)?;
         rest = record.rest;
@@ -207,10 +314,11 @@ fn parts_of(alloc: Global, bytes: &[u8]) -> Result<Parts, Failure<ObjectFault>>
     {
         return Err(Failure::Fault(ObjectFault::BadMagic));
     }
-    if bytes.len() < 5 || bytes[4] != 1 {
+    if bytes.len() < 5 {
         return Err(Failure::Fault(ObjectFault::BadVersion));
     }
-    read_all(alloc, &bytes[5..])
+    let version = version_of(bytes[4]).map_err(Failure::Fault)?;
+    read_all(alloc, version, &bytes[5..])
 }
 
 fn made(alloc: Global, bytes: &[u8]) -> Result<Module, Failure<ObjectFault>>

@@ -6,5 +6,5 @@ use Rattle.c25_obj.proofs.spelling.all_symbols_stand.Given as goal
 
 abbrev pub invariant-loop-symbol : goal.invariant-loop-symbol
 invariant-loop-symbol l =
-    list_all (symbol_stands (sections_data l.sections)) (symbols_data (drop l.symbol-index l.symbols))
-    ≡ list_all (symbol_stands (sections_data l.sections)) (symbols_data l.symbols)
+    list_all (symbol_stands l.version (sections_data l.sections)) (symbols_data (drop l.symbol-index l.symbols))
+    ≡ list_all (symbol_stands l.version (sections_data l.sections)) (symbols_data l.symbols)
