@@ -76,7 +76,7 @@ fn pass_rest<'a>(
     loop {
         passed.progress.move_here();
         match expander.next_line(passed.progress.symbols()) {
-            Ok(Some(line)) => passed = pass_line(passed, line)?,
+            Ok(Some(line)) => passed = pass_line(alloc, passed, line)?,
             Ok(None) => return Ok(passed),
             Err(failure) => return Err(told(alloc, expander.missing(), failure)),
         }

@@ -1,6 +1,6 @@
 -- What callers see of an expander, and of its answers.
 use Rattle.std.specs.Prelude.{◌≡◌, ℕ, List, Option, Some, None, Result, Ok, Err}
-use Rattle.std.specs.String.{string_bytes}
+use Rattle.std.specs.Cow.{cow_str_bytes}
 use Rattle.c25_meaning_expansion.specs.Expansion.{Config, Rewriting, Finishes}
 use Rattle.c25_meaning_expansion.specs.ExpansionAnswers.{ExpandedLine, given_by, fault_by}
 use Rattle.c25_meaning_language.specs.ExpansionFault.{ExpansionFault, Faulty, Missing}
@@ -37,7 +37,7 @@ begun files name = record { files = files; name = name; stage = begun_at (start_
 
 -- a line that is given
 abbrev pub shown : ExpLine → ExpandedLine
-shown l = record { file = l.file.now; line = l.line; text = string_bytes l.text }
+shown l = record { file = l.file.now; line = l.line; text = cow_str_bytes l.text }
 
 -- what is told of a fault
 abbrev pub TellsFault : ExpansionFault → ExpandFault → Type 0

@@ -25,7 +25,7 @@ failure_in files (Fault (refusal.Missing place name)) = Fault (Missing (file_nam
 -- where an expander stands
 abbrev pub stage_of : Files → List ℕ → Stage → exp.Stage
 stage_of files name stage.Before = begun_at (start_of files name)
-stage_of files name (stage.Standing s) = exp.Stands (config s.state)
+stage_of files name (stage.Standing s) = exp.Stands (config s.state.value)
 stage_of files name stage.NoModule = exp.Failed (Fault (Missing name 0 name))
 stage_of files name (stage.NoMemory n) = exp.Failed (NoMemory n)
 stage_of files name (stage.Faulty f) = exp.Failed (Fault (Faulty f.file.now f.line f.kind))

@@ -1,6 +1,7 @@
 //! What an expander answers.
 
 use c25_meaning_language::statement::FaultKind;
+use std::borrow::CowStr;
 use std::error::Error;
 use std::fmt;
 
@@ -11,8 +12,8 @@ pub struct ExpLine<'a> {
     pub file: &'a str,
     /// The number of the line there, from 1.
     pub line: usize,
-    /// Its text, substituted, without its end.
-    pub text: String,
+    /// Its text, substituted, without its end; borrowed from the file's text where nothing was replaced.
+    pub text: CowStr<'a>,
 }
 
 /// The line of this number in this file is wrong, or a file that it asks for is not there (10 to 13,

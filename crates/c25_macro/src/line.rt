@@ -1,31 +1,32 @@
 //! Lines that are given.
 
 ghost use Rattle.std.specs.Prelude.{◌≡◌};
-ghost use Rattle.std.specs.String.{string_bytes};
+ghost use Rattle.std.specs.Cow.{cow_str_bytes};
 
 use c25_meaning_expansion::expansion::Place;
+use std::borrow::CowStr;
 use std::marker::Model;
 
 /// A line that was substituted, or a label that becomes a line: where it stands, and its text without
-/// its end.
+/// its end, which is borrowed from the file's where nothing was replaced in it.
 #[derive(Drop)]
-pub(crate) struct Line {
+pub(crate) struct Line<'a> {
     place: Place,
-    text: String,
+    text: CowStr<'a>,
 }
 
-impl Model for Line {
-    ghost use Rattle.std.specs.String.{string_bytes};
+impl<'a> Model for Line<'a> {
+    ghost use Rattle.std.specs.Cow.{cow_str_bytes};
     ghost use Rattle.c25_meaning_expansion.specs.Rows.{Row};
 
     ghost Value = { Row };
 
-    ghost view = { λ line. record { place = line.place; text = string_bytes line.text } };
+    ghost view = { λ line. record { place = line.place; text = cow_str_bytes line.text } };
 }
 
-impl Line {
-    pub(crate) fn new(place: Place, text: String) -> Line
-        ensures { result ≡ record { place = place; text = string_bytes text } }
+impl<'a> Line<'a> {
+    pub(crate) fn new(place: Place, text: CowStr<'a>) -> Line<'a>
+        ensures { result ≡ record { place = place; text = cow_str_bytes text.entry } }
     {
         Line { place, text }
     }
@@ -43,8 +44,8 @@ impl Line {
     }
 
     /// Its text alone.
-    pub(crate) fn into_text(self) -> String
-        ensures { string_bytes result ≡ self.text }
+    pub(crate) fn into_text(self) -> CowStr<'a>
+        ensures { cow_str_bytes result ≡ self.entry.text }
     {
         self.text
     }

@@ -1,7 +1,7 @@
 //! Lines as they are read: skipped, taken, substituted, and given or consumed.
 
 ghost use Rattle.std.specs.Prelude.{◌≡◌, ◌<◌, ◌^◌, Result};
-ghost use Rattle.std.specs.String.{string_bytes};
+ghost use Rattle.std.specs.Cow.{cow_str_bytes};
 ghost use Rattle.c25_meaning_lines.specs.Line.{first_word};
 ghost use Rattle.c25_meaning_expansion.specs.Acts as acts;
 ghost use Rattle.c25_meaning_expansion.specs.ExpansionBounds.{nesting};
@@ -31,6 +31,7 @@ use c25_meaning_language::long_line::LongLine;
 use c25_meaning_language::statement::FaultKind;
 use c25_substitution::substitution::{substitute, substitute_before_comma, unsubstituted};
 use c25_text::line::first_word;
+use std::borrow::CowStr;
 
 impl<'a> State<'a> {
     /// What a line asks for is done.
@@ -73,7 +74,7 @@ impl<'a> State<'a> {
         symbols: &Symbols,
         place: Place,
         order: Order<'a>,
-    ) -> Result<Progress, Failure<Refusal>>
+    ) -> Result<Progress<'a>, Failure<Refusal>>
         requires expansions { (config self.old).names.count < 2 ^ 31 }
         requires reading { self.old.mode ≡ modes.Reading }
         ensures { Follows (rule.labelled files.now symbols.now place (order_of order.entry).label (order_of order.entry).act (config self.old)) result (config self.new) }
@@ -82,7 +83,7 @@ impl<'a> State<'a> {
         match label {
             Some(name) => {
                 self.mode = Mode::Acting { place, act };
-                Ok(Progress::Given(Line::new(place, name)))
+                Ok(Progress::Given(Line::new(place, CowStr::Owned(name))))
             }
             None => {
                 self.act(files, symbols, place, act)?;
@@ -98,7 +99,7 @@ impl<'a> State<'a> {
         symbols: &Symbols,
         place: Place,
         order: Result<Order<'a>, Failure<FaultKind>>,
-    ) -> Result<Progress, Failure<Refusal>>
+    ) -> Result<Progress<'a>, Failure<Refusal>>
         requires expansions { (config self.old).names.count < 2 ^ 31 }
         requires reading { self.old.mode ≡ modes.Reading }
         ensures { (told : Result acts.Order FaultKind) → Meets order_of told order.entry
@@ -116,18 +117,19 @@ impl<'a> State<'a> {
         &mut self,
         files: &'a Files,
         symbols: &Symbols,
-        line: Line,
-    ) -> Result<Progress, Failure<Refusal>>
+        line: Line<'a>,
+    ) -> Result<Progress<'a>, Failure<Refusal>>
         requires expansions { (config self.old).names.count < 2 ^ 31 }
         requires reading { self.old.mode ≡ modes.Reading }
-        ensures { Follows (rule.calls files.now symbols.now line (rule.macro_of (first_word line.text) (config self.old).names) (config self.old)) result (config self.new) }
+        ensures { Follows (rule.calls files.now symbols.now line.entry (rule.macro_of (first_word line.entry.text) (config self.old).names) (config self.old)) result (config self.new) }
     {
+        let alloc = self.alloc;
         let Some(word) = first_word(line.text()) else {
             return Ok(Progress::Given(line));
         };
         match self.names.macro_named(word) {
             Some(called) => {
-                let order = read_call(self.alloc, called, line.text());
+                let order = read_call(alloc, called, line.text());
                 self.consume(files, symbols, line.place(), order)
             }
             None => Ok(Progress::Given(line)),
@@ -139,11 +141,11 @@ impl<'a> State<'a> {
         &mut self,
         files: &'a Files,
         symbols: &Symbols,
-        line: Line,
-    ) -> Result<Progress, Failure<Refusal>>
+        line: Line<'a>,
+    ) -> Result<Progress<'a>, Failure<Refusal>>
         requires expansions { (config self.old).names.count < 2 ^ 31 }
         requires reading { self.old.mode ≡ modes.Reading }
-        ensures { Follows (rule.uses files.now symbols.now line (rule.directive_in (first_word line.text)) (config self.old)) result (config self.new) }
+        ensures { Follows (rule.uses files.now symbols.now line.entry (rule.directive_in (first_word line.entry.text)) (config self.old)) result (config self.new) }
     {
         match directive_in(line.text()) {
             Some(directive) => {
@@ -155,17 +157,17 @@ impl<'a> State<'a> {
     }
 
     /// A line substituted, as its first word asks for.
-    fn substituted(
+    fn substituted<'b>(
         &self,
         directive: Option<Directive>,
-        text: &str,
-    ) -> Result<String, Failure<LongLine>>
-        ensures { Meets string_bytes (rule.substituted_as directive (dictionary_of self.now.names) text.now) result }
+        text: &'b str,
+    ) -> Result<CowStr<'b>, Failure<LongLine>>
+        ensures { Meets cow_str_bytes (rule.substituted_as directive (dictionary_of self.now.names) text.now) result }
     {
         let names = self.names.visible();
         let number = self.names.number();
         match directive {
-            Some(Directive::Macro) => unsubstituted(self.alloc, text),
+            Some(Directive::Macro) => unsubstituted(text),
             Some(Directive::Assign) => substitute_before_comma(self.alloc, &names, number, text),
             Some(Directive::Evaluate) => substitute_before_comma(self.alloc, &names, number, text),
             _ => substitute(self.alloc, &names, number, text),
@@ -180,7 +182,7 @@ impl<'a> State<'a> {
         symbols: &Symbols,
         row: Row<'a>,
         directive: Option<Directive>,
-    ) -> Result<Progress, Failure<Refusal>>
+    ) -> Result<Progress<'a>, Failure<Refusal>>
         requires expansions { (config self.old).names.count < 2 ^ 31 }
         requires reading { self.old.mode ≡ modes.Reading }
         ensures { Follows (rule.used files.now symbols.now row.entry directive (config self.old)) result (config self.new) }
@@ -200,7 +202,7 @@ impl<'a> State<'a> {
         place: Place,
         directive: Directive,
         text: &str,
-    ) -> Result<Progress, Failure<Refusal>>
+    ) -> Result<Progress<'a>, Failure<Refusal>>
         requires expansions { (config self.old).names.count < 2 ^ 31 }
         requires reading { self.old.mode ≡ modes.Reading }
         ensures { Follows (rule.consumed files.now symbols.now place (acts.order_of directive text.now) (config self.old)) result (config self.new) }
@@ -217,7 +219,7 @@ impl<'a> State<'a> {
         symbols: &Symbols,
         row: Row<'a>,
         directive: Directive,
-    ) -> Result<Progress, Failure<Refusal>>
+    ) -> Result<Progress<'a>, Failure<Refusal>>
         requires expansions { (config self.old).names.count < 2 ^ 31 }
         requires reading { self.old.mode ≡ modes.Reading }
         ensures { Follows (rule.resumes files.now symbols.now row.entry directive (config self.old)) result (config self.new) }
@@ -230,7 +232,7 @@ impl<'a> State<'a> {
     }
 
     /// The innermost `.if` has so many more nested in its skipped lines.
-    fn nest(&mut self, branch: Branch, nested: usize) -> Result<Progress, Failure<Refusal>>
+    fn nest(&mut self, branch: Branch, nested: usize) -> Result<Progress<'a>, Failure<Refusal>>
         ensures { Follows (rule.nests nested branch (other_branches (config self.old).scope.branches) (config self.old)) result (config self.new) }
     {
         self.top
@@ -247,7 +249,7 @@ impl<'a> State<'a> {
         symbols: &Symbols,
         row: Row<'a>,
         branch: Branch,
-    ) -> Result<Progress, Failure<Refusal>>
+    ) -> Result<Progress<'a>, Failure<Refusal>>
         requires expansions { (config self.old).names.count < 2 ^ 31 }
         requires reading { self.old.mode ≡ modes.Reading }
         ensures { Follows (rule.reads_elseif files.now symbols.now row.entry branch (other_branches (config self.old).scope.branches) (config self.old)) result (config self.new) }
@@ -269,7 +271,7 @@ impl<'a> State<'a> {
         symbols: &Symbols,
         row: Row<'a>,
         branch: Branch,
-    ) -> Result<Progress, Failure<Refusal>>
+    ) -> Result<Progress<'a>, Failure<Refusal>>
         requires expansions { (config self.old).names.count < 2 ^ 31 }
         requires reading { self.old.mode ≡ modes.Reading }
         ensures { Follows (rule.else_in branch.phase row.entry.place (λ _. rule.resumes files.now symbols.now row.entry Directive.Else (config self.old))) result (config self.new) }
@@ -290,7 +292,7 @@ impl<'a> State<'a> {
         row: Row<'a>,
         directive: Option<Directive>,
         branch: Branch,
-    ) -> Result<Progress, Failure<Refusal>>
+    ) -> Result<Progress<'a>, Failure<Refusal>>
         requires expansions { (config self.old).names.count < 2 ^ 31 }
         requires reading { self.old.mode ≡ modes.Reading }
         ensures { Follows (rule.skips_outer files.now symbols.now row.entry directive branch (other_branches (config self.old).scope.branches) (config self.old)) result (config self.new) }
@@ -309,7 +311,7 @@ impl<'a> State<'a> {
         &mut self,
         directive: Option<Directive>,
         branch: Branch,
-    ) -> Result<Progress, Failure<Refusal>>
+    ) -> Result<Progress<'a>, Failure<Refusal>>
         requires some { 0 < branch.nested }
         requires few { branch.nested < 2 ^ 31 }
         ensures { Follows (rule.skips_nested directive branch (other_branches (config self.old).scope.branches) (config self.old)) result (config self.new) }
@@ -330,7 +332,7 @@ impl<'a> State<'a> {
         row: Row<'a>,
         directive: Option<Directive>,
         branch: Branch,
-    ) -> Result<Progress, Failure<Refusal>>
+    ) -> Result<Progress<'a>, Failure<Refusal>>
         requires expansions { (config self.old).names.count < 2 ^ 31 }
         requires reading { self.old.mode ≡ modes.Reading }
         requires few { branch.nested < 2 ^ 31 }
@@ -351,7 +353,7 @@ impl<'a> State<'a> {
         row: Row<'a>,
         directive: Option<Directive>,
         branch: Branch,
-    ) -> Result<Progress, Failure<Refusal>>
+    ) -> Result<Progress<'a>, Failure<Refusal>>
         requires expansions { (config self.old).names.count < 2 ^ 31 }
         requires reading { self.old.mode ≡ modes.Reading }
         ensures { Follows (rule.takes files.now symbols.now row.entry directive branch (other_branches (config self.old).scope.branches) (config self.old)) result (config self.new) }
@@ -368,7 +370,7 @@ impl<'a> State<'a> {
         files: &'a Files,
         symbols: &Symbols,
         row: Row<'a>,
-    ) -> Result<Progress, Failure<Refusal>>
+    ) -> Result<Progress<'a>, Failure<Refusal>>
         requires expansions { (config self.old).names.count < 2 ^ 31 }
         requires reading { self.old.mode ≡ modes.Reading }
         requires nested { nesting (config self.old).scope.branches < 2 ^ 31 }

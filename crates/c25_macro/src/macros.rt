@@ -46,9 +46,13 @@ impl<'a> Macros<'a> {
         }
     }
 
+    /// The macro of a name. Where there are no macros, no hash is taken.
     pub(crate) fn get(&self, name: &str) -> Option<&Macro<'a>>
         ensures { option_map (λ m. macro_of m.now) result ≡ lookup (bytes_eq name.now) self.now }
     {
+        if self.entries.is_empty() {
+            return None;
+        }
         self.entries.get(name)
     }
 

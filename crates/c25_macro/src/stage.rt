@@ -46,8 +46,8 @@ pub(crate) enum Stage<'a> {
 type Answer<'a> = Result<Option<ExpLine<'a>>, Failure<ExpandFault<'a>>>;
 
 /// A line with the name of its file.
-fn show<'a>(files: &'a Files, given: Line) -> ExpLine<'a>
-    ensures { shown result ≡ expanded_line files.now given }
+fn show<'a>(files: &'a Files, given: Line<'a>) -> ExpLine<'a>
+    ensures { shown result ≡ expanded_line files.now given.entry }
 {
     let Place { file, line } = given.place();
     ExpLine {
@@ -95,11 +95,11 @@ fn refuse<'a>(files: &'a Files, name: &'a str, failure: Failure<Refusal>) -> (St
 fn go_on<'a>(
     files: &'a Files,
     name: &'a str,
-    state: State<'a>,
+    state: Box<State<'a>>,
     symbols: &Symbols,
 ) -> (Stage<'a>, Answer<'a>)
-    requires { IsBounded (config state) }
-    ensures next { Comes files.now (first files.now symbols.now (config state.entry)) result.1 (stage_of files.now name.now result.0) }
+    requires { IsBounded (config state.value) }
+    ensures next { Comes files.now (first files.now symbols.now (config state.entry.value)) result.1 (stage_of files.now name.now result.0) }
     ensures kept { IsKept (stage_of files.now name.now result.0) }
 {
     let mut state = state;
@@ -124,7 +124,10 @@ fn begin<'a>(
     ensures kept { IsKept (stage_of files.now name.now result.0) }
 {
     match files.find(name) {
-        Some((file, text)) => go_on(files, name, State::new(alloc, file, text), symbols),
+        Some((file, text)) => match Box::new(alloc, State::new(alloc, file, text)) {
+            Ok(state) => go_on(files, name, state, symbols),
+            Err(error) => refuse(files, name, Failure::NoMemory(NoMemory::from(error))),
+        },
         None => (Stage::NoModule, Err(Failure::Fault(no_file(name, 0)))),
     }
 }

@@ -5,9 +5,10 @@ ghost use Rattle.c25_macro.specs.Config.{config};
 
 use crate::state::State;
 
-/// A state in which no more blocks are open, and no more lines and expansions counted, than may be.
+/// A state in which no more blocks are open, and no more lines and expansions counted, than may be. It
+/// is boxed, since it is handed on from line to line.
 #[derive(Drop)]
 pub(crate) struct Standing<'a> {
-    pub(crate) state: State<'a>,
-    ghost bounded: { IsBounded (config state) },
+    pub(crate) state: Box<State<'a>>,
+    ghost bounded: { IsBounded (config state.value) },
 }

@@ -44,9 +44,9 @@ pub(crate) enum Mode<'a> {
 
 /// What one line comes to.
 #[derive(Drop)]
-pub(crate) enum Progress {
+pub(crate) enum Progress<'a> {
     /// A line is given.
-    Given(Line),
+    Given(Line<'a>),
     /// The line did its work.
     Went,
     /// No line comes any more.

@@ -33,7 +33,7 @@ impl<'a> State<'a> {
     }
 
     /// The next turn of a loop, or what stood behind the file, expansion or turn that ends here.
-    fn end_source(&mut self) -> Result<Progress, Failure<Refusal>>
+    fn end_source(&mut self) -> Result<Progress<'a>, Failure<Refusal>>
         requires { self.old.top.lines.rest ≡ [] }
         ensures { (files : meaning.Files) (s : Table) → Follows (runs.front files s (config self.old).lines (config self.old)) result (config self.new) }
     {
@@ -70,7 +70,7 @@ impl<'a> State<'a> {
         symbols: &Symbols,
         row: Row<'a>,
         mode: Mode<'a>,
-    ) -> Result<Progress, Failure<Refusal>>
+    ) -> Result<Progress<'a>, Failure<Refusal>>
         requires expansions { (config self.old).names.count < 2 ^ 31 }
         requires skipped { nesting (config self.old).scope.branches < 2 ^ 31 }
         requires collected { nested_in mode < 2 ^ 31 }
@@ -101,7 +101,7 @@ impl<'a> State<'a> {
         files: &'a Files,
         symbols: &Symbols,
         mode: Mode<'a>,
-    ) -> Result<Progress, Failure<Refusal>>
+    ) -> Result<Progress<'a>, Failure<Refusal>>
         requires bounded { IsBounded (record (config self.old) { mode = mode_of mode self.old.top.lines.passed }) }
         requires reading { self.old.mode ≡ modes.Reading }
         ensures { Follows (runs.front files.now symbols.now (config self.old).lines (record (config self.old) { mode = mode_of mode.entry self.old.top.lines.passed })) result (config self.new) }
@@ -119,7 +119,11 @@ impl<'a> State<'a> {
 
     /// One rewriting.
     #[tactic(auto, unfolding(c25_meaning_expansion::specs::ExpansionRuns::rewrite))]
-    fn step(&mut self, files: &'a Files, symbols: &Symbols) -> Result<Progress, Failure<Refusal>>
+    fn step(
+        &mut self,
+        files: &'a Files,
+        symbols: &Symbols,
+    ) -> Result<Progress<'a>, Failure<Refusal>>
         requires { IsBounded (config self.old) }
         ensures { Follows (runs.rewrite files.now symbols.now (config self.old)) result (config self.new) }
     {
@@ -137,7 +141,7 @@ impl<'a> State<'a> {
         &mut self,
         files: &'a Files,
         symbols: &Symbols,
-    ) -> Result<Option<Line>, Failure<Refusal>>
+    ) -> Result<Option<Line<'a>>, Failure<Refusal>>
         requires { IsBounded (config self.old) }
         ensures answer { Answers (runs.first files.now symbols.now (config self.old)) result (config self.new) }
         ensures bounded { OnOk result (IsBounded (config self.new)) }

@@ -91,7 +91,7 @@ fn names_are_replaced(rt: HostRuntime) -> Result<(), Fail> {
 
 #[test]
 fn lines_of_macros_are_kept(rt: HostRuntime) -> Result<(), Fail> {
-    let line = unsubstituted(rt.alloc(), "k .macro k")?;
+    let line = unsubstituted("k .macro k")?;
     assert_eq!(rt; line.as_str(), "k .macro k");
     Ok(())
 }

@@ -1,7 +1,9 @@
 pub mod Asides
 pub mod Binding
+pub mod Changes
 pub mod Cuts
 pub mod Folding
+pub mod Kept
 pub mod Pairs
 pub mod Quotings
 pub mod Writing

@@ -26,6 +26,20 @@ pub Refuses-joined : (a b : Draft) (e : Failure LongLine) → Refuses a e → Re
 Refuses-joined a b (NoMemory m) h = tt
 Refuses-joined a b (Fault f) h = omega (arith, h, length-append a.text b.text)
 
+-- the first, second or third of three texts is too long
+nothing-joined : (a : Draft) → joined (as_is []) a ≡ a
+nothing-joined a = same_draft (joined (as_is []) a) a refl (omega arith)
+
+pub first_refused : (old a b : Draft) (e : Failure LongLine) → old ≡ as_is [] → Refuses (joined old a) e → Refuses (joined a b) e
+first_refused old a b e none h = Refuses-joined a b e (subst (λ w. Refuses w e) (ap (λ o. joined o a) none ∙ nothing-joined a) h)
+
+pub second_refused : (old a b c : Draft) (e : Failure LongLine) → old ≡ joined (as_is []) a → Refuses (joined old b) e → Refuses (joined a (joined b c)) e
+second_refused old a b c e so_far h =
+    subst (λ w. Refuses w e) (joined_assoc a b c) (Refuses-joined (joined a b) c e (subst (λ o. Refuses (joined o b) e) (so_far ∙ nothing-joined a) h))
+
+pub third_refused : (old a b c : Draft) (e : Failure LongLine) → old ≡ joined (joined (as_is []) a) b → Refuses (joined old c) e → Refuses (joined a (joined b c)) e
+third_refused old a b c e so_far h = subst (λ w. Refuses w e) (joined_assoc a b c) (subst (λ o. Refuses (joined o c) e) (so_far ∙ ap (λ o. joined o b) (nothing-joined a)) h)
+
 -- a fragment that covers more bytes
 fragments-skip : (names : Names) (q : Quoting) (k : ℕ) (text : List ℕ) → fragments names q k text ≡ fragments names q 0 (drop k text)
 unfolding fragments
@@ -43,7 +57,7 @@ fragments-first names q (b ∷ rest) h s =
     let e : suc (size - 1) ≡ size = omega (arith, s) in
     ap (λ ps. (front names q (b ∷ rest)).fragment ∷ ps) (fragments-skip names (behind b q) (size - 1) rest ∙ ap (λ k. fragments names (behind b q) 0 (drop k (b ∷ rest))) e)
 
-drafted-empty : (d : ℕ) (names : Names) (number : ℕ) (aside : List (List ℕ)) (q : Quoting) → drafted d names number aside q [] ≡ as_is []
+pub drafted-empty : (d : ℕ) (names : Names) (number : ℕ) (aside : List (List ℕ)) (q : Quoting) → drafted d names number aside q [] ≡ as_is []
 unfolding drafted fragments
 drafted-empty zero names number aside q = refl
 drafted-empty (suc d) names number aside q = refl
@@ -64,7 +78,7 @@ module _ (names : Names) (number : ℕ) (level : ℕ) (aside : List (List ℕ)) 
   abbrev pub part : Fragment → Draft
   part p = drafted_by (λ name inner begins. drafted (1024 - level) names number (aside ++ name ∷ []) begins inner) number p
 
-  step : (q : Quoting) (rest after : List ℕ) (p : Fragment) (first : ℕ) → level ≤ 1024 → 0 < length rest →
+  pub step : (q : Quoting) (rest after : List ℕ) (p : Fragment) (first : ℕ) → level ≤ 1024 → 0 < length rest →
       p ≡ (front (without aside names) q rest).fragment → after ≡ drop (front (without aside names) q rest).size rest → length after < length rest → first ≡ get_or rest 0 0 →
       whole q rest ≡ joined (part p) (whole (behind first q) after)
   step q rest after p first deep more fragment cut shorter byte =

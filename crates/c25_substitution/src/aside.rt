@@ -43,7 +43,7 @@ impl<'a> Aside<'a> {
     pub(crate) fn has(&self, name: &str) -> bool
         ensures { result ≡ list_any (bytes_eq name.now) self.now }
     {
-        is_among(self.few.as_slice(), name) || self.others.contains(name)
+        is_among(self.few.as_slice(), name) || is_hashed(&self.others, name)
     }
 
     /// One more, which is not among them.
@@ -67,6 +67,16 @@ impl<'a> Aside<'a> {
             let _last = self.few.pop();
         }
     }
+}
+
+/// Whether a name is one of these. Where there are none, no hash is taken.
+fn is_hashed(names: &IndexSet<&str>, name: &str) -> bool
+    ensures { result ≡ list_any (λ other. bytes_eq name.now other.now) names.now.keys }
+{
+    if names.is_empty() {
+        return false;
+    }
+    names.contains(name)
 }
 
 /// Whether a name is one of these.

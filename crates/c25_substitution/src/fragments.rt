@@ -17,6 +17,7 @@ use c25_bytes::{begins_name, byte_at, constant_run, is_digit, name_run};
 use c25_meaning_language::quoting::Quoting;
 
 /// A fragment of a text.
+#[derive(Drop)]
 pub(crate) enum Fragment<'a> {
     /// It is kept as it is.
     Kept(&'a str),

@@ -4,6 +4,7 @@
 
 pub mod arguments;
 mod aside;
+mod change;
 mod fragments;
 mod output;
 pub mod parameters;

@@ -4,14 +4,14 @@ ghost use Rattle.std.specs.Prelude.{◌≡◌, ◌++◌, ◌∷◌, []};
 ghost use Rattle.std.specs.Fmt.{decimal};
 ghost use Rattle.std.specs.String.{string_bytes};
 ghost use Rattle.c25_meaning_language.specs.Substitution.{as_is};
-ghost use Rattle.c25_substitution.specs.View.{written_so_far, IsWithin, Writes};
+ghost use Rattle.c25_substitution.specs.View.{written_so_far, IsAll, IsWithin, Writes};
 
 use c25_meaning_common::failure::Failure;
 use c25_meaning_language::long_line::LongLine;
 use std::alloc::Global;
 
 /// The bytes that a line has at most, and the replacements.
-const LIMIT: usize = 1024;
+pub(crate) const LIMIT: usize = 1024;
 
 /// What is written so far.
 #[derive(Drop)]
@@ -22,15 +22,15 @@ pub(crate) struct Output {
 }
 
 impl Output {
-    /// Nothing.
-    pub(crate) fn new(alloc: Global) -> Self
-        ensures { written_so_far result ≡ as_is [] }
+    /// Nothing, with room for so many bytes, or for those of the longest line.
+    pub(crate) fn with_room(alloc: Global, room: usize) -> Result<Self, Failure<LongLine>>
+        ensures { IsAll (as_is []) result }
     {
-        Output {
+        Ok(Output {
             alloc,
-            text: String::new(alloc),
+            text: String::with_capacity(alloc, room.min(LIMIT))?,
             replacements: 0,
-        }
+        })
     }
 
     /// Writes a text as it is.

@@ -1,9 +1,9 @@
 //! Which bytes of a line stand outside quotes and comment.
 
-ghost use Rattle.std.specs.Prelude.{◌≡◌, ◌<◌, ◌≤◌, length, slice_index};
+ghost use Rattle.std.specs.Prelude.{◌≡◌, IsTrue, ◌<◌, ◌≤◌, length, slice_index};
 ghost use Rattle.c25_meaning_language.specs.Quoting.{behind, is_outer, outer_len, last_comma_len};
 ghost use Rattle.c25_meaning_language.specs.Fragments.{inside};
-ghost use Rattle.c25_meaning_language.specs.declared.quoting.Quoting.TheVariants.{Outside};
+ghost use Rattle.c25_meaning_language.specs.declared.quoting.Quoting.TheVariants.{Comment, Outside};
 
 use c25_meaning_language::quoting::Quoting;
 
@@ -17,6 +17,13 @@ pub(crate) fn behind(b: u8, quoting: Quoting) -> Quoting
         Quoting::Within(quote) if b == quote => Quoting::Outside,
         other => other,
     }
+}
+
+/// Whether all that follows is a comment.
+pub(crate) fn is_comment(quoting: Quoting) -> bool
+    ensures { IsTrue result → quoting ≡ Comment }
+{
+    matches!(quoting, Quoting::Comment)
 }
 
 /// Where a text begins that replaces a name here.

@@ -1,15 +1,16 @@
 //! Names replaced by their texts in a line.
 
 ghost use Rattle.std.specs.Prelude.{◌≡◌, ◌-◌, ◌≤◌, ◌++◌, ◌∷◌, [], OnOk, length};
-ghost use Rattle.std.specs.String.{string_bytes};
+ghost use Rattle.std.specs.Cow.{cow_str_bytes};
 ghost use Rattle.c25_meaning_common.specs.Results.{Meets};
-ghost use Rattle.c25_meaning_language.specs.Substitution.{line_quoting, rewritten, substituted, substituted_before_comma, unsubstituted, drafted, drafted_by};
+ghost use Rattle.c25_meaning_language.specs.Substitution.{line_quoting, substituted, substituted_before_comma, unsubstituted, drafted, drafted_by};
 ghost use Rattle.c25_substitution.specs.Fresh.{IsFresh};
-ghost use Rattle.c25_substitution.specs.View.{names_of, fragment_of, written_so_far, IsAll, IsWithin, Writes};
+ghost use Rattle.c25_substitution.specs.View.{changed, names_of, fragment_of, written_so_far, IsAll, IsWithin, Writes};
 
 use crate::aside::Aside;
+use crate::change::{Change, first_change};
 use crate::fragments::{Fragment, first_fragment};
-use crate::output::Output;
+use crate::output::{LIMIT, Output};
 use crate::quoting::{behind, last_comma_len};
 use crate::visible::Visible;
 use c25_bytes::byte_at;
@@ -17,6 +18,7 @@ use c25_meaning_common::failure::Failure;
 use c25_meaning_language::long_line::LongLine;
 use c25_meaning_language::quoting::Quoting;
 use std::alloc::Global;
+use std::borrow::CowStr;
 
 /// Writes what a text becomes that begins in this quoting. The names set aside are those that are
 /// being replaced around it: as many as it is deep.
@@ -77,19 +79,27 @@ fn write_fragment<'a>(
     }
 }
 
-/// Writes what a text becomes that begins in this quoting.
+/// Writes what a text becomes whose first change is this one. There is room for so many bytes at once.
 fn rewrite<'a>(
     alloc: Global,
     names: &Visible<'a>,
     number: u32,
-    quoting: Quoting,
-    text: &'a str,
+    change: Change<'a>,
+    room: usize,
 ) -> Result<Output, Failure<LongLine>>
-    ensures { IsAll (rewritten (names_of names.now) number quoting text.now) result }
+    ensures { IsAll (changed (names_of names.now) number change.entry) result }
 {
-    let mut out = Output::new(alloc);
+    let Change {
+        front,
+        fragment,
+        quoting,
+        rest,
+    } = change;
+    let mut out = Output::with_room(alloc, room)?;
     let mut aside = Aside::new(alloc);
-    write(names, number, &mut aside, quoting, text, &mut out)?;
+    out.push(front)?;
+    write_fragment(names, number, &mut aside, fragment, &mut out)?;
+    write(names, number, &mut aside, quoting, rest, &mut out)?;
     Ok(out)
 }
 
@@ -104,41 +114,52 @@ fn line_quoting(line: &str) -> Quoting
 }
 
 /// A line with its names replaced. The number is that of the innermost expansion, 0 outside of all. A
-/// comment line is left as it is. It is a fault where it gets more than 1,024 bytes, its comment among
-/// them, or takes more than 1,024 replacements.
+/// comment line is left as it is, and a line in which nothing is replaced is borrowed. It is a fault
+/// where it gets more than 1,024 bytes, its comment among them, or takes more than 1,024 replacements.
 pub fn substitute<'a>(
     alloc: Global,
-    names: &Visible<'a>,
+    names: &Visible<'_>,
     number: u32,
     line: &'a str,
-) -> Result<String, Failure<LongLine>>
-    ensures { Meets string_bytes (substituted (names_of names.now) number line.now) result }
+) -> Result<CowStr<'a>, Failure<LongLine>>
+    ensures { Meets cow_str_bytes (substituted (names_of names.now) number line.now) result }
 {
-    let out = rewrite(alloc, names, number, line_quoting(line), line)?;
-    Ok(out.into_text())
+    match first_change(names, &Aside::new(alloc), line_quoting(line), line) {
+        None => unsubstituted(line),
+        Some(change) => {
+            let out = rewrite(alloc, names, number, change, line.len())?;
+            Ok(CowStr::Owned(out.into_text()))
+        }
+    }
 }
 
 /// The same for a line of `.asg` or `.eval`, in which nothing is replaced from the last comma outside
 /// quotes and comment on.
 pub fn substitute_before_comma<'a>(
     alloc: Global,
-    names: &Visible<'a>,
+    names: &Visible<'_>,
     number: u32,
     line: &'a str,
-) -> Result<String, Failure<LongLine>>
-    ensures { Meets string_bytes (substituted_before_comma (names_of names.now) number line.now) result }
+) -> Result<CowStr<'a>, Failure<LongLine>>
+    ensures { Meets cow_str_bytes (substituted_before_comma (names_of names.now) number line.now) result }
 {
     let (front, behind) = line.split_at(last_comma_len(line.as_bytes()));
-    let mut out = rewrite(alloc, names, number, Quoting::Outside, front)?;
-    out.push(behind)?;
-    Ok(out.into_text())
+    match first_change(names, &Aside::new(alloc), Quoting::Outside, front) {
+        None => unsubstituted(line),
+        Some(change) => {
+            let mut out = rewrite(alloc, names, number, change, line.len())?;
+            out.push(behind)?;
+            Ok(CowStr::Owned(out.into_text()))
+        }
+    }
 }
 
-/// The same for a line of `.macro`, in which nothing is replaced.
-pub fn unsubstituted(alloc: Global, line: &str) -> Result<String, Failure<LongLine>>
-    ensures { Meets string_bytes (unsubstituted line.now) result }
+/// The same for a line of `.macro`, in which nothing is replaced: it is borrowed.
+pub fn unsubstituted(line: &str) -> Result<CowStr<'_>, Failure<LongLine>>
+    ensures { Meets cow_str_bytes (unsubstituted line.now) result }
 {
-    let mut out = Output::new(alloc);
-    out.push(line)?;
-    Ok(out.into_text())
+    if line.len() > LIMIT {
+        return Err(Failure::Fault(LongLine));
+    }
+    Ok(CowStr::Borrowed(line))
 }

@@ -39,10 +39,13 @@ impl Texts {
         }
     }
 
-    /// What a name stands for.
+    /// What a name stands for. Where there are no names, no hash is taken.
     pub fn get(&self, name: &str) -> Option<&str>
         ensures { option_map (λ s. s.now) result ≡ lookup (bytes_eq name.now) self.now }
     {
+        if self.entries.is_empty() {
+            return None;
+        }
         match self.entries.get(name) {
             Some(text) => Some(text.as_str()),
             None => None,

@@ -14,5 +14,5 @@ returns-else-is_among c =
     let found = λ (k : Bor (List ℕ)). test k.now in
     let none : list_any found few ≡ false =
     sym (any_map test read few) ∙ ap (λ (xs : List (Bor (List ℕ))). list_any test (map read xs)) (sym c.as_slice.ensures.value) ∙ sym c.is_among.ensures ∙ c.if-is_among.false in
-    c.contains.ensures ∙ ap (λ b. b || list_any found others) (sym none)
+    c.is_hashed.ensures ∙ ap (λ b. b || list_any found others) (sym none)
     ∙ sym (list_any-append found few others) ∙ sym (any_map test read (few ++ others)) ∙ ap (list_any test) c.self.view_is
