@@ -1,3 +1,4 @@
 pub mod Settle
+pub mod Advanced
 pub mod Prepared
 pub mod Alone

@@ -1,11 +1,15 @@
 //! The instructions with a port.
 
+ghost use Rattle.std.specs.Prelude.{◌≡◌, OnErr};
+ghost use Rattle.c25_meaning_processor.specs.declared.registers.Registers.{Registers};
 ghost use Rattle.c25_meaning_processor.specs.Effect.{operand_word, port_effect, settle};
 ghost use Rattle.c25_meaning_processor.specs.Operand.{address_of};
 ghost use Rattle.c25_meaning_processor.specs.State.{data_at};
+ghost use Rattle.c25_meaning_processor.specs.Step.{advanced};
 ghost use Rattle.c25_meaning_instructions.specs.Table.{AddrInRange};
 ghost use Rattle.c25_core.specs.Met.{IsMet};
 
+use crate::advance::advance;
 use crate::bus::{Bus, Halt};
 use crate::memory::{read_data, write_data};
 use crate::operand::{address_of, settle};
@@ -14,7 +18,9 @@ use c25_meaning_instructions::mnemonic::PortName;
 use c25_meaning_processor::registers::Registers;
 use c25_meaning_processor::stop::Stop;
 
-/// Either of the instructions, with its operand at this address, before the operand's change.
+/// Either of the instructions, with its operand at this address, before the operand's change and
+/// wherever PC stands: of the registers it looks at CNF alone.
+#[inline(always)]
 fn act<B: Bus>(
     registers: &Registers,
     bus: &mut B,
@@ -22,10 +28,10 @@ fn act<B: Bus>(
     address: u16,
     number: u16,
 ) -> Result<(), Halt>
-    ensures { IsMet
-        (port_effect name (data_at registers.now.cnf (B.world bus.old) address) address number
-        registers.now (B.world bus.old))
-        result registers.now (B.world bus.old) (B.world bus.new)
+    ensures { (any : Registers) → any.cnf ≡ registers.now.cnf → IsMet
+        (port_effect name (data_at any.cnf (B.world bus.old) address) address number
+        any (B.world bus.old))
+        result any (B.world bus.old) (B.world bus.new)
         (B.failures bus.old) (B.failures bus.new) }
 {
     match name {
@@ -46,8 +52,9 @@ fn act<B: Bus>(
     }
 }
 
-/// Either of the instructions, with its operand.
-#[tactic(auto, using(crate::proofs::Settle::IsMet_settle))]
+/// Either of the instructions, with its operand; PC moves behind it, or in a repeat it is counted.
+/// Where it stops the registers stay as they are.
+#[inline(always)]
 pub fn port<B: Bus>(
     registers: &mut Registers,
     bus: &mut B,
@@ -56,15 +63,22 @@ pub fn port<B: Bus>(
     number: u16,
 ) -> Result<(), Halt>
     requires { AddrInRange operand.now }
-    ensures { IsMet (settle operand.now registers.old.arp (port_effect name
-        (operand_word operand.now registers.old (B.world bus.old))
-        (address_of operand.now registers.old) number registers.old (B.world bus.old)))
+    ensures met { IsMet (settle operand.now (advanced 1 registers.old).arp (port_effect name
+        (operand_word operand.now (advanced 1 registers.old) (B.world bus.old))
+        (address_of operand.now (advanced 1 registers.old)) number (advanced 1 registers.old)
+        (B.world bus.old)))
         result registers.new (B.world bus.old) (B.world bus.new)
         (B.failures bus.old) (B.failures bus.new) }
+    ensures halt { OnErr result (registers.new ≡ registers.old) }
 {
-    let arp = registers.arp;
     let address = address_of(operand, registers);
-    act(registers, bus, name, address, number)?;
-    settle(registers, operand, arp);
-    Ok(())
+    match act(registers, bus, name, address, number) {
+        Ok(()) => {
+            advance(registers, 1);
+            let arp = registers.arp;
+            settle(registers, operand, arp);
+            Ok(())
+        }
+        Err(halt) => Err(halt),
+    }
 }
