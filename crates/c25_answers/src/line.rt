@@ -5,8 +5,8 @@ ghost use Rattle.arrayvec.specs.ArrayString.{array_string_len};
 ghost use Rattle.c25_meaning_common.specs.Digits.{four_digits};
 ghost use Rattle.c25_meaning_processor.specs.RunText.{stop_name};
 
-use crate::digits::four;
 use arrayvec::ArrayString;
+use c25_digits::four;
 use c25_meaning_processor::stop::Stop;
 use itoa::Buffer;
 

@@ -1,31 +1,24 @@
 //! The printed text of a run.
 
 ghost use Rattle.std.specs.Prelude.{◌≡◌, ◌++◌, OnOk, IfOk, string_bytes};
-ghost use Rattle.c25_meaning_common.specs.Digits.{four_digits};
 ghost use Rattle.c25_meaning_processor.specs.RunText.{output_line, outputs_text};
 ghost use Rattle.c25_chain.specs.OutcomeText.{outcome_text, run_text};
 
 use crate::chain::Chain;
 use c25_board::board::Outcome;
+use c25_digits::four;
 use c25_meaning_common::no_memory::NoMemory;
+use itoa::Buffer;
 use std::alloc::Global;
 
-/// Appends a word as four hexadecimal digits.
-#[tactic(auto, using(std::proofs::lemmas::Fmt::hex_byte))]
-fn push_word(out: &mut String, word: u16) -> Result<(), NoMemory>
-    ensures { OnOk result (string_bytes out.new ≡ string_bytes out.old ++ four_digits word) }
-{
-    let high = word >> 8;
-    let low = word % 256;
-    write!(out, "{high:02X}{low:02X}")?;
-    Ok(())
-}
-
+/// Appends the line of an output.
 fn push_output(out: &mut String, port: u16, word: u16) -> Result<(), NoMemory>
     ensures { OnOk result (string_bytes out.new ≡ string_bytes out.old ++ output_line (port, word)) }
 {
-    write!(out, "{port} ")?;
-    push_word(out, word)?;
+    let mut number = Buffer::new();
+    out.push_str(number.format(port))?;
+    out.push_str(" ")?;
+    out.push_str(four(word).as_str())?;
     out.push_str("\n")?;
     Ok(())
 }

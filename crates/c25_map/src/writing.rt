@@ -4,24 +4,13 @@ ghost use Rattle.std.specs.Prelude.{◌≡◌, ◌<◌, ◌≤◌, ◌++◌, OnO
 ghost use Rattle.std.specs.List.{flat_map};
 ghost use Rattle.std.specs.Option.{option_map};
 ghost use Rattle.c25_meaning_placing.specs.MapText.{address_text, decimal_digit, five_digits, eight_digits, part_text, place_text, section_text, value_text, symbol_text, entry_text, entry_lines, map_text, HasDigits};
-ghost use Rattle.c25_meaning_common.specs.Digits.{hex_digit, two_digits, four_digits};
+ghost use Rattle.c25_meaning_common.specs.Digits.{four_digits};
 ghost use Rattle.c25_map.specs.View.{part_data, section_data, symbol_data, map_data};
 
 use crate::map::{GlobalSymbol, Map, OutputSection, Part};
+use c25_digits::four;
 use c25_meaning_common::no_memory::NoMemory;
 use std::alloc::Global;
-
-/// A hexadecimal digit in upper case.
-fn hex_digit(number: u8) -> u8
-    requires { number < 16 }
-    ensures { result ≡ hex_digit number }
-{
-    if number < 10 {
-        b'0' + number
-    } else {
-        b'A' + (number - 10)
-    }
-}
 
 /// Appends an ASCII character.
 fn push_byte(out: &mut String, byte: u8) -> Result<(), NoMemory>
@@ -32,20 +21,12 @@ fn push_byte(out: &mut String, byte: u8) -> Result<(), NoMemory>
     Ok(())
 }
 
-/// Appends the two digits of a byte.
-fn push_two(out: &mut String, number: u8) -> Result<(), NoMemory>
-    ensures { OnOk result (string_bytes out.new ≡ string_bytes out.old ++ two_digits number) }
-{
-    push_byte(out, hex_digit(number / 16))?;
-    push_byte(out, hex_digit(number % 16))
-}
-
 /// Appends the four digits of a word.
 fn push_four(out: &mut String, number: u16) -> Result<(), NoMemory>
     ensures { OnOk result (string_bytes out.new ≡ string_bytes out.old ++ four_digits number) }
 {
-    push_two(out, (number / 256) as u8)?;
-    push_two(out, (number % 256) as u8)
+    out.push_str(four(number).as_str())?;
+    Ok(())
 }
 
 /// Appends an address.
