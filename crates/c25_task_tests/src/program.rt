@@ -120,7 +120,7 @@ fn words_that_are_no_task_have_status_2(rt: HostRuntime) -> Result<(), Fail> {
         ("asm", None),
         ("help", None),
         ("--help", None),
-        ("--version", Some(b"c25 1.0.0\n".as_slice())),
+        ("--version", Some(b"c25 1.1.0\n".as_slice())),
         ("--", None),
         ("a.asm", None),
     ];

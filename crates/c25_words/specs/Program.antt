@@ -9,11 +9,15 @@ use Rattle.clap.specs.declared.builder.value_parser.ValueParser.TheVariants as p
 
 -- `--name VALUE`
 abbrev pub option_rule : Text → Rule
-option_rule name = record (new_rule name) { long = Some name }
+option_rule name = record (new_rule name) { long = Some name; value_names = 1 }
 
 -- the same, which must be there
 abbrev pub needed_rule : Text → Rule
 needed_rule name = record (option_rule name) { required = true }
+
+-- the same, where `-o VALUE` does as well
+abbrev pub output_rule : Text → Rule
+output_rule name = record (needed_rule name) { short = Some 111 }
 
 -- `--steps N`, N from 0 to 4,294,967,295
 abbrev pub steps_rule : Rule
@@ -21,7 +25,7 @@ steps_rule = record (option_rule (codes "steps")) { parser = Some (parser.Signed
 
 -- one operand, which must be there
 abbrev pub operand_rule : Text → Rule
-operand_rule name = record (new_rule name) { required = true }
+operand_rule name = record (new_rule name) { required = true; value_names = 1 }
 
 -- one operand or more
 abbrev pub operands_rule : Text → Rule
@@ -39,17 +43,17 @@ added shape rule = record shape { rules = shape.rules ++ rule ∷ [] }
 abbrev pub with_run_files : Shape → Shape
 with_run_files shape = added (added (added shape (option_rule (codes "command"))) (option_rule (codes "samples"))) (option_rule (codes "schedule"))
 
--- asm SOURCE --obj F [--list F]
+-- asm SOURCE --obj F [--list F]; here and below `-o` stands for `--obj` and for `--out` as well
 abbrev pub asm_shape : Shape
-asm_shape = shape_with (codes "asm") (operand_rule (codes "source") ∷ needed_rule (codes "obj") ∷ option_rule (codes "list") ∷ [])
+asm_shape = shape_with (codes "asm") (operand_rule (codes "source") ∷ output_rule (codes "obj") ∷ option_rule (codes "list") ∷ [])
 
 -- link COMMAND OBJECT.. --out B
 abbrev pub link_shape : Shape
-link_shape = shape_with (codes "link") (operand_rule (codes "command") ∷ operands_rule (codes "object") ∷ needed_rule (codes "out") ∷ [])
+link_shape = shape_with (codes "link") (operand_rule (codes "command") ∷ operands_rule (codes "object") ∷ output_rule (codes "out") ∷ [])
 
 -- build SOURCE.. --out B [--command F]
 abbrev pub build_shape : Shape
-build_shape = shape_with (codes "build") (operands_rule (codes "source") ∷ needed_rule (codes "out") ∷ option_rule (codes "command") ∷ [])
+build_shape = shape_with (codes "build") (operands_rule (codes "source") ∷ output_rule (codes "out") ∷ option_rule (codes "command") ∷ [])
 
 -- run SOURCE.. [--steps N] [--command F] [--samples F] [--schedule F]
 abbrev pub run_shape : Shape

@@ -2,20 +2,23 @@
 
 ghost use Rattle.std.specs.Prelude.{◌≡◌, codes, false};
 ghost use Rattle.clap.specs.Words.{rule_of};
-ghost use Rattle.c25_words.specs.Program.{needed_rule, operand_rule, operands_rule, option_rule, steps_rule};
+ghost use Rattle.c25_words.specs.Program.{needed_rule, operand_rule, operands_rule, option_rule, output_rule, steps_rule};
 
 use clap::{Arg, value_parser};
 use std::alloc::Global;
 
-/// `--name VALUE`.
+/// `--name FILE`.
 pub(crate) fn option<'a>(alloc: Global, name: &'a str, help: &'a str) -> Arg<'a>
     ensures rule { rule_of result ≡ option_rule name.entry.now }
     ensures local { result.global ≡ false }
 {
-    Arg::new(alloc, name).long(name).help(help)
+    Arg::new(alloc, name)
+        .long(name)
+        .value_name("FILE")
+        .help(help)
 }
 
-/// `--name VALUE`, which must be there.
+/// `--name FILE`, which must be there.
 pub(crate) fn needed<'a>(alloc: Global, name: &'a str, help: &'a str) -> Arg<'a>
     ensures rule { rule_of result ≡ needed_rule name.entry.now }
     ensures local { result.global ≡ false }
@@ -23,20 +26,32 @@ pub(crate) fn needed<'a>(alloc: Global, name: &'a str, help: &'a str) -> Arg<'a>
     option(alloc, name, help).required(true)
 }
 
+/// `--name FILE` or `-o FILE`, where what is made goes; it must be there.
+pub(crate) fn output<'a>(alloc: Global, name: &'a str, help: &'a str) -> Arg<'a>
+    ensures rule { rule_of result ≡ output_rule name.entry.now }
+    ensures local { result.global ≡ false }
+{
+    needed(alloc, name, help).short('o')
+}
+
 /// `--command FILE`.
 pub(crate) fn command_file<'a>(alloc: Global) -> Arg<'a>
     ensures rule { rule_of result ≡ option_rule (codes "command") }
     ensures local { result.global ≡ false }
 {
-    option(alloc, "command", "The linker's command file")
+    option(
+        alloc,
+        "command",
+        "The linker's command file; without one, an empty one",
+    )
 }
 
-/// `--out BASE`, which must be there.
-pub(crate) fn base_name<'a>(alloc: Global) -> Arg<'a>
-    ensures rule { rule_of result ≡ needed_rule (codes "out") }
+/// `--out BASE` or `-o BASE`, which must be there.
+pub(crate) fn base_name<'a>(alloc: Global, help: &'a str) -> Arg<'a>
+    ensures rule { rule_of result ≡ output_rule (codes "out") }
     ensures local { result.global ≡ false }
 {
-    needed(alloc, "out", "How the written files' names begin")
+    output(alloc, "out", help).value_name("BASE")
 }
 
 /// `--steps N`, N from 0 to 4,294,967,295.
@@ -44,21 +59,26 @@ pub(crate) fn steps<'a>(alloc: Global) -> Arg<'a>
     ensures rule { rule_of result ≡ steps_rule }
     ensures local { result.global ≡ false }
 {
-    option(alloc, "steps", "The number of steps, 1000 by default").value_parser(value_parser!(u32))
+    option(alloc, "steps", "The number of steps, 1000 by default")
+        .value_name("N")
+        .value_parser(value_parser!(u32))
 }
 
 /// One operand, which must be there.
-pub(crate) fn operand<'a>(alloc: Global, name: &'a str, help: &'a str) -> Arg<'a>
+pub(crate) fn operand<'a>(alloc: Global, name: &'a str, value: &'a str, help: &'a str) -> Arg<'a>
     ensures rule { rule_of result ≡ operand_rule name.entry.now }
     ensures local { result.global ≡ false }
 {
-    Arg::new(alloc, name).help(help).required(true)
+    Arg::new(alloc, name)
+        .value_name(value)
+        .help(help)
+        .required(true)
 }
 
 /// One operand or more.
-pub(crate) fn operands<'a>(alloc: Global, name: &'a str, help: &'a str) -> Arg<'a>
+pub(crate) fn operands<'a>(alloc: Global, name: &'a str, value: &'a str, help: &'a str) -> Arg<'a>
     ensures rule { rule_of result ≡ operands_rule name.entry.now }
     ensures local { result.global ≡ false }
 {
-    operand(alloc, name, help).num_args(1..)
+    operand(alloc, name, value, help).num_args(1..)
 }

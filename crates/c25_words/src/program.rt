@@ -6,46 +6,69 @@ ghost use Rattle.clap.specs.Words.{app_of, shape_of};
 ghost use Rattle.clap.specs.declared.builder.command.Command.TheViews.{out-Command as fields_of};
 ghost use Rattle.c25_words.specs.Program.{IsSubcommand, asm_shape, bare_program, build_shape, debug_shape, link_shape, program, run_shape, with_run_files};
 
-use crate::arguments::{base_name, command_file, needed, operand, operands, option, steps};
+use crate::arguments::{base_name, command_file, needed, operand, operands, option, output, steps};
 use clap::Command;
 use std::alloc::{AllocError, Global};
 
 /// What `--version` prints behind the program's name. It rises with each change of what the program
 /// reads, writes or answers.
-const VERSION: &str = "1.0.0";
+const VERSION: &str = "1.1.0";
 
-/// A subcommand without arguments.
-fn subcommand<'a>(alloc: Global, name: &'a str, about: &'a str) -> Command<'a>
+/// What help says of the program behind its subcommands.
+const MORE: &str =
+    "Without words it assembles and links standard input, runs it for 1000 steps and prints its outputs.
+
+Status: 0 done; 1 refused, with one line on standard error: FILE:LINE: NUMBER NAME; 2 the words are no task,
+or ask for help or the version; 3 the code was left.
+Faults by their numbers, with examples: docs/FAULTS.md. Everything else: docs/MANUAL.md.";
+
+/// A subcommand without arguments; help shows the example.
+fn subcommand<'a>(alloc: Global, name: &'a str, about: &'a str, example: &'a str) -> Command<'a>
     ensures { IsSubcommand (new_shape name.entry.now) result }
 {
-    Command::new(alloc, name).about(about)
+    Command::new(alloc, name).about(about).after_help(example)
 }
 
 fn asm<'a>(alloc: Global) -> Result<Command<'a>, AllocError>
     ensures { IfOk result (IsSubcommand asm_shape) }
 {
-    subcommand(alloc, "asm", "Writes the object of a source")
-        .arg(operand(alloc, "source", "The source"))?
-        .arg(needed(alloc, "obj", "The file for the object"))?
-        .arg(option(alloc, "list", "The file for the listing"))
+    subcommand(
+        alloc,
+        "asm",
+        "Assembles a source: writes its object and its listing",
+        "Example: c25 asm fir.asm -o fir.obj --list fir.lst",
+    )
+    .arg(operand(alloc, "source", "SOURCE", "The source"))?
+    .arg(output(alloc, "obj", "The file for the object"))?
+    .arg(option(alloc, "list", "The file for the listing"))
 }
 
 fn link<'a>(alloc: Global) -> Result<Command<'a>, AllocError>
     ensures { IfOk result (IsSubcommand link_shape) }
 {
-    subcommand(alloc, "link", "Links objects")
-        .arg(operand(alloc, "command", "The command file"))?
-        .arg(operands(alloc, "object", "The objects"))?
-        .arg(base_name(alloc))
+    subcommand(
+        alloc,
+        "link",
+        "Links objects: writes BASE.p0.hex, BASE.p1.hex and BASE.map",
+        "Example: c25 link fir.cmd main.obj fir.obj -o fir",
+    )
+    .arg(operand(alloc, "command", "COMMAND", "The linker's command file"))?
+    .arg(operands(alloc, "object", "OBJECT", "The objects, in their order"))?
+    .arg(base_name(alloc, "How the names of the hex texts and the map begin"))
 }
 
 fn build<'a>(alloc: Global) -> Result<Command<'a>, AllocError>
     ensures { IfOk result (IsSubcommand build_shape) }
 {
-    subcommand(alloc, "build", "Assembles and links sources")
-        .arg(operands(alloc, "source", "The sources"))?
-        .arg(base_name(alloc))?
-        .arg(command_file(alloc))
+    subcommand(
+        alloc,
+        "build",
+        "Assembles and links sources: writes what link does, and a listing BASE.N.lst of each",
+        "Example: c25 build main.asm fir.asm -o fir --command fir.cmd",
+    )
+    .arg(operands(alloc, "source", "SOURCE", "The sources, in their order"))?
+    .arg(base_name(alloc, "How the names of the written files begin"))?
+    .arg(command_file(alloc))
 }
 
 /// The files that a run reads beside its sources.
@@ -55,25 +78,35 @@ fn with_run_files<'a>(alloc: Global, command: Command<'a>) -> Result<Command<'a>
 {
     command
         .arg(command_file(alloc))?
-        .arg(option(alloc, "samples", "The words that IN reads"))?
+        .arg(option(alloc, "samples", "The words that IN reads, by ports"))?
         .arg(option(alloc, "schedule", "Interrupts and levels of BIO by steps"))
 }
 
 fn run<'a>(alloc: Global) -> Result<Command<'a>, AllocError>
     ensures { IfOk result (IsSubcommand run_shape) }
 {
-    let command = subcommand(alloc, "run", "Runs sources and prints their outputs")
-        .arg(operands(alloc, "source", "The sources"))?
-        .arg(steps(alloc))?;
+    let command = subcommand(
+        alloc,
+        "run",
+        "Assembles, links and runs sources: prints their outputs and how the run ended",
+        "Example: c25 run fir.asm --steps 100000 --samples in.txt > out.txt",
+    )
+    .arg(operands(alloc, "source", "SOURCE", "The sources, in their order"))?
+    .arg(steps(alloc))?;
     with_run_files(alloc, command)
 }
 
 fn debug<'a>(alloc: Global) -> Result<Command<'a>, AllocError>
     ensures { IfOk result (IsSubcommand debug_shape) }
 {
-    let command = subcommand(alloc, "debug", "Runs sources under a debugger's script")
-        .arg(operands(alloc, "source", "The sources"))?
-        .arg(needed(alloc, "script", "The script"))?;
+    let command = subcommand(
+        alloc,
+        "debug",
+        "Runs sources under a debugger's script: prints the answers to its commands",
+        "Example: c25 debug fir.asm --script fir.dbg --samples in.txt",
+    )
+    .arg(operands(alloc, "source", "SOURCE", "The sources, in their order"))?
+    .arg(needed(alloc, "script", "The debugger's commands, a line each"))?;
     with_run_files(alloc, command)
 }
 
@@ -84,6 +117,7 @@ fn bare_program<'a>(alloc: Global) -> Command<'a>
     Command::new(alloc, "c25")
         .about("Assembles, links and runs programs of the TMS320C25")
         .version(VERSION)
+        .after_help(MORE)
         .subcommand_required(true)
         .disable_help_subcommand(true)
 }

@@ -146,14 +146,18 @@ fn other_words_are_refused(rt: HostRuntime) -> Result<(), Fail> {
 const TASKS: &str = "\
 asm a.asm object=a.obj | asm a.asm --obj a.obj
 asm a.asm object=a.obj listing=a.lst | asm a.asm --obj a.obj --list a.lst
+asm a.asm object=a.obj | asm a.asm -o a.obj
+asm a.asm object=a.obj listing=a.lst | asm -oa.obj a.asm --list a.lst
 asm a.asm object=a.obj listing=a.lst | asm --list=a.lst --obj=a.obj a.asm
 asm a.asm object=a.obj listing=a.lst | asm --list a.lst a.asm --obj a.obj
 link c.cmd : a.obj base=b | link c.cmd a.obj --out b
 link c.cmd : a.obj b.obj c.obj base=b | link c.cmd a.obj b.obj c.obj --out b
 link c.cmd : a.obj b.obj base=b | link c.cmd --out b a.obj b.obj
+link c.cmd : a.obj b.obj base=b | link c.cmd -o b a.obj b.obj
 link c.cmd : a.obj b.obj base=b | link c.cmd a.obj --out b b.obj
 link c.cmd : a.obj a.obj base=b | link --out b c.cmd a.obj a.obj
 build a.asm base=b | build a.asm --out b
+build a.asm base=b | build a.asm -o=b
 build a.asm b.asm base=b command=c.cmd | build a.asm b.asm --out b --command c.cmd
 build a.asm b.asm base=b command=c.cmd | build --command c.cmd a.asm --out=b b.asm
 run a.asm steps=1000 | run a.asm
