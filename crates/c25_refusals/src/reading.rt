@@ -1,0 +1,52 @@
+//! Readers of bytes in memory.
+
+ghost use Rattle.std.specs.Io.{ReadsAtMost};
+
+use std::io;
+use std::io::{Error, ErrorKind, Read};
+
+/// What a reader does behind its bytes.
+#[derive(Clone, Copy)]
+pub(crate) enum End {
+    /// It ends.
+    Ends,
+    /// It fails.
+    Fails,
+    /// It gives 61h for ever.
+    Goes,
+}
+
+/// Gives bytes at most so many at a time, and then does what is told.
+#[derive(Clone, Copy)]
+pub(crate) struct Reading<'a> {
+    pub(crate) rest: &'a [u8],
+    pub(crate) most: usize,
+    pub(crate) end: End,
+}
+
+/// What is given behind all bytes.
+fn read_behind(end: End, buf: &mut [u8]) -> io::Result<usize>
+    ensures { ReadsAtMost result buf.new }
+{
+    match end {
+        End::Ends => Ok(0),
+        End::Fails => Err(Error::from(ErrorKind::Other)),
+        End::Goes => {
+            buf.fill(b'a');
+            Ok(buf.len())
+        }
+    }
+}
+
+impl Read for Reading<'_> {
+    fn read(&mut self, buf: &mut [u8]) -> io::Result<usize> {
+        if self.rest.is_empty() {
+            return read_behind(self.end, buf);
+        }
+        let count = self.most.min(buf.len()).min(self.rest.len());
+        let (now, later) = self.rest.split_at(count);
+        buf[..count].copy_from_slice(now);
+        self.rest = later;
+        Ok(count)
+    }
+}
