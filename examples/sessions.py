@@ -15,6 +15,7 @@ folder its commands with what a terminal shows behind them, of packed cases thei
   command of the page writes it; of a block `listing` its source is assembled; each line of a block `faults` is a source,
   and its comment is the fault that must be told of it.
 - `faults.cases` has the examples of docs/FAULTS.md that words of the program reach: the form of its blocks is told there.
+  `pages/faults` has the others of them: calls of a library on a file, which a session has too.
 - `cases/NAME` stands as it is, with its files, its `session` and its `output.txt`: what a terminal shows of it.
 - `cases/*.cases` and `random/*.cases` stand as they are.
 
@@ -39,6 +40,8 @@ PAGES = ["README.md", "docs/MANUAL.md"] + ["docs/manual/%s.md" % name for name i
 FAULTS = "docs/FAULTS.md"
 # Programs whose samples are made of another file, and the words with which examples/tools/signals.py makes them.
 RECORDED = {"mulaw": ["samples.wav"], "fir": ["samples.csv", "--column", "2", "--fractions"]}
+# Calls of libraries that no word of the program makes (crates/c25_examples/src/library.rt).
+LIBRARY = ("read_hex", "read_map", "run_chain", "line_of")
 # Commands that show something and are none of the program's: what they show is not looked at.
 OTHERS = ("ls", "od ", "cmp ")
 
@@ -215,23 +218,52 @@ def packed_case(name, files, command, told):
 
 
 def fault_examples():
-    """The examples of the page of faults that words of the program reach: their files, commands and lines."""
+    """The examples of the page of faults: their files, commands and lines. No command is that of a run."""
     given = None
     for _, kind, block in blocks(os.path.join(TOP, FAULTS)):
         if kind == "given":
             given = given_files(block)
-        elif kind == "told" and (given[1] is None or given[1].startswith("c25 ")):
+        elif kind == "told":
             yield given + (block[0],)
-        elif kind.startswith("lines ") and kind[6:] in ("a.asm", "command", "samples", "schedule"):
+        elif kind.startswith("lines "):
+            command = {"script": "c25 debug a.asm --script script", "hex": "read_hex"}.get(kind[6:])
             for row in block:
                 told, _, text = row.partition("|")
-                yield {"a.asm": [" NOP"], kind[6:]: [text]}, None, told
+                yield {"a.asm": [" NOP"], kind[6:]: [text]}, command, told
+
+
+def is_library(command):
+    return command is not None and command.split()[0] in LIBRARY
+
+
+def library_faults(data):
+    """The folder of those examples that are calls of a library. A file is named by what is told of it, numbered."""
+    folder, seen = Folder(os.path.join(data, "pages/faults")), {}
+    for files, command, told in fault_examples():
+        if not is_library(command):
+            continue
+        call, _, sources = command.partition(" ")
+        if call == "run_chain":
+            for name, lines in files.items():
+                folder.file(FAULTS, name, lines)
+            folder.run(command, [told])
+        else:
+            kind = call[len("read_"):]
+            name = "-".join(told.lower().split()[-2:])
+            seen[name] = seen.get(name, 0) + 1
+            file = "%s-%d.%s" % (name, seen[name], kind)
+            folder.file(FAULTS, file, files.get(kind, []))
+            folder.run("%s %s" % (call, file), [told])
+    folder.file(FAULTS, "session", folder.session)
+    return "pages/faults", folder.printed
 
 
 def faults(data):
-    """These examples packed, named by their lines and numbered."""
+    """The examples that words of the program reach, packed, named by their lines and numbered."""
     out, seen = b"", {}
     for files, command, told in fault_examples():
+        if is_library(command):
+            continue
         seen[told] = seen.get(told, 0) + 1
         out += packed_case("%s, %d" % (told, seen[told]), files, command, told)
     with open(os.path.join(data, "faults.cases"), "wb") as file:
@@ -261,7 +293,8 @@ def differing(made, standing):
 
 def make(made):
     """Makes the folders and files below the first of each pair, which stand below the second: the pairs."""
-    told = [program(name, made) for name in PROGRAMS] + [page(path, made) for path in PAGES] + [faults(made)]
+    told = [program(name, made) for name in PROGRAMS] + [page(path, made) for path in PAGES]
+    told += [library_faults(made), faults(made)]
     told += case_folders()
     told += [packed(DATA, "%s/%s" % (kind, name)) for kind in ("cases", "random")
              for name in sorted(os.listdir(os.path.join(DATA, kind))) if name.endswith(".cases")]

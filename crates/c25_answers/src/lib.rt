@@ -7,6 +7,7 @@ pub mod halt;
 mod instructions;
 mod line;
 pub mod memory;
+pub mod program;
 mod registers;
 mod steps;
 #[cfg(test)]

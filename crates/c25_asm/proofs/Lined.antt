@@ -1,13 +1,20 @@
 -- One line more, and its entry in the listing.
-use Rattle.std.proofs.Common.{◌≡◌, ℕ, ◌-◌, List, [], ◌∷◌, ◌++◌, Result, Ok, ap, sym, ◌∙◌}
+use Rattle.std.proofs.Common.{◌≡◌, ℕ, ◌-◌, List, [], ◌∷◌, ◌++◌, Result, Ok, Err, IsErrAnd, ap, sym, ◌∙◌}
 use Rattle.c25_meaning_assembly.specs.Emission.{at_origin}
 use Rattle.c25_meaning_expansion.specs.ExpansionAnswers.{ExpandedLine}
 use Rattle.c25_meaning_assembly.specs.Listing.{Entry}
 use Rattle.c25_meaning_sources.specs.ModuleOfSource.{Passed, origin_of, entry_of, pass_line}
-use Rattle.c25_meaning_common.specs.Results.{◌>>=◌}
+use Rattle.c25_meaning_common.specs.Results.{◌>>=◌, IsNoMemory, MeetsBy}
+use Rattle.c25_meaning_common.specs.declared.failure.Failure.{Failure}
+use Rattle.c25_meaning_common.specs.declared.failure.Failure.TheVariants.{NoMemory, Fault}
+use Rattle.c25_meaning_language.specs.ExpansionFault.{ExpansionFault}
 use Rattle.c25_meaning_assembly.specs.Sections.{Progress, size_at}
 use Rattle.c25_meaning_language.specs.declared.statement.FaultKind.{FaultKind}
 use Rattle.c25_phases.specs.Steps.{text_passed}
+use Rattle.c25_phases.specs.View.{fault_of}
+use Rattle.c25_phases.specs.declared.fault.AsmFault.{AsmFault}
+use Rattle.c25_asm.specs.View.{passed_of}
+use Rattle.c25_asm.specs.declared.passed.Passed as code
 
 -- the words by which the section of a line grew
 pub entry_is : (l : ExpandedLine) (old new : Progress) (offset size count : ℕ) → offset ≡ size_at old.sections old.current → size ≡ size_at new.sections old.current → count ≡ size - offset
@@ -23,3 +30,9 @@ unfolding pass_line
 line_passed l a p entries h e =
     let made : Progress → List Entry → Passed = λ q es. record { progress = q; entries = es } in
     ap (λ (r : Result Progress FaultKind). at_origin (origin_of l) r >>= λ q. Ok (made q (a.entries ++ entry_of l a.progress q ∷ []))) h ∙ ap (λ es. Ok (made p es)) (sym e)
+
+-- a growth that was refused is an answer whatever is meant
+pub refused_growth : (meant : Result Passed ExpansionFault) (answer : Result code.Passed (Failure AsmFault)) → IsErrAnd answer IsNoMemory → MeetsBy fault_of passed_of meant answer
+refused_growth meant (Ok x) h = absurd h
+refused_growth meant (Err (NoMemory n)) h = tt
+refused_growth meant (Err (Fault f)) h = absurd h

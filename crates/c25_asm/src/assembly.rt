@@ -76,7 +76,7 @@ fn pass_rest<'a>(
     loop {
         passed.progress.move_here();
         match expander.next_line(passed.progress.symbols()) {
-            Ok(Some(line)) => passed = pass_line(alloc, passed, line)?,
+            Ok(Some(line)) => passed = pass_line(passed, line)?,
             Ok(None) => return Ok(passed),
             Err(failure) => return Err(told(alloc, expander.missing(), failure)),
         }
@@ -101,7 +101,7 @@ fn pass_all<'a>(
 ///
 /// Where lines are wrong, the first of a first phase is told. In one line the first of these is told:
 /// 34, 38, 10 to 13, 50, 51, 52, 20, 21, 26, of values that are needed now 22 to 25, then 30 to 33, 35,
-/// 36, 54. Only where that phase finds nothing, a second phase tells the first operand of an
+/// 36, 56, 54. Only where that phase finds nothing, a second phase tells the first operand of an
 /// instruction, of `.word`, `.int`, `.byte` and `.def`, without a value under all names (22 to 25),
 /// with an address where none may stand (55), or out of the range of its field (53).
 #[tactic(auto, unfolding(c25_meaning_sources::specs::ModuleOfSource::assembled), using(crate::proofs::Made::lists_are_a_module))]
@@ -109,7 +109,7 @@ pub fn assemble<'a>(
     alloc: Global,
     files: &'a Files,
     name: &'a str,
-) -> Result<Listing, Failure<AsmFault<'a>>>
+) -> Result<Listing<'a>, Failure<AsmFault<'a>>>
     ensures { MeetsBy fault_of assembled_of (source.assembled files.now name.now) result }
 {
     let Passed { progress, entries } = pass_all(alloc, files, name)?;

@@ -26,10 +26,9 @@ pub(crate) fn no_lines<'a>(alloc: Global) -> Result<Passed<'a>, NoMemory>
     })
 }
 
-/// One line more. The listing keeps a text of its own.
+/// One line more.
 #[tactic(auto, unfolding(c25_meaning_sources::specs::ModuleOfSource::pass_line))]
 pub(crate) fn pass_line<'a>(
-    alloc: Global,
     passed: Passed<'a>,
     line: ExpLine<'a>,
 ) -> Result<Passed<'a>, Failure<AsmFault<'a>>>
@@ -38,7 +37,6 @@ pub(crate) fn pass_line<'a>(
     let Passed { progress, entries } = passed;
     let mut entries = entries;
     let ExpLine { file, line, text } = line;
-    let text = text.into_owned(alloc)?;
     let origin = Origin { file, line };
     let section = progress.current;
     let offset = progress.size_at(section);

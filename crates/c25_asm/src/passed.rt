@@ -11,6 +11,6 @@ use c25_phases::Progress;
 #[derive(Drop)]
 pub(crate) struct Passed<'a> {
     pub(crate) progress: Progress<'a>,
-    pub(crate) entries: Vec<Entry>,
+    pub(crate) entries: Vec<Entry<'a>>,
     ghost few: { name_count (progress_of progress).names (progress_of progress).declared ≤ 65535 },
 }

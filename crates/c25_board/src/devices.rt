@@ -3,28 +3,33 @@
 ghost use Rattle.std.specs.Prelude.{◌≡◌, [], true, vec_len, IfOk};
 ghost use Rattle.c25_meaning_processor.specs.FirstState.{memory_of_map};
 ghost use Rattle.c25_meaning_processor.specs.Memory.{memory_of};
-ghost use Rattle.c25_board.specs.Places.{are_whole};
+ghost use Rattle.c25_meaning_image.specs.Marks.{run_fit};
+ghost use Rattle.c25_board.specs.Places.{are_whole, marks_in};
 
 use crate::places::{Place, WORDS, place_at};
 use crate::ports::{Feed, Sink};
 use c25_core::{Bus, SinkFailed};
 use c25_meaning_common::no_memory::NoMemory;
+use c25_meaning_image::mark::RunMark;
+use c25_meaning_image::marks::{is_load, run_at};
 use c25_meaning_image::word_map::WordMap;
 
 /// What lies around the processor. Each memory has 65,536 words; those of data memory hold block
 /// B0's at 200h to 2FFh, wherever B0 is seen. Beside program memory stands what each of its words is
-/// for the instructions there.
+/// for the instructions that run there, and the places of those that run in B0.
 #[derive(Drop)]
 pub(crate) struct Devices<F: Feed + Drop, S: Sink + Drop> {
     pub(crate) words: Vec<u16>,
     pub(crate) program: Vec<u16>,
     pub(crate) places: Vec<Place>,
+    pub(crate) run_marks: Vec<RunMark>,
     pub(crate) feed: F,
     pub(crate) sink: S,
     ghost words_full: { vec_len words ≡ 65536 },
     ghost program_full: { vec_len program ≡ 65536 },
     ghost places_full: { vec_len places ≡ 65536 },
     ghost places_whole: { are_whole places.items ≡ true },
+    ghost runs_fit: { run_fit (marks_in 0 places.items) run_marks.items ≡ true },
 }
 
 /// The words of a page, and 0 at all other addresses, in a list that is empty yet.
@@ -68,8 +73,13 @@ impl<F: Feed + Drop, S: Sink + Drop> Bus for Devices<F, S> {
         place_at(self.places.as_slice(), address).size()
     }
 
+    fn run_at(&self, address: u16) -> Option<RunMark> {
+        run_at(self.run_marks.as_slice(), address)
+    }
+
     fn is_code(&self, address: u16) -> bool {
-        place_at(self.places.as_slice(), address).is_code()
+        is_load(self.run_marks.as_slice(), address)
+            || place_at(self.places.as_slice(), address).is_code()
     }
 
     fn input(&mut self, port: u16) -> Option<u16> {

@@ -3,7 +3,9 @@
 ghost use Rattle.std.specs.Prelude.{◌≡◌, [], IfOk};
 ghost use Rattle.c25_board.specs.Board.{steps};
 
+use crate::pages::put_words;
 use c25_board::board::{Board, Outcome};
+use c25_board::fixed_sink::FixedSink;
 use c25_board::ports::{Feed, ListSink, NoSamples, Sink};
 use c25_board::schedule::read_schedule;
 use c25_core::{Halt, SinkFailed};
@@ -37,24 +39,49 @@ const MARKS: [Mark; 4] = [
     },
 ];
 
-/// A board with the program, instructions at these places, no schedule and no samples.
+/// The same, but for the branch, which goes to `OUT`.
+const PUTS: [u16; 5] = [0xca41, 0x6060, 0xe160, 0xff80, 0x0002];
+
+/// `LDPK 4`, `LACK 65`, `SACL 0` and `CNFP`.
+const STORES: [u16; 4] = [0xc804, 0xca41, 0x6000, 0xce05];
+
+/// The places of its instructions.
+const STORES_MARKS: [Mark; 4] = [
+    Mark {
+        address: 0,
+        size: 1,
+    },
+    Mark {
+        address: 1,
+        size: 1,
+    },
+    Mark {
+        address: 2,
+        size: 1,
+    },
+    Mark {
+        address: 3,
+        size: 1,
+    },
+];
+
+/// A board with these words, instructions at these places, no schedule and no samples.
 fn board_with<S: Sink + Drop>(
     alloc: Global,
+    words: &[u16],
     marks: &[Mark],
     sink: S,
 ) -> Result<Board<NoSamples, S>, Fail>
     ensures { IfOk result (λ board. steps board ≡ 0) }
 {
     let mut page0 = WordMap::new(alloc);
-    for (address, word) in PROGRAM.iter().enumerate() {
-        page0.insert(address as u16, *word)?;
-    }
+    put_words(&mut page0, 0, words)?;
     let page1 = WordMap::new(alloc);
     let schedule = read_schedule(alloc, "")?;
     if !marks_fit(marks) {
         return Err(Fail::from("these are no places of instructions"));
     }
-    Ok(Board::new(alloc, &page0, &page1, marks, schedule, NoSamples, sink)?)
+    Ok(Board::new(alloc, &page0, &page1, marks, &[], schedule, NoSamples, sink)?)
 }
 
 /// A sink that takes no word.
@@ -77,7 +104,7 @@ impl Sink for Closed {
 #[test]
 fn runs_are_one_run(rt: HostRuntime) -> Result<(), Fail> {
     let sink = ListSink::new(rt.alloc());
-    let mut board = board_with(rt.alloc(), &MARKS, sink)?;
+    let mut board = board_with(rt.alloc(), &PROGRAM, &MARKS, sink)?;
     assert_eq!(rt; board.run(2), Outcome::Ran);
     assert_eq!(rt; board.sink().words().len(), 0);
     assert_eq!(rt; board.run(7), Outcome::Ran);
@@ -92,19 +119,49 @@ fn runs_are_one_run(rt: HostRuntime) -> Result<(), Fail> {
 #[test]
 fn refused_outputs_are_tried_again(rt: HostRuntime) -> Result<(), Fail> {
     let sink = Closed { failures: 0 };
-    let mut board = board_with(rt.alloc(), &MARKS, sink)?;
+    let mut board = board_with(rt.alloc(), &PROGRAM, &MARKS, sink)?;
     assert_eq!(rt; board.run(9), Outcome::SinkFault(2));
     assert_eq!(rt; board.run(9), Outcome::SinkFault(2));
     assert_eq!(rt; board.steps(), 2);
-    assert_eq!(rt; board.regs().pc, 2);
+    assert_eq!(rt; board.pc(), 2);
+    assert_eq!(rt; board.data_at(0x60), 0x41);
     assert_eq!(rt; board.sink().failures, 2);
+    Ok(())
+}
+
+#[test]
+fn cleared_sinks_take_words_again(rt: HostRuntime) -> Result<(), Fail> {
+    let sink = FixedSink::<3>::new();
+    let mut board = board_with(rt.alloc(), &PUTS, &MARKS, sink)?;
+    assert_eq!(rt; board.run(100), Outcome::SinkFault(8));
+    assert_eq!(rt;
+        board.sink().words(),
+        [(1, 0x41), (1, 0x41), (1, 0x41)].as_slice()
+    );
+    board.sink_mut().clear();
+    assert_eq!(rt; board.steps(), 8);
+    assert_eq!(rt; board.run(1), Outcome::Ran);
+    assert_eq!(rt; board.sink().words(), [(1, 0x41)].as_slice());
+    Ok(())
+}
+
+/// Under CNF 1 block B0 reads 0 as data, and its words stand with those of data memory all the same.
+#[test]
+fn data_memory_has_block_b0_under_cnf_1(rt: HostRuntime) -> Result<(), Fail> {
+    let sink = ListSink::new(rt.alloc());
+    let mut board = board_with(rt.alloc(), &STORES, &STORES_MARKS, sink)?;
+    assert_eq!(rt; board.run(4), Outcome::Ran);
+    assert_eq!(rt; board.settled(), true);
+    assert_eq!(rt; board.data_at(0x200), 0);
+    assert_eq!(rt; board.prog_at(0xff00), 0x41);
+    assert_eq!(rt; board.data().get(0x200).copied(), Some(0x41));
     Ok(())
 }
 
 #[test]
 fn words_that_are_no_instruction_are_not_run(rt: HostRuntime) -> Result<(), Fail> {
     let sink = ListSink::new(rt.alloc());
-    let mut board = board_with(rt.alloc(), &[], sink)?;
+    let mut board = board_with(rt.alloc(), &PROGRAM, &[], sink)?;
     assert_eq!(rt; board.run(1), Outcome::Left(0, Stop::OutOfCode));
     assert_eq!(rt; board.run(0), Outcome::Ran);
     Ok(())

@@ -1,5 +1,5 @@
 -- The laws on which the claims of an answer rest: each is the contract of a public function.
-use Rattle.std.proofs.Common.{◌≡◌, ℕ, List, All, Ok}
+use Rattle.std.proofs.Common.{◌≡◌, ℕ, List, [], All, Ok}
 use Rattle.std.specs.FinMap as finite
 use Rattle.std.specs.Ordering.{nat_cmp}
 use Rattle.c25_laws.specs.ProgramStatements.{AreMarksOf, AreModulesOf, ReadsAs, lines_in, lines_of, page_statements, program_statements}
@@ -15,7 +15,7 @@ use Rattle.c25_meaning_objects.specs.Module.{Contents, IsModule}
 use Rattle.c25_meaning_processor.specs.FirstState.{first_of_pages}
 use Rattle.c25_meaning_processor.specs.Run.{Reaches, Signals}
 use Rattle.c25_meaning_processor.specs.State.{State}
-use Rattle.c25_meaning_processor.specs.Statements.{IsImageOf, RunsAsStatements}
+use Rattle.c25_meaning_processor.specs.Statements.{IsImageOf, RunsAsStatements, plainly}
 use Rattle.c25_meaning_processor.specs.WordStep.{WordStep}
 use Rattle.c25_meaning_sources.specs.ModuleOfSource.{Assembled, assembled}
 use Rattle.c25_run_laws.specs.KeptCode.{KeepsCode}
@@ -45,8 +45,8 @@ pub record Laws : Type 0 where
   -- of runs
   pub images : (files : Files) (names : List (List ℕ)) (modules : List Contents) (command : CommandData) (image : ImageData) (samples : ℕ → List ℕ)
       → AreModulesOf files names modules → (p : IsProgram modules command image)
-      → IsImageOf (program_statements files names modules p.places) (first_of_pages image.program image.store image.marks samples).world
+      → IsImageOf (plainly (program_statements files names modules p.places)) (first_of_pages image.program image.store image.marks [] samples).world
   pub runs : (files : Files) (names : List (List ℕ)) (modules : List Contents) (command : CommandData) (image : ImageData) (samples : ℕ → List ℕ)
       → AreModulesOf files names modules → (p : IsProgram modules command image)
-      → RunsAsStatements (program_statements files names modules p.places) (first_of_pages image.program image.store image.marks samples)
+      → RunsAsStatements (plainly (program_statements files names modules p.places)) (first_of_pages image.program image.store image.marks [] samples)
   pub kept : (signals : Signals) (k n : ℕ) (s t : State) → Reaches WordStep signals k n s t → KeepsCode s.world t.world

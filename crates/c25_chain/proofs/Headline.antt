@@ -11,7 +11,7 @@ use Rattle.c25_meaning_linking.specs.Linking.{ImageData}
 use Rattle.c25_meaning_placing.specs.Place.{Place}
 use Rattle.c25_meaning_objects.specs.Module.{Contents}
 use Rattle.c25_meaning_processor.specs.Run.{Ending, Ran}
-use Rattle.c25_meaning_processor.specs.Statements.{IsImageOf, RunsAsStatements, Statement}
+use Rattle.c25_meaning_processor.specs.Statements.{IsImageOf, RunsAsStatements, Statement, plainly}
 use Rattle.c25_meaning_stimulus.specs.Samples.{samples_at}
 use Rattle.c25_meaning_stimulus.specs.Signals.{signals_of}
 use Rattle.c25_meaning_stimulus.specs.declared.sample.Sample.{Sample}
@@ -74,14 +74,14 @@ module _ (laws : Laws) (files : Files) (names : List (List ℕ)) (command : List
   store_spelled : SpellsWords texts.page1 image.store
   store_spelled = subst (λ (t : List ℕ). SpellsWords t image.store) (sym ((b.linked).texts_are).page1) (laws.spelled image.store words_fit.1)
 
-  pub image_said : (samples : List Sample) → IsImageOf (source_statements files names image.described) (first_state image samples).world
+  pub image_said : (samples : List Sample) → IsImageOf (plainly (source_statements files names image.described)) (first_state image samples).world
   image_said samples =
-      subst (λ (ss : List Statement). IsImageOf ss (first_state image samples).world) (sym said)
+      subst (λ (ss : List Statement). IsImageOf (plainly ss) (first_state image samples).world) (sym said)
       (laws.images files names (b.all).modules (b.linked).command image (samples_at samples) of (b.linked).program)
 
-  runs_said : (samples : List Sample) → RunsAsStatements (source_statements files names image.described) (first_state image samples)
+  runs_said : (samples : List Sample) → RunsAsStatements (plainly (source_statements files names image.described)) (first_state image samples)
   runs_said samples =
-      subst (λ (ss : List Statement). RunsAsStatements ss (first_state image samples)) (sym said)
+      subst (λ (ss : List Statement). RunsAsStatements (plainly ss) (first_state image samples)) (sym said)
       (laws.runs files names (b.all).modules (b.linked).command image (samples_at samples) of (b.linked).program)
 
   marks_claimed : MarksStatements files names image

@@ -19,7 +19,7 @@ use Rattle.c25_meaning_stimulus.specs.Samples.{samples_at}
 use Rattle.c25_meaning_stimulus.specs.Signals.{signals_of}
 use Rattle.c25_meaning_processor.specs.State.{State}
 use Rattle.c25_meaning_image.specs.Marks.{is_code}
-use Rattle.c25_meaning_processor.specs.Statements.{Statement, marks_of, statement_step}
+use Rattle.c25_meaning_processor.specs.Statements.{Statement, marks_of, plainly, statement_step}
 use Rattle.c25_meaning_stimulus.specs.declared.sample.Sample.{Sample}
 use Rattle.c25_meaning_stimulus.specs.declared.schedule.Entry.{Entry}
 use Rattle.c25_chain.specs.Built.{IsBuilt}
@@ -62,7 +62,7 @@ HasStatements files name = lines_of files name ≡ Ok (lines_in files name)
 
 -- the state in which every run of a program begins: a reset, with its words in both memories
 abbrev pub first_state : ImageData → List Sample → State
-first_state image samples = first_of_pages image.program image.store image.marks (samples_at samples)
+first_state image samples = first_of_pages image.program image.store image.marks [] (samples_at samples)
 
 -- the end of n steps of the program's words
 abbrev pub RunsItsWords : ImageData → List Sample → List Entry → ℕ → Ending → Type 0
@@ -71,7 +71,7 @@ RunsItsWords image = RunsWords image.program image.store image.marks
 -- the end of n steps of the statements of the sources, read from no word
 abbrev pub statements_run : Files → List (List ℕ) → ImageData → List Sample → List Entry → ℕ → Ending
 statements_run files names image samples entries n =
-    runs.run_of (statement_step (source_statements files names image.described)) (signals_of entries) 0 n (first_state image samples)
+    runs.run_of (statement_step (plainly (source_statements files names image.described))) (signals_of entries) 0 n (first_state image samples)
 
 -- ---- claims of a program
 

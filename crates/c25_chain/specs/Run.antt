@@ -1,5 +1,5 @@
 -- What an answer says of the run of a program.
-use Rattle.std.specs.Prelude.{◌≡◌, ℕ, ◌<◌, List, length, slice_index}
+use Rattle.std.specs.Prelude.{◌≡◌, ℕ, ◌<◌, List, [], length, slice_index}
 use Rattle.std.specs.FinMap as finite
 use Rattle.std.specs.Ordering.{nat_cmp}
 use Rattle.c25_board.specs.declared.board.Outcome.{Outcome}
@@ -39,7 +39,7 @@ EndsAs n (Left j stop t) d = (d.outcome ≡ outcome.Left j stop) × (d.steps ≡
 
 -- n steps of the words of both pages, with instructions at these places, from a reset on, under these samples and this schedule
 abbrev pub RunsWords : (page0 page1 : finite.FinMap nat_cmp ℕ) → List Mark → List Sample → List Entry → ℕ → Ending → Type 0
-RunsWords page0 page1 marks samples entries n e = Runs WordStep (signals_of entries) 0 n (first_of_pages page0 page1 marks (samples_at samples)) e
+RunsWords page0 page1 marks samples entries n e = Runs WordStep (signals_of entries) 0 n (first_of_pages page0 page1 marks [] (samples_at samples)) e
 
 -- what was done is that run
 abbrev pub IsRunOf : (page0 page1 : finite.FinMap nat_cmp ℕ) → List Mark → List Sample → List Entry → ℕ → RunData → Type 0

@@ -12,7 +12,7 @@ use c25_meaning_placing::link_fault::FaultyLink;
 /// bytes.
 #[derive(Drop)]
 pub enum Refusal<Name> {
-    /// A line of a source is wrong (10 to 13, 20 to 26, 31 to 36, 38, 50 to 55).
+    /// A line of a source is wrong (10 to 13, 20 to 26, 31 to 36, 38, 50 to 56).
     Source {
         file: Name,
         line: usize,

@@ -40,6 +40,7 @@ pub(crate) fn source_number(kind: FaultKind) -> u8
         FaultKind::FieldRange => 53,
         FaultKind::TooLarge => 54,
         FaultKind::NotRelocatable => 55,
+        FaultKind::BadBlock => 56,
     }
 }
 

@@ -45,7 +45,7 @@ fn add_source(alloc: Global, files: &Files, name: &str, all: &mut Modules) -> Re
 
 /// Assembles sources, the texts of which are among these files, one behind another: their modules, and
 /// the texts of their listings. Each module is passed through its records. The first source that is
-/// refused ends it (10 to 55); one whose name comes twice is assembled twice.
+/// refused ends it (10 to 56); one whose name comes twice is assembled twice.
 pub fn assemble_all(alloc: Global, files: &Files, sources: &[String]) -> Result<Modules, Fault>
     ensures { MeetsBy refusal_of modules_view (modules_of files.now (map string_bytes sources.now)) result }
 {

@@ -1,6 +1,6 @@
 //! A run of a linked program.
 
-ghost use Rattle.std.specs.Prelude.{◌≡◌, IfOk, true};
+ghost use Rattle.std.specs.Prelude.{◌≡◌, [], IfOk, true};
 ghost use Rattle.c25_board.specs.Board.{entries, state, steps};
 ghost use Rattle.c25_meaning_image.specs.Marks.{fit_from};
 ghost use Rattle.c25_meaning_processor.specs.FirstState.{first_of_pages};
@@ -34,7 +34,7 @@ pub fn board_of(
     schedule: Schedule,
 ) -> Result<Board<Samples, ListSink>, NoMemory>
     requires { fit_from 0 linked.now.image.marks ≡ true }
-    ensures state { IfOk result (λ board. state board ≡ first_of_pages linked.now.page0.words linked.now.page1.words linked.now.image.marks (samples_at samples)) }
+    ensures state { IfOk result (λ board. state board ≡ first_of_pages linked.now.page0.words linked.now.page1.words linked.now.image.marks [] (samples_at samples)) }
     ensures steps { IfOk result (λ board. steps board ≡ 0) }
     ensures schedule { IfOk result (λ board. entries board ≡ schedule) }
 {
@@ -42,7 +42,7 @@ pub fn board_of(
     let page1 = &linked.page1.words;
     let marks = linked.image.marks();
     let sink = ListSink::new(alloc);
-    let board = Board::new(alloc, page0, page1, marks, schedule, samples, sink)?;
+    let board = Board::new(alloc, page0, page1, marks, &[], schedule, samples, sink)?;
     Ok(board)
 }
 

@@ -51,9 +51,13 @@ fn refused(alloc: Global, fault: AsmFault<'_>) -> Fault
 }
 
 /// The module of the source of a name among these files, and its listing. It is refused where a line
-/// is wrong (10 to 13, 20 to 26, 31 to 36, 38, 50 to 55), or where a file that it asks for is not there
+/// is wrong (10 to 13, 20 to 26, 31 to 36, 38, 50 to 56), or where a file that it asks for is not there
 /// (30).
-pub fn assemble_source(alloc: Global, files: &Files, name: &str) -> Result<Listing, Fault>
+pub fn assemble_source<'a>(
+    alloc: Global,
+    files: &'a Files,
+    name: &'a str,
+) -> Result<Listing<'a>, Fault>
     ensures { MeetsBy refusal_of assembled_of (assembled_in files.now name.now) result }
 {
     match assemble(alloc, files, name) {

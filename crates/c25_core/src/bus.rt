@@ -1,11 +1,12 @@
 //! What the processor needs around it.
 
 ghost use Rattle.std.specs.Prelude.{◌≡◌, ◌∷◌, [], ◌++◌, ℕ, OnOk, OnErr, slice_get, OnSome, IfNone};
-ghost use Rattle.c25_meaning_processor.specs.State.{World, taken};
-ghost use Rattle.c25_meaning_image.specs.Marks.{is_code, size_at};
+ghost use Rattle.c25_meaning_processor.specs.State.{World, loaded_marks, taken};
+ghost use Rattle.c25_meaning_image.specs.Marks.{is_code, run_at, size_at};
 ghost use Rattle.c25_meaning_processor.specs.Memory.{put};
 ghost use Rattle.c25_core.specs.Sink.{HasFailed};
 
+use c25_meaning_image::mark::RunMark;
 use c25_meaning_processor::stop::Stop;
 use std::error::Error;
 use std::fmt;
@@ -93,9 +94,14 @@ pub trait Bus {
     fn size_at(&self, address: u16) -> Option<u16>
         ensures { result ≡ size_at (world self.now).marks address };
 
-    /// Whether a program word belongs to an instruction.
+    /// The place of the instruction that runs at a program address of B0, where one does once it is copied
+    /// there.
+    fn run_at(&self, address: u16) -> Option<RunMark>
+        ensures { result ≡ run_at (world self.now).run_marks address };
+
+    /// Whether a program word belongs to an instruction where its words are loaded.
     fn is_code(&self, address: u16) -> bool
-        ensures { result ≡ is_code (world self.now).marks address };
+        ensures { result ≡ is_code (loaded_marks (world self.now)) address };
 
     /// Takes the next sample of a port, or None where no sample is left there.
     fn input(&mut self, port: u16) -> Option<u16>

@@ -9,8 +9,8 @@ use crate::sum::Sum;
 use c25_core::{Bus, SinkFailed};
 use c25_isa::encode;
 use c25_meaning_common::no_memory::NoMemory;
-use c25_meaning_image::mark::Mark;
-use c25_meaning_image::marks::{is_code, size_at};
+use c25_meaning_image::mark::{Mark, RunMark};
+use c25_meaning_image::marks::{is_loaded_code, run_at, size_at};
 use c25_meaning_instructions::insn::Insn;
 use std::alloc::Global;
 
@@ -21,6 +21,8 @@ pub struct Bench {
     program: Vec<u16>,
     /// Where instructions stand.
     pub marks: Vec<Mark>,
+    /// Where instructions run in block B0, and where they are loaded.
+    pub run_marks: Vec<RunMark>,
     /// The sample of each port.
     pub samples: [Option<u16>; 16],
     /// What was put out, a port and a word each.
@@ -46,6 +48,7 @@ impl Bench {
             words: zeros(alloc)?,
             program: zeros(alloc)?,
             marks: Vec::new(alloc),
+            run_marks: Vec::new(alloc),
             samples: [None; 16],
             outputs: Vec::new(alloc),
             closed: false,
@@ -76,9 +79,16 @@ impl Bench {
         Ok(address.wrapping_add(if second.is_some() { 2 } else { 1 }))
     }
 
+    /// Has an instruction of this size run at an address of block B0, loaded elsewhere.
+    pub fn place_in_b0(&mut self, run: u16, load: u16, size: u16) -> Result<(), NoMemory> {
+        self.run_marks.push(RunMark { load, run, size })?;
+        Ok(())
+    }
+
     /// Takes away the instructions and the outputs; their words stay.
     pub fn clear(&mut self) {
         self.marks.clear();
+        self.run_marks.clear();
         self.outputs.clear();
     }
 
@@ -121,7 +131,7 @@ impl Bus for Bench {
     ghost use Rattle.c25_meaning_processor.specs.Memory.{memory_of};
     ghost use Rattle.c25_core_tests.specs.Worlds.{samples_of};
 
-    ghost world = { λ b. record { words = memory_of b.words.items; program = memory_of b.program.items; marks = b.marks.items; samples = samples_of b.samples; outputs = b.outputs.items } };
+    ghost world = { λ b. record { words = memory_of b.words.items; program = memory_of b.program.items; marks = b.marks.items; run_marks = b.run_marks.items; samples = samples_of b.samples; outputs = b.outputs.items } };
 
     ghost failures = { λ b. b.failures };
 
@@ -147,8 +157,12 @@ impl Bus for Bench {
         size_at(&self.marks, address)
     }
 
+    fn run_at(&self, address: u16) -> Option<RunMark> {
+        run_at(&self.run_marks, address)
+    }
+
     fn is_code(&self, address: u16) -> bool {
-        is_code(&self.marks, address)
+        is_loaded_code(&self.run_marks, &self.marks, address)
     }
 
     #[tactic(auto, using(crate::proofs::Writes::samples_of_set))]

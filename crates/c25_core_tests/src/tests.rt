@@ -159,6 +159,44 @@ fn block_b0_is_no_data_under_cnf(rt: HostRuntime) -> Result<(), Fail> {
     Ok(())
 }
 
+/// What a step at FF00h comes to, with PC and the accumulator behind it, where `LALK 1234h`, loaded at
+/// 40h, runs there, and these words are the first two of block B0.
+fn step_in_b0(
+    rt: &impl AllocGlobal,
+    cnf: bool,
+    words: [u16; 2],
+) -> Result<(Result<Tick, Halt>, u16, u32), Fail> {
+    let mut bench = Bench::new(rt.alloc())?;
+    let state = State {
+        st1: if cnf { 0x17F0 } else { 0x07F0 },
+        ..State::new()
+    };
+    let mut core = state.make(&mut bench, 0xFF00)?;
+    bench.clear();
+    bench.place_in_b0(0xFF00, 0x40, 2)?;
+    bench.set_program(0x40, 0xD001);
+    bench.set_program(0x41, 0x1234);
+    bench.set_data(0x200, words[0]);
+    bench.set_data(0x201, words[1]);
+    let stepped = core.step(Lines::empty(), true, &mut bench);
+    Ok((stepped, core.regs().pc, core.regs().acc))
+}
+
+/// Under CNF 1 alone, and while B0 has the words that were loaded.
+#[test]
+fn copied_code_runs_in_b0(rt: HostRuntime) -> Result<(), Fail> {
+    let left = Err(Halt::Stop(Stop::OutOfCode));
+    let ran = step_in_b0(&rt, true, [0xD001, 0x1234])?;
+    assert_eq!(rt; ran, (Ok(Tick::Ran), 0xFF02, 0x1234));
+    let first_differs = step_in_b0(&rt, true, [0xD101, 0x1234])?;
+    assert_eq!(rt; first_differs, (left, 0xFF00, 0));
+    let second_differs = step_in_b0(&rt, true, [0xD001, 0x1235])?;
+    assert_eq!(rt; second_differs, (left, 0xFF00, 0));
+    let as_data = step_in_b0(&rt, false, [0xD001, 0x1234])?;
+    assert_eq!(rt; as_data, (left, 0xFF00, 0));
+    Ok(())
+}
+
 #[test]
 fn a_branch_is_not_repeated(rt: HostRuntime) -> Result<(), Fail> {
     let mut bench = Bench::new(rt.alloc())?;

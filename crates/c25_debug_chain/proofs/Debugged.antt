@@ -1,5 +1,5 @@
 -- What is answered of sources, texts and a script.
-use Rattle.std.proofs.Common.{◌≡◌, ℕ, List, map, Result, Ok, Err, String, string_bytes, ap, subst, sym, inl, inr}
+use Rattle.std.proofs.Common.{◌≡◌, ℕ, List, [], map, Result, Ok, Err, String, string_bytes, ap, subst, sym, inl, inr}
 use Rattle.std.specs.FinMap as finite
 use Rattle.std.specs.Ordering.{nat_cmp}
 use Rattle.std.specs.Result.{IsErrAnd}
@@ -72,7 +72,7 @@ told_on g script (Err f) given same h = subst (λ (x : Fault). Debugs g script (
 
 pub debugged : (g : Given) (script : List ℕ) (b : Built) (samples : List Sample) (entries : List Entry) (commands : List Cmd) (text : List ℕ) → IsBuiltAs g.files g.sources g.command b
     → samples_in g ≡ Ok samples → schedule_in g ≡ Ok entries → script_in script ≡ Ok commands
-    → AnswersScript WordStep (signals_of entries) b.linked.image commands (first_of_pages b.linked.page0.words b.linked.page1.words b.linked.image.marks (samples_at samples)) text
+    → AnswersScript WordStep (signals_of entries) b.linked.image commands (first_of_pages b.linked.page0.words b.linked.page1.words b.linked.image.marks [] (samples_at samples)) text
     → AnswersBy (λ image. WordStep) g script text
 debugged g script b samples entries commands text is e h s answers =
     let image = b.linked.image in
@@ -86,6 +86,6 @@ debugged g script b samples entries commands text is e h s answers =
       read = both_read g samples entries e h;
       script_read = told_script script commands s;
       answers =
-          subst (λ (w : finite.FinMap nat_cmp ℕ). AnswersScript WordStep (signals_of entries) image commands (first_of_pages image.program w image.marks (samples_at samples)) text) is.linked.words1
-          (subst (λ (w : finite.FinMap nat_cmp ℕ). AnswersScript WordStep (signals_of entries) image commands (first_of_pages w b.linked.page1.words image.marks (samples_at samples)) text) is.linked.words0 answers);
+          subst (λ (w : finite.FinMap nat_cmp ℕ). AnswersScript WordStep (signals_of entries) image commands (first_of_pages image.program w image.marks [] (samples_at samples)) text) is.linked.words1
+          (subst (λ (w : finite.FinMap nat_cmp ℕ). AnswersScript WordStep (signals_of entries) image commands (first_of_pages w b.linked.page1.words image.marks [] (samples_at samples)) text) is.linked.words0 answers);
     }

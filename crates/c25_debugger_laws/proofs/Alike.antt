@@ -6,7 +6,7 @@ use Rattle.c25_meaning_linking.specs.Linking.{ImageData}
 use Rattle.c25_meaning_processor.specs.Run as run
 use Rattle.c25_meaning_processor.specs.Run.{Ending, Signals, Stepping, ending_after}
 use Rattle.c25_meaning_processor.specs.State.{State, StepResult}
-use Rattle.c25_meaning_processor.specs.Statements.{IsImageOf, Statement, statement_step}
+use Rattle.c25_meaning_processor.specs.Statements.{IsImageOf, Statements, statement_step}
 use Rattle.c25_meaning_processor.specs.WordStep.{WordStep}
 use Rattle.c25_meaning_processor.specs.declared.lines.Lines.{Lines}
 use Rattle.c25_meaning_processor.specs.declared.stop.Stop.{Stop}
@@ -17,14 +17,14 @@ use Rattle.c25_run_laws.proofs.Image.{runs_alike, statements_stay}
 -- ---- one kind of step in place of another
 
 -- where the words are those of the statements, each step of the one kind is one of the other
-abbrev pub Turns : List Statement → Stepping → Stepping → Type 0
+abbrev pub Turns : Statements → Stepping → Stepping → Type 0
 Turns ss one other = (lines : Lines) (bio : Bool) (s : State) (o : StepResult) → IsImageOf ss s.world → one lines bio s o → other lines bio s o
 
 -- and behind it they still are
-abbrev pub Stays : List Statement → Stepping → Type 0
+abbrev pub Stays : Statements → Stepping → Type 0
 Stays ss one = (lines : Lines) (bio : Bool) (s t : State) → IsImageOf ss s.world → one lines bio s (Ok t) → IsImageOf ss t.world
 
-module _ (ss : List Statement) (one other : Stepping) (turns : Turns ss one other) (stays : Stays ss one) (signals : Signals) where
+module _ (ss : Statements) (one other : Stepping) (turns : Turns ss one other) (stays : Stays ss one) (signals : Signals) where
   passes_turn : (breaks : List ℕ) (k n : ℕ) (s t : State) → IsImageOf ss s.world → Passes one signals breaks k n s t → Passes other signals breaks k n s t × IsImageOf ss t.world
   passes_turn breaks k zero s t there same = (same, subst (λ (x : State). IsImageOf ss x.world) same there)
   passes_turn breaks k (suc n) s t there (u, passed, step, free) =
@@ -91,7 +91,7 @@ module _ (ss : List Statement) (one other : Stepping) (turns : Turns ss one othe
 -- ---- words and statements
 
 -- a step of the statements
-abbrev StatementStep : List Statement → Stepping
+abbrev StatementStep : Statements → Stepping
 StatementStep ss lines bio s o = o ≡ statement_step ss lines bio s
 
 -- the same lines and the same level at every step
@@ -107,17 +107,17 @@ told_stop : (j : ℕ) (s : State) (stop : Stop) (o : StepResult) → run.Left j 
 told_stop j s stop (Ok u) e = absurd (cc)
 told_stop j s stop (Err other) e = cc
 
-words_turn : (ss : List Statement) → Turns ss WordStep (StatementStep ss)
+words_turn : (ss : Statements) → Turns ss WordStep (StatementStep ss)
 words_turn ss lines bio s (Ok t) there step =
     told_ok 0 s t (statement_step ss lines bio s) ((runs_alike ss s there (steady lines bio) 0 1 (run.Ran t)).0 (s, refl, step))
 words_turn ss lines bio s (Err stop) there step =
     told_stop 0 s stop (statement_step ss lines bio s)
     ((runs_alike ss s there (steady lines bio) 0 1 (run.Left 0 stop s)).0 (record { done = 0; before = omega arith; at = refl; reached = refl; stops = step }))
 
-words_stay : (ss : List Statement) → Stays ss WordStep
+words_stay : (ss : Statements) → Stays ss WordStep
 words_stay ss lines bio s t there step = statements_stay ss s there (steady lines bio) 0 1 t (s, refl, step)
 
-statements_turn : (ss : List Statement) → Turns ss (StatementStep ss) WordStep
+statements_turn : (ss : Statements) → Turns ss (StatementStep ss) WordStep
 statements_turn ss lines bio s (Ok t) there is =
     let reached = (runs_alike ss s there (steady lines bio) 0 1 (run.Ran t)).1 (ap (ending_after 0 s) is) in
     subst (λ (x : State). WordStep lines bio x (Ok t)) (sym reached.1) reached.2
@@ -125,10 +125,10 @@ statements_turn ss lines bio s (Err stop) there is =
     let left = (runs_alike ss s there (steady lines bio) 0 1 (run.Left 0 stop s)).1 (ap (ending_after 0 s) is) in
     left.stops
 
-statements_stay_there : (ss : List Statement) → Stays ss (StatementStep ss)
+statements_stay_there : (ss : Statements) → Stays ss (StatementStep ss)
 statements_stay_there ss lines bio s t there is = words_stay ss lines bio s t there (statements_turn ss lines bio s (Ok t) there is)
 
-pub script_alike : (ss : List Statement) (signals : Signals) (image : ImageData) (cs : List Cmd) (s : State) (text : List ℕ)
+pub script_alike : (ss : Statements) (signals : Signals) (image : ImageData) (cs : List Cmd) (s : State) (text : List ℕ)
     → IsImageOf ss s.world → AnswersScript WordStep signals image cs s text ↔ AnswersScript (StatementStep ss) signals image cs s text
 script_alike ss signals image cs s text there = (
   λ (q, h). (q, all_turn ss WordStep (StatementStep ss) (words_turn ss) (words_stay ss) signals image cs _ text q there h),

@@ -1,4 +1,4 @@
-//! The commands of a session: those of a shell that the manual's examples need.
+//! The commands of a session: those of a shell that the manual's examples need, and calls of the libraries.
 
 /// What a program reads from standard input.
 #[derive(Clone, Copy)]
@@ -20,6 +20,14 @@ pub(crate) struct Call<'a> {
     pub(crate) shows_errors: bool,
 }
 
+/// Lines of a file.
+#[derive(Clone, Copy)]
+pub(crate) struct Lines<'a> {
+    pub(crate) first: usize,
+    pub(crate) last: usize,
+    pub(crate) file: &'a str,
+}
+
 /// A line of a session.
 #[derive(Clone, Copy)]
 pub(crate) enum Command<'a> {
@@ -30,8 +38,18 @@ pub(crate) enum Command<'a> {
     Show(&'a str),
     /// `od -An -v -tx1 FILE`: its bytes as hexadecimal digits, 16 a line.
     ShowBytes(&'a str),
+    /// `sed -n FIRST,LASTp FILE`: these of its lines, from 1 on.
+    ShowLines(Lines<'a>),
     /// `echo $?`: the status of the call before.
     Status,
+    /// `read_hex FILE`.
+    ReadHex(&'a str),
+    /// `read_map FILE`.
+    ReadMap(&'a str),
+    /// `run_chain FILE..`.
+    RunChain(&'a str),
+    /// `line_of COMMAND OBJECT..`.
+    LineOf(&'a str),
 }
 
 /// The text that `echo` is given in quotes of either kind, and the call to which it goes.
@@ -71,6 +89,32 @@ fn call_of(line: &str) -> Option<Call<'_>> {
     })
 }
 
+/// The lines `FIRST,LASTp FILE`.
+fn lines_of(told: &str) -> Option<Lines<'_>> {
+    let (lines, file) = told.split_once("p ")?;
+    let (first, last) = lines.split_once(',')?;
+    Some(Lines {
+        first: first.parse().ok()?,
+        last: last.parse().ok()?,
+        file,
+    })
+}
+
+/// A call of a library.
+fn library_call(line: &str) -> Option<Command<'_>> {
+    if line == "run_chain" {
+        return Some(Command::RunChain(""));
+    }
+    let (name, files) = line.split_once(' ')?;
+    match name {
+        "read_hex" => Some(Command::ReadHex(files)),
+        "read_map" => Some(Command::ReadMap(files)),
+        "run_chain" => Some(Command::RunChain(files)),
+        "line_of" => Some(Command::LineOf(files)),
+        _ => None,
+    }
+}
+
 /// The command of a line.
 pub(crate) fn command_of(line: &str) -> Option<Command<'_>> {
     if line == "echo $?" {
@@ -79,8 +123,14 @@ pub(crate) fn command_of(line: &str) -> Option<Command<'_>> {
     if let Some(name) = line.strip_prefix("od -An -v -tx1 ") {
         return Some(Command::ShowBytes(name));
     }
-    match line.strip_prefix("cat ") {
-        Some(name) => Some(Command::Show(name)),
+    if let Some(told) = line.strip_prefix("sed -n ") {
+        return Some(Command::ShowLines(lines_of(told)?));
+    }
+    if let Some(name) = line.strip_prefix("cat ") {
+        return Some(Command::Show(name));
+    }
+    match library_call(line) {
+        Some(command) => Some(command),
         None => Some(Command::Call(call_of(line)?)),
     }
 }

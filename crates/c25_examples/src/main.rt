@@ -6,6 +6,7 @@
 mod case;
 mod command;
 mod files;
+mod library;
 mod packed;
 mod session;
 

@@ -1,6 +1,7 @@
 //! Sessions: commands that are run in the order of their lines.
 
-use crate::command::{Call, Command, Input, command_of};
+use crate::command::{Call, Command, Input, Lines, command_of};
+use crate::library::{show_chain, show_hex, show_line_of, show_map};
 use anyhow::{Result, bail};
 use c25_disk::system::System;
 use c25_tasks::run_words;
@@ -58,6 +59,17 @@ fn show_bytes<R: Files + Print + AllocGlobal>(rt: &R, name: &str) -> Result<()> 
     Ok(())
 }
 
+/// Lines of a file.
+fn show_lines<R: Files + Print + AllocGlobal>(rt: &R, lines: Lines<'_>) -> Result<()> {
+    let text = fs::read_to_string(rt, lines.file)?;
+    for (before, line) in text.lines().enumerate() {
+        if before < lines.last && lines.first <= before.saturating_add(1) {
+            println!(rt; "{line}")?;
+        }
+    }
+    Ok(())
+}
+
 /// The number of a status.
 fn number_of(status: ExitCode) -> u8 {
     for number in 0..u8::MAX {
@@ -68,6 +80,26 @@ fn number_of(status: ExitCode) -> u8 {
     u8::MAX
 }
 
+/// Runs a command. What is left is the status of the last call.
+fn run_command<R: Files + Print + AllocGlobal>(
+    rt: &R,
+    command: Command<'_>,
+    status: &mut ExitCode,
+) -> Result<()> {
+    match command {
+        Command::Call(call) => *status = run_call(rt, &call)?,
+        Command::Show(name) => rt.print(fs::read_to_string(rt, name)?)?,
+        Command::ShowBytes(name) => show_bytes(rt, name)?,
+        Command::ShowLines(lines) => show_lines(rt, lines)?,
+        Command::Status => println!(rt; "{}", number_of(*status))?,
+        Command::ReadHex(name) => show_hex(rt, name)?,
+        Command::ReadMap(name) => show_map(rt, name)?,
+        Command::RunChain(names) => show_chain(rt, names)?,
+        Command::LineOf(names) => show_line_of(rt, names)?,
+    }
+    Ok(())
+}
+
 /// Runs the commands of the file `session`, each behind its line.
 pub(crate) fn run_session<R: Files + Print + AllocGlobal>(rt: &R) -> Result<()> {
     let text = fs::read_to_string(rt, "session")?;
@@ -75,10 +107,7 @@ pub(crate) fn run_session<R: Files + Print + AllocGlobal>(rt: &R) -> Result<()> 
     for line in text.lines() {
         println!(rt; "$ {line}")?;
         match command_of(line) {
-            Some(Command::Call(call)) => status = run_call(rt, &call)?,
-            Some(Command::Show(name)) => rt.print(fs::read_to_string(rt, name)?)?,
-            Some(Command::ShowBytes(name)) => show_bytes(rt, name)?,
-            Some(Command::Status) => println!(rt; "{}", number_of(status))?,
+            Some(command) => run_command(rt, command, &mut status)?,
             None => bail!("no command: {line}"),
         }
     }

@@ -1,6 +1,7 @@
 pub mod Accepts
 pub mod Commas
 pub mod Complete
+pub mod Few
 pub mod Finishes
 pub mod Found
 pub mod Frames

@@ -163,7 +163,7 @@ made names here g xs i d vs l valued left =
 pub values_more : {A : Type 0} (names : Names) (here : Value) (g : A → Item) (xs : List A) (i : ℕ) (d : A) (vs ws : List Value) → i < length xs
     → values_of names here (built (reverse (map g (take i xs)))) ≡ Ok (reverse vs) → runs (map g (drop i xs)) (length vs) ≡ true
     → applied names here (g (get_or xs i d)) (reverse vs) ≡ Ok (reverse ws)
-    → (values_of names here (built (reverse (map g (take (i + 1) xs)))) ≡ Ok (reverse ws)) × (runs (map g (drop (i + 1) xs)) (length ws) ≡ true)
+    → (values_of names here (built (reverse (map g (take (i + 1) xs)))) ≡ Ok (reverse ws)) × ((runs (map g (drop (i + 1) xs)) (length ws) ≡ true) × (height (g (get_or xs i d)) (length vs) ≡ length ws))
 values_more names here g xs i d vs ws l valued left h =
     let ts : List Tree = built (reverse (map g (take i xs))) in
     let us : List Tree = built (reverse (map g (take (i + 1) xs))) in
@@ -174,7 +174,7 @@ values_more names here g xs i d vs ws l valued left h =
     let trees : length us ≡ height x (length ts) =
     ap (λ (ks : List Item). length (built ks)) (reverse_pushed g (take i xs) (take (i + 1) xs) (get_or xs i d) (take_more xs i d l)) ∙ length_built x ts room in
     let now : height x (length vs) ≡ length ws = ap (height x) same ∙ sym trees ∙ length_values names here us (reverse ws) next ∙ length-reverse ws in
-    (next, ap (runs (map g (drop (i + 1) xs))) (sym now) ∙ (runs_more g xs i d (length vs) l left).1)
+    (next, (ap (runs (map g (drop (i + 1) xs))) (sym now) ∙ (runs_more g xs i d (length vs) l left).1, now))
 
 -- a fault on the way is the fault of the tree
 pub err_stays : {A : Type 0} (names : Names) (here : Value) (g : A → Item) (xs : List A) (i : ℕ) (d : A) (vs : List Value) (f : ValueFault) → i < length xs

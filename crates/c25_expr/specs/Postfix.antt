@@ -1,5 +1,5 @@
 -- Expressions in postfix order: what items stand for, the trees that they build, and the operands that wait.
-use Rattle.std.specs.Prelude.{ℕ, ◌+◌, ◌-◌, Bool, ◌&&◌, ◌==◌, nat_lt, nat_le, List, [], ◌∷◌}
+use Rattle.std.specs.Prelude.{ℕ, ◌+◌, ◌-◌, Bool, ◌&&◌, ◌||◌, ◌==◌, nat_lt, nat_le, List, [], ◌∷◌}
 use Rattle.std.specs.String.{string_bytes}
 use Rattle.c25_meaning_language.specs.Tree as tree
 use Rattle.c25_meaning_language.specs.Tree.{Tree}
@@ -62,3 +62,14 @@ height (Combine op) n = n - 1
 abbrev pub runs : List reading.Item → ℕ → Bool
 runs [] n = n == 1
 runs (i ∷ is) n = fits i n && runs is (height i n)
+
+-- how many operands wait with the result that an item puts behind them; parentheses put none
+abbrev pub with_result : reading.Item → ℕ → ℕ
+with_result (Push l) n = n + 1
+with_result Wrap n = 0
+with_result (Apply op) n = n
+with_result (Combine op) n = n - 1
+
+-- whether there is room for the operands that wait while so many items are valued: for all that ever may, or for one an item
+abbrev pub is_room : ℕ → ℕ → Bool
+is_room room count = nat_le most_waiting room || nat_le count room

@@ -1,9 +1,9 @@
 //! The value of an expression.
 
-ghost use Rattle.std.specs.Prelude.{◌≡◌, ◌+◌, ◌<◌, ◌∷◌, Ok, Err, true, reverse, MatchResult};
+ghost use Rattle.std.specs.Prelude.{◌≡◌, ◌+◌, ◌<◌, ◌≤◌, [], ◌∷◌, Ok, Err, true, length, reverse, MatchResult};
 ghost use Rattle.arrayvec.specs.ArrayVec.{array_vec_len};
 ghost use Rattle.c25_meaning_language.specs.Value.{value_of, value_named};
-ghost use Rattle.c25_expr.specs.Postfix.{item_of, fits};
+ghost use Rattle.c25_expr.specs.Postfix.{item_of, fits, is_room, with_result};
 ghost use Rattle.c25_expr.specs.Stack.{applied};
 ghost use Rattle.c25_expr.specs.View.{tree_of};
 
@@ -13,24 +13,49 @@ use crate::tree::{Expr, Item};
 use arrayvec::ArrayVec;
 use c25_meaning_language::value::{Value, ValueFault};
 
-/// The operands that wait, the last last. There is room for those of the deepest expression.
-type Waiting = ArrayVec<Value, 521>;
+/// How many operands wait at most, in the deepest expression.
+const DEEPEST: usize = 521;
+
+/// How many items an expression has at most for which less room is enough. Most have one or three, and room
+/// costs time.
+const FEW: usize = 8;
 
 /// The value of an expression under symbols: the left operand is valued before the right one, and
 /// both before the operator; kinds are looked at before numbers. It takes no memory.
 pub fn value(expr: &Expr, symbols: &Symbols) -> Result<Value, ValueFault>
     ensures { result ≡ value_of (value_named symbols.now) symbols.now.here (tree_of expr.now) }
 {
-    let mut waiting = Waiting::new();
-    for item in &expr.items {
-        apply(item, &mut waiting, symbols)?;
+    if expr.items.len() <= FEW {
+        value_over(expr, symbols, &mut ArrayVec::<Value, FEW>::new())
+    } else {
+        value_over(expr, symbols, &mut ArrayVec::<Value, DEEPEST>::new())
     }
-    Ok(last_of(&mut waiting))
+}
+
+/// The same, over room for the operands that wait, the last last.
+fn value_over<const ROOM: usize>(
+    expr: &Expr,
+    symbols: &Symbols,
+    waiting: &mut ArrayVec<Value, ROOM>,
+) -> Result<Value, ValueFault>
+    requires empty { waiting.old.items ≡ [] }
+    requires room { is_room ROOM (length expr.now.items.items) ≡ true }
+    ensures { result ≡ value_of (value_named symbols.now) symbols.now.here (tree_of expr.now) }
+{
+    for item in &expr.items {
+        apply(item, waiting, symbols)?;
+    }
+    Ok(last_of(waiting))
 }
 
 /// Values an item of an expression over the operands that wait.
-fn apply(item: &Item, waiting: &mut Waiting, symbols: &Symbols) -> Result<(), ValueFault>
-    requires { fits (item_of item.now) (array_vec_len waiting.old) ≡ true }
+fn apply<const ROOM: usize>(
+    item: &Item,
+    waiting: &mut ArrayVec<Value, ROOM>,
+    symbols: &Symbols,
+) -> Result<(), ValueFault>
+    requires operands { fits (item_of item.now) (array_vec_len waiting.old) ≡ true }
+    requires room { with_result (item_of item.now) (array_vec_len waiting.old) ≤ ROOM }
     ensures { MatchResult result
         (λ _. applied (value_named symbols.now) symbols.now.here (item_of item.now) (reverse waiting.old.items) ≡ Ok (reverse waiting.new.items))
         (λ f. applied (value_named symbols.now) symbols.now.here (item_of item.now) (reverse waiting.old.items) ≡ Err f) }
@@ -54,7 +79,7 @@ fn apply(item: &Item, waiting: &mut Waiting, symbols: &Symbols) -> Result<(), Va
 }
 
 /// Takes the last operand that waits off.
-fn last_of(waiting: &mut Waiting) -> Value
+fn last_of<const ROOM: usize>(waiting: &mut ArrayVec<Value, ROOM>) -> Value
     requires { 0 < array_vec_len waiting.old }
     ensures value { reverse waiting.old.items ≡ result ∷ reverse waiting.new.items }
     ensures length { array_vec_len waiting.new + 1 ≡ array_vec_len waiting.old }

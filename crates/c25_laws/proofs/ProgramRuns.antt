@@ -11,8 +11,8 @@ use Rattle.std.proofs.lemmas.List.Elements.{All-contains}
 use Rattle.std.proofs.lemmas.List.Sorted.{IsPermutation-sym}
 use Rattle.c25_meaning_processor.specs.FirstState.{first_of_pages, memory_of_map}
 use Rattle.c25_meaning_image.specs.Marks.{fit_from, fits_behind}
-use Rattle.c25_meaning_image.specs.Marks.{is_code, size_at}
-use Rattle.c25_meaning_processor.specs.Statements.{IsImageOf, Statement, marks_of, statement_at}
+use Rattle.c25_meaning_image.specs.Marks.{is_code, run_at, size_at}
+use Rattle.c25_meaning_processor.specs.Statements.{Copied, IsImageOf, Statement, copied_at, marks_of, plainly, run_mark_of, statement_at}
 use Rattle.c25_meaning_processor.specs.Statements as statements
 use Rattle.c25_meaning_instructions.specs.Table.{Reads, size_of}
 use Rattle.c25_meaning_instructions.specs.declared.insn.Insn.{Insn}
@@ -156,6 +156,15 @@ word_at page address word l e =
 
 -- ---- the image
 
+-- none of these statements runs in B0
+no_run : (a : ℕ) → run_at [] a ≡ option_map run_mark_of (copied_at [] a)
+unfolding run_at copied_at
+no_run a = refl
+
+no_copy : (a : ℕ) (c : Copied) → copied_at [] a ≡ Some c → ⊥
+unfolding copied_at
+no_copy a c e = cc
+
 module _ (ss : List Statement) (page0 page1 : finite.FinMap nat_cmp ℕ) (marks : List Mark) (samples : ℕ → List ℕ) (are : AreMarksOf ss marks) (read : All (ReadsAs page0) ss) where
   there : (m : Mark) → Contains marks m → Contains (marks_of ss) m
   there m c = in_permuted marks (marks_of ss) m (IsPermutation-sym (marks_of ss) marks are.same) c
@@ -183,10 +192,13 @@ module _ (ss : List Statement) (page0 page1 : finite.FinMap nat_cmp ℕ) (marks 
       ap (memory_of_map page0) next ∙ word_at page0 (s.address + 1) r.second (omega (arith, two, room)) (r.second_is two))
       r.reads
 
-  pub is_image : IsImageOf ss (first_of_pages page0 page1 marks samples).world
+  pub is_image : IsImageOf (plainly ss) (first_of_pages page0 page1 marks [] samples).world
   is_image = record {
     starts = λ a. sym (sizes_same (marks_of ss) marks back there a (λ x y c d e. one_mark 0 marks x y are.ascend c d e));
     code = codes_same;
+    runs = no_run;
+    copied_room = λ a c e. absurd (no_copy a c e);
+    copied_reads = λ a c e. absurd (no_copy a c e);
     room = λ a i e. let s = stands_at ss a i e in let l = (room_at s.statement s.there).room in let at = s.address_is in let n = ap size_of s.insn_is in omega (arith, l, at, n);
     reads = λ a i e.
         let s = stands_at ss a i e in

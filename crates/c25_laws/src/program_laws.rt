@@ -10,7 +10,7 @@ ghost use Rattle.c25_meaning_objects.specs.Module.{Contents};
 ghost use Rattle.c25_meaning_sources.specs.ModuleOfSource.{Assembled, assembled};
 ghost use Rattle.c25_meaning_placing.specs.Place.{Place};
 ghost use Rattle.c25_meaning_assembly.specs.Sections.{Progress, equate, label, size_at};
-ghost use Rattle.c25_meaning_processor.specs.Statements.{IsImageOf, KeepsStatements, RunsAsStatements};
+ghost use Rattle.c25_meaning_processor.specs.Statements.{IsImageOf, KeepsStatements, RunsAsStatements, plainly};
 ghost use Rattle.c25_meaning_language.specs.Tree.{Tree};
 ghost use Rattle.c25_meaning_linking.specs.Words.{HasWord, section_base};
 ghost use Rattle.c25_meaning_language.specs.declared.value.Value.{Value};
@@ -73,11 +73,11 @@ pub fn program_words_are_the_sources()
 pub fn linked_images_run_as_statements()
     ensures image { (files : Files) (names : List (List ℕ)) (modules : List Contents) (command : CommandData) (image : ImageData) (samples : ℕ → List ℕ)
         → AreModulesOf files names modules → (p : IsProgram modules command image)
-        → IsImageOf (program_statements files names modules p.places) (first_of_pages image.program image.store image.marks samples).world }
+        → IsImageOf (plainly (program_statements files names modules p.places)) (first_of_pages image.program image.store image.marks [] samples).world }
     ensures runs { (files : Files) (names : List (List ℕ)) (modules : List Contents) (command : CommandData) (image : ImageData) (samples : ℕ → List ℕ)
         → AreModulesOf files names modules → (p : IsProgram modules command image)
-        → RunsAsStatements (program_statements files names modules p.places) (first_of_pages image.program image.store image.marks samples) }
+        → RunsAsStatements (plainly (program_statements files names modules p.places)) (first_of_pages image.program image.store image.marks [] samples) }
     ensures words { (files : Files) (names : List (List ℕ)) (modules : List Contents) (command : CommandData) (image : ImageData) (samples : ℕ → List ℕ)
         → AreModulesOf files names modules → (p : IsProgram modules command image)
-        → KeepsStatements (program_statements files names modules p.places) (first_of_pages image.program image.store image.marks samples) }
+        → KeepsStatements (plainly (program_statements files names modules p.places)) (first_of_pages image.program image.store image.marks [] samples) }
 {}

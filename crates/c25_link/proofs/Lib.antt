@@ -9,3 +9,4 @@ mod Owned
 mod Parted
 mod Printed
 mod Search
+mod Told

@@ -61,6 +61,7 @@ links modules command places (Ok image) names good h = record {
   program = h.program;
   store = h.store;
   marks = h.marks;
+  lines = h.lines;
   described = h.described;
 }
 links modules command places (Err (NoMemory n)) names good h = tt

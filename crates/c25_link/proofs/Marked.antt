@@ -17,7 +17,7 @@ use Rattle.c25_meaning_linking.specs.Linking.{HasMarks}
 use Rattle.c25_meaning_image.specs.Marks.{fit_from, fits_behind}
 use Rattle.c25_meaning_objects.specs.Module.{SectionBody, Uninitialised, Initialised, SectionData, Contents, is_module, body_size, body_words, words_at, mark_fits, mark_after, is_from, last_of, each_fits, lists_fit, has_sections}
 use Rattle.c25_meaning_placing.specs.Place.{Place, IsPart, LiesIn, page_of, part_base, by_modules}
-use Rattle.c25_meaning_linking.specs.Words.{section_base, section_page, placed_mark, is_on_program, module_marks, program_marks}
+use Rattle.c25_meaning_linking.specs.Words.{section_base, section_page, placed_mark, is_on_program, program_marks}
 use Rattle.c25_meaning_image.specs.declared.mark.Mark.{Mark}
 use Rattle.c25_meaning_objects.specs.declared.object.ModuleMark.{ModuleMark}
 use Rattle.c25_link.specs.Bases.{HasRoom}
@@ -60,13 +60,13 @@ both true b h = (refl, h)
 both false b h = absurd cc
 
 -- one stands before the other
-abbrev Before : ModuleMark → ModuleMark → Type 0
+abbrev pub Before : ModuleMark → ModuleMark → Type 0
 Before x y = (x.section < y.section) ⊎ ((x.section ≡ y.section) × (x.offset + x.size ≤ y.offset))
 
-record IsGood (sections : List SectionData) (x : ModuleMark) : Type 0 where
-  some : 1 ≤ x.size
-  few : x.size ≤ 2
-  within : x.offset + x.size ≤ length (words_at sections x.section)
+pub record IsGood (sections : List SectionData) (x : ModuleMark) : Type 0 where
+  pub some : 1 ≤ x.size
+  pub few : x.size ≤ 2
+  pub within : x.offset + x.size ≤ length (words_at sections x.section)
 
 good : (sections : List SectionData) (before : List ModuleMark) (x : ModuleMark) → mark_fits sections before x ≡ true → IsGood sections x
 good sections before x h =
@@ -90,9 +90,9 @@ before_all : (x y z : ModuleMark) → Before x y → Before y z → Before x z
 before_all x y z p q =
     ⊎_elim (λ lt. ⊎_elim (λ lt2. inl (omega (arith, lt, lt2))) (λ same. inl (omega (arith, lt, same.0))) q) (λ same. ⊎_elim (λ lt2. inl (omega (arith, same.0, lt2))) (λ same2. inr (omega (arith, same.0, same2.0), omega (arith, same.1, same2.1))) q) p
 
-record Rising (sections : List SectionData) (ms : List ModuleMark) : Type 0 where
-  good : All (IsGood sections) ms
-  pairs : Pairwise Before ms
+pub record Rising (sections : List SectionData) (ms : List ModuleMark) : Type 0 where
+  pub good : All (IsGood sections) ms
+  pub pairs : Pairwise Before ms
 
 rising_after : (sections : List SectionData) (before : List ModuleMark) (x : ModuleMark) (ms : List ModuleMark) → each_fits (mark_fits sections) (before ++ x ∷ []) ms ≡ true → All (Before x) ms × Rising sections ms
 rising_after sections before x [] h = (All-nil (Before x), record { good = All-nil (IsGood sections); pairs = tt })
@@ -104,14 +104,14 @@ rising_after sections before x (y ∷ ys) h =
       record { good = All-cons (IsGood sections) y ys (good sections (before ++ x ∷ []) y g.0) rest.1.good; pairs = (rest.0, rest.1.pairs) },
     )
 
-rising : (sections : List SectionData) (ms : List ModuleMark) → each_fits (mark_fits sections) [] ms ≡ true → Rising sections ms
+pub rising : (sections : List SectionData) (ms : List ModuleMark) → each_fits (mark_fits sections) [] ms ≡ true → Rising sections ms
 rising sections [] h = record { good = All-nil (IsGood sections); pairs = tt }
 rising sections (x ∷ ms) h =
     let g = both (mark_fits sections [] x) (each_fits (mark_fits sections) (x ∷ []) ms) h in
     let rest = rising_after sections [] x ms g.1 in
     record { good = All-cons (IsGood sections) x ms (good sections [] x g.0) rest.1.good; pairs = (rest.0, rest.1.pairs) }
 
-marks_of_module : (c : Contents) → is_module c ≡ true → each_fits (mark_fits c.sections) [] c.marks ≡ true
+pub marks_of_module : (c : Contents) → is_module c ≡ true → each_fits (mark_fits c.sections) [] c.marks ≡ true
 marks_of_module c h = (both _ _ (both _ _ (both (has_sections c) (lists_fit c) h).1).1).0
 
 -- a mark of a module where its section stands
@@ -213,24 +213,32 @@ pairwise_append R [] ys p q cross = q
 pairwise_append R (x ∷ xs) ys p q cross =
     (All-append (R x) xs ys p.0 (All-head (λ z. All (R z) ys) x xs cross), pairwise_append R xs ys p.1 q (All-tail (λ z. All (R z) ys) x xs cross))
 
-modules_apart : (modules : List Contents) (places : List Place) (number : ℕ) (rest : List Contents) → AreModules modules → HasOnePart modules places → ((k : ℕ) (m : Contents) → slice_get rest k ≡ Some m → slice_get modules (number + k) ≡ Some m)
-    → AreApart modules places number (by_modules (module_marks modules places) number rest)
-modules_apart modules places number [] are one at = record { pairs = tt; each = All-nil (PlacedFrom modules places number) }
-modules_apart modules places number (m ∷ rest) are one at =
+-- marks that stand in a module's order, each where it may
+abbrev pub RisingIn : (Contents → List ModuleMark) → Contents → Type 0
+RisingIn own m = Rising m.sections (own m)
+
+-- where some marks of each module stand, if they are on page 0
+abbrev pub marks_in : List Contents → List Place → (Contents → List ModuleMark) → ℕ → Contents → List Mark
+marks_in modules places own number m = map (placed_mark modules places number m) (filter (is_on_program places m) (own m))
+
+modules_apart : (modules : List Contents) (places : List Place) (own : Contents → List ModuleMark) (number : ℕ) (rest : List Contents) → ((k : ℕ) (m : Contents) → slice_get modules k ≡ Some m → RisingIn own m) → HasOnePart modules places
+    → ((k : ℕ) (m : Contents) → slice_get rest k ≡ Some m → slice_get modules (number + k) ≡ Some m) → AreApart modules places number (by_modules (marks_in modules places own) number rest)
+modules_apart modules places own number [] up one at = record { pairs = tt; each = All-nil (PlacedFrom modules places number) }
+modules_apart modules places own number (m ∷ rest) up one at =
     let same : number + 0 ≡ number = omega arith in
     let is : slice_get modules number ≡ Some m = subst (λ n. slice_get modules n ≡ Some m) same (at 0 m refl) in
-    let up = rising m.sections m.marks (marks_of_module m (are number m is).lists) in
-    let own = module_apart modules places number m m.marks is one up.good up.pairs in
-    let next = modules_apart modules places (number + 1) rest are one (λ k o h. let z : number + suc k ≡ (number + 1) + k = omega arith in subst (λ n. slice_get modules n ≡ Some o) z (at (suc k) o h)) in
-    let mine = module_marks modules places number m in
-    let others = by_modules (module_marks modules places) (number + 1) rest in
+    let rises = up number m is in
+    let here = module_apart modules places number m (own m) is one rises.good rises.pairs in
+    let next = modules_apart modules places own (number + 1) rest up one (λ k o h. let z : number + suc k ≡ (number + 1) + k = omega arith in subst (λ n. slice_get modules n ≡ Some o) z (at (suc k) o h)) in
+    let mine = marks_in modules places own number m in
+    let others = by_modules (marks_in modules places own) (number + 1) rest in
     record {
-      pairs = pairwise_append Disjoint mine others own.pairs next.pairs (λ i d lt j e below.
+      pairs = pairwise_append Disjoint mine others here.pairs next.pairs (λ i d lt j e below.
           let p = next.each j e below in
-          let q = own.each i d lt in
+          let q = here.each i d lt in
           apart modules places number p.number q.index p.index (get_or mine i d) (get_or others j e) q.placed p.placed one (λ same. omega (arith, same.0, p.later)));
       each = All-append (PlacedFrom modules places number) mine others
-          (All-weaker (PlacedIn modules places number) (PlacedFrom modules places number) (λ a q. record { number = number; index = q.index; later = omega arith; placed = q.placed }) mine own.each)
+          (All-weaker (PlacedIn modules places number) (PlacedFrom modules places number) (λ a q. record { number = number; index = q.index; later = omega arith; placed = q.placed }) mine here.each)
           (All-weaker (PlacedFrom modules places (number + 1)) (PlacedFrom modules places number)
           (λ a p. record { number = p.number; index = p.index; later = omega (arith, p.later); placed = p.placed }) others next.each);
     }
@@ -317,16 +325,22 @@ all_fit address (x ∷ xs) from smalls pairs =
     ap (λ b. b && fit_from (x.address + x.size) xs) (fits address x (All-head (λ (a : Mark). address ≤ a.address) x xs from) (All-head IsSmall x xs smalls))
     ∙ all_fit (x.address + x.size) xs pairs.0 (All-tail IsSmall x xs smalls) pairs.1
 
+-- so they ascend once they are sorted
+pub sorted_ascend : (modules : List Contents) (places : List Place) (own : Contents → List ModuleMark) (marks : List Mark) → ((k : ℕ) (m : Contents) → slice_get modules k ≡ Some m → RisingIn own m) → HasOnePart modules places → HasRoom modules places
+    → IsPermutation (by_modules (marks_in modules places own) 0 modules) marks → IsNonDecreasingBy (λ m. m.address) marks → fit_from 0 marks ≡ true
+sorted_ascend modules places own marks up one room p order =
+    let before = by_modules (marks_in modules places own) 0 modules in
+    let all = modules_apart modules places own 0 modules up one (λ k m h. let z : k ≡ 0 + k = omega arith in subst (λ n. slice_get modules n ≡ Some m) z h) in
+    let smalls : All IsSmall marks = All-permutation IsSmall before marks p (All-weaker (PlacedFrom modules places 0) IsSmall (λ a q. small modules places a room q) before all.each) in
+    let apart = moved before marks p (all_disjoint before all.pairs) in
+    all_fit 0 marks (λ k d lt. omega arith) smalls
+    (pairs_from Ends marks (λ i j d lt below. ends (get_or marks i d) (get_or marks j d) (smalls j d below).some (order i j d (omega arith) below) (apart i j d (omega arith) below (λ e. omega (arith, e, lt)))))
+
+pub marks_rise : (modules : List Contents) → AreModules modules → (k : ℕ) (m : Contents) → slice_get modules k ≡ Some m → Rising m.sections m.marks
+marks_rise modules are k m is = rising m.sections m.marks (marks_of_module m (are k m is).lists)
+
 pub has_marks : (modules : List Contents) (places : List Place) (marks : List Mark) → AreModules modules → HasOnePart modules places → HasRoom modules places → IsPermutation (program_marks modules places) marks → IsNonDecreasingBy (λ m. m.address) marks → HasMarks modules places marks
-has_marks modules places marks are one room p up =
-    let all = modules_apart modules places 0 modules are one (λ k m h. let z : k ≡ 0 + k = omega arith in subst (λ n. slice_get modules n ≡ Some m) z h) in
-    let smalls : All IsSmall marks = All-permutation IsSmall (program_marks modules places) marks p (All-weaker (PlacedFrom modules places 0) IsSmall (λ a q. small modules places a room q) (program_marks modules places) all.each) in
-    let apart = moved (program_marks modules places) marks p (all_disjoint (program_marks modules places) all.pairs) in
-    record {
-      same = p;
-      ascend = all_fit 0 marks (λ k d lt. omega arith) smalls
-          (pairs_from Ends marks (λ i j d lt below. ends (get_or marks i d) (get_or marks j d) (smalls j d below).some (up i j d (omega arith) below) (apart i j d (omega arith) below (λ e. omega (arith, e, lt)))));
-    }
+has_marks modules places marks are one room p up = record { same = p; ascend = sorted_ascend modules places (λ m. m.marks) marks (marks_rise modules are) one room p up }
 
 -- ---- one mark more of a module
 
@@ -340,7 +354,7 @@ mark_below modules places number i m x d are room is lt at on =
     let upto : section_base modules places number m x.section + x.offset + x.size ≤ part_base modules places number p.section.name + body_size p.section.body = p.upto in
     omega (arith, r.within, upto, g.some)
 
-chosen_more : {A B : Type 0} (test : A → Bool) (h : A → B) (xs : List A) (i : ℕ) (x d : A) → i < length xs → x ≡ get_or xs i d → map h (filter test (take (i + 1) xs)) ≡ map h (filter test (take i xs)) ++ map h (cond (test x) (x ∷ []) [])
+pub chosen_more : {A B : Type 0} (test : A → Bool) (h : A → B) (xs : List A) (i : ℕ) (x d : A) → i < length xs → x ≡ get_or xs i d → map h (filter test (take (i + 1) xs)) ≡ map h (filter test (take i xs)) ++ map h (cond (test x) (x ∷ []) [])
 chosen_more test h xs i x d lt is =
     ap (λ zs. map h (filter test zs)) (take_more xs i d lt ∙ ap (λ y. take i xs ++ y ∷ []) (sym is))
     ∙ ap (map h) (filter-append test (take i xs) (x ∷ []))

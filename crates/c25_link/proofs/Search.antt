@@ -1,23 +1,16 @@
 -- The first item that passes a test, in lists that grow in a loop and in what modules give one after the other.
-use Rattle.std.proofs.Common.{◌≡◌, ℕ, suc, ◌+◌, ◌<◌, ◌≤◌, Bool, true, false, cond, List, [], ◌∷◌, ◌++◌, length, get_or, take, drop, map, Option, Some, None, find, All, refl, sym, ap, subst, ◌∙◌, arith, append_assoc, add-zero, add-one}
+use Rattle.std.proofs.Common.{◌≡◌, ℕ, suc, ◌+◌, ◌<◌, ◌≤◌, Bool, true, false, cond, List, [], ◌∷◌, ◌++◌, length, get_or, take, drop, map, Option, Some, None, find, All, refl, sym, ap, subst, ◌∙◌, arith, add-one}
 use Rattle.std.specs.List.{slice_get}
 use Rattle.std.specs.Option.{option_map, option_or}
 use Rattle.std.proofs.Math.Seq.{drop-cons}
-use Rattle.std.proofs.lemmas.List.{take_more, take_all, append-nil, map-append, take-append-drop, length-take-le}
+use Rattle.std.proofs.lemmas.List.{take_more, take_all, map-append, take-append-drop}
 use Rattle.std.proofs.lemmas.List.Elements.{All-nil, All-append}
 use Rattle.std.proofs.lemmas.List.Folds.{find-append}
 use Rattle.c25_meaning_objects.specs.Module.{Contents}
 use Rattle.c25_meaning_placing.specs.Place.{by_modules}
+use Rattle.c25_meaning_placing.proofs.ByModules.{by_modules-append, by_modules_all, by_modules_more}
 
 -- ---- what modules give
-
-pub by_modules-append : {A : Type 0} (g : ℕ → Contents → List A) (number : ℕ) (xs ys : List Contents) → by_modules g number (xs ++ ys) ≡ by_modules g number xs ++ by_modules g (number + length xs) ys
-by_modules-append g number [] ys = ap (λ n. by_modules g n ys) (sym (add-zero number))
-by_modules-append g number (x ∷ xs) ys =
-    let same : (number + 1) + length xs ≡ number + length (x ∷ xs) = omega arith in
-    ap (λ zs. g number x ++ zs) (by_modules-append g (number + 1) xs ys)
-    ∙ sym (append_assoc (g number x) (by_modules g (number + 1) xs) (by_modules g ((number + 1) + length xs) ys))
-    ∙ ap (λ n. by_modules g number (x ∷ xs) ++ by_modules g n ys) same
 
 -- what holds of all that each module gives
 pub all_by_modules : {A : Type 0} (P : A → Type 0) (g : ℕ → Contents → List A) (number : ℕ) (modules : List Contents) → ((k : ℕ) (m : Contents) → slice_get modules k ≡ Some m → All P (g (number + k) m)) → All P (by_modules g number modules)
@@ -27,23 +20,12 @@ all_by_modules P g number (m ∷ modules) h =
     All-append P (g number m) (by_modules g (number + 1) modules) (subst (λ n. All P (g n m)) same (h 0 m refl))
     (all_by_modules P g (number + 1) modules (λ k o is. let z : number + suc k ≡ (number + 1) + k = omega arith in subst (λ n. All P (g n o)) z (h (suc k) o is)))
 
--- one module more
-pub by_modules_more : {A : Type 0} (g : ℕ → Contents → List A) (modules : List Contents) (i : ℕ) (m : Contents) → i < length modules → m ≡ get_or modules i m → by_modules g 0 (take (i + 1) modules) ≡ by_modules g 0 (take i modules) ++ g i m
-by_modules_more g modules i m lt is =
-    let taken : take (i + 1) modules ≡ take i modules ++ m ∷ [] = take_more modules i m lt ∙ ap (λ y. take i modules ++ y ∷ []) (sym is) in
-    let many : 0 + length (take i modules) ≡ i = omega (arith, length-take-le i modules (omega arith)) in
-    ap (by_modules g 0) taken ∙ by_modules-append g 0 (take i modules) (m ∷ [])
-    ∙ ap (λ n. by_modules g 0 (take i modules) ++ (g n m ++ [])) many ∙ ap (λ zs. by_modules g 0 (take i modules) ++ zs) (append-nil (g i m))
-
 -- and all that follow
 pub by_modules_split : {A : Type 0} (g : ℕ → Contents → List A) (modules : List Contents) (i : ℕ) (m : Contents) → i < length modules → m ≡ get_or modules i m
     → by_modules g 0 modules ≡ (by_modules g 0 (take i modules) ++ g i m) ++ by_modules g (0 + length (take (i + 1) modules)) (drop (i + 1) modules)
 by_modules_split g modules i m lt is =
     ap (by_modules g 0) (sym (take-append-drop (i + 1) modules)) ∙ by_modules-append g 0 (take (i + 1) modules) (drop (i + 1) modules)
     ∙ ap (λ zs. zs ++ by_modules g (0 + length (take (i + 1) modules)) (drop (i + 1) modules)) (by_modules_more g modules i m lt is)
-
-pub by_modules_all : {A : Type 0} (g : ℕ → Contents → List A) (modules : List Contents) (i : ℕ) → length modules ≤ i → by_modules g 0 (take i modules) ≡ by_modules g 0 modules
-by_modules_all g modules i le = ap (by_modules g 0) (take_all i modules le)
 
 -- ---- a search over modules
 

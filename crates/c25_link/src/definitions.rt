@@ -62,7 +62,7 @@ fn push_definitions<'a>(
 }
 
 /// The definitions of all modules.
-#[tactic(auto, using(crate::proofs::Search::by_modules_more, crate::proofs::Search::by_modules_all))]
+#[tactic(auto, using(c25_meaning_placing::proofs::ByModules::by_modules_more, c25_meaning_placing::proofs::ByModules::by_modules_all))]
 fn all_definitions<'a>(
     alloc: Global,
     modules: &'a [Module],

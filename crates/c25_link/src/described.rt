@@ -70,7 +70,7 @@ fn add_parts<'a>(
 }
 
 /// The parts of all modules by the names of their sections.
-#[tactic(auto, using(crate::proofs::Search::by_modules_more, crate::proofs::Search::by_modules_all))]
+#[tactic(auto, using(c25_meaning_placing::proofs::ByModules::by_modules_more, c25_meaning_placing::proofs::ByModules::by_modules_all))]
 fn parts_by_name<'a>(
     alloc: Global,
     layout: &Layout<'a, '_>,

@@ -1,9 +1,14 @@
 //! A linked program.
 
-ghost use Rattle.std.specs.Prelude.{◌≡◌, ◌≤◌, IfOk, map, string_bytes, if◌then◌else◌, ◌==◌};
+ghost use Rattle.std.specs.Prelude.{◌≡◌, ◌≤◌, IfOk, map, string_bytes, true, if◌then◌else◌, ◌==◌};
+ghost use Rattle.std.specs.Option.{option_map};
 ghost use Rattle.c25_map.specs.View.{map_data, symbol_data};
+ghost use Rattle.c25_meaning_image.specs.Marks.{fit_from};
+ghost use Rattle.c25_meaning_linking.specs.Linking.{line_at};
 ghost use Rattle.c25_meaning_placing.specs.MapText.{IsMapOf, IsPrinted};
+ghost use Rattle.c25_link.specs.Lines.{lines_view};
 
+use crate::lines::Lines;
 use c25_map::{GlobalSymbol, Map, write_map};
 use c25_meaning_common::no_memory::NoMemory;
 use c25_meaning_image::mark::Mark;
@@ -11,12 +16,13 @@ use c25_meaning_image::word_map::WordMap;
 use std::alloc::Global;
 use std::marker::Model;
 
-/// A linked program: its words, its instructions and its map.
+/// A linked program: its words, its instructions, the lines where they stand, and its map.
 #[derive(Drop)]
 pub struct Image {
     program: WordMap,
     store: WordMap,
     marks: Vec<Mark>,
+    lines: Lines,
     described: Map,
 }
 
@@ -26,27 +32,36 @@ impl Model for Image {
     ghost use Rattle.std.specs.Ordering.{nat_cmp};
     ghost use Rattle.c25_map.specs.View.{map_data};
     ghost use Rattle.c25_meaning_linking.specs.Linking.{ImageData};
-    ghost use Rattle.c25_meaning_placing.specs.MapText.{IsPrinted};
+    ghost use Rattle.c25_link.specs.Sound.{IsSound};
+    ghost use Rattle.c25_link.specs.Lines.{lines_view};
 
     ghost Value = { ImageData };
 
     ghost coded = { Prim.hlevel (codes, finite.code {R = nat_cmp} coded_ℕ coded_ℕ) };
 
-    ghost view = { λ i. record { program = i.program; store = i.store; marks = i.marks.items; described = map_data i.described } };
+    ghost view = { λ i. record { program = i.program; store = i.store; marks = i.marks.items; lines = lines_view i.lines; described = map_data i.described } };
 
-    ghost invariant = { λ i. IsPrinted (map_data i.described) };
+    ghost invariant = { λ i. IsSound (lines_view i.lines) (map_data i.described) };
 }
 
 impl Image {
     /// An image of these parts.
-    pub(crate) fn new(program: WordMap, store: WordMap, marks: Vec<Mark>, described: Map) -> Self
-        requires { IsPrinted (map_data described) }
-        ensures { result ≡ record { program = program; store = store; marks = marks.items; described = map_data described } }
+    pub(crate) fn new(
+        program: WordMap,
+        store: WordMap,
+        marks: Vec<Mark>,
+        lines: Lines,
+        described: Map,
+    ) -> Self
+        requires lines { fit_from 0 (map (λ l. l.mark) (lines_view lines)) ≡ true }
+        requires printed { IsPrinted (map_data described) }
+        ensures { result ≡ record { program = program; store = store; marks = marks.items; lines = lines_view lines; described = map_data described } }
     {
         Image {
             program,
             store,
             marks,
+            lines,
             described,
         }
     }
@@ -68,6 +83,15 @@ impl Image {
         ensures { result.now ≡ self.now.marks }
     {
         &self.marks
+    }
+
+    /// The name of the file and the number of the line where the instruction at an address of page 0
+    /// stands, counted from 1; None where there is none, or its module is of an object that tells no
+    /// lines (version 1). It takes no memory.
+    pub fn line_of(&self, address: u16) -> Option<(&str, u32)>
+        ensures { option_map (λ r. (r.0.now, r.1)) result ≡ line_at address self.now.lines }
+    {
+        self.lines.get(address)
     }
 
     /// The global symbols that modules define, by modules and symbols, with the low 32 bits of their

@@ -7,6 +7,7 @@ mod described;
 mod fields;
 mod image;
 mod layout;
+mod lines;
 mod linking;
 mod loading;
 mod marks;

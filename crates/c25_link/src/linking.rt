@@ -17,6 +17,7 @@ use crate::definitions::Definitions;
 use crate::described::described;
 use crate::image::Image;
 use crate::layout::{Layout, are_modules};
+use crate::lines::program_lines;
 use crate::loading::load;
 use crate::marks::program_marks;
 use crate::uses::{first_spilled, first_unresolved, is_missing};
@@ -79,8 +80,9 @@ fn linked_image(
     }
     let pages = load(alloc, layout)?;
     let marks = program_marks(alloc, layout)?;
+    let lines = program_lines(alloc, layout)?;
     let described = described(alloc, layout, entry)?;
-    Ok(Image::new(pages.program, pages.store, marks, described))
+    Ok(Image::new(pages.program, pages.store, marks, lines, described))
 }
 
 /// Links modules under a command.

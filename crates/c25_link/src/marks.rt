@@ -36,7 +36,7 @@ fn push_marks(
 }
 
 /// Those of all modules, by modules and marks.
-#[tactic(auto, using(crate::proofs::Search::by_modules_more, crate::proofs::Search::by_modules_all))]
+#[tactic(auto, using(c25_meaning_placing::proofs::ByModules::by_modules_more, c25_meaning_placing::proofs::ByModules::by_modules_all))]
 fn all_marks(alloc: Global, layout: &Layout<'_, '_>) -> Result<Vec<Mark>, AllocError>
     requires { IsLaidOut layout.now }
     ensures { IfOk result (λ v. v.items ≡ program_marks layout.now.modules.now (places_in layout.now)) }

@@ -1,9 +1,10 @@
 -- Modules and a command come to one program at most.
-use Rattle.std.proofs.Common.{◌≡◌, ℕ, ◌+◌, ◌≤◌, Bool, true, false, ◌&&◌, leb, List, [], ◌∷◌, Option, Some, None, refl, ap, sym, ◌∙◌, subst, arith, inl, inr}
+use Rattle.std.proofs.Common.{◌≡◌, ℕ, ◌+◌, ◌≤◌, Bool, true, false, ◌&&◌, leb, List, [], ◌∷◌, map, Option, Some, None, refl, ap, sym, ◌∙◌, subst, arith, inl, inr}
 use Rattle.std.specs.FinMap as finite
 use Rattle.std.specs.FinMap.{same_map, nat_cmp-IsAntisymmetric}
 use Rattle.std.specs.Cmp.{nat_cmp_total}
 use Rattle.std.specs.List.{Contains}
+use Rattle.std.specs.List.Sorted.{IsPermutation}
 use Rattle.std.specs.Ordering.{nat_cmp}
 use Rattle.std.proofs.lemmas.Bool.Decides.{nat_tests}
 use Rattle.std.proofs.lemmas.List.Sorted.{IsPermutation-sym}
@@ -11,11 +12,11 @@ use Rattle.c25_linking_laws.proofs.Members.{behind_in, first_in, in_front, in_pe
 use Rattle.c25_placing_laws.proofs.OneMap.{placed_once}
 use Rattle.c25_meaning_commands.specs.Command.{CommandData}
 use Rattle.c25_meaning_placing.specs.GoodMap.{placings_for, ranges_for, requests}
-use Rattle.c25_meaning_linking.specs.Linking.{HasMarks, HasWords, ImageData, IsProgram, map_of}
+use Rattle.c25_meaning_linking.specs.Linking.{HasLines, HasMarks, HasWords, ImageData, IsProgram, map_of}
 use Rattle.c25_meaning_image.specs.Marks.{fit_from, fits_behind}
 use Rattle.c25_meaning_objects.specs.Module.{Contents}
 use Rattle.c25_meaning_placing.specs.Place.{Place}
-use Rattle.c25_meaning_linking.specs.Words.{program_marks}
+use Rattle.c25_meaning_linking.specs.Words.{LineData, program_lines, program_marks}
 use Rattle.c25_meaning_image.specs.declared.mark.Mark.{Mark}
 
 -- ---- words
@@ -44,44 +45,59 @@ front low m ms h =
     let some = c.1 in
     (grind (arith, nat_tests), grind (arith, nat_tests), f.1)
 
-begins : (low : ℕ) (ms : List Mark) (x : Mark) → fit_from low ms ≡ true → Contains ms x → low ≤ x.address
-begins low [] x h c = absurd (nothing_in x c)
-begins low (m ∷ ms) x h c =
-    let f = front low m ms h in
+begins : {A : Type 0} (mark : A → Mark) (low : ℕ) (ms : List A) (x : A) → fit_from low (map mark ms) ≡ true → Contains ms x → low ≤ (mark x).address
+begins mark low [] x h c = absurd (nothing_in x c)
+begins mark low (m ∷ ms) x h c =
+    let f = front low (mark m) (map mark ms) h in
     elim (in_front m x ms c) [
-      | inl same ↦ subst (λ (y : Mark). low ≤ y.address) same f.0
-      | inr later ↦ let next = begins (m.address + m.size) ms x f.2 later in let from = f.0 in omega (arith, next, from)
+      | inl same ↦ subst (λ y. low ≤ (mark y).address) same f.0
+      | inr later ↦ let next = begins mark ((mark m).address + (mark m).size) ms x f.2 later in let from = f.0 in omega (arith, next, from)
     ]
 
-heads : (x y : Mark) (xs ys : List Mark) → 1 ≤ x.size → 1 ≤ y.size → fit_from (x.address + x.size) xs ≡ true → fit_from (y.address + y.size) ys ≡ true → Contains (y ∷ ys) x → Contains (x ∷ xs) y → x ≡ y
-heads x y xs ys some also h k c d =
+heads : {A : Type 0} (mark : A → Mark) (x y : A) (xs ys : List A) → 1 ≤ (mark x).size → 1 ≤ (mark y).size → fit_from ((mark x).address + (mark x).size) (map mark xs) ≡ true → fit_from ((mark y).address + (mark y).size) (map mark ys) ≡ true
+    → Contains (y ∷ ys) x → Contains (x ∷ xs) y → x ≡ y
+heads mark x y xs ys some also h k c d =
     elim (in_front y x ys c) [
       | inl same ↦ sym same
       | inr later ↦ elim (in_front x y xs d) [
         | inl same ↦ same
-        | inr after ↦ let a = begins (y.address + y.size) ys x k later in let b = begins (x.address + x.size) xs y h after in absurd (omega (arith, some, also, a, b))
+        | inr after ↦ let a = begins mark ((mark y).address + (mark y).size) ys x k later in let b = begins mark ((mark x).address + (mark x).size) xs y h after in absurd (omega (arith, some, also, a, b))
       ]
     ]
 
-behind : (x y : Mark) (xs ys : List Mark) (m : Mark) → 1 ≤ x.size → fit_from (x.address + x.size) xs ≡ true → x ≡ y → Contains xs m → Contains (y ∷ ys) m → Contains ys m
-behind x y xs ys m some h e c d =
+behind : {A : Type 0} (mark : A → Mark) (x y : A) (xs ys : List A) (m : A) → 1 ≤ (mark x).size → fit_from ((mark x).address + (mark x).size) (map mark xs) ≡ true → x ≡ y → Contains xs m → Contains (y ∷ ys) m → Contains ys m
+behind mark x y xs ys m some h e c d =
     elim (in_front y m ys d) [
-      | inl same ↦ let a = begins (x.address + x.size) xs m h c in let b = ap (λ (z : Mark). z.address) (e ∙ same) in absurd (omega (arith, some, a, b))
+      | inl same ↦ let a = begins mark ((mark x).address + (mark x).size) xs m h c in let b = ap (λ z. (mark z).address) (e ∙ same) in absurd (omega (arith, some, a, b))
       | inr later ↦ later
     ]
 
-marks_once : (low high : ℕ) (xs ys : List Mark) → fit_from low xs ≡ true → fit_from high ys ≡ true → ((m : Mark) → Contains xs m → Contains ys m) → ((m : Mark) → Contains ys m → Contains xs m) → xs ≡ ys
-marks_once low high [] [] h k there back = refl
-marks_once low high [] (y ∷ ys) h k there back = absurd (nothing_in y (back y (first_in y ys)))
-marks_once low high (x ∷ xs) [] h k there back = absurd (nothing_in x (there x (first_in x xs)))
-marks_once low high (x ∷ xs) (y ∷ ys) h k there back =
-    let f = front low x xs h in
-    let g = front high y ys k in
-    let same = heads x y xs ys f.1 g.1 f.2 g.2 (there x (first_in x xs)) (back y (first_in y ys)) in
-    let rest = marks_once (x.address + x.size) (y.address + y.size) xs ys f.2 g.2
-    (λ m c. behind x y xs ys m f.1 f.2 same c (there m (behind_in x m xs c)))
-    (λ m c. behind y x ys xs m g.1 g.2 (sym same) c (back m (behind_in y m ys c))) in
+-- what has marks that ascend and are apart is in one order alone
+marked_once : {A : Type 0} (mark : A → Mark) (low high : ℕ) (xs ys : List A) → fit_from low (map mark xs) ≡ true → fit_from high (map mark ys) ≡ true → ((m : A) → Contains xs m → Contains ys m) → ((m : A) → Contains ys m → Contains xs m) → xs ≡ ys
+marked_once mark low high [] [] h k there back = refl
+marked_once mark low high [] (y ∷ ys) h k there back = absurd (nothing_in y (back y (first_in y ys)))
+marked_once mark low high (x ∷ xs) [] h k there back = absurd (nothing_in x (there x (first_in x xs)))
+marked_once mark low high (x ∷ xs) (y ∷ ys) h k there back =
+    let f = front low (mark x) (map mark xs) h in
+    let g = front high (mark y) (map mark ys) k in
+    let same = heads mark x y xs ys f.1 g.1 f.2 g.2 (there x (first_in x xs)) (back y (first_in y ys)) in
+    let rest = marked_once mark ((mark x).address + (mark x).size) ((mark y).address + (mark y).size) xs ys f.2 g.2
+    (λ m c. behind mark x y xs ys m f.1 f.2 same c (there m (behind_in x m xs c)))
+    (λ m c. behind mark y x ys xs m g.1 g.2 (sym same) c (back m (behind_in y m ys c))) in
     λ i. same i ∷ rest i
+
+-- the same of lists that have what a list has
+permuted_once : {A : Type 0} (mark : A → Mark) (all xs ys : List A) → IsPermutation all xs → IsPermutation all ys → fit_from 0 (map mark xs) ≡ true → fit_from 0 (map mark ys) ≡ true → xs ≡ ys
+permuted_once mark all xs ys p q h k = marked_once mark 0 0 xs ys h k (λ m c. in_permuted all ys m q (in_permuted xs all m (IsPermutation-sym all xs p) c)) (λ m c. in_permuted all xs m p (in_permuted ys all m (IsPermutation-sym all ys q) c))
+
+abbrev self : Mark → Mark
+self m = m
+
+unmapped : (ms : List Mark) → fit_from 0 ms ≡ true → fit_from 0 (map self ms) ≡ true
+unmapped ms h = ap (fit_from 0) (map-self ms) ∙ h where
+  map-self : (xs : List Mark) → map self xs ≡ xs
+  map-self [] = refl
+  map-self (x ∷ xs) = ap (λ ys. x ∷ ys) (map-self xs)
 
 -- ---- the program
 
@@ -90,11 +106,9 @@ program_once modules command image other p q =
     let places : q.places ≡ p.places = placed_once (ranges_for command) (requests modules (placings_for command)) q.places p.places q.good p.good in
     let program = words_once modules p.places 0 image.program other.program p.program (subst (λ (ps : List Place). HasWords modules ps 0 other.program) places q.program) in
     let store = words_once modules p.places 1 image.store other.store p.store (subst (λ (ps : List Place). HasWords modules ps 1 other.store) places q.store) in
-    let all = program_marks modules p.places in
-    let has = p.marks in
-    let also = subst (λ (ps : List Place). HasMarks modules ps other.marks) places q.marks in
-    let marks = marks_once 0 0 image.marks other.marks has.ascend also.ascend
-    (λ m c. in_permuted all other.marks m also.same (in_permuted image.marks all m (IsPermutation-sym all image.marks has.same) c))
-    (λ m c. in_permuted all image.marks m has.same (in_permuted other.marks all m (IsPermutation-sym all other.marks also.same) c)) in
+    let marks_there = subst (λ (ps : List Place). HasMarks modules ps other.marks) places q.marks in
+    let marks = permuted_once self (program_marks modules p.places) image.marks other.marks p.marks.same marks_there.same (unmapped image.marks p.marks.ascend) (unmapped other.marks marks_there.ascend) in
+    let lines_there = subst (λ (ps : List Place). HasLines modules ps other.lines) places q.lines in
+    let lines = permuted_once (λ (l : LineData). l.mark) (program_lines modules p.places) image.lines other.lines p.lines.same lines_there.same p.lines.ascend lines_there.ascend in
     let described = p.described ∙ ap (map_of modules command.entry) (sym places) ∙ sym q.described in
-    λ i. record { program = program i; store = store i; marks = marks i; described = described i }
+    λ i. record { program = program i; store = store i; marks = marks i; lines = lines i; described = described i }

@@ -7,9 +7,9 @@ use Rattle.std.proofs.lemmas.Bool.{and_parts, cases_lt, eqb-true, leb-true}
 use Rattle.std.proofs.lemmas.List.{reverse-reverse, reverse-append}
 use Rattle.std.proofs.lemmas.List.Elements.{All-nil, All-cons, All-head, All-tail, All-same, All-push, All-filter, filter_passes}
 use Rattle.c25_meaning_commands.specs.Command.{RangeData, TargetData, Anywhere, InRange, At, CommandData, IsCommand, IsRange}
-use Rattle.c25_meaning_placing.specs.GoodMap.{Request, ranges_for, placings_for, requests, page_for, is_usable, usable, is_inside, IsBase, IsBaseIn, IsBaseAt, Stands, Stand, IsGoodMap}
+use Rattle.c25_meaning_placing.specs.GoodMap.{Request, ranges_for, placings_for, requests, page_for, is_usable, usable, is_inside, blocks_fit, IsBase, IsBaseIn, IsBaseAt, Stands, Stand, IsGoodMap}
 use Rattle.c25_meaning_objects.specs.Module.{Contents, IsModule, is_section_name}
-use Rattle.c25_meaning_placing.specs.Place.{Place}
+use Rattle.c25_meaning_placing.specs.Place.{Place, BlockData}
 use Rattle.c25_linking_laws.proofs.Ranges.{ranges_are}
 use Rattle.c25_linking_laws.proofs.Named.{IsNamedRequest, named_requests}
 
@@ -45,8 +45,8 @@ among : (before : List RangeData) (r : RangeData) (after : List RangeData) → A
 among [] r after all = All-head IsRange r after all
 among (x ∷ before) r after all = among before r after (All-tail IsRange x (before ++ r ∷ after) all)
 
-based_in : (page size : ℕ) (first : RangeData) (ranges : List RangeData) (places : List Place) (base : ℕ) → IsRange first → All IsRange ranges → IsBaseIn page size first ranges places (Ok base) → IsInPage base size
-based_in page size first ranges places base is all h =
+based_in : (page size : ℕ) (blocks : List BlockData) (first : RangeData) (ranges : List RangeData) (places : List Place) (base : ℕ) → IsRange first → All IsRange ranges → IsBaseIn page size blocks first ranges places (Ok base) → IsInPage base size
+based_in page size blocks first ranges places base is all h =
     elim (cases_lt 0 size) [
       | inl some ↦
           let f = h.1 some in
@@ -58,27 +58,28 @@ based_in page size first ranges places base is all h =
           record { first = omega (arith, at, words, within); last = omega (arith, at, words, within, none) }
     ]
 
-based_at : (address page size : ℕ) (ranges : List RangeData) (places : List Place) (base : ℕ) → All IsRange ranges → IsBaseAt address page size ranges places (Ok base) → IsInPage base size
-based_at address page size ranges places base all h = subst (λ b. IsInPage b size) (sym h.0) (any_inside address size ranges all h.1)
+based_at : (address page size : ℕ) (blocks : List BlockData) (ranges : List RangeData) (places : List Place) (base : ℕ) → All IsRange ranges → IsBaseAt address page size blocks ranges places (Ok base) → IsInPage base size
+based_at address page size blocks ranges places base all h =
+    subst (λ b. IsInPage b size) (sym h.0) (any_inside address size ranges all (and_parts (blocks_fit address blocks) (list_any (is_inside address size) ranges) h.1).1)
 
-based : (target : TargetData) (page size : ℕ) (ranges : List RangeData) (places : List Place) (base : ℕ) → All IsRange ranges → IsBase target page size ranges places (Ok base) → IsInPage base size
-based Anywhere page size [] places base all h = absurd cc
-based (InRange name) page size [] places base all h = absurd cc
-based (At address) page size [] places base all h = absurd cc
-based Anywhere page size (first ∷ ranges) places base all h = based_in page size first (first ∷ ranges) places base (All-head IsRange first ranges all) all h
-based (InRange name) page size (first ∷ ranges) places base all h = based_in page size first (first ∷ ranges) places base (All-head IsRange first ranges all) all h
-based (At address) page size (first ∷ ranges) places base all h = based_at address page size (first ∷ ranges) places base all h
+based : (target : TargetData) (page size : ℕ) (blocks : List BlockData) (ranges : List RangeData) (places : List Place) (base : ℕ) → All IsRange ranges → IsBase target page size blocks ranges places (Ok base) → IsInPage base size
+based Anywhere page size blocks [] places base all h = absurd cc
+based (InRange name) page size blocks [] places base all h = absurd cc
+based (At address) page size blocks [] places base all h = absurd cc
+based Anywhere page size blocks (first ∷ ranges) places base all h = based_in page size blocks first (first ∷ ranges) places base (All-head IsRange first ranges all) all h
+based (InRange name) page size blocks (first ∷ ranges) places base all h = based_in page size blocks first (first ∷ ranges) places base (All-head IsRange first ranges all) all h
+based (At address) page size blocks (first ∷ ranges) places base all h = based_at address page size blocks (first ∷ ranges) places base all h
 
 page_of_usable : (target : TargetData) (page : ℕ) (r : RangeData) → is_usable target page r ≡ true → r.page ≡ page
 page_of_usable Anywhere page r e = eqb-true r.page page e
 page_of_usable (InRange name) page r e = eqb-true r.page page (and_parts (r.page == page) (bytes_eq name r.name) e).0
 page_of_usable (At address) page r e = eqb-true r.page page e
 
-some_usable : (target : TargetData) (page size : ℕ) (ranges : List RangeData) (places : List Place) (base : ℕ) → All IsRange ranges → All (λ r. is_usable target page r ≡ true) ranges → IsBase target page size ranges places (Ok base) → page ≤ 1
-some_usable Anywhere page size [] places base all are h = absurd cc
-some_usable (InRange name) page size [] places base all are h = absurd cc
-some_usable (At address) page size [] places base all are h = absurd cc
-some_usable target page size (first ∷ ranges) places base all are h =
+some_usable : (target : TargetData) (page size : ℕ) (blocks : List BlockData) (ranges : List RangeData) (places : List Place) (base : ℕ) → All IsRange ranges → All (λ r. is_usable target page r ≡ true) ranges → IsBase target page size blocks ranges places (Ok base) → page ≤ 1
+some_usable Anywhere page size blocks [] places base all are h = absurd cc
+some_usable (InRange name) page size blocks [] places base all are h = absurd cc
+some_usable (At address) page size blocks [] places base all are h = absurd cc
+some_usable target page size blocks (first ∷ ranges) places base all are h =
     let same = page_of_usable target page first (All-head (λ (r : RangeData). is_usable target page r ≡ true) first ranges are) in
     let low = (All-head IsRange first ranges all).page in
     omega (arith, same, low)
@@ -87,8 +88,8 @@ stands_well : (ranges : List RangeData) (before : List Place) (r : Request) (p :
 stands_well ranges before r p all named s =
     let test = is_usable r.target (page_for ranges r) in
     let are : All IsRange (usable ranges r) = All-filter test IsRange ranges all in
-    let within = based r.target (page_for ranges r) r.size (usable ranges r) before p.base are s.base_is in
-    let low : page_for ranges r ≤ 1 = some_usable r.target (page_for ranges r) r.size (usable ranges r) before p.base are (filter_passes test ranges) s.base_is in
+    let within = based r.target (page_for ranges r) r.size r.blocks (usable ranges r) before p.base are s.base_is in
+    let low : page_for ranges r ≤ 1 = some_usable r.target (page_for ranges r) r.size r.blocks (usable ranges r) before p.base are (filter_passes test ranges) s.base_is in
     let first = within.first in
     let last = within.last in
     let sized = s.size_is in

@@ -148,7 +148,7 @@ impl<'m> Marked<'m> {
         &self,
         out: &mut String,
         line: &mut String,
-        entry: &Entry,
+        entry: &Entry<'_>,
     ) -> Result<(), NoMemory>
         requires { string_bytes line.old ≡ [] }
         ensures { OnOk result ((string_bytes out.new ≡ string_bytes out.old ++ listing.entry_text (contents self.now.parts.now) (entry_of entry.now)) × (string_bytes line.new ≡ [])) }

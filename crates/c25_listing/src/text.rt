@@ -10,7 +10,7 @@ use crate::printing::with_flags;
 use c25_meaning_common::no_memory::NoMemory;
 use std::alloc::Global;
 
-impl Listing {
+impl Listing<'_> {
     /// The text of the listing: for each expanded line its number, the offset
     /// and the word, `'` where the word has a relocation, and the line; for each further word its offset
     /// and itself.

@@ -1,6 +1,7 @@
 //! The directives of expansion by their names.
 
 ghost use Rattle.std.specs.Prelude.{◌≡◌, ◌==◌, slice_index};
+ghost use Rattle.std.specs.Str.{str_eq_ignore_ascii_case};
 ghost use Rattle.c25_meaning_expansion.specs.Acts.{directive_of};
 ghost use Rattle.c25_meaning_expansion.specs.ExpansionRules.{directive_in};
 ghost use Rattle.c25_meaning_lines.specs.Line.{first_word};
@@ -15,6 +16,13 @@ fn is_dotted(word: &str) -> bool
     byte_at(word.as_bytes(), 0) == b'.'
 }
 
+/// Whether a word is this name, in either case. Most are of another length.
+fn is_named(word: &str, name: &str) -> bool
+    ensures { result ≡ str_eq_ignore_ascii_case word.now name.now }
+{
+    word.len() == name.len() && word.eq_ignore_ascii_case(name)
+}
+
 /// The directive that a word is, if it is one that expansion takes, in either case.
 #[tactic(auto, unfolding(c25_meaning_expansion::specs::Acts::directive_of))]
 pub(crate) fn find_directive(word: &str) -> Option<Directive>
@@ -23,33 +31,33 @@ pub(crate) fn find_directive(word: &str) -> Option<Directive>
     // Most words are mnemonics.
     if !is_dotted(word) {
         None
-    } else if word.eq_ignore_ascii_case(".if") {
+    } else if is_named(word, ".if") {
         Some(Directive::If)
-    } else if word.eq_ignore_ascii_case(".elseif") {
+    } else if is_named(word, ".elseif") {
         Some(Directive::ElseIf)
-    } else if word.eq_ignore_ascii_case(".else") {
+    } else if is_named(word, ".else") {
         Some(Directive::Else)
-    } else if word.eq_ignore_ascii_case(".endif") {
+    } else if is_named(word, ".endif") {
         Some(Directive::EndIf)
-    } else if word.eq_ignore_ascii_case(".macro") {
+    } else if is_named(word, ".macro") {
         Some(Directive::Macro)
-    } else if word.eq_ignore_ascii_case(".endm") {
+    } else if is_named(word, ".endm") {
         Some(Directive::EndMacro)
-    } else if word.eq_ignore_ascii_case(".mexit") {
+    } else if is_named(word, ".mexit") {
         Some(Directive::ExitMacro)
-    } else if word.eq_ignore_ascii_case(".loop") {
+    } else if is_named(word, ".loop") {
         Some(Directive::Loop)
-    } else if word.eq_ignore_ascii_case(".break") {
+    } else if is_named(word, ".break") {
         Some(Directive::Break)
-    } else if word.eq_ignore_ascii_case(".endloop") {
+    } else if is_named(word, ".endloop") {
         Some(Directive::EndLoop)
-    } else if word.eq_ignore_ascii_case(".asg") {
+    } else if is_named(word, ".asg") {
         Some(Directive::Assign)
-    } else if word.eq_ignore_ascii_case(".eval") {
+    } else if is_named(word, ".eval") {
         Some(Directive::Evaluate)
-    } else if word.eq_ignore_ascii_case(".copy") || word.eq_ignore_ascii_case(".include") {
+    } else if is_named(word, ".copy") || is_named(word, ".include") {
         Some(Directive::Copy)
-    } else if word.eq_ignore_ascii_case(".end") {
+    } else if is_named(word, ".end") {
         Some(Directive::End)
     } else {
         None

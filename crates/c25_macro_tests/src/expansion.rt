@@ -1,107 +1,69 @@
-//! Sources expanded, with answers from the assembler's rules.
+//! Expansions that lack a file, and files of one name.
 
-use crate::bench::{agrees, answers, gives, misses, source};
 use c25_expr::symbols::Symbols;
 use c25_macro::expander::Expander;
 use c25_macro::files::{FileTwice, Files};
 use c25_meaning_common::failure::Failure;
-use c25_meaning_language::value::{Base, Value};
+use c25_meaning_language::statement::FaultKind;
 use std::process::Abort;
 use std::test::Fail;
 
-#[test]
-fn macros_are_expanded_and_number_their_names(rt: HostRuntime) -> Result<(), Fail> {
-    gives(
-        &rt,
-        "P .macro a\n .word a\nL? .word L?\n .endm\n P 1,2,3\n P 4\n",
-        ">2| .word 1,2,3\n>3|L_1 .word L_1\n>2| .word 4\n>3|L_2 .word L_2\n.\n",
-    )?;
-    gives(&rt, "R .macro\n R\n .endm\n R\n", "!2 Depth\n")
+/// The line for which the next answer of an expansion tells a missing file.
+fn faulty_line(expander: &mut Expander<'_>, symbols: &Symbols) -> Option<usize> {
+    match expander.next_line(symbols) {
+        Err(Failure::Fault(fault)) if fault.kind == FaultKind::NoFile => Some(fault.line),
+        _ => None,
+    }
 }
 
-/// `X` is defined between the first line and the next.
-fn sees_the_new_symbol(
-    rt: &(impl Abort + AllocGlobal),
-    expander: &mut Expander<'_>,
-) -> Result<(), Fail> {
-    let mut symbols = Symbols::new(rt.alloc());
-    agrees(rt, expander, &symbols, ">1|X .set 1")?;
-    misses(rt, expander, None);
-    let one = Value {
-        base: Base::Absolute,
-        offset: 1,
-    };
-    symbols.define("X", one)?;
-    agrees(rt, expander, &symbols, ">3| NOP")?;
-    agrees(rt, expander, &symbols, ".")
+/// This file is missing to an expansion.
+fn misses(rt: &(impl Abort + AllocGlobal), expander: &Expander<'_>, wanted: Option<&str>) {
+    let name = expander.missing();
+    assert_eq!(rt; name, wanted);
 }
 
-#[test]
-fn symbols_are_seen_from_the_next_call_on(rt: HostRuntime) -> Result<(), Fail> {
-    let alloc = rt.alloc();
-    let files = source(alloc, "X .set 1\n .if X\n NOP\n .endif\n")?;
-    let mut expander = Expander::new(alloc, &files, "a.asm");
-    sees_the_new_symbol(&rt, &mut expander)
-}
-
-#[test]
-fn files_are_copied_by_their_names(rt: HostRuntime) -> Result<(), Fail> {
-    let alloc = rt.alloc();
-    let mut files = source(alloc, " .copy \"b\"\n .copy \"q\"\n")?;
-    files.add("b", " .word 5")?;
-    answers(
-        &rt,
-        &files,
-        &Symbols::new(alloc),
-        ">1| .word 5\n!2 NoFile\n",
-    )
-}
-
-/// The next answer of an expansion is this row, and this file is missing.
+/// The next answer of an expansion is that this file is missing, in this line.
 fn misses_file(
     rt: &(impl Abort + AllocGlobal),
     expander: &mut Expander<'_>,
     symbols: &Symbols,
-    row: &str,
+    line: usize,
     name: &str,
-) -> Result<(), Fail> {
-    agrees(rt, expander, symbols, row)?;
+) {
+    let found = faulty_line(expander, symbols);
+    assert_eq!(rt; found, Some(line));
     misses(rt, expander, Some(name));
-    Ok(())
 }
 
-/// The first answers of a module's expansion are this row, and this file is missing.
+/// Each answer of a module's expansion is that.
 fn begins_without(
     rt: &(impl Abort + AllocGlobal),
     files: &Files,
     module: &str,
-    row: &str,
+    line: usize,
     name: &str,
-) -> Result<(), Fail> {
+) {
     let symbols = Symbols::new(rt.alloc());
     let mut expander = Expander::new(rt.alloc(), files, module);
+    misses(rt, &expander, None);
     for _ in 0..2 {
-        misses_file(rt, &mut expander, &symbols, row, name)?;
+        misses_file(rt, &mut expander, &symbols, line, name);
     }
-    Ok(())
 }
 
 #[test]
 fn a_file_that_is_not_there_is_named(rt: HostRuntime) -> Result<(), Fail> {
-    let files = source(rt.alloc(), " .copy \"q\"\n")?;
-    begins_without(&rt, &files, "a.asm", "!1 NoFile", "q")
-}
-
-#[test]
-fn a_module_that_is_not_there_is_told_at_line_0(rt: HostRuntime) -> Result<(), Fail> {
-    let files = Files::new(rt.alloc());
-    begins_without(&rt, &files, "m", "!0 NoFile", "m")
+    let mut files = Files::new(rt.alloc());
+    begins_without(&rt, &files, "m", 0, "m");
+    files.add("m", " .copy \"q\"\n")?;
+    begins_without(&rt, &files, "m", 1, "q");
+    Ok(())
 }
 
 /// The file of this name has this text.
-fn has(rt: &(impl Abort + AllocGlobal), files: &Files, name: &str, text: Option<&str>) {
-    let found = files.text(name);
-    assert_eq!(rt; found, text);
+fn has(rt: &(impl Abort + AllocGlobal), files: &Files, name: &str, wanted: Option<&str>) {
+    let text = files.text(name);
+    assert_eq!(rt; text, wanted);
 }
 
 #[test]

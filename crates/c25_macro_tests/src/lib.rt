@@ -1,8 +1,6 @@
-//! Tests of substitution (`c25_substitution`) and expansion (`c25_macro`).
+//! Tests of substitution (`c25_substitution`) and expansion (`c25_macro`): what no listing shows.
 #![tactic(auto)]
 
-#[cfg(test)]
-mod bench;
 #[cfg(test)]
 mod expansion;
 #[cfg(test)]

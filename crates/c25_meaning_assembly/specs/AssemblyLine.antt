@@ -19,14 +19,19 @@ use Rattle.c25_meaning_assembly.specs.declared.assembly.Target.TheVariants as ta
 use Rattle.c25_meaning_language.specs.declared.statement.FaultKind.{FaultKind}
 use Rattle.c25_meaning_language.specs.declared.statement.FaultKind.TheVariants as fault
 
+-- how much room is reserved: a count of words, and for `.bss` a flag whether they have to lie in one page
+pub record Room : Type 0 where
+  pub count : Tree
+  pub flag : Option Tree
+
 -- what a line does
 pub data Act : Type 0 where
   -- a line without a first word, or with a directive that has no effect
   Nothing : Act
   -- `.text`, `.data`, `.sect`
   Enter : (section : List ℕ) → Act
-  -- `.bss`, `.usect`; the count may be no expression, which is told behind a section of the other kind
-  Reserve : (section name : List ℕ) (count : Result Tree FaultKind) → Act
+  -- `.bss`, `.usect`; count and flag may be no expressions, which is told behind a section of the other kind
+  Reserve : (section name : List ℕ) (room : Result Room FaultKind) → Act
   -- `.set`, `.equ`
   Equate : (name : List ℕ) (value : Tree) → Act
   -- an instruction, `.word`, `.int`, `.byte`
@@ -144,6 +149,17 @@ section_in operand = said_in operand >>= λ name. as_section name
 abbrev pub later_in : List Piece → Result (Result Tree FaultKind) FaultKind
 later_in operand = if is_expression (written_of operand) then Ok (expression_in operand) else Err fault.OperandForm
 
+-- a count alone
+abbrev pub alone : Result Tree FaultKind → Result Room FaultKind
+alone count = count >>= λ e. Ok (record { count = e; flag = None })
+
+-- a count and a flag: what is no expression comes before what is too deep
+abbrev pub flagged : Result Tree FaultKind → Result Tree FaultKind → Result Room FaultKind
+flagged (Ok e) (Ok f) = Ok (record { count = e; flag = Some f })
+flagged (Ok e) (Err k) = Err k
+flagged (Err fault.TooDeep) (Err k) = Err k
+flagged (Err k) flag = Err k
+
 -- ---- the directives with operands
 
 -- `.sect`
@@ -151,15 +167,17 @@ abbrev pub entering : List (List Piece) → Result Act FaultKind
 entering (o ∷ []) = section_in o >>= λ section. Ok (Enter section)
 entering _ = Err fault.OperandCount
 
--- `.bss`: a name and a count
+-- `.bss`: a name and a count, and a flag or none
 abbrev pub reserving : List (List Piece) → Result Act FaultKind
-reserving (o ∷ p ∷ []) = name_in o >>= λ name. later_in p >>= λ count. Ok (Reserve (codes ".bss") name count)
+reserving (o ∷ p ∷ []) = name_in o >>= λ name. later_in p >>= λ count. Ok (Reserve (codes ".bss") name (alone count))
+reserving (o ∷ p ∷ q ∷ []) =
+    name_in o >>= λ name. later_in p >>= λ count. later_in q >>= λ flag. Ok (Reserve (codes ".bss") name (flagged count flag))
 reserving _ = Err fault.OperandCount
 
 -- `.usect`: a section and a count, for the label
 abbrev pub reserving_in : List ℕ → List (List Piece) → Result Act FaultKind
 reserving_in label (o ∷ p ∷ []) =
-    section_in o >>= λ section. later_in p >>= λ count. Ok (Reserve section label count)
+    section_in o >>= λ section. later_in p >>= λ count. Ok (Reserve section label (alone count))
 reserving_in label _ = Err fault.OperandCount
 
 -- one operand, an expression

@@ -1,19 +1,21 @@
 -- The module that the lines have made, when all its symbols are known (SPRU018, symbols and relocation).
 use Rattle.std.specs.Prelude.{ℕ, ◌+◌, Bool, true, false, if◌then◌else◌, List, [], ◌∷◌, ◌++◌, length, map, replicate, Option, Some, None, Result, Ok, Err, pos}
-use Rattle.std.specs.List.{flat_map, list_all}
+use Rattle.std.specs.List.{flat_map, fold, list_all, position_or_len}
+use Rattle.std.specs.Str.{bytes_eq}
 use Rattle.c25_meaning_assembly.specs.Addresses.{Sheet, sheet_of, words_of, relocations_of}
 use Rattle.c25_meaning_language.specs.ExpansionFault.{ExpansionFault, Faulty}
 use Rattle.c25_meaning_objects.specs.Module.{Contents, SectionBody, Uninitialised, Initialised, SectionData, SymbolData}
 use Rattle.c25_meaning_common.specs.Results.{◌>>=◌, fold_ok, told}
-use Rattle.c25_meaning_assembly.specs.Sections.{Definitions, Section, Content, Operands, Words, Zeros, Exported, Origin, Item, Progress, changed, imports, is_in, place}
+use Rattle.c25_meaning_assembly.specs.Sections.{Definitions, Section, Content, Operands, Words, Zeros, Exported, Origin, Item, Progress, changed, imports, is_in, once, place}
 use Rattle.c25_meaning_language.specs.Value.{Table, value_named, start_of_text}
 use Rattle.c25_meaning_assembly.specs.declared.assembly.Target.{Target}
+use Rattle.c25_meaning_objects.specs.declared.object.LineMark.{LineMark}
 use Rattle.c25_meaning_objects.specs.declared.object.Relocation.{Relocation}
 use Rattle.c25_meaning_objects.specs.declared.object.Scope.{Scope}
 use Rattle.c25_meaning_objects.specs.declared.object.Scope.TheVariants as scope
 use Rattle.c25_meaning_objects.specs.declared.object.SymbolKind.{SymbolKind}
 use Rattle.c25_meaning_objects.specs.declared.object.SymbolKind.TheVariants as symbol
-use Rattle.c25_meaning_objects.specs.declared.object.Version.TheVariants.{One}
+use Rattle.c25_meaning_objects.specs.declared.object.Version.TheVariants.{Two}
 use Rattle.c25_meaning_language.specs.declared.statement.FaultKind.{FaultKind}
 use Rattle.c25_meaning_language.specs.declared.statement.FaultKind.TheVariants as fault
 use Rattle.c25_meaning_language.specs.declared.value.Base.{Base}
@@ -112,17 +114,41 @@ abbrev pub symbol_of : List (List ℕ) → List ℕ × Value → SymbolData
 symbol_of exported pair =
     record { kind = kind_of pair.1.base; scope = scope_of (is_in exported pair.0); value = pair.1.offset; name = pair.0 }
 
--- the module of sections and symbols, of version 1
+-- files in the order of their first use, and lines with the numbers of their files
+pub record Lines : Type 0 where
+  pub files : List (List ℕ)
+  pub lines : List LineMark
+
+-- before the first mark
+abbrev pub no_lines : Lines
+no_lines = record { files = []; lines = [] }
+
+-- the line of one mark more: its file has its number among those that are used, or else the next one
+abbrev pub with_line : Lines → Origin → Lines
+with_line l o = record {
+  files = once l.files o.file;
+  lines = l.lines ++ record { file = position_or_len (bytes_eq o.file) l.files; line = o.line } ∷ [];
+}
+
+-- the files and lines of marks
+abbrev pub lines_of : List Origin → Lines
+lines_of origins = fold with_line no_lines origins
+
+-- the files and lines of the marks of sections
+abbrev pub lines_in : List Section → Lines
+lines_in sections = lines_of (flat_map (λ s. s.origins) sections)
+
+-- the module of sections and symbols
 abbrev pub module_with : List Section → Definitions → List (List ℕ) → Contents
 module_with sections names exported = record {
   sections = map section_of sections;
   marks = flat_map (λ s. s.marks) sections;
   symbols = map (symbol_of exported) names;
   relocations = flat_map (λ s. s.relocations) sections;
-  version = One;
-  files = [];
-  lines = [];
-  blocks = [];
+  version = Two;
+  files = (lines_in sections).files;
+  lines = (lines_in sections).lines;
+  blocks = flat_map (λ s. s.blocks) sections;
 }
 
 -- the module of all lines, or the first fault of their operands

@@ -1,10 +1,11 @@
 -- What the lines of a module make one after another: sections with their sizes, symbols, and what waits for the symbols
 -- (SPRU018, sections, symbols, assembler directives).
-use Rattle.std.specs.Prelude.{ℕ, ◌+◌, ◌/◌, Bool, true, false, not, ◌&&◌, is_some, nat_le, nat_lt, if◌then◌else◌, List, [], ◌∷◌, ◌++◌, length, filter, set, slice_get, codes, Option, Some, None, Result, Ok, Err, ℤ, pos, negsuc}
+use Rattle.std.specs.Prelude.{ℕ, ◌+◌, ◌/◌, ◌^◌, Bool, true, false, not, ◌||◌, ◌&&◌, is_some, nat_le, nat_lt, if◌then◌else◌, List, [], ◌∷◌, ◌++◌, length, filter, set, slice_get, codes, Option, Some, None, Result, Ok, Err, ℤ, pos, negsuc}
 use Rattle.std.specs.List.{position, find, list_any}
-use Rattle.std.specs.Str.{bytes_eq}
+use Rattle.std.specs.Ordering.{int_eq}
+use Rattle.std.specs.Str.{bytes_eq, is_utf8}
 use Rattle.c25_meaning_assembly.specs.OperandFields.{target_size}
-use Rattle.c25_meaning_assembly.specs.AssemblyLine.{Act, Nothing, Enter, Reserve, Equate, Put, Load, Space, Declare, Export, Registers, Statement}
+use Rattle.c25_meaning_assembly.specs.AssemblyLine.{Room, Act, Nothing, Enter, Reserve, Equate, Put, Load, Space, Declare, Export, Registers, Statement}
 use Rattle.c25_meaning_common.specs.Results.{◌>>=◌, fold_ok}
 use Rattle.c25_meaning_language.specs.Absolute.{number_by}
 use Rattle.c25_meaning_language.specs.Statement.{valued}
@@ -12,6 +13,7 @@ use Rattle.c25_meaning_language.specs.Tree.{Tree}
 use Rattle.c25_meaning_language.specs.Value.{Table, value_named, predefined, start_of_text}
 use Rattle.c25_meaning_assembly.specs.declared.assembly.Target.{Target}
 use Rattle.c25_meaning_assembly.specs.declared.assembly.Target.TheVariants as target
+use Rattle.c25_meaning_objects.specs.declared.object.Block.{Block}
 use Rattle.c25_meaning_objects.specs.declared.object.ModuleMark.{ModuleMark}
 use Rattle.c25_meaning_objects.specs.declared.object.Relocation.{Relocation}
 use Rattle.c25_meaning_language.specs.declared.statement.FaultKind.{FaultKind}
@@ -23,12 +25,20 @@ use Rattle.c25_meaning_language.specs.declared.value.Value.{Value}
 abbrev pub Definitions : Type 0
 Definitions = List (List ℕ × Value)
 
--- a section: the lines give it its size and marks, its words and relocations come when all symbols are known
+-- a line
+pub record Origin : Type 0 where
+  pub file : List ℕ
+  pub line : ℕ
+
+-- a section: the lines give it its size, its marks with the line of each, and its blocks; its words and relocations come
+-- when all symbols are known
 pub record Section : Type 0 where
   pub name : List ℕ
   pub initialised : Bool
   pub size : ℕ
   pub marks : List ModuleMark
+  pub origins : List Origin
+  pub blocks : List Block
   pub words : List ℕ
   pub relocations : List Relocation
 
@@ -38,11 +48,6 @@ pub data Content : Type 0 where
   Words : (words : List ℕ) → Content
   Zeros : (count : ℕ) → Content
   Exported : (names : List (List ℕ)) → Content
-
--- a line
-pub record Origin : Type 0 where
-  pub file : List ℕ
-  pub line : ℕ
 
 -- content, the line that it is of, and where it begins
 pub record Item : Type 0 where
@@ -64,14 +69,16 @@ pub record Progress : Type 0 where
   -- whether there was a `.mmregs`
   pub registers : Bool
   pub items : List Item
+  -- the names of the files that hold instructions
+  pub files : List (List ℕ)
 
 -- a section without words
 abbrev pub empty_section : List ℕ → Bool → Section
-empty_section name initialised = record { name = name; initialised = initialised; size = 0; marks = []; words = []; relocations = [] }
+empty_section name initialised = record { name = name; initialised = initialised; size = 0; marks = []; origins = []; blocks = []; words = []; relocations = [] }
 
 -- before the first line: an initialised section `.text`
 abbrev pub start : Progress
-start = record { sections = empty_section (codes ".text") true ∷ []; current = 0; names = []; declared = []; exported = []; registers = false; items = [] }
+start = record { sections = empty_section (codes ".text") true ∷ []; current = 0; names = []; declared = []; exported = []; registers = false; items = []; files = [] }
 
 -- ---- places and symbols
 
@@ -127,6 +134,15 @@ count_of v = number_by v.base v.offset >>= λ z. count_by z
 -- the count that an expression gives
 unfoldable pub count_in : Table → Tree → Result ℕ FaultKind
 count_in t e = valued t e >>= λ v. count_of v
+
+-- whether the flag that a value is is set: it is a number other than 0
+abbrev pub flag_of : Value → Result Bool FaultKind
+flag_of v = number_by v.base v.offset >>= λ z. Ok (not (int_eq z (pos 0)))
+
+-- whether the flag that an expression gives is set; none is not
+abbrev pub flag_in : Table → Option Tree → Result Bool FaultKind
+flag_in t None = Ok false
+flag_in t (Some e) = valued t e >>= λ v. flag_of v
 
 -- ---- sections
 
@@ -186,22 +202,6 @@ with_item origin content p =
 unfoldable pub lay : Origin → Content → ℕ → Progress → Result Progress FaultKind
 lay origin content n p = grow p.current n (with_item origin content p)
 
--- one mark more
-abbrev pub with_mark : ModuleMark → Section → Section
-with_mark m s = record s { marks = s.marks ++ m ∷ [] }
-
--- an instruction of so many words marks where it begins
-abbrev pub mark : Target → ℕ → ℕ → ℕ → Progress → Progress
-mark (target.Instruction f) section offset n p =
-    record p { sections = changed (with_mark (record { section = section; offset = offset; size = n })) p.sections section }
-mark target.Words section offset n p = p
-mark target.Bytes section offset n p = p
-
--- words for a name
-unfoldable pub reserve : List ℕ → List ℕ → ℕ → Progress → Result Progress FaultKind
-reserve section name n p =
-    opened section false p >>= λ o. grow o.0 n o.1 >>= λ q. define name (place_in o.1.sections o.0) q
-
 -- whether a name is among these
 abbrev pub is_in : List (List ℕ) → List ℕ → Bool
 is_in names name = list_any (bytes_eq name) names
@@ -219,6 +219,63 @@ are_distinct (n ∷ ns) = not (is_in ns n) && are_distinct ns
 abbrev pub all_once : List (List ℕ) → List (List ℕ) → List (List ℕ)
 all_once names [] = names
 all_once names (n ∷ ns) = all_once (once names n) ns
+
+-- ---- instructions
+
+-- records have room for a name of at most 65,535 bytes in UTF-8
+abbrev pub is_file_name : List ℕ → Bool
+is_file_name name = is_utf8 name && nat_le (length name) 65535
+
+-- records have room for a line of 32 bits, counted from 1
+abbrev pub is_line_number : ℕ → Bool
+is_line_number line = nat_le 1 line && nat_lt line (2 ^ 32)
+
+-- a file that holds an instruction is one of those that do, or a new one; there are at most 65,535
+abbrev pub use_file : List ℕ → Progress → Result Progress FaultKind
+use_file name p =
+    if is_in p.files name then Ok p
+    else if nat_le 65535 (length p.files) || not (is_file_name name) then Err fault.TooLarge
+    else Ok (record p { files = p.files ++ name ∷ [] })
+
+-- the line of an instruction
+unfoldable pub use_line : Origin → Progress → Result Progress FaultKind
+use_line origin p = if is_line_number origin.line then use_file origin.file p else Err fault.TooLarge
+
+-- one mark more, with its line
+abbrev pub with_mark : Origin → ModuleMark → Section → Section
+with_mark origin m s = record s { marks = s.marks ++ m ∷ []; origins = s.origins ++ origin ∷ [] }
+
+-- an instruction of so many words marks where it begins
+abbrev pub mark : Origin → Target → ℕ → ℕ → ℕ → Progress → Result Progress FaultKind
+mark origin (target.Instruction f) section offset n p =
+    use_line origin p >>= λ q.
+    Ok (record q { sections = changed (with_mark origin (record { section = section; offset = offset; size = n })) q.sections section })
+mark origin target.Words section offset n p = Ok p
+mark origin target.Bytes section offset n p = Ok p
+
+-- ---- reserved words
+
+-- one block more
+abbrev pub with_block : Block → Section → Section
+with_block b s = record s { blocks = s.blocks ++ b ∷ [] }
+
+-- words that have to lie in one page are a block
+abbrev pub block : Bool → ℕ → ℕ → ℕ → Progress → Progress
+block true section offset n p =
+    record p { sections = changed (with_block (record { section = section; offset = offset; size = n })) p.sections section }
+block false section offset n p = p
+
+-- a block has 1 to 128 words
+abbrev pub block_allowed : Bool → ℕ → Result (Unit {0}) FaultKind
+block_allowed flag n = if flag && not (nat_le 1 n && nat_le n 128) then Err fault.BadBlock else Ok tt
+
+-- words for a name
+unfoldable pub reserve : List ℕ → List ℕ → ℕ → Bool → Progress → Result Progress FaultKind
+reserve section name n flag p =
+    opened section false p >>= λ o. grow o.0 n o.1 >>= λ q.
+    define name (place_in o.1.sections o.0) (block flag o.0 (size_at o.1.sections o.0) n q)
+
+-- ---- names
 
 -- whether a name is an AR or PA name
 abbrev pub is_predefined : List ℕ → Bool
@@ -240,21 +297,26 @@ define_pair p pair = define pair.0 pair.1 p
 
 -- ---- the directives, each in the order of its faults
 
--- what is looked at before the label is defined: a section of the other kind, then a count that is no expression
+-- what is looked at before the label is defined: a section of the other kind, then what is no expression
 abbrev pub allowed : Act → Progress → Result (Unit {0}) FaultKind
 allowed (Enter section) p = of_kind section true p
-allowed (Reserve section name count) p = of_kind section false p >>= λ _. count >>= λ e. Ok tt
+allowed (Reserve section name room) p = of_kind section false p >>= λ _. room >>= λ r. Ok tt
 allowed _ p = Ok tt
 
 -- `.text`, `.data`, `.sect`
 abbrev pub enter : List ℕ → Progress → Result Progress FaultKind
 enter section p = opened section true p >>= λ o. Ok (record o.1 { current = o.0 })
 
--- `.bss`, `.usect`: the name is looked at before the count, and defined behind it
-abbrev pub reserve_count : List ℕ → List ℕ → Result Tree FaultKind → Progress → Result Progress FaultKind
-reserve_count section name count p =
+-- so much room for a name: the count is looked at before the flag, what a block may have behind both
+abbrev pub reserve_room : List ℕ → List ℕ → Room → Progress → Result Progress FaultKind
+reserve_room section name room p =
+    count_in (table p) room.count >>= λ n. flag_in (table p) room.flag >>= λ flag. block_allowed flag n >>= λ _. reserve section name n flag p
+
+-- `.bss`, `.usect`: the name is looked at before the operands, and defined behind them
+abbrev pub reserve_count : List ℕ → List ℕ → Result Room FaultKind → Progress → Result Progress FaultKind
+reserve_count section name room p =
     if stands p.names name then Err fault.Defined
-    else (count >>= λ e. count_in (table p) e >>= λ n. reserve section name n p)
+    else (room >>= λ r. reserve_room section name r p)
 
 -- `.set`, `.equ`: likewise
 abbrev pub equate : List ℕ → Tree → Progress → Result Progress FaultKind
@@ -266,7 +328,7 @@ equate name e p =
 abbrev pub put : Origin → Target → List Tree → Progress → Result Progress FaultKind
 put origin t trees p =
     lay origin (Operands t trees) (target_size t (length trees)) p >>= λ q.
-    Ok (mark t p.current (size_at p.sections p.current) (target_size t (length trees)) q)
+    mark origin t p.current (size_at p.sections p.current) (target_size t (length trees)) q
 
 -- `.space`: bits, rounded up to words
 abbrev pub space : Origin → Tree → Progress → Result Progress FaultKind
@@ -292,7 +354,7 @@ registers p = if p.registers then Ok p else fold_ok define_pair (record p { regi
 abbrev pub act : Origin → Act → Progress → Result Progress FaultKind
 act origin Nothing p = Ok p
 act origin (Enter section) p = enter section p
-act origin (Reserve section name count) p = reserve_count section name count p
+act origin (Reserve section name room) p = reserve_count section name room p
 act origin (Equate name e) p = equate name e p
 act origin (Put t trees) p = put origin t trees p
 act origin (Load words) p = lay origin (Words words) (length words) p

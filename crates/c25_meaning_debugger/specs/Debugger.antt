@@ -1,6 +1,6 @@
 -- The answers of a debugger's script, over an image and the states of a run, whatever one step is (own).
 use Rattle.std.specs.Prelude.{◌≡◌, ℕ, ◌-◌, List, [], ◌∷◌, ◌++◌, min}
-use Rattle.c25_meaning_linking.specs.Linking.{ImageData}
+use Rattle.c25_meaning_linking.specs.Linking.{ImageData, line_at}
 use Rattle.c25_meaning_processor.specs.Run.{Signals, Stepping}
 use Rattle.c25_meaning_image.specs.Marks.{size_at}
 use Rattle.c25_meaning_processor.specs.State.{State, data_at, program_at}
@@ -9,7 +9,7 @@ use Rattle.c25_meaning_stimulus.specs.declared.script.Cmd.{Cmd}
 use Rattle.c25_meaning_stimulus.specs.declared.script.Cmd.TheVariants as cmd
 use Rattle.c25_meaning_breakpoints.specs.Goes.{Goes, Halting, is_breakpoint}
 use Rattle.c25_meaning_breakpoints.specs.Set.{can_set, with_breakpoint, without_breakpoint}
-use Rattle.c25_meaning_debugger.specs.Texts.{AreLinesOf, IsWhere, cleared_text, halting_text, marks_from, regs_text, set_text, stack_text, symbols_text, words_text}
+use Rattle.c25_meaning_debugger.specs.Texts.{AreLinesOf, IsWhere, SourceLine, cleared_text, halting_text, marks_from, regs_text, set_text, stack_text, symbols_text, words_text}
 
 -- where a session stands: how many steps are done in all, the state, and the breakpoints in the order in which they were set
 pub record Point : Type 0 where
@@ -39,6 +39,10 @@ data_word s address = data_at s.registers.cnf s.world address
 abbrev pub program_word : State → ℕ → ℕ
 program_word s address = program_at s.registers.cnf s.world address
 
+-- where the instruction at an address of an image stands in the sources
+abbrev pub source_line_at : ImageData → ℕ → SourceLine
+source_line_at image address = line_at address image.lines
+
 -- what a command answers at a point, and the point behind it
 abbrev pub Answers : Stepping → Signals → ImageData → Cmd → Point → List ℕ → Point → Type 0
 Answers step signals image (cmd.Step n) p text q = Steps step signals [] n p text q
@@ -52,8 +56,8 @@ Answers step signals image (cmd.Data address count) p text q = (text ≡ words_t
 Answers step signals image (cmd.Prog address count) p text q = (text ≡ words_text (program_word p.state) address count) × (q ≡ p)
 Answers step signals image cmd.Stack p text q = (text ≡ stack_text (regs_of p.state.registers)) × (q ≡ p)
 Answers step signals image cmd.Where p text q =
-    IsWhere image.program p.state.registers.pc (size_at image.marks p.state.registers.pc) text × (q ≡ p)
-Answers step signals image (cmd.List n) p text q = AreLinesOf image.program (marks_from image.marks p.state.registers.pc n) text × (q ≡ p)
+    IsWhere image.program (source_line_at image) p.state.registers.pc (size_at image.marks p.state.registers.pc) text × (q ≡ p)
+Answers step signals image (cmd.List n) p text q = AreLinesOf image.program (source_line_at image) (marks_from image.marks p.state.registers.pc n) text × (q ≡ p)
 Answers step signals image cmd.Symbols p text q = (text ≡ symbols_text image.described.symbols) × (q ≡ p)
 
 -- what commands answer one behind another, and the point behind them

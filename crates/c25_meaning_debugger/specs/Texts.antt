@@ -85,27 +85,40 @@ ReadsAt words address size (Some i) = Reads (memory_of_map words address) (memor
 ReadsAt words address size None =
     (i : Insn) → Reads (memory_of_map words address) (memory_of_map words (address + 1)) i → size_of i ≡ size → ⊥
 
--- the line of an address and what is read there
-abbrev pub insn_line : ℕ → Option Insn → List ℕ
-insn_line address None = four_digits address ++ codes " none\n"
-insn_line address (Some i) = four_digits address ++ codes " " ++ show i ++ codes "\n"
+-- what is read at an address, or that nothing is
+abbrev pub insn_text : Option Insn → List ℕ
+insn_text None = codes "none"
+insn_text (Some i) = show i
+
+-- where an instruction stands in the sources, if that is known: the name of a file and the number of a line
+abbrev pub SourceLine : Type 0
+SourceLine = Option (List ℕ × ℕ)
+
+-- what ends a line of an instruction that stands there
+abbrev pub source_line_end : SourceLine → List ℕ
+source_line_end None = codes "\n"
+source_line_end (Some place) = codes " " ++ place.0 ++ codes ":" ++ decimal place.1 ++ codes "\n"
+
+-- the line of an address, of what is read there and of where it stands in the sources
+abbrev pub insn_line : ℕ → Option Insn → SourceLine → List ℕ
+insn_line address insn source = four_digits address ++ codes " " ++ insn_text insn ++ source_line_end source
 
 -- a text is the line of the instruction at a mark
-pub record IsLineOf (words : map.FinMap nat_cmp ℕ) (mark : Mark) (text : List ℕ) : Type 0 where
+pub record IsLineOf (words : map.FinMap nat_cmp ℕ) (source_line_at : ℕ → SourceLine) (mark : Mark) (text : List ℕ) : Type 0 where
   pub insn : Option Insn
   pub reads : ReadsAt words mark.address mark.size insn
-  pub text_is : text ≡ insn_line mark.address insn
+  pub text_is : text ≡ insn_line mark.address insn (source_line_at mark.address)
 
 -- a text is the lines of marks
-abbrev pub AreLinesOf : map.FinMap nat_cmp ℕ → List Mark → List ℕ → Type 0
-AreLinesOf words [] text = text ≡ []
-AreLinesOf words (mark ∷ marks) text =
-    (first rest : List ℕ) × IsLineOf words mark first × AreLinesOf words marks rest × (text ≡ first ++ rest)
+abbrev pub AreLinesOf : map.FinMap nat_cmp ℕ → (ℕ → SourceLine) → List Mark → List ℕ → Type 0
+AreLinesOf words source_line_at [] text = text ≡ []
+AreLinesOf words source_line_at (mark ∷ marks) text =
+    (first rest : List ℕ) × IsLineOf words source_line_at mark first × AreLinesOf words source_line_at marks rest × (text ≡ first ++ rest)
 
 -- a text is the line of an address: of the instruction there, if a mark of this size is there
-abbrev pub IsWhere : map.FinMap nat_cmp ℕ → ℕ → Option ℕ → List ℕ → Type 0
-IsWhere words address None text = text ≡ insn_line address None
-IsWhere words address (Some size) text = IsLineOf words (record { address = address; size = size }) text
+abbrev pub IsWhere : map.FinMap nat_cmp ℕ → (ℕ → SourceLine) → ℕ → Option ℕ → List ℕ → Type 0
+IsWhere words source_line_at address None text = text ≡ insn_line address None (source_line_at address)
+IsWhere words source_line_at address (Some size) text = IsLineOf words source_line_at (record { address = address; size = size }) text
 
 -- the first n marks from an address up
 abbrev pub marks_from : List Mark → ℕ → ℕ → List Mark

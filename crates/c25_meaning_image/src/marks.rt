@@ -1,10 +1,9 @@
 //! Lists of marks: which are those of a program, and what one says of an address.
 
-ghost use Rattle.std.specs.Prelude.{◌≡◌};
-ghost use Rattle.c25_meaning_image.specs.Marks.{fit_from};
-ghost use Rattle.c25_meaning_image.specs.Marks.{is_code, size_at};
+ghost use Rattle.std.specs.Prelude.{◌≡◌, ◌+◌, ◌≤◌};
+ghost use Rattle.c25_meaning_image.specs.Marks.{fit_from, is_code, is_load, load_is_free, run_at, run_fit, run_fits_behind, size_at, with_loads};
 
-use crate::mark::Mark;
+use crate::mark::{Mark, RunMark};
 
 /// Whether marks may be the instructions of one image: each has one or two words, they ascend, no
 /// two share a word, and each ends below address 65,536. It holds of no marks.
@@ -42,4 +41,75 @@ pub fn is_code(marks: &[Mark], address: u16) -> bool
         mark.address <= address
             && u32::from(address) < u32::from(mark.address) + u32::from(mark.size)
     })
+}
+
+/// The instruction that runs at a program address of block B0, where one does.
+#[tactic(auto, unfolding(crate::specs::Marks::run_at))]
+pub fn run_at(run_marks: &[RunMark], address: u16) -> Option<RunMark>
+    ensures { result ≡ run_at run_marks.now address }
+{
+    for mark in run_marks {
+        if mark.run == address {
+            return Some(*mark);
+        }
+    }
+    None
+}
+
+/// Whether a program word is a loaded word of an instruction that runs in block B0.
+pub fn is_load(run_marks: &[RunMark], address: u16) -> bool
+    ensures { result ≡ is_load run_marks.now address }
+{
+    run_marks.iter().any(|mark| {
+        mark.load <= address && u32::from(address) < u32::from(mark.load) + u32::from(mark.size)
+    })
+}
+
+/// Whether a program word belongs to an instruction where its words are loaded: to one that runs in block
+/// B0, or to one that runs where it stands.
+pub fn is_loaded_code(run_marks: &[RunMark], marks: &[Mark], address: u16) -> bool
+    ensures { result ≡ is_code (with_loads run_marks.now marks.now) address }
+{
+    is_load(run_marks, address) || is_code(marks, address)
+}
+
+/// Whether an instruction has one or two words, runs at an address or later, and ends below address
+/// 65,536 where it runs and where it is loaded.
+fn run_fits_behind(end: u32, mark: &RunMark) -> bool
+    ensures { result ≡ run_fits_behind end mark.now }
+{
+    end <= u32::from(mark.run)
+        && 1 <= mark.size
+        && mark.size <= 2
+        && u32::from(mark.run) + u32::from(mark.size) <= 65_536
+        && u32::from(mark.load) + u32::from(mark.size) <= 65_536
+}
+
+/// Whether its loaded words are words of none of these instructions.
+fn load_is_free(run_marks: &[RunMark], marks: &[Mark], mark: &RunMark) -> bool
+    requires some { 1 ≤ mark.now.size }
+    requires room { mark.now.load + mark.now.size ≤ 65536 }
+    ensures { result ≡ load_is_free (with_loads run_marks.now marks.now) mark.now }
+{
+    let last = mark.load + (mark.size - 1);
+    !is_loaded_code(run_marks, marks, mark.load) && !is_loaded_code(run_marks, marks, last)
+}
+
+/// Whether such marks may be the instructions of one image that run in block B0, beside these marks of
+/// those that run where they stand: each has one or two words, they ascend by the addresses that they
+/// run at, from FF00h on, where no two share a word, each ends below address 65,536 there and where it
+/// is loaded, and its loaded words belong to no other instruction. It holds of no run marks.
+pub fn run_marks_fit(marks: &[Mark], run_marks: &[RunMark]) -> bool
+    ensures { result ≡ run_fit marks.now run_marks.now }
+{
+    let mut end = 0xFF00;
+    let mut rest = run_marks;
+    while let [mark, behind @ ..] = rest {
+        if !run_fits_behind(end, mark) || !load_is_free(behind, marks, mark) {
+            return false;
+        }
+        end = u32::from(mark.run) + u32::from(mark.size);
+        rest = behind;
+    }
+    true
 }

@@ -33,6 +33,7 @@ fault_number fault.OperandForm = 52
 fault_number fault.FieldRange = 53
 fault_number fault.TooLarge = 54
 fault_number fault.NotRelocatable = 55
+fault_number fault.BadBlock = 56
 
 -- the name of a source's fault
 abbrev pub fault_name : FaultKind → List ℕ
@@ -61,6 +62,7 @@ fault_name fault.OperandForm = codes "OperandForm"
 fault_name fault.FieldRange = codes "FieldRange"
 fault_name fault.TooLarge = codes "TooLarge"
 fault_name fault.NotRelocatable = codes "NotRelocatable"
+fault_name fault.BadBlock = codes "BadBlock"
 
 -- the number of a fault and its name, as a fault's line has them
 abbrev pub numbered_name : FaultKind → List ℕ

@@ -102,10 +102,12 @@ pub enum FaultKind {
     OperandForm,
     /// A number that its field does not take (53).
     FieldRange,
-    /// More than 65,536 words, or more than 65,535 names (54).
+    /// More than 65,536 words, or more than 65,535 names or files (54).
     TooLarge,
     /// An address in a field that takes none (55).
     NotRelocatable,
+    /// Words that have to lie in one page of 128, and are none or more than that (56).
+    BadBlock,
 }
 
 impl fmt::Display for FaultKind {
@@ -141,6 +143,7 @@ impl fmt::Display for FaultKind {
             FaultKind::FieldRange => f.write_str("FieldRange"),
             FaultKind::TooLarge => f.write_str("TooLarge"),
             FaultKind::NotRelocatable => f.write_str("NotRelocatable"),
+            FaultKind::BadBlock => f.write_str("BadBlock"),
         }
     }
 }

@@ -1,7 +1,7 @@
 -- What modules come to under a command: a program, or the first refusal (SPRU018, linker description; which refusal is
 -- told first is this project's own: 71, 70 and 76 over all modules, then 72, 73 and 74 by sections as they are placed,
 -- then 75).
-use Rattle.std.specs.Prelude.{◌≡◌, ℕ, List, [], ◌∷◌, map, find, filter, ℤ, Bool, false, not, Option, Some, None, is_none, Result, Ok, Err, if◌then◌else◌, ◌⊎◌, ◌↔◌, true}
+use Rattle.std.specs.Prelude.{◌≡◌, ◌==◌, ℕ, List, [], ◌∷◌, map, find, filter, ℤ, Bool, false, not, Option, Some, None, is_none, Result, Ok, Err, if◌then◌else◌, ◌⊎◌, ◌↔◌, true}
 use Rattle.std.specs.Option.{option_map}
 use Rattle.std.specs.List.Sorted.{IsPermutation}
 use Rattle.std.specs.Fmt.{decimal}
@@ -16,7 +16,7 @@ use Rattle.c25_meaning_image.specs.Marks.{fit_from}
 use Rattle.c25_meaning_objects.specs.Module.{SectionData, Contents, body_size}
 use Rattle.c25_meaning_placing.specs.Place.{Place, by_modules, is_section_named, part_base}
 use Rattle.c25_meaning_common.specs.Results.{◌>>=◌}
-use Rattle.c25_meaning_linking.specs.Words.{Definition, symbol_name, section_name, definitions, definition_of, definition_value, name_value, relocated_value, HasWord, program_marks}
+use Rattle.c25_meaning_linking.specs.Words.{Definition, symbol_name, section_name, definitions, definition_of, definition_value, name_value, relocated_value, HasWord, program_marks, LineData, program_lines}
 use Rattle.c25_meaning_placing.specs.declared.link_fault.LinkFault.{LinkFault}
 use Rattle.c25_meaning_placing.specs.declared.link_fault.LinkFault.TheVariants.{Unresolved, DefinedTwice, RelocRange, NoEntry}
 use Rattle.c25_meaning_placing.specs.declared.link_fault.FaultyLink.{FaultyLink}
@@ -141,11 +141,12 @@ map_of modules entry places = record {
 
 -- ---- linking
 
--- a program: the words of both pages, the instructions on page 0, and the map
+-- a program: the words of both pages, the instructions on page 0, those that have a line of a file, and the map
 pub record ImageData : Type 0 where
   pub program : finite.FinMap nat_cmp ℕ
   pub store : finite.FinMap nat_cmp ℕ
   pub marks : List Mark
+  pub lines : List LineData
   pub described : MapData
 
 -- the words of a page are those of the program, neither more nor less
@@ -157,6 +158,15 @@ pub record HasMarks (modules : List Contents) (places : List Place) (marks : Lis
   pub same : IsPermutation (program_marks modules places) marks
   pub ascend : fit_from 0 marks ≡ true
 
+-- the lines are those of the instructions on page 0 that have one, in ascending order
+pub record HasLines (modules : List Contents) (places : List Place) (lines : List LineData) : Type 0 where
+  pub same : IsPermutation (program_lines modules places) lines
+  pub ascend : fit_from 0 (map (λ l. l.mark) lines) ≡ true
+
+-- the file and the line of the instruction at an address, where it has one
+abbrev pub line_at : ℕ → List LineData → Option (List ℕ × ℕ)
+line_at address lines = option_map (λ l. (l.file, l.line)) (find (λ l. l.mark.address == address) lines)
+
 -- modules under a command are this program
 pub record IsProgram (modules : List Contents) (command : CommandData) (image : ImageData) : Type 0 where
   pub places : List Place
@@ -166,6 +176,7 @@ pub record IsProgram (modules : List Contents) (command : CommandData) (image : 
   pub program : HasWords modules places 0 image.program
   pub store : HasWords modules places 1 image.store
   pub marks : HasMarks modules places image.marks
+  pub lines : HasLines modules places image.lines
   pub described : image.described ≡ map_of modules command.entry places
 
 -- the first section that cannot be placed

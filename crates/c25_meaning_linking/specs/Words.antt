@@ -1,13 +1,14 @@
 -- The words of a program, from its modules: the words of initialised sections at their addresses, each relocated field
 -- holding its base's address or value plus the addend (SPRU018, linker description, relocation and symbols).
-use Rattle.std.specs.Prelude.{◌≡◌, ℕ, ◌+◌, ◌==◌, ℤ, pos, ◌+ℤ◌, Bool, true, false, ◌&&◌, List, [], Option, Some, None, find, filter, map}
+use Rattle.std.specs.Prelude.{◌≡◌, ℕ, ◌+◌, ◌==◌, ℤ, pos, ◌+ℤ◌, Bool, true, false, ◌&&◌, List, [], Option, Some, None, find, filter, map, unwrap_or}
 use Rattle.std.specs.Option.{option_map_or}
-use Rattle.std.specs.List.{slice_get}
+use Rattle.std.specs.List.{slice_get, zip}
 use Rattle.std.specs.Str.{bytes_eq}
 use Rattle.c25_meaning_objects.specs.Module.{SectionData, SymbolData, Contents, is_global, body_words}
 use Rattle.c25_meaning_common.specs.Fields.{filled, field_number}
 use Rattle.c25_meaning_placing.specs.Place.{Place, by_modules, part_base, page_of, IsPart}
 use Rattle.c25_meaning_image.specs.declared.mark.Mark.{Mark}
+use Rattle.c25_meaning_objects.specs.declared.object.LineMark.{LineMark}
 use Rattle.c25_meaning_objects.specs.declared.object.ModuleMark.{ModuleMark}
 use Rattle.c25_meaning_objects.specs.declared.object.SymbolKind.{SymbolKind}
 use Rattle.c25_meaning_objects.specs.declared.object.SymbolKind.TheVariants as kind
@@ -143,3 +144,31 @@ module_marks modules places number m = map (placed_mark modules places number m)
 -- the instructions on page 0, by modules and marks
 abbrev pub program_marks : List Contents → List Place → List Mark
 program_marks modules places = by_modules (module_marks modules places) 0 modules
+
+-- ---- lines
+
+-- an instruction of a program, and the line of a file where it stands
+pub record LineData : Type 0 where
+  pub mark : Mark
+  pub file : List ℕ
+  pub line : ℕ
+
+-- the name of a module's file, by its number
+abbrev pub file_name : Contents → ℕ → List ℕ
+file_name m index = unwrap_or (slice_get m.files index) []
+
+-- a mark of a module with its line, where its section's part stands
+abbrev pub placed_line : List Contents → List Place → ℕ → Contents → ModuleMark × LineMark → LineData
+placed_line modules places number m told = record { mark = placed_mark modules places number m told.0; file = file_name m told.1.file; line = told.1.line }
+
+-- whether the section of its mark stands on page 0
+abbrev pub is_line_on_program : List Place → Contents → ModuleMark × LineMark → Bool
+is_line_on_program places m told = is_on_program places m told.0
+
+-- the marks of a module on page 0 that have a line: each where the module has lines at all, else none
+abbrev pub module_lines : List Contents → List Place → ℕ → Contents → List LineData
+module_lines modules places number m = map (placed_line modules places number m) (filter (is_line_on_program places m) (zip m.marks m.lines))
+
+-- the instructions on page 0 that have a line, by modules and marks
+abbrev pub program_lines : List Contents → List Place → List LineData
+program_lines modules places = by_modules (module_lines modules places) 0 modules

@@ -7,7 +7,7 @@ use Rattle.std.proofs.lemmas.List.Elements.{All-nil, All-head, All-tail, All-pus
 use Rattle.std.proofs.lemmas.List.Folds.{list_any_at}
 use Rattle.std.proofs.lemmas.Slice.Eq.{bytes_eq-Decides}
 use Rattle.c25_meaning_commands.specs.Command.{RangeData, TargetData, Anywhere, InRange, At, Pairwise}
-use Rattle.c25_meaning_placing.specs.Place.{Place, Covers, place_named}
+use Rattle.c25_meaning_placing.specs.Place.{Place, Covers, BlockData, place_named}
 use Rattle.c25_meaning_placing.specs.GoodMap.{Request, has_word, is_taken, IsFree, IsBase, IsBaseIn, Stands, Stand, ArePlaced, usable, page_for}
 
 -- ---- a word of a place
@@ -28,15 +28,15 @@ is_word page word p same from upto = grind (arith, nat_tests)
 no_word : (base word : ℕ) → Covers base 0 word → ⊥
 no_word base word c = omega (arith, c.from, c.upto)
 
-in_free : (page size : ℕ) (first : RangeData) (ranges : List RangeData) (places : List Place) (base : ℕ) → IsBaseIn page size first ranges places (Ok base) → IsFree page base size places
-in_free page zero first ranges places base is = λ word c. absurd (no_word base word c)
-in_free page (suc n) first ranges places base is = (is.1 (omega arith)).least.fits.free
+in_free : (page size : ℕ) (blocks : List BlockData) (first : RangeData) (ranges : List RangeData) (places : List Place) (base : ℕ) → IsBaseIn page size blocks first ranges places (Ok base) → IsFree page base size places
+in_free page zero blocks first ranges places base is = λ word c. absurd (no_word base word c)
+in_free page (suc n) blocks first ranges places base is = (is.1 (omega arith)).least.fits.free
 
-pub base_free : (target : TargetData) (page size : ℕ) (ranges : List RangeData) (places : List Place) (base : ℕ) → IsBase target page size ranges places (Ok base) → IsFree page base size places
-base_free target page size [] places base is = absurd cc
-base_free Anywhere page size (r ∷ rs) places base is = in_free page size r (r ∷ rs) places base is
-base_free (InRange name) page size (r ∷ rs) places base is = in_free page size r (r ∷ rs) places base is
-base_free (At address) page size (r ∷ rs) places base is = subst (λ b. IsFree page b size places) (sym is.0) is.2
+pub base_free : (target : TargetData) (page size : ℕ) (blocks : List BlockData) (ranges : List RangeData) (places : List Place) (base : ℕ) → IsBase target page size blocks ranges places (Ok base) → IsFree page base size places
+base_free target page size blocks [] places base is = absurd cc
+base_free Anywhere page size blocks (r ∷ rs) places base is = in_free page size blocks r (r ∷ rs) places base is
+base_free (InRange name) page size blocks (r ∷ rs) places base is = in_free page size blocks r (r ∷ rs) places base is
+base_free (At address) page size blocks (r ∷ rs) places base is = subst (λ b. IsFree page b size places) (sym is.0) is.2
 
 -- ---- places apart
 
@@ -48,7 +48,7 @@ apart_before ranges before r p s = λ k d lt page word hq hp.
     let w = word_of page word p hp in
     let same : page_for ranges r ≡ page = sym s.page_is ∙ w.page_is in
     let covers : Covers p.base r.size word = record { from = w.from; upto = omega (arith, w.upto, s.size_is) } in
-    let free : is_taken (page_for ranges r) before word ≡ false = base_free r.target (page_for ranges r) r.size (usable ranges r) before p.base s.base_is word covers in
+    let free : is_taken (page_for ranges r) before word ≡ false = base_free r.target (page_for ranges r) r.size r.blocks (usable ranges r) before p.base s.base_is word covers in
     let taken : is_taken page before word ≡ true = list_any_at (has_word page word) before k d lt hq in
     let other : is_taken page before word ≡ false = subst (λ n. is_taken n before word ≡ false) same free in
     absurd cc

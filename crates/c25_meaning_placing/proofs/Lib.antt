@@ -1,3 +1,4 @@
 pub mod Apart
+pub mod ByModules
 pub mod Parts
 pub mod PlaceNames

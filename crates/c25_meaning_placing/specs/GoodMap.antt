@@ -1,24 +1,26 @@
 -- Where the sections of a program stand, or which of them cannot be placed (SPRU018, linker description, the directives
--- MEMORY and SECTIONS; the order of placement and the ranges without MEMORY are this project's own).
-use Rattle.std.specs.Prelude.{◌≡◌, ℕ, ◌+◌, ◌<◌, ◌≤◌, ◌==◌, Bool, true, false, ◌&&◌, not, List, [], ◌∷◌, ◌++◌, Option, None, Result, Ok, Err, filter, map, reverse, max, unwrap_or, codes, if◌then◌else◌, All, nat_le, nat_lt}
-use Rattle.std.specs.List.{list_any}
+-- MEMORY and SECTIONS, and assembler description, the blocking flag of .bss; the order of placement and the ranges without
+-- MEMORY are this project's own).
+use Rattle.std.specs.Prelude.{◌≡◌, ℕ, ◌+◌, ◌%◌, ◌<◌, ◌≤◌, ◌==◌, Bool, true, false, ◌&&◌, not, List, [], ◌∷◌, ◌++◌, Option, None, Result, Ok, Err, filter, map, reverse, max, unwrap_or, codes, if◌then◌else◌, All, nat_le, nat_lt}
+use Rattle.std.specs.List.{list_all, list_any}
 use Rattle.std.specs.Str.{bytes_eq}
 use Rattle.c25_meaning_objects.specs.Module.{Contents}
 use Rattle.c25_meaning_commands.specs.Command.{RangeData, TargetData, Anywhere, InRange, At, PlacingData, CommandData}
-use Rattle.c25_meaning_placing.specs.Place.{Place, Covers, all_sections, size_of_parts, is_there, is_initialised}
+use Rattle.c25_meaning_placing.specs.Place.{Place, Covers, BlockData, all_sections, blocks_of, size_of_parts, is_there, is_initialised}
 use Rattle.c25_meaning_placing.specs.declared.link_fault.LinkFault.{LinkFault}
 use Rattle.c25_meaning_placing.specs.declared.link_fault.LinkFault.TheVariants.{NoRange, DoesNotFit, Overlap}
 use Rattle.c25_meaning_placing.specs.declared.link_fault.FaultyLink.{FaultyLink}
 
 -- ---- the sections to be placed, in the order of placement
 
--- a section that is to be placed: its size, whether it is initialised, and what is said of its place
+-- a section that is to be placed: its size, whether it is initialised, what is said of its place, and its blocks
 pub record Request : Type 0 where
   pub name : List ℕ
   pub size : ℕ
   pub initialised : Bool
   pub target : TargetData
   pub page : Option ℕ
+  pub blocks : List BlockData
 
 -- the modules' section of a name
 abbrev pub request : List Contents → List ℕ → TargetData → Option ℕ → Request
@@ -28,6 +30,7 @@ request modules name target page = record {
   initialised = is_initialised name modules;
   target = target;
   page = page;
+  blocks = blocks_of name modules;
 }
 
 -- a section that SECTIONS lists
@@ -128,55 +131,70 @@ is_taken page places word = list_any (has_word page word) places
 abbrev pub IsFree : ℕ → ℕ → ℕ → List Place → Type 0
 IsFree page base size places = (word : ℕ) → Covers base size word → is_taken page places word ≡ false
 
+-- a block of a section that begins at an address lies inside one page of 128 words: from its first word on, that page has
+-- room for it
+abbrev pub is_paged : ℕ → BlockData → Bool
+is_paged base b = nat_le ((base + b.offset) % 128 + b.size) 128
+
+-- each of its blocks does
+abbrev pub blocks_fit : ℕ → List BlockData → Bool
+blocks_fit base blocks = list_all (is_paged base) blocks
+
 -- the section fits at an address of a range
-pub record FitsAt (page base size : ℕ) (range : RangeData) (places : List Place) : Type 0 where
+pub record FitsAt (page base size : ℕ) (blocks : List BlockData) (range : RangeData) (places : List Place) : Type 0 where
   pub inside : is_inside base size range ≡ true
+  pub paged : blocks_fit base blocks ≡ true
   pub free : IsFree page base size places
 
 -- the least address of a range at which it fits
-pub record IsLeastFit (page size : ℕ) (range : RangeData) (places : List Place) (base : ℕ) : Type 0 where
-  pub fits : FitsAt page base size range places
-  pub least : (other : ℕ) → FitsAt page other size range places → base ≤ other
+pub record IsLeastFit (page size : ℕ) (blocks : List BlockData) (range : RangeData) (places : List Place) (base : ℕ) : Type 0 where
+  pub fits : FitsAt page base size blocks range places
+  pub least : (other : ℕ) → FitsAt page other size blocks range places → base ≤ other
 
 -- it fits nowhere in a range
-abbrev pub NoneFits : ℕ → ℕ → List Place → RangeData → Type 0
-NoneFits page size places range = (base : ℕ) → ¬ FitsAt page base size range places
+abbrev pub NoneFits : ℕ → ℕ → List BlockData → List Place → RangeData → Type 0
+NoneFits page size blocks places range = (base : ℕ) → ¬ FitsAt page base size blocks range places
 
 -- the least address at which it fits, in the first range that has one
-pub record IsFirstFit (page size : ℕ) (ranges : List RangeData) (places : List Place) (base : ℕ) : Type 0 where
+pub record IsFirstFit (page size : ℕ) (blocks : List BlockData) (ranges : List RangeData) (places : List Place) (base : ℕ) : Type 0 where
   pub before : List RangeData
   pub range : RangeData
   pub after : List RangeData
   pub ranges_are : ranges ≡ before ++ range ∷ after
-  pub none_before : All (NoneFits page size places) before
-  pub least : IsLeastFit page size range places base
+  pub none_before : All (NoneFits page size blocks places) before
+  pub least : IsLeastFit page size blocks range places base
 
 -- ---- one section
 
+-- whether a section may stand at its address: each of its blocks inside one page, and it inside one of the ranges
+abbrev pub may_stand : ℕ → ℕ → List BlockData → List RangeData → Bool
+may_stand address size blocks ranges = blocks_fit address blocks && list_any (is_inside address size) ranges
+
 -- a section with an address, or why it cannot stand there
-abbrev pub IsBaseAt : ℕ → ℕ → ℕ → List RangeData → List Place → Result ℕ LinkFault → Type 0
-IsBaseAt address page size ranges places (Ok base) =
-    (base ≡ address) × (list_any (is_inside address size) ranges ≡ true) × IsFree page address size places
-IsBaseAt address page size ranges places (Err DoesNotFit) = list_any (is_inside address size) ranges ≡ false
-IsBaseAt address page size ranges places (Err Overlap) =
-    (list_any (is_inside address size) ranges ≡ true) × ¬ IsFree page address size places
-IsBaseAt address page size ranges places (Err _) = ⊥
+abbrev pub IsBaseAt : ℕ → ℕ → ℕ → List BlockData → List RangeData → List Place → Result ℕ LinkFault → Type 0
+IsBaseAt address page size blocks ranges places (Ok base) =
+    (base ≡ address) × (may_stand address size blocks ranges ≡ true) × IsFree page address size places
+IsBaseAt address page size blocks ranges places (Err DoesNotFit) = may_stand address size blocks ranges ≡ false
+IsBaseAt address page size blocks ranges places (Err Overlap) =
+    (may_stand address size blocks ranges ≡ true) × ¬ IsFree page address size places
+IsBaseAt address page size blocks ranges places (Err _) = ⊥
 
 -- a section without one, or why it cannot stand anywhere; an empty one stands at the origin of the first range
-abbrev pub IsBaseIn : ℕ → ℕ → RangeData → List RangeData → List Place → Result ℕ LinkFault → Type 0
-IsBaseIn page size first ranges places (Ok base) = (size ≡ 0 → base ≡ first.origin) × (0 < size → IsFirstFit page size ranges places base)
-IsBaseIn page size first ranges places (Err DoesNotFit) = (0 < size) × All (NoneFits page size places) ranges
-IsBaseIn page size first ranges places (Err _) = ⊥
+abbrev pub IsBaseIn : ℕ → ℕ → List BlockData → RangeData → List RangeData → List Place → Result ℕ LinkFault → Type 0
+IsBaseIn page size blocks first ranges places (Ok base) =
+    (size ≡ 0 → base ≡ first.origin) × (0 < size → IsFirstFit page size blocks ranges places base)
+IsBaseIn page size blocks first ranges places (Err DoesNotFit) = (0 < size) × All (NoneFits page size blocks places) ranges
+IsBaseIn page size blocks first ranges places (Err _) = ⊥
 
 -- where a section stands, or why it cannot; these are the ranges that it may stand in
-abbrev pub IsBase : TargetData → ℕ → ℕ → List RangeData → List Place → Result ℕ LinkFault → Type 0
-IsBase target page size [] places answer = answer ≡ Err NoRange
-IsBase (At address) page size (first ∷ ranges) places answer = IsBaseAt address page size (first ∷ ranges) places answer
-IsBase target page size (first ∷ ranges) places answer = IsBaseIn page size first (first ∷ ranges) places answer
+abbrev pub IsBase : TargetData → ℕ → ℕ → List BlockData → List RangeData → List Place → Result ℕ LinkFault → Type 0
+IsBase target page size blocks [] places answer = answer ≡ Err NoRange
+IsBase (At address) page size blocks (first ∷ ranges) places answer = IsBaseAt address page size blocks (first ∷ ranges) places answer
+IsBase target page size blocks (first ∷ ranges) places answer = IsBaseIn page size blocks first (first ∷ ranges) places answer
 
 -- among these places
 abbrev pub IsBaseOf : List RangeData → List Place → Request → Result ℕ LinkFault → Type 0
-IsBaseOf ranges places r answer = IsBase r.target (page_for ranges r) r.size (usable ranges r) places answer
+IsBaseOf ranges places r answer = IsBase r.target (page_for ranges r) r.size r.blocks (usable ranges r) places answer
 
 -- a section stands here, among the places before it
 pub record Stands (ranges : List RangeData) (places : List Place) (r : Request) (p : Place) : Type 0 where

@@ -1,10 +1,11 @@
 -- Where the parts of a program stand: the sections of one name of all modules are one section of the program, in the order
 -- of the modules and one behind the other (SPRU018, linker description, the SECTIONS directive).
-use Rattle.std.specs.Prelude.{◌≡◌, ℕ, ◌+◌, ◌<◌, ◌≤◌, Bool, ◌&&◌, List, [], ◌∷◌, ◌++◌, Option, Some, find, take, if◌then◌else◌}
+use Rattle.std.specs.Prelude.{◌≡◌, ℕ, ◌+◌, ◌<◌, ◌≤◌, Bool, false, ◌&&◌, List, [], ◌∷◌, ◌++◌, Option, Some, filter, find, map, take, if◌then◌else◌}
 use Rattle.std.specs.Option.{option_map_or}
 use Rattle.std.specs.List.{list_any, flat_map, slice_get, sum_by}
 use Rattle.std.specs.Str.{bytes_eq}
 use Rattle.c25_meaning_objects.specs.Module.{SectionData, Contents, body_size, has_words}
+use Rattle.c25_meaning_objects.specs.declared.object.Block.{Block}
 
 -- a section of the program: its page, the address of its first word, and how many words it has
 pub record Place : Type 0 where
@@ -41,6 +42,31 @@ is_there name modules = list_any (is_section_named name) (all_sections modules)
 -- whether a module has an initialised section of this name
 abbrev pub is_initialised : List ℕ → List Contents → Bool
 is_initialised name modules = list_any (λ s. is_section_named name s && has_words s.body) (all_sections modules)
+
+-- a block of a section of the program: how many words of the section stand before it, and how many words it has
+pub record BlockData : Type 0 where
+  pub offset : ℕ
+  pub size : ℕ
+
+-- whether a block of a module is in its section of this name
+abbrev pub is_block_named : List ℕ → Contents → Block → Bool
+is_block_named name m b = option_map_or (is_section_named name) (slice_get m.sections b.section) false
+
+-- a block of a part that stands behind so many words
+abbrev pub block_behind : ℕ → Block → BlockData
+block_behind words b = record { offset = words + b.offset; size = b.size }
+
+-- the blocks that a module adds to the section of this name, where its part stands behind so many words
+abbrev pub blocks_behind : List ℕ → ℕ → Contents → List BlockData
+blocks_behind name words m = map (block_behind words) (filter (is_block_named name m) m.blocks)
+
+-- those that the module of a number adds, behind the parts of the modules before it; modules are counted from 0
+abbrev pub part_blocks : List Contents → List ℕ → ℕ → Contents → List BlockData
+part_blocks modules name number m = blocks_behind name (size_of_parts name (take number modules)) m
+
+-- the blocks of the section of this name, by modules
+abbrev pub blocks_of : List ℕ → List Contents → List BlockData
+blocks_of name modules = by_modules (part_blocks modules name) 0 modules
 
 -- the place of a section by its name
 abbrev pub place_named : List ℕ → List Place → Option Place

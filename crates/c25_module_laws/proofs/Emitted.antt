@@ -10,6 +10,7 @@ use Rattle.c25_meaning_assembly.specs.Sections.{Definitions, Section, Content, O
 use Rattle.c25_meaning_objects.specs.declared.object.Relocation.{Relocation}
 use Rattle.c25_meaning_language.specs.declared.statement.FaultKind.{FaultKind}
 use Rattle.c25_meaning_language.specs.declared.statement.FaultKind.TheVariants as fault
+use Rattle.c25_module_laws.proofs.Kept.{changed_later}
 use Rattle.c25_module_laws.proofs.ResultSteps.{bound, permitted}
 
 -- words and relocations, and where they begin
@@ -74,14 +75,7 @@ changed_none sections i = on (slice_get sections i) refl
     on None is = refl
     on (Some s) is = ap (set sections i) (extended_none s) ∙ set_same sections i s is
 
-changed_later : (f : Section → Section) (s : Section) (ss : List Section) (i : ℕ) → changed f (s ∷ ss) (suc i) ≡ s ∷ changed f ss i
-changed_later f s ss i = on (slice_get ss i)
-  where
-    on : (o : Option Section) → changed_by f (s ∷ ss) (suc i) o ≡ s ∷ changed_by f ss i o
-    on None = refl
-    on (Some t) = refl
-
-filled_none : (k : ℕ) (ss : List Section) → filled_from k ss [] ≡ ss
+pub filled_none : (k : ℕ) (ss : List Section) → filled_from k ss [] ≡ ss
 filled_none k [] = refl
 filled_none k (s ∷ ss) = λ i. extended_none s i ∷ filled_none (suc k) ss i
 

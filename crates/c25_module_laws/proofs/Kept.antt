@@ -5,10 +5,11 @@ use Rattle.std.specs.Str.{bytes_eq}
 use Rattle.std.proofs.lemmas.List.{append-nil, append_assoc}
 use Rattle.std.proofs.lemmas.Bool.{and_from, and_parts, eq-eqb, ne_eqb}
 use Rattle.c25_meaning_objects.specs.Module.{each_fits, is_section_name}
-use Rattle.c25_meaning_assembly.specs.Sections.{Definitions, Section, Content, Operands, Words, Zeros, Exported, Item, Progress, changed, changed_by, is_in, are_distinct}
+use Rattle.c25_meaning_assembly.specs.Sections.{Definitions, Section, Content, Operands, Words, Zeros, Exported, Origin, Item, Progress, changed, changed_by, is_file_name, is_in, is_line_number, are_distinct}
 use Rattle.c25_meaning_language.specs.Statement.{form_row}
 use Rattle.c25_meaning_instructions.specs.Table.{size}
 use Rattle.c25_meaning_assembly.specs.declared.assembly.Target.TheVariants as target
+use Rattle.c25_meaning_objects.specs.declared.object.Block.{Block}
 use Rattle.c25_meaning_objects.specs.declared.object.ModuleMark.{ModuleMark}
 use Rattle.c25_meaning_language.specs.declared.value.Base.{Base}
 use Rattle.c25_meaning_language.specs.declared.value.Base.TheVariants.{Absolute, Section as InSection, External}
@@ -124,12 +125,41 @@ pub record AreItems (sections : List Section) (items marked : List Item) : Type 
   pub codes : AllByRecursion (λ i. is_code (heads sections) i.section ≡ true) items
   pub good : AllByRecursion (λ i. IsGoodContent i.content) items
 
+-- the line of an instruction: a record has room for its number, and its file is one of these
+pub record IsOrigin (files : List (List ℕ)) (o : Origin) : Type 0 where
+  pub numbered : is_line_number o.line ≡ true
+  pub known : is_in files o.file ≡ true
+
+-- blocks of 1 to 128 words ascend from a place of a section on and end by another
+abbrev pub AreBlocks : ℕ → ℕ → ℕ → List Block → Type 0
+AreBlocks k low high [] = low ≤ high
+AreBlocks k low high (b ∷ bs) = (b.section ≡ k) × (1 ≤ b.size) × (b.size ≤ 128) × (low ≤ b.offset) × AreBlocks k (b.offset + b.size) high bs
+
+-- a section, by its number: each mark has a line in these files, and its blocks lie in it
+pub record IsTold (files : List (List ℕ)) (k : ℕ) (s : Section) : Type 0 where
+  pub count : length s.origins ≡ length s.marks
+  pub origins : AllByRecursion (IsOrigin files) s.origins
+  pub blocks : AreBlocks k 0 s.size s.blocks
+  pub loaded : s.initialised ≡ true → s.blocks ≡ []
+
+-- the files that hold instructions
+pub record AreFiles (files : List (List ℕ)) : Type 0 where
+  pub named : AllByRecursion (λ f. is_file_name f ≡ true) files
+  pub distinct : are_distinct files ≡ true
+  pub few : length files ≤ 65535
+
+-- the files, and the lines and blocks of the sections
+pub record AreTold (files : List (List ℕ)) (sections : List Section) : Type 0 where
+  pub used : AreFiles files
+  pub each : Each (IsTold files) sections
+
 -- all that the lines so far have made, where these items are marked
 pub record AllBut (marked : List Item) (p : Progress) : Type 0 where
   pub sections : AreSections p.sections p.current
   pub names : AreNames (length p.sections) p.names
   pub declared : AreDeclared p.declared p.exported
   pub items : AreItems p.sections p.items marked
+  pub told : AreTold p.files p.sections
 
 abbrev pub AllKept : Progress → Type 0
 AllKept p = AllBut p.items p
@@ -218,6 +248,21 @@ length_changed f sections i = on (slice_get sections i)
     on : (o : Option Section) → length (changed_by f sections i o) ≡ length sections
     on None = refl
     on (Some t) = length_set sections i (f t)
+
+pub changed_later : (f : Section → Section) (s : Section) (ss : List Section) (i : ℕ) → changed f (s ∷ ss) (suc i) ≡ s ∷ changed f ss i
+changed_later f s ss i = on (slice_get ss i)
+  where
+    on : (o : Option Section) → changed_by f (s ∷ ss) (suc i) o ≡ s ∷ changed_by f ss i o
+    on None = refl
+    on (Some t) = refl
+
+-- two changes of a section are one
+pub changed_twice : (f g : Section → Section) (sections : List Section) (i : ℕ) → changed g (changed f sections i) i ≡ changed (λ s. g (f s)) sections i
+changed_twice f g [] i = refl
+changed_twice f g (s ∷ ss) zero = refl
+changed_twice f g (s ∷ ss) (suc i) =
+    ap (λ (xs : List Section). changed g xs (suc i)) (changed_later f s ss i) ∙ changed_later g s (changed f ss i) i
+    ∙ ap (λ (xs : List Section). s ∷ xs) (changed_twice f g ss i) ∙ sym (changed_later (λ t. g (f t)) s ss i)
 
 -- ---- items that come
 

@@ -18,6 +18,7 @@ use Rattle.c25_meaning_language.specs.declared.value.Value.{Value}
 use Rattle.c25_module_laws.proofs.Valued.{IsGoodValue, good_valued, natural_fits}
 use Rattle.c25_meaning_assembly.proofs.Distinct.{distinct_push, turned}
 use Rattle.c25_module_laws.proofs.Kept.{AllKept, AreNames, Head, IsInside, IsKept, first_names, get_last, get_push, grown, head_fits, head_of, heads, is_code, begins, has_head, marks_in, marks_part, mark_there, part_there, pushed, total, weaker}
+use Rattle.c25_module_laws.proofs.KeptFiles.{told_push}
 use Rattle.c25_module_laws.proofs.ResultSteps.{refused}
 use Rattle.c25_module_laws.proofs.Spoken.{IsSection, IsSymbol}
 
@@ -81,6 +82,7 @@ define_kept name v p q symbol inside kept e =
         names = names_push (length p.sections) p.names name v kept.names a.0 symbol inside;
         declared = kept.declared;
         items = kept.items;
+        told = kept.told;
       },
       refl,
     )
@@ -249,6 +251,7 @@ push_kept name initialised p section new few kept =
         codes = weaker _ _ (λ (i : Item) h. subst (λ (hs : List Head). is_code hs i.section ≡ true) (sym more) (code_before (heads p.sections) (head_of s ∷ []) i.section h)) p.items kept.items.codes;
         good = kept.items.good;
       };
+      told = told_push name initialised p.files p.sections kept.told;
     }
 
 pub record IsOpened (o : ℕ × Progress) (initialised : Bool) : Type 0 where

@@ -1,9 +1,7 @@
 -- Each line keeps what always holds, act by act.
-use Rattle.std.proofs.Common.{◌≡◌, ℕ, zero, suc, ◌+◌, ◌/◌, ◌≤◌, Bool, true, false, cond, ◌||◌, eqb, ltb, List, [], ◌∷◌, ◌++◌, length, Option, Some, None, Result, Ok, Err, codes, refl, sym, ap, ◌∙◌, subst, arith}
-use Rattle.std.specs.List.{AllByRecursion, list_any, find}
-use Rattle.std.specs.Str.{bytes_eq}
-use Rattle.std.proofs.lemmas.Slice.Eq.{bytes_eq-Decides}
-use Rattle.std.proofs.lemmas.Bool.{ltb-false, or_left, or_right, false≢true}
+use Rattle.std.proofs.Common.{◌≡◌, ℕ, zero, suc, ◌+◌, ◌/◌, ◌≤◌, Bool, true, false, cond, eqb, ltb, List, [], ◌∷◌, ◌++◌, length, Option, Some, None, Result, Ok, Err, codes, refl, sym, ap, ◌∙◌, subst, arith}
+use Rattle.std.specs.List.{AllByRecursion, list_any, find, slice_get}
+use Rattle.std.proofs.lemmas.Bool.{ltb-false, false≢true}
 use Rattle.c25_meaning_assembly.specs.OperandFields.{target_size}
 use Rattle.c25_meaning_assembly.specs.AssemblyLine as line
 use Rattle.c25_meaning_assembly.specs.AssemblyLine.{Act, Statement, read_statement}
@@ -17,12 +15,13 @@ use Rattle.c25_meaning_objects.specs.Module.{each_fits}
 use Rattle.c25_meaning_sources.specs.ModuleOfSource.{Passed, no_lines, entry_of, origin_of, pass_line, passed, passed_by, passed_from, read_and_pass}
 use Rattle.c25_meaning_common.specs.Results.{◌>>=◌, fold_ok}
 use Rattle.c25_meaning_assembly.specs.Sections as meaning
-use Rattle.c25_meaning_assembly.specs.Sections.{Definitions, Section, Content, Operands, Words, Zeros, Exported, Origin, Item, Progress, changed, longer, with_mark, is_in, are_distinct, once, all_once, stands, define, label, here, table, place_in, same_kind, of_kind, opened, grow, lay, with_item, size_at, size_by, is_called, count_in, reserve, register_names, define_pair, name_count, few, pass, allowed, act}
+use Rattle.c25_meaning_assembly.specs.Sections.{Definitions, Section, Content, Operands, Words, Zeros, Exported, Origin, Item, Progress, changed, longer, with_block, with_mark, use_line, block, block_allowed, flag_in, is_in, are_distinct, once, all_once, stands, define, label, here, table, place_in, same_kind, of_kind, opened, grow, lay, with_item, size_at, size_by, is_called, count_in, reserve, reserve_room, register_names, define_pair, name_count, few, pass, allowed, act}
 use Rattle.c25_meaning_language.specs.Statement.{valued, form_row}
 use Rattle.c25_meaning_instructions.specs.Table.{size}
 use Rattle.c25_meaning_language.specs.Tree.{Tree}
 use Rattle.c25_meaning_assembly.specs.declared.assembly.Target.{Target}
 use Rattle.c25_meaning_assembly.specs.declared.assembly.Target.TheVariants as target
+use Rattle.c25_meaning_objects.specs.declared.object.Block.{Block}
 use Rattle.c25_meaning_objects.specs.declared.object.ModuleMark.{ModuleMark}
 use Rattle.c25_meaning_language.specs.declared.statement.FaultKind.{FaultKind}
 use Rattle.c25_meaning_language.specs.declared.statement.FaultKind.TheVariants as fault
@@ -33,8 +32,9 @@ use Rattle.std.specs.Int.RustNames.{FitsSigned}
 use Rattle.std.proofs.lemmas.List.{append-nil}
 use Rattle.c25_module_laws.proofs.Counted.{IsCount}
 use Rattle.c25_meaning_assembly.proofs.Distinct.{distinct_push}
-use Rattle.c25_module_laws.proofs.Kept.{AllBut, AllKept, AreDeclared, AreNames, AreSections, Each, Head, IsGoodContent, IsInside, IsKept, each_changed, head_fits, head_of, heads, heads_changed, is_code, laid_push, length_changed, mark_by, mark_here, mark_there, marks_in, marks_part, marks_push, marks_same, part_here, part_there, pushed, total, total_push, weaker, words_in}
+use Rattle.c25_module_laws.proofs.Kept.{AllBut, AllKept, AreDeclared, AreNames, AreSections, AreTold, Each, Head, IsGoodContent, IsInside, IsKept, IsOrigin, IsTold, each_changed, head_fits, head_of, heads, heads_changed, is_code, laid_push, length_changed, mark_by, mark_here, mark_there, marks_in, marks_part, marks_push, marks_same, part_here, part_there, pushed, total, total_push, weaker, words_in}
 use Rattle.c25_module_laws.proofs.KeptActs.{code_is, code_section, define_kept, label_kept, opened_kept, place_good, valued_good}
+use Rattle.c25_module_laws.proofs.KeptFiles.{block_size, in_last, in_push, line_used, told_block, told_longer, told_mark}
 use Rattle.c25_module_laws.proofs.ResultSteps.{bound, permitted, refused, unless}
 use Rattle.c25_module_laws.proofs.Valued.{IsGoodValue, natural_fits}
 use Rattle.c25_module_laws.proofs.Spoken.{IsGood, IsGoodAct, IsSection, IsSymbol, read_good}
@@ -55,14 +55,21 @@ codes_changed : (f : Section → Section) (sections : List Section) (i : ℕ) (i
 codes_changed f sections i items same h =
     subst (λ (hs : List Head). AllByRecursion (λ (j : Item). is_code hs j.section ≡ true) items) (sym (heads_changed f sections i same)) h
 
+grow_files : (i n : ℕ) (p q : Progress) → grow i n p ≡ Ok q → q.files ≡ p.files
+unfolding grow
+grow_files i n p q e =
+    let made : Progress = record p { sections = changed (longer n) p.sections i } in
+    let a = refused (ltb 65536 (size_at p.sections i + n)) fault.TooLarge made q e in
+    ap (λ (x : Progress). x.files) (sym a.1)
+
 -- an uninitialised section grows
-grow_kept : (i n : ℕ) (p q : Progress) → is_code (heads p.sections) i ≡ false → AllKept p → grow i n p ≡ Ok q → AllKept q × (length q.sections ≡ length p.sections)
+grow_kept : (i n : ℕ) (p q : Progress) → is_code (heads p.sections) i ≡ false → AllKept p → grow i n p ≡ Ok q → AllKept q × (q.sections ≡ changed (longer n) p.sections i)
 unfolding grow
 grow_kept i n p q bare kept e =
     let made : Progress = record p { sections = changed (longer n) p.sections i } in
     let a = refused (ltb 65536 (size_at p.sections i + n)) fault.TooLarge made q e in
     let room = ltb-false 65536 (size_at p.sections i + n) a.0 in
-    subst (λ (x : Progress). AllKept x × (length x.sections ≡ length p.sections)) a.1 (
+    subst (λ (x : Progress). AllKept x × (x.sections ≡ changed (longer n) p.sections i)) a.1 (
       record {
         sections = sections_changed (longer n) p.sections i p.current (λ _. refl) kept.sections;
         names = names_changed (longer n) p.sections i p.names kept.names;
@@ -83,8 +90,43 @@ grow_kept i n p q bare kept e =
           good = kept.items.good;
           codes = codes_changed (longer n) p.sections i p.items (λ _. refl) kept.items.codes;
         };
+        told = told_longer p.files p.sections i n kept.told;
       },
-      length_changed (longer n) p.sections i,
+      refl,
+    )
+
+-- a block more in a section
+block_kept : (b : Block) (i : ℕ) (p : Progress) → AreTold p.files (changed (with_block b) p.sections i) → AllKept p → AllKept (record p { sections = changed (with_block b) p.sections i })
+block_kept b i p told kept = record {
+  sections = sections_changed (with_block b) p.sections i p.current (λ _. refl) kept.sections;
+  names = names_changed (with_block b) p.sections i p.names kept.names;
+  declared = kept.declared;
+  items = record {
+    each = each_changed (IsKept p.items p.items) (IsKept p.items p.items) (with_block b) p.sections i kept.items.each
+        (λ (s : Section) at (h : IsKept p.items p.items i s). record { small = h.small; laid = h.laid; marks = h.marks; words = h.words; relocations = h.relocations })
+        (λ k s other h. h);
+    laid = kept.items.laid;
+    good = kept.items.good;
+    codes = codes_changed (with_block b) p.sections i p.items (λ _. refl) kept.items.codes;
+  };
+  told = told;
+}
+
+-- words of an uninitialised section, which may have to lie in one page
+room_kept : (flag : Bool) (i n : ℕ) (u : Unit {0}) (p q : Progress) → block_allowed flag n ≡ Ok u → is_code (heads p.sections) i ≡ false → AllKept p → grow i n p ≡ Ok q
+    → AllKept (block flag i (size_at p.sections i) n q) × (length (block flag i (size_at p.sections i) n q).sections ≡ length p.sections)
+room_kept false i n u p q allowed bare kept e =
+    let g = grow_kept i n p q bare kept e in
+    (g.0, ap (λ (xs : List Section). length xs) g.1 ∙ length_changed (longer n) p.sections i)
+room_kept true i n u p q allowed bare kept e =
+    let g = grow_kept i n p q bare kept e in
+    let b : Block = record { section = i; offset = size_at p.sections i; size = n } in
+    let size = block_size n u allowed in
+    let uninitialised : (s : Section) → slice_get p.sections i ≡ Some s → s.initialised ≡ false = λ s at. sym (code_is p.sections i s at) ∙ bare in
+    let told : AreTold p.files (changed (with_block b) q.sections i) =
+    subst (λ (xs : List Section). AreTold p.files (changed (with_block b) xs i)) (sym g.1) (told_block p.files p.sections i n uninitialised size.0 size.1 kept.told) in (
+      block_kept b i q (subst (λ (fs : List (List ℕ)). AreTold fs (changed (with_block b) q.sections i)) (sym (grow_files i n p q e)) told) g.0,
+      length_changed (with_block b) q.sections i ∙ ap (λ (xs : List Section). length xs) g.1 ∙ length_changed (longer n) p.sections i,
     )
 
 -- ---- content at the current place
@@ -144,6 +186,7 @@ lay_kept origin content n p q count good kept e =
           good = pushed (λ (i : Item). IsGoodContent i.content) p.items item kept.items.good good;
           codes = codes_changed (longer n) p.sections c items (λ _. refl) (pushed (λ (i : Item). is_code (heads p.sections) i.section ≡ true) p.items item kept.items.codes kept.sections.code);
         };
+        told = told_longer p.files p.sections c n kept.told;
       };
       items = refl;
       current = refl;
@@ -161,6 +204,7 @@ remarked old new p same kept = record {
     good = kept.items.good;
     codes = kept.items.codes;
   };
+  told = kept.told;
 }
 
 -- an item without a mark
@@ -168,20 +212,21 @@ unmarked : (item : Item) (p q : Progress) → mark_by item item.content ≡ [] �
 unmarked item p q none h =
     remarked p.items q.items q (λ k. sym (ap (marks_in k) h.items ∙ marks_same k p.items item none)) h.kept
 
--- an instruction's mark
-marked : (origin : Origin) (f : Form) (trees : List Tree) (p q : Progress) → IsLaid (laid_item origin (Operands (target.Instruction f) trees) p) p q
-    → AllKept (meaning.mark (target.Instruction f) p.current (size_at p.sections p.current) (size (form_row f)) q)
-marked origin f trees p q h =
+-- an instruction's mark, and its line in one of these files
+marked : (origin : Origin) (f : Form) (trees : List Tree) (files : List (List ℕ)) (p q : Progress) → AreTold files q.sections → IsOrigin files origin
+    → IsLaid (laid_item origin (Operands (target.Instruction f) trees) p) p q
+    → AllKept (record q { files = files; sections = changed (with_mark origin (record { section = p.current; offset = size_at p.sections p.current; size = size (form_row f) })) q.sections p.current })
+marked origin f trees files p q told known h =
     let c = p.current in
     let item = laid_item origin (Operands (target.Instruction f) trees) p in
     let m : ModuleMark = record { section = c; offset = size_at p.sections c; size = size (form_row f) } in
     let more : (k : ℕ) → marks_in k q.items ≡ marks_in k p.items ++ marks_part k item = λ k. ap (marks_in k) h.items ∙ marks_push k p.items item in
     record {
-      sections = sections_changed (with_mark m) q.sections c q.current (λ _. refl) h.kept.sections;
-      names = names_changed (with_mark m) q.sections c q.names h.kept.names;
+      sections = sections_changed (with_mark origin m) q.sections c q.current (λ _. refl) h.kept.sections;
+      names = names_changed (with_mark origin m) q.sections c q.names h.kept.names;
       declared = h.kept.declared;
       items = record {
-        each = each_changed (IsKept q.items p.items) (IsKept q.items q.items) (with_mark m) q.sections c h.kept.items.each
+        each = each_changed (IsKept q.items p.items) (IsKept q.items q.items) (with_mark origin m) q.sections c h.kept.items.each
             (λ (s : Section) at (k : IsKept q.items p.items c s). record {
               small = k.small;
               laid = k.laid;
@@ -198,41 +243,35 @@ marked origin f trees p q h =
             });
         laid = h.kept.items.laid;
         good = h.kept.items.good;
-        codes = codes_changed (with_mark m) q.sections c q.items (λ _. refl) h.kept.items.codes;
+        codes = codes_changed (with_mark origin m) q.sections c q.items (λ _. refl) h.kept.items.codes;
       };
+      told = told_mark files origin m q.sections c known told;
     }
 
-put_marked : (origin : Origin) (t : Target) (trees : List Tree) (p q : Progress) → IsLaid (laid_item origin (Operands t trees) p) p q
-    → AllKept (meaning.mark t p.current (size_at p.sections p.current) (target_size t (length trees)) q)
-put_marked origin (target.Instruction f) trees p q h = marked origin f trees p q h
-put_marked origin target.Words trees p q h = unmarked (laid_item origin (Operands target.Words trees) p) p q refl h
-put_marked origin target.Bytes trees p q h = unmarked (laid_item origin (Operands target.Bytes trees) p) p q refl h
+put_marked : (origin : Origin) (t : Target) (trees : List Tree) (p q r : Progress) → IsLaid (laid_item origin (Operands t trees) p) p q
+    → meaning.mark origin t p.current (size_at p.sections p.current) (target_size t (length trees)) q ≡ Ok r → AllKept r
+put_marked origin (target.Instruction f) trees p q r h e =
+    let c = p.current in
+    let m : ModuleMark = record { section = c; offset = size_at p.sections c; size = size (form_row f) } in
+    let with_marks : Progress → Progress = λ x. record x { sections = changed (with_mark origin m) x.sections c } in
+    let a = bound (use_line origin q) (λ x. Ok (with_marks x)) r e in
+    let u = line_used origin q a.0 h.kept.told a.1 in
+    let same : with_marks a.0 ≡ r = let last = a.2 in cc in
+    subst AllKept (ap with_marks (sym u.same) ∙ same) (marked origin f trees (a.0).files p q u.told u.known h)
+put_marked origin target.Words trees p q r h e = let same : q ≡ r = cc in subst AllKept same (unmarked (laid_item origin (Operands target.Words trees) p) p q refl h)
+put_marked origin target.Bytes trees p q r h e = let same : q ≡ r = cc in subst AllKept same (unmarked (laid_item origin (Operands target.Bytes trees) p) p q refl h)
 
 put_kept : (origin : Origin) (t : Target) (trees : List Tree) (p q : Progress) → IsCount t (length trees) → AllKept p → meaning.put origin t trees p ≡ Ok q → AllKept q
 put_kept origin t trees p q few kept e =
     let n = target_size t (length trees) in
-    let a = bound (lay origin (Operands t trees) n p) (λ r. Ok (meaning.mark t p.current (size_at p.sections p.current) n r)) q e in
-    let made = meaning.mark t p.current (size_at p.sections p.current) n a.0 in
-    let same : made ≡ q = let last = a.2 in cc in
-    subst AllKept same (put_marked origin t trees p a.0 (lay_kept origin (Operands t trees) n p a.0 refl few kept a.1))
+    let a = bound (lay origin (Operands t trees) n p) (λ r. meaning.mark origin t p.current (size_at p.sections p.current) n r) q e in
+    put_marked origin t trees p a.0 q (lay_kept origin (Operands t trees) n p a.0 refl few kept a.1) a.2
 
 -- content without a mark
 lay_bare : (origin : Origin) (content : Content) (n : ℕ) (p q : Progress) → words_in content ≡ n → IsGoodContent content → mark_by (laid_item origin content p) content ≡ [] → AllKept p → lay origin content n p ≡ Ok q → AllKept q
 lay_bare origin content n p q count good none kept e = unmarked (laid_item origin content p) p q none (lay_kept origin content n p q count good kept e)
 
 -- ---- names that are declared
-
-in_push : (names : List (List ℕ)) (n d : List ℕ) → is_in names d ≡ true → is_in (names ++ n ∷ []) d ≡ true
-in_push [] n d h = absurd (cc)
-in_push (x ∷ xs) n d h = on (bytes_eq d x) (in_push xs n d) h
-  where
-    on : (b : Bool) → (is_in xs d ≡ true → is_in (xs ++ n ∷ []) d ≡ true) → (b || is_in xs d) ≡ true → (b || is_in (xs ++ n ∷ []) d) ≡ true
-    on true go h = refl
-    on false go h = go h
-
-in_last : (names : List (List ℕ)) (n : List ℕ) → is_in (names ++ n ∷ []) n ≡ true
-in_last [] n = or_left (bytes_eq n n) false ((bytes_eq-Decides n n).1 refl)
-in_last (x ∷ xs) n = or_right (bytes_eq n x) (is_in (xs ++ n ∷ []) n) (in_last xs n)
 
 once_keeps : (names : List (List ℕ)) (n d : List ℕ) → is_in names d ≡ true → is_in (once names n) d ≡ true
 once_keeps names n d h = on (is_in names n)
@@ -279,6 +318,7 @@ declare_kept names p q symbols kept e =
       names = kept.names;
       declared = declare_all names p.declared p.exported symbols kept.declared;
       items = kept.items;
+      told = kept.told;
     })
 
 export_kept : (origin : Origin) (names : List (List ℕ)) (p q : Progress) → AllKept p → meaning.export origin names p ≡ Ok q → AllKept q
@@ -309,6 +349,7 @@ export_kept origin names p q kept e =
         good = pushed (λ (i : Item). IsGoodContent i.content) p.items item kept.items.good tt;
         codes = pushed (λ (i : Item). is_code (heads p.sections) i.section ≡ true) p.items item kept.items.codes kept.sections.code;
       };
+      told = kept.told;
     })
   where
     nothing : (b : Bool) → ◌≡◌ {A = ℕ} (cond b 0 0) 0
@@ -333,7 +374,7 @@ registers_kept p q kept e = on p.registers e
     on false e =
         fold_kept register_names (record p { registers = true }) q
         ((refl, refl, natural_fits 0 (omega arith)), ((refl, refl, natural_fits 1 (omega arith)), ((refl, refl, natural_fits 2 (omega arith)), ((refl, refl, natural_fits 3 (omega arith)), ((refl, refl, natural_fits 4 (omega arith)), ((refl, refl, natural_fits 5 (omega arith)), tt))))))
-        (record { sections = kept.sections; names = kept.names; declared = kept.declared; items = kept.items }) e
+        (record { sections = kept.sections; names = kept.names; declared = kept.declared; items = kept.items; told = kept.told }) e
 
 enter_kept : (section : List ℕ) (p q : Progress) → IsSection section → same_kind true (find (is_called section) p.sections) ≡ true → AllKept p → meaning.enter section p ≡ Ok q → AllKept q
 enter_kept section p q name kind kept e =
@@ -346,24 +387,26 @@ enter_kept section p q name kind kept e =
       names = o.kept.names;
       declared = o.kept.declared;
       items = o.kept.items;
+      told = o.kept.told;
     })
 
-reserve_kept : (section name : List ℕ) (n : ℕ) (p q : Progress) → IsSection section → IsSymbol name → same_kind false (find (is_called section) p.sections) ≡ true → AllKept p → reserve section name n p ≡ Ok q → AllKept q
+reserve_kept : (section name : List ℕ) (n : ℕ) (flag : Bool) (u : Unit {0}) (p q : Progress) → IsSection section → IsSymbol name → same_kind false (find (is_called section) p.sections) ≡ true
+    → block_allowed flag n ≡ Ok u → AllKept p → reserve section name n flag p ≡ Ok q → AllKept q
 unfolding reserve
-reserve_kept section name n p q is symbol kind kept e =
-    let a = bound (opened section false p) (λ o. grow o.0 n o.1 >>= λ r. define name (place_in o.1.sections o.0) r) q e in
+reserve_kept section name n flag u p q is symbol kind allowed kept e =
+    let a = bound (opened section false p) (λ o. grow o.0 n o.1 >>= λ r. define name (place_in o.1.sections o.0) (block flag o.0 (size_at o.1.sections o.0) n r)) q e in
     let i = (a.0).0 in
     let r = (a.0).1 in
-    let b = bound (grow i n r) (λ x. define name (place_in r.sections i) x) q a.2 in
+    let b = bound (grow i n r) (λ x. define name (place_in r.sections i) (block flag i (size_at r.sections i) n x)) q a.2 in
     let o = opened_kept section false p a.0 is kind kept a.1 in
-    let g = grow_kept i n r b.0 o.code o.kept b.1 in
+    let g = room_kept flag i n u r b.0 allowed o.code o.kept b.1 in
     let good = place_good r i (length r.sections) o.there o.kept in
-    (define_kept name (place_in r.sections i) b.0 q symbol (subst (λ (n : ℕ). IsGoodValue (IsInside n) (place_in r.sections i)) (sym g.1) good) g.0 b.2).0
+    (define_kept name (place_in r.sections i) (block flag i (size_at r.sections i) n b.0) q symbol (subst (λ (n : ℕ). IsGoodValue (IsInside n) (place_in r.sections i)) (sym g.1) good) g.0 b.2).0
 
 -- the section that an act names, if there is one, is of its kind
 abbrev KindFits : Act → List Section → Type 0
 KindFits (line.Enter section) sections = same_kind true (find (is_called section) sections) ≡ true
-KindFits (line.Reserve section name count) sections = same_kind false (find (is_called section) sections) ≡ true
+KindFits (line.Reserve section name room) sections = same_kind false (find (is_called section) sections) ≡ true
 KindFits line.Nothing sections = Unit {0}
 KindFits (line.Equate name value) sections = Unit {0}
 KindFits (line.Put t operands) sections = Unit {0}
@@ -375,8 +418,8 @@ KindFits line.Registers sections = Unit {0}
 
 kind_fits : (a : Act) (p : Progress) (u : Unit {0}) → allowed a p ≡ Ok u → KindFits a p.sections
 kind_fits (line.Enter section) p u e = (permitted (same_kind true (find (is_called section) p.sections)) tt fault.OperandForm u e).0
-kind_fits (line.Reserve section name count) p u e =
-    let a = bound (of_kind section false p) (λ _. count >>= λ t. Ok tt) u e in
+kind_fits (line.Reserve section name room) p u e =
+    let a = bound (of_kind section false p) (λ _. room >>= λ t. Ok tt) u e in
     (permitted (same_kind false (find (is_called section) p.sections)) tt fault.OperandForm a.0 a.1).0
 kind_fits line.Nothing p u e = tt
 kind_fits (line.Equate name value) p u e = tt
@@ -390,11 +433,13 @@ kind_fits line.Registers p u e = tt
 act_kept : (origin : Origin) (a : Act) (p q : Progress) → IsGoodAct a → KindFits a p.sections → AllKept p → act origin a p ≡ Ok q → AllKept q
 act_kept origin line.Nothing p q good kind kept e = let same : p ≡ q = cc in subst AllKept same kept
 act_kept origin (line.Enter section) p q good kind kept e = enter_kept section p q good kind kept e
-act_kept origin (line.Reserve section name count) p q good kind kept e =
-    let r = unless (stands p.names name) fault.Defined (count >>= λ t. count_in (table p) t >>= λ n. reserve section name n p) q e in
-    let a = bound count (λ t. count_in (table p) t >>= λ n. reserve section name n p) q r in
-    let b = bound (count_in (table p) a.0) (λ n. reserve section name n p) q a.2 in
-    reserve_kept section name b.0 p q good.0 good.1 kind kept b.2
+act_kept origin (line.Reserve section name room) p q good kind kept e =
+    let r = unless (stands p.names name) fault.Defined (room >>= λ t. reserve_room section name t p) q e in
+    let a = bound room (λ t. reserve_room section name t p) q r in
+    let b = bound (count_in (table p) (a.0).count) (λ n. flag_in (table p) (a.0).flag >>= λ flag. block_allowed flag n >>= λ _. reserve section name n flag p) q a.2 in
+    let c = bound (flag_in (table p) (a.0).flag) (λ flag. block_allowed flag b.0 >>= λ _. reserve section name b.0 flag p) q b.2 in
+    let d = bound (block_allowed c.0 b.0) (λ _. reserve section name b.0 c.0 p) q c.2 in
+    reserve_kept section name b.0 c.0 d.0 p q good.0 good.1 kind d.1 kept d.2
 act_kept origin (line.Equate name value) p q good kind kept e =
     let r = unless (stands p.names name) fault.Defined (valued (table p) value >>= λ v. define name v p) q e in
     let a = bound (valued (table p) value) (λ v. define name v p) q r in
@@ -466,6 +511,7 @@ begun = record {
     names = record { symbols = tt; distinct = refl };
     declared = record { symbols = tt; distinct = refl; seen = tt };
     items = record { each = first_section; laid = tt; codes = tt; good = tt };
+    told = record { used = record { named = tt; distinct = refl; few = omega arith }; each = told_section };
   };
   few = omega arith;
 }
@@ -475,6 +521,12 @@ begun = record {
         let q : meaning.empty_section (codes ".text") true ≡ s = cc in
         subst (λ (x : Section). IsKept [] [] 0 x) q (record { small = omega arith; laid = λ _. refl; marks = refl; words = refl; relocations = refl })
     first_section (suc k) s at = absurd (cc)
+
+    told_section : Each (IsTold []) (meaning.start).sections
+    told_section zero s at =
+        let q : meaning.empty_section (codes ".text") true ≡ s = cc in
+        subst (λ (x : Section). IsTold [] 0 x) q (record { count = refl; origins = tt; blocks = omega arith; loaded = λ _. refl })
+    told_section (suc k) s at = absurd (cc)
 
 -- all that the lines of a source have made
 pub source_made : (files : Files) (name : List ℕ) (o : Option Config) (a : Passed) → passed_from files name o ≡ Ok a → IsMade a.progress

@@ -1,12 +1,15 @@
 pub mod AddressFields
+pub mod BlocksFit
 pub mod CallsSuffice
 pub mod Chains
 pub mod Counted
 pub mod Emitted
 pub mod Kept
 pub mod KeptActs
+pub mod KeptFiles
 pub mod KeptLines
 pub mod LineWords
+pub mod LinesTold
 pub mod ModuleFits
 pub mod ModulesOfSources
 pub mod OperandSheets

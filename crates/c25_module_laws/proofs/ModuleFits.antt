@@ -13,7 +13,7 @@ use Rattle.c25_meaning_objects.specs.declared.object.ModuleMark.{ModuleMark}
 use Rattle.c25_meaning_objects.specs.declared.object.Relocation.{Relocation}
 use Rattle.c25_meaning_objects.specs.declared.object.RelocationBase.{RelocationBase}
 use Rattle.c25_meaning_objects.specs.declared.object.RelocationBase.TheVariants as relocated
-use Rattle.c25_meaning_objects.specs.declared.object.Version.TheVariants.{One}
+use Rattle.c25_meaning_objects.specs.declared.object.Version.TheVariants.{Two}
 use Rattle.c25_module_laws.proofs.Emitted.{Made, filled_from, relocations_at, words_at}
 use Rattle.c25_module_laws.proofs.Kept.{Head, begins, get_last, has_head, head_fits, head_of, heads}
 use Rattle.c25_module_laws.proofs.LineWords.{AreFilled, IsFilled}
@@ -111,7 +111,7 @@ module_words ms k (suc i) (t ∷ ts) s full h = let z : k + suc i ≡ suc k + i 
 
 -- ---- the last item
 
-last_push : {X : Type 0} (xs : List X) (x : X) → last_of (xs ++ x ∷ []) ≡ Some x
+pub last_push : {X : Type 0} (xs : List X) (x : X) → last_of (xs ++ x ∷ []) ≡ Some x
 last_push xs x =
     let one = length-append xs (x ∷ []) in
     let n : length (xs ++ x ∷ []) - 1 ≡ length xs = omega (arith, one) in
@@ -122,12 +122,12 @@ abbrev pub IsBefore : {X : Type 0} → (X → ℕ) → (X → ℕ) → ℕ → �
 IsBefore section end k low None = Unit {0}
 IsBefore section end k low (Some y) = (section y < k) ⊎ ((section y ≡ k) × (end y ≤ low))
 
-before_next : {X : Type 0} (section end : X → ℕ) (k low : ℕ) (o : Option X) → IsBefore section end k low o → IsBefore section end (suc k) 0 o
+pub before_next : {X : Type 0} (section end : X → ℕ) (k low : ℕ) (o : Option X) → IsBefore section end k low o → IsBefore section end (suc k) 0 o
 before_next section end k low None h = tt
 before_next section end k low (Some y) (inl h) = inl (omega (arith, h))
 before_next section end k low (Some y) (inr h) = let e = h.0 in inl (omega (arith, e))
 
-is_behind : (s e k o : ℕ) → (s < k) ⊎ ((s ≡ k) × (e ≤ o)) → is_from s e k o ≡ true
+pub is_behind : (s e k o : ℕ) → (s < k) ⊎ ((s ≡ k) × (e ≤ o)) → is_from s e k o ≡ true
 is_behind s e k o (inl h) = or_left (ltb s k) (eqb s k && leb e o) (lt-ltb s k h)
 is_behind s e k o (inr h) = or_right (ltb s k) (eqb s k && leb e o) (and_from (eqb s k) (leb e o) (eq-eqb s k h.0) (le-leb e o h.1))
 
@@ -185,7 +185,7 @@ module _ (D : List SectionData) where
     relocation_comes None r h = refl
     relocation_comes (Some y) r h = is_behind y.section (y.offset + 1) r.section r.offset h
 
-    base_is : (b : RelocationBase) → HoldsOf (IsBase (length D) symbols) b → base_fits One D symbols b ≡ true
+    base_is : (b : RelocationBase) → HoldsOf (IsBase (length D) symbols) b → base_fits Two D symbols b ≡ true
     base_is (relocated.Section n) h = lt-ltb n (length D) h
     base_is (relocated.Loaded n) h = absurd h
     base_is (relocated.External n) h = h
@@ -201,17 +201,17 @@ module _ (D : List SectionData) where
         (eq-eqb (slice_index ws r.offset % field_values r.kind) 0 (ap (λ n. slice_index ws n % field_values r.kind) at ∙ h.clear)))
 
     one_relocation : (k : ℕ) (before : List Relocation) (r : Relocation) → IsFilled (IsBase (length D) symbols) k 0 (modules.words_at D k) r → IsBefore relocation_section relocation_end r.section r.offset (last_of before)
-        → relocation_fits One D symbols before r ≡ true
+        → relocation_fits Two D symbols before r ≡ true
     one_relocation k before r h last =
-        and_from _ (field_is_clear (modules.words_at D r.section) r) (and_from (base_fits One D symbols r.base) (relocation_after (last_of before) r) (base_is r.base h.base) (relocation_comes (last_of before) r last)) (clear_is k r h)
+        and_from _ (field_is_clear (modules.words_at D r.section) r) (and_from (base_fits Two D symbols r.base) (relocation_after (last_of before) r) (base_is r.base h.base) (relocation_comes (last_of before) r last)) (clear_is k r h)
 
     some_relocations : (k low high : ℕ) (rs rest before : List Relocation) → AreFilled (IsBase (length D) symbols) k 0 (modules.words_at D k) low high rs → IsBefore relocation_section relocation_end k low (last_of before)
-        → ((b : List Relocation) → IsBefore relocation_section relocation_end (suc k) 0 (last_of b) → each_fits (relocation_fits One D symbols) b rest ≡ true) → each_fits (relocation_fits One D symbols) before (rs ++ rest) ≡ true
+        → ((b : List Relocation) → IsBefore relocation_section relocation_end (suc k) 0 (last_of b) → each_fits (relocation_fits Two D symbols) b rest ≡ true) → each_fits (relocation_fits Two D symbols) before (rs ++ rest) ≡ true
     some_relocations k low high [] rest before h last go = go before (before_next relocation_section relocation_end k low (last_of before) last)
     some_relocations k low high (r ∷ rs) rest before h last go =
         let is = (h.1).section_is in
         let at : IsBefore relocation_section relocation_end r.section r.offset (last_of before) = subst (λ (n : ℕ). IsBefore relocation_section relocation_end n r.offset (last_of before)) (sym is) (later (last_of before) last h.0) in
-        and_from (relocation_fits One D symbols before r) (each_fits (relocation_fits One D symbols) (before ++ r ∷ []) (rs ++ rest)) (one_relocation k before r h.1 at)
+        and_from (relocation_fits Two D symbols before r) (each_fits (relocation_fits Two D symbols) (before ++ r ∷ []) (rs ++ rest)) (one_relocation k before r h.1 at)
         (some_relocations k (r.offset + 1) high rs rest (before ++ r ∷ []) h.2 (subst (IsBefore relocation_section relocation_end k (r.offset + 1)) (sym (last_push before r)) (inr (is, omega arith))) go)
       where
         later : (o : Option Relocation) → IsBefore relocation_section relocation_end k low o → low ≤ r.offset → IsBefore relocation_section relocation_end k r.offset o
@@ -221,10 +221,10 @@ module _ (D : List SectionData) where
 
     pub relocations_fit : (ms : List Made) (k : ℕ) (ss : List Section) (before : List Relocation)
         → AllFrom (λ n s. (s.relocations ≡ []) × ((high : ℕ) × AreFilled (IsBase (length D) symbols) n 0 (modules.words_at D n) 0 high (relocations_at n ms))) k ss
-        → IsBefore relocation_section relocation_end k 0 (last_of before) → each_fits (relocation_fits One D symbols) before (flat_map (λ s. s.relocations) (filled_from k ss ms)) ≡ true
+        → IsBefore relocation_section relocation_end k 0 (last_of before) → each_fits (relocation_fits Two D symbols) before (flat_map (λ s. s.relocations) (filled_from k ss ms)) ≡ true
     relocations_fit ms k [] before h last = refl
     relocations_fit ms k (s ∷ ss) before h last =
         let own = (h.0).0 in
         let filled = (h.0).1 in
-        subst (λ (xs : List Relocation). each_fits (relocation_fits One D symbols) before ((xs ++ relocations_at k ms) ++ flat_map (λ s. s.relocations) (filled_from (suc k) ss ms)) ≡ true) (sym own)
+        subst (λ (xs : List Relocation). each_fits (relocation_fits Two D symbols) before ((xs ++ relocations_at k ms) ++ flat_map (λ s. s.relocations) (filled_from (suc k) ss ms)) ≡ true) (sym own)
         (some_relocations k 0 filled.0 (relocations_at k ms) (flat_map (λ s. s.relocations) (filled_from (suc k) ss ms)) before filled.1 last (λ b next. relocations_fit ms (suc k) ss b h.1 next))

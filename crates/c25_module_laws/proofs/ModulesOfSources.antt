@@ -1,22 +1,23 @@
 -- The module of a source is a module.
-use Rattle.std.proofs.Common.{◌≡◌, ℕ, suc, ◌+◌, ◌≤◌, ◌<◌, ◌^◌, true, false, List, [], ◌∷◌, ◌++◌, length, map, ltb, Some, Ok, refl, sym, ap, ◌∙◌, subst, arith}
+use Rattle.std.proofs.Common.{◌≡◌, ℕ, suc, ◌+◌, ◌≤◌, ◌<◌, ◌^◌, true, false, List, [], ◌∷◌, ◌++◌, length, map, eqb, ltb, Some, Ok, refl, sym, ap, ◌∙◌, subst, arith}
 use Rattle.std.specs.Int.{w32}
 use Rattle.std.specs.Int.RustNames.{FitsSigned}
 use Rattle.std.specs.List.{AllByRecursion, flat_map, slice_get}
-use Rattle.std.proofs.lemmas.Bool.{and_from, lt-ltb, false≢true}
+use Rattle.std.proofs.lemmas.Bool.{and_from, eq-eqb, lt-ltb, false≢true}
 use Rattle.std.proofs.lemmas.List.{length-map}
-use Rattle.c25_meaning_assembly.specs.Emission.{all_names, emit_all, finished, module_with, section_of, symbol_of}
+use Rattle.c25_meaning_assembly.specs.Emission.{all_names, emit_all, finished, lines_in, module_with, section_of, symbol_of}
 use Rattle.c25_meaning_expansion.specs.ExpansionRuns.{start_of}
 use Rattle.c25_meaning_expansion.specs.Files.{Files}
 use Rattle.c25_meaning_objects.specs.Module as modules
-use Rattle.c25_meaning_objects.specs.Module.{Contents, IsModule, IsSized, SectionData, SymbolData, body_words, each_fits, has_symbol, is_module, mark_fits, relocation_fits, section_fits, symbol_fits}
-use Rattle.c25_meaning_sources.specs.ModuleOfSource.{Assembled, assembled, completed, passed_from}
+use Rattle.c25_meaning_objects.specs.Module.{Contents, IsModule, IsSized, SectionData, SymbolData, block_fits, body_words, each_fits, has_symbol, is_module, mark_fits, relocation_fits, section_fits, symbol_fits, used}
+use Rattle.c25_meaning_sources.specs.ModuleOfSource.{Assembled, Passed, assembled, completed, passed_from}
 use Rattle.c25_meaning_assembly.specs.Sections.{Definitions, Item, Progress, Section, place}
 use Rattle.c25_meaning_objects.specs.declared.object.ModuleMark.{ModuleMark}
 use Rattle.c25_meaning_objects.specs.declared.object.Relocation.{Relocation}
-use Rattle.c25_meaning_objects.specs.declared.object.Version.TheVariants.{One}
+use Rattle.c25_meaning_objects.specs.declared.object.Version.TheVariants.{Two}
 use Rattle.c25_meaning_language.specs.declared.value.Base.{Base}
-use Rattle.c25_module_laws.proofs.Emitted.{Give, Made, all_emitted, filled_from, relocations_at, words_at}
+use Rattle.c25_module_laws.proofs.BlocksFit.{blocks_fit, blocks_in, lines_are}
+use Rattle.c25_module_laws.proofs.Emitted.{Give, Made, all_emitted, filled_from, filled_none, relocations_at, words_at}
 use Rattle.c25_module_laws.proofs.Kept.{AllKept, Head, heads, is_code, marks_in, part_there, total}
 use Rattle.c25_module_laws.proofs.KeptActs.{code_is, code_section, code_within}
 use Rattle.c25_module_laws.proofs.KeptLines.{IsMade, source_made}
@@ -148,15 +149,19 @@ module_fits p ms made good =
     marks_fit D ms 0 p.sections [] (all_sections (λ n s. AreMarks n 0 (length (modules.words_at (data_in p ms) n)) s.marks) p.sections (λ k s at. marks_in_module p ms k s kept good at)) tt in
     let count = all_count p.names p.declared in
     let few = made.few in
-    let names : each_fits (symbol_fits One D) [] symbols ≡ true =
+    let names : each_fits (symbol_fits Two D) [] symbols ≡ true =
     symbols_fit D p.exported [] (all_names p) (all_good D (length p.sections) p.names p.declared p.exported (sym size) kept.names.symbols kept.declared.symbols kept.declared.seen)
     (all_distinct p.names p.declared kept.names.distinct kept.declared.distinct) (none_before (all_names p)) (omega (arith, count, few)) in
-    let relocations : each_fits (relocation_fits One D symbols) [] (flat_map (λ s. s.relocations) (filled_from 0 p.sections ms)) ≡ true =
+    let relocations : each_fits (relocation_fits Two D symbols) [] (flat_map (λ s. s.relocations) (filled_from 0 p.sections ms)) ≡ true =
     relocations_fit D symbols ms 0 p.sections []
     (all_sections (λ n s. (s.relocations ≡ []) × ((high : ℕ) × AreFilled (IsBase (length (data_in p ms)) (map (symbol_of p.exported) (all_names p))) n 0 (modules.words_at (data_in p ms) n) 0 high (relocations_at n ms))) p.sections
     (λ k s at. relocations_in_module p ms k s kept good at)) tt in
+    let told = lines_are p.files ms p.sections kept.told in
+    let lines = lines_in (filled_from 0 p.sections ms) in
+    let blocks : each_fits (block_fits D) [] (flat_map (λ s. s.blocks) (filled_from 0 p.sections ms)) ≡ true = blocks_fit D ms 0 p.sections [] (blocks_in p.files ms p.sections kept.told) tt in
+    let are_told = and_from (eqb (length lines.lines) (length (flat_map (λ s. s.marks) (filled_from 0 p.sections ms)))) (eqb (used lines.lines) (length lines.files)) (eq-eqb _ _ told.count) (eq-eqb _ _ told.used_is) in
     and_from (ltb 0 (length D)) (modules.lists_fit (module_with (filled_from 0 p.sections ms) (all_names p) p.exported)) (lt-ltb 0 (length D) (omega (arith, size, some)))
-    (and_from _ _ sections (and_from _ _ marks (and_from _ _ names (and_from _ true relocations refl))))
+    (and_from _ _ sections (and_from _ _ marks (and_from _ _ names (and_from _ _ relocations (and_from _ _ told.files_fit (and_from _ _ told.lines_fit (and_from _ _ are_told blocks)))))))
 
 -- ---- its numbers
 
@@ -194,7 +199,7 @@ module_sized p ms made good =
       values = sized_values (data_in p ms) p.exported (all_names p) (all_good (data_in p ms) (length p.sections) p.names p.declared p.exported (sym (length_data p ms)) kept.names.symbols kept.declared.symbols kept.declared.seen);
       addends = sized_addends (base_in p) ms 0 p.sections (all_sections (λ n s. (s.relocations ≡ []) × ((ws : List ℕ) × (high : ℕ) × AreFilled (base_in p) n 0 ws 0 high (relocations_at n ms))) p.sections
           (λ k s at. ((kept.items.each k s at).relocations, (words_at k ms, 0 + total k p.items, section_filled (base_in p) k (λ k. 0) [] p.items ms refl kept.items.laid good))));
-      lines = tt;
+      lines = (lines_are p.files ms p.sections kept.told).sized;
     }
 
 -- ---- sources
@@ -213,3 +218,10 @@ source_good files name a e =
     let made : Assembled = record { contents = c.0; entries = (b.0).entries } in
     let q : made ≡ a = let last = c.2 in cc in
     subst (λ (x : Assembled). IsModule x.contents) q (finished_good (b.0).progress c.0 (source_made files name (start_of files name) b.0 b.1) c.1)
+
+-- a source's instructions stand in as many files as records can count
+pub few_files : (files : Files) (name : List ℕ) (a : Passed) → passed_from files name (start_of files name) ≡ Ok a → length (lines_in (a.progress).sections).files ≤ 65535
+few_files files name a e =
+    let p = a.progress in
+    let made = source_made files name (start_of files name) a e in
+    subst (λ (ss : List Section). length (lines_in ss).files ≤ 65535) (filled_none 0 p.sections) ((lines_are p.files [] p.sections made.kept.told).few)

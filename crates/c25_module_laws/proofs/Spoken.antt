@@ -293,7 +293,7 @@ strings_good (o ∷ os) words h e =
 abbrev pub IsGoodAct : Act → Type 0
 IsGoodAct line.Nothing = Unit {0}
 IsGoodAct (line.Enter section) = IsSection section
-IsGoodAct (line.Reserve section name count) = IsSection section × IsSymbol name
+IsGoodAct (line.Reserve section name room) = IsSection section × IsSymbol name
 IsGoodAct (line.Equate name value) = IsSymbol name
 IsGoodAct (line.Put target operands) = IsCount target (length operands)
 IsGoodAct (line.Load words) = AreWords words
@@ -322,8 +322,13 @@ reserving_good (o ∷ []) act h e = absurd (cc)
 reserving_good (o ∷ p ∷ []) act h e =
     let a = bound (name_in o) _ act e in
     let b = bound (later_in p) _ act a.2 in
-    given (line.Reserve _ a.0 b.0) act b.2 (refl, name_good o a.0 h.0 a.1)
-reserving_good (o ∷ p ∷ q ∷ os) act h e = absurd (cc)
+    given (line.Reserve _ a.0 (line.alone b.0)) act b.2 (refl, name_good o a.0 h.0 a.1)
+reserving_good (o ∷ p ∷ q ∷ []) act h e =
+    let a = bound (name_in o) _ act e in
+    let b = bound (later_in p) _ act a.2 in
+    let c = bound (later_in q) _ act b.2 in
+    given (line.Reserve _ a.0 (line.flagged b.0 c.0)) act c.2 (refl, name_good o a.0 h.0 a.1)
+reserving_good (o ∷ p ∷ q ∷ r ∷ os) act h e = absurd (cc)
 
 reserving_in_good : (label : List ℕ) (os : List (List Piece)) (act : Act) → IsSymbol label → reserving_in label os ≡ Ok act → IsGoodAct act
 reserving_in_good label [] act h e = absurd (cc)
@@ -331,7 +336,7 @@ reserving_in_good label (o ∷ []) act h e = absurd (cc)
 reserving_in_good label (o ∷ p ∷ []) act h e =
     let a = bound (section_in o) _ act e in
     let b = bound (later_in p) _ act a.2 in
-    given (line.Reserve a.0 label b.0) act b.2 (section_good o a.0 a.1, h)
+    given (line.Reserve a.0 label (line.alone b.0)) act b.2 (section_good o a.0 a.1, h)
 reserving_in_good label (o ∷ p ∷ q ∷ os) act h e = absurd (cc)
 
 expression_good : (f : Tree → Act) (os : List (List Piece)) (act : Act) → ((e : Tree) → IsGoodAct (f e)) → with_expression f os ≡ Ok act → IsGoodAct act

@@ -8,10 +8,10 @@ use Rattle.std.specs.Str.{bytes_eq}
 use Rattle.std.proofs.lemmas.Bool.{and_from, lt-ltb, not_from_false}
 use Rattle.std.proofs.lemmas.List.{map-append, append_assoc, length-append}
 use Rattle.c25_meaning_assembly.specs.Emission.{kind_of, names_with, numbered, scope_of, symbol_of}
-use Rattle.c25_meaning_objects.specs.Module.{SectionData, SymbolData, each_fits, has_symbol, is_external, is_global, is_symbol_name, kind_allowed, place_fits, symbol_fits, symbol_stands}
+use Rattle.c25_meaning_objects.specs.Module.{SectionData, SymbolData, each_fits, has_symbol, is_external, is_global, is_symbol_name, place_fits, symbol_fits, symbol_stands}
 use Rattle.c25_meaning_assembly.specs.Sections.{Definitions, are_distinct, imports, is_in, stands}
 use Rattle.c25_meaning_language.specs.Value.{named_by, predefined, defined}
-use Rattle.c25_meaning_objects.specs.declared.object.Version.TheVariants.{One}
+use Rattle.c25_meaning_objects.specs.declared.object.Version.TheVariants.{Two}
 use Rattle.c25_meaning_language.specs.declared.value.Base.{Base}
 use Rattle.c25_meaning_language.specs.declared.value.Base.TheVariants.{Absolute, Section, External}
 use Rattle.c25_meaning_language.specs.declared.value.Value.{Value}
@@ -103,19 +103,12 @@ all_count names declared = length-append names (numbered (length names) (imports
 -- ---- each name is a symbol's, and stands for a place or a number
 
 pub record IsGoodSymbol (sections : List SectionData) (exported : List (List ℕ)) (e : List ℕ × Value) : Type 0 where
-  pub stands : symbol_stands One sections (symbol_of exported e) ≡ true
+  pub stands : symbol_stands Two sections (symbol_of exported e) ≡ true
   pub fits : FitsSigned w32 e.1.offset
-
--- no value counts from where a section is loaded
-told_in_one : (b : Base) → kind_allowed One (kind_of b) ≡ true
-told_in_one Absolute = refl
-told_in_one (Section k) = refl
-told_in_one (External k) = refl
 
 defined_good : (sections : List SectionData) (exported : List (List ℕ)) (e : List ℕ × Value) → IsSymbol e.0 → IsGoodValue (IsInside (length sections)) e.1 → IsGoodSymbol sections exported e
 defined_good sections exported e symbol good = record {
-  stands = and_from (is_symbol_name e.0 && kind_allowed One (kind_of e.1.base)) (place_fits sections (symbol_of exported e) (kind_of e.1.base))
-      (and_from (is_symbol_name e.0) (kind_allowed One (kind_of e.1.base)) symbol (told_in_one e.1.base)) (by e.1.base good.0);
+  stands = and_from (is_symbol_name e.0 && true) (place_fits sections (symbol_of exported e) (kind_of e.1.base)) (and_from (is_symbol_name e.0) true symbol refl) (by e.1.base good.0);
   fits = good.1;
 }
   where
@@ -135,7 +128,7 @@ imported_good sections exported n (d ∷ ds) g h = (
   imported_good sections exported (n + 1) ds g.1 h.1,
 )
 
-both_hold : {X : Type 0} (P : X → Type 0) (xs ys : List X) → AllByRecursion P xs → AllByRecursion P ys → AllByRecursion P (xs ++ ys)
+pub both_hold : {X : Type 0} (P : X → Type 0) (xs ys : List X) → AllByRecursion P xs → AllByRecursion P ys → AllByRecursion P (xs ++ ys)
 both_hold P [] ys g h = h
 both_hold P (x ∷ xs) ys g h = (g.0, both_hold P xs ys g.1 h)
 
@@ -160,15 +153,15 @@ absent_push test (x ∷ xs) y g h =
 
 pub symbols_fit : (sections : List SectionData) (exported : List (List ℕ)) (before : List SymbolData) (xs : Definitions) → AllByRecursion (IsGoodSymbol sections exported) xs
     → are_distinct (first_names xs) ≡ true → AllByRecursion (λ x. has_symbol before x.0 ≡ false) xs → length before + length xs ≤ 65535
-    → each_fits (symbol_fits One sections) before (map (symbol_of exported) xs) ≡ true
+    → each_fits (symbol_fits Two sections) before (map (symbol_of exported) xs) ≡ true
 symbols_fit sections exported before [] good distinct new few = refl
 symbols_fit sections exported before (x ∷ xs) good distinct new few =
     let y = symbol_of exported x in
     let p = both (is_in (first_names xs) x.0) (are_distinct (first_names xs)) distinct in
     let one = length-append before (y ∷ []) in
-    and_from (symbol_fits One sections before y) (each_fits (symbol_fits One sections) (before ++ y ∷ []) (map (symbol_of exported) xs))
-    (and_from (symbol_stands One sections y && not (has_symbol before x.0)) (ltb (length before) 65535)
-    (and_from (symbol_stands One sections y) (not (has_symbol before x.0)) (good.0).stands (not_from_false (has_symbol before x.0) new.0)) (lt-ltb (length before) 65535 (omega (arith, few))))
+    and_from (symbol_fits Two sections before y) (each_fits (symbol_fits Two sections) (before ++ y ∷ []) (map (symbol_of exported) xs))
+    (and_from (symbol_stands Two sections y && not (has_symbol before x.0)) (ltb (length before) 65535)
+    (and_from (symbol_stands Two sections y) (not (has_symbol before x.0)) (good.0).stands (not_from_false (has_symbol before x.0) new.0)) (lt-ltb (length before) 65535 (omega (arith, few))))
     (symbols_fit sections exported (before ++ y ∷ []) xs good.1 p.1 (still y xs p.0 new.1) (omega (arith, few, one)))
   where
     still : (y : SymbolData) (zs : Definitions) → is_in (first_names zs) y.name ≡ false → AllByRecursion (λ z. has_symbol before z.0 ≡ false) zs → AllByRecursion (λ z. has_symbol (before ++ y ∷ []) z.0 ≡ false) zs

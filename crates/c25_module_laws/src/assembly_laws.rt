@@ -7,8 +7,8 @@ ghost use Rattle.c25_meaning_expansion.specs.Files.{Files};
 ghost use Rattle.c25_meaning_objects.specs.Module.{IsModule};
 ghost use Rattle.c25_meaning_sources.specs.ModuleOfSource.{Assembled, Passed, assembled, no_lines, passed};
 
-/// The module of a source is a module: its sections, marks, symbols and relocations are in order
-/// and in their ranges.
+/// The module of a source is a module: its sections, marks, symbols, relocations, files, lines and
+/// blocks are in order and in their ranges.
 pub fn sources_make_modules()
     ensures { (files : Files) (name : List ℕ) (a : Assembled) → assembled files name ≡ Ok a → IsModule a.contents }
 {}

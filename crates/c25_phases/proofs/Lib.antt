@@ -1,5 +1,7 @@
 pub mod Declared
+pub mod Filed
 pub mod Keys
 pub mod Listed
 pub mod Reversed
 pub mod Sheets
+pub mod Unmoved

@@ -1,6 +1,8 @@
 pub mod FaultText
 pub mod Imports
+pub mod Lined
 pub mod Names
+pub mod Origins
 pub mod Refusals
 pub mod Sizes
 pub mod Steps

@@ -1,5 +1,5 @@
 -- How many words what waits will have.
-use Rattle.std.specs.Prelude.{ℕ, ◌<◌, ◌≤◌, length}
+use Rattle.std.specs.Prelude.{ℕ, ◌<◌, ◌≤◌, Bool, true, false, length}
 use Rattle.c25_meaning_assembly.specs.OperandFields.{target_size}
 use Rattle.c25_meaning_assembly.specs.declared.assembly.Target.{Target}
 use Rattle.c25_meaning_assembly.specs.declared.assembly.Target.TheVariants as target
@@ -12,6 +12,11 @@ content_size (content.Operands target operands) = target_size target (length ope
 content_size (content.Words words) = length words.items
 content_size (content.Zeros count) = count
 content_size (content.Exported names) = 0
+
+-- a block has 1 to 128 words
+abbrev pub IsBlockSize : Bool → ℕ → Type 0
+IsBlockSize true n = (0 < n) × (n ≤ 128)
+IsBlockSize false n = Unit {0}
 
 -- an instruction has one word or two
 abbrev pub IsSize : Target → ℕ → Type 0

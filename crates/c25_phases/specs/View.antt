@@ -6,12 +6,12 @@ use Rattle.c25_meaning_language.specs.ExpansionFault as answer
 use Rattle.c25_meaning_assembly.specs.Sections as sections
 use Rattle.c25_meaning_language.specs.Value.{Table}
 use Rattle.c25_phases.specs.Names.{bytes_of_names}
+use Rattle.c25_phases.specs.Origins.{origin_of}
 use Rattle.c25_phases.specs.declared.fault.AsmFault.{AsmFault}
 use Rattle.c25_phases.specs.declared.fault.AsmFault.TheVariants as fault
 use Rattle.c25_phases.specs.declared.item.Content.{Content}
 use Rattle.c25_phases.specs.declared.item.Content.TheVariants as content
 use Rattle.c25_phases.specs.declared.item.Item.{Item}
-use Rattle.c25_phases.specs.declared.item.Origin.{Origin}
 use Rattle.c25_phases.specs.declared.progress.Progress.{Progress}
 
 -- what waits
@@ -20,10 +20,6 @@ content_of (content.Operands target operands) = sections.Operands target (trees_
 content_of (content.Words words) = sections.Words words.items
 content_of (content.Zeros count) = sections.Zeros count
 content_of (content.Exported names) = sections.Exported (bytes_of_names names.items)
-
--- a line
-abbrev pub origin_of : Origin → sections.Origin
-origin_of o = record { file = o.file.now; line = o.line }
 
 -- what waits, and where it is of
 abbrev pub item_of : Item → sections.Item
@@ -39,6 +35,7 @@ progress_of p = record {
   exported = p.exported;
   registers = p.registers;
   items = map item_of p.items.items;
+  files = p.files;
 }
 
 -- what names stand for so far, and `$`

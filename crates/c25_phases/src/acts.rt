@@ -6,11 +6,13 @@ ghost use Rattle.std.specs.Option.{option_map};
 ghost use Rattle.c25_meaning_common.specs.Results.{Meets};
 ghost use Rattle.c25_meaning_assembly.specs.Sections as meaning;
 ghost use Rattle.c25_expr.specs.View.{tree_of};
-ghost use Rattle.c25_statements.specs.View.{act_of, count_of, statement_of, texts_of, trees_of};
-ghost use Rattle.c25_phases.specs.Sizes.{IsSize};
+ghost use Rattle.c25_statements.specs.View.{act_of, room_in, room_of, statement_of, texts_of, trees_of};
 ghost use Rattle.c25_phases.specs.Names.{bytes_of_names};
-ghost use Rattle.c25_phases.specs.View.{origin_of, progress_of};
+ghost use Rattle.c25_phases.specs.Origins.{origin_of};
+ghost use Rattle.c25_phases.specs.Sizes.{IsBlockSize, IsSize};
+ghost use Rattle.c25_phases.specs.View.{progress_of};
 
+use crate::counts::block_allowed;
 use crate::item::{Content, Item, Origin};
 use crate::progress::Progress;
 use crate::targets::target_size;
@@ -21,7 +23,7 @@ use c25_meaning_common::failure::Failure;
 use c25_meaning_common::no_memory::NoMemory;
 use c25_meaning_language::statement::FaultKind;
 use c25_meaning_language::value::{Base, Value};
-use c25_statements::statement::{Act, Statement};
+use c25_statements::statement::{Act, Room, Statement};
 use std::alloc::Global;
 
 fn any_predefined(names: &[&str]) -> bool
@@ -62,9 +64,9 @@ impl<'a> Progress<'a> {
     {
         match act {
             Act::Enter(section) => self.of_kind(section.as_str(), true),
-            Act::Reserve { section, count, .. } => {
+            Act::Reserve { section, room, .. } => {
                 match self.of_kind(section.as_str(), false) {
-                    Ok(()) => match count {
+                    Ok(()) => match room {
                         Ok(_) => Ok(()),
                         Err(fault) => Err(*fault),
                     },
@@ -95,15 +97,47 @@ impl<'a> Progress<'a> {
         Ok(())
     }
 
-    /// Words for a name.
+    /// Words for a name, a block of them where the flag is set.
     #[tactic(auto, unfolding(c25_meaning_assembly::specs::Sections::reserve))]
-    fn reserve(&mut self, section: &str, name: &str, words: usize) -> Result<(), Failure<FaultKind>>
-        ensures { Meets (λ _. progress_of self.new) (meaning.reserve section.now name.now words (progress_of self.old)) result }
+    fn reserve(
+        &mut self,
+        section: &str,
+        name: &str,
+        words: usize,
+        flag: bool,
+    ) -> Result<(), Failure<FaultKind>>
+        requires { IsBlockSize flag words }
+        ensures { Meets (λ _. progress_of self.new) (meaning.reserve section.now name.now words flag (progress_of self.old)) result }
     {
         let section = self.open(section, false)?;
         let place = self.place_in(section);
+        let offset = self.sections.size_at(section);
         self.grow(section, words)?;
+        self.block(flag, section, offset, words)?;
         self.define(name, place)
+    }
+
+    /// So much room for a name.
+    fn reserve_room(
+        &mut self,
+        section: &str,
+        name: &str,
+        room: &Room,
+    ) -> Result<(), Failure<FaultKind>>
+        ensures { Meets (λ _. progress_of self.new) (meaning.reserve_room section.now name.now (room_of room.now) (progress_of self.old)) result }
+    {
+        let words = match self.count_in(&room.count) {
+            Ok(words) => words,
+            Err(fault) => return Err(Failure::Fault(fault)),
+        };
+        let flag = match self.flag_in(&room.flag) {
+            Ok(flag) => flag,
+            Err(fault) => return Err(Failure::Fault(fault)),
+        };
+        match block_allowed(flag, words) {
+            Ok(()) => self.reserve(section, name, words as usize, flag),
+            Err(fault) => Err(Failure::Fault(fault)),
+        }
     }
 
     /// `.bss`, `.usect`
@@ -111,18 +145,15 @@ impl<'a> Progress<'a> {
         &mut self,
         section: &str,
         name: &str,
-        count: &Result<Expr, FaultKind>,
+        room: &Result<Room, FaultKind>,
     ) -> Result<(), Failure<FaultKind>>
-        ensures { Meets (λ _. progress_of self.new) (meaning.reserve_count section.now name.now (count_of count.now) (progress_of self.old)) result }
+        ensures { Meets (λ _. progress_of self.new) (meaning.reserve_count section.now name.now (room_in room.now) (progress_of self.old)) result }
     {
         if self.symbols.get(name).is_some() {
             return Err(Failure::Fault(FaultKind::Defined));
         }
-        match count {
-            Ok(expr) => match self.count_in(expr) {
-                Ok(words) => self.reserve(section, name, words as usize),
-                Err(fault) => Err(Failure::Fault(fault)),
-            },
+        match room {
+            Ok(room) => self.reserve_room(section, name, room),
             Err(fault) => Err(Failure::Fault(*fault)),
         }
     }
@@ -143,17 +174,18 @@ impl<'a> Progress<'a> {
     /// An instruction of so many words marks where it begins.
     fn mark_target(
         &mut self,
+        origin: Origin<'a>,
         target: Target,
         section: u16,
         offset: u32,
         words: usize,
-    ) -> Result<(), NoMemory>
+    ) -> Result<(), Failure<FaultKind>>
         requires within { offset + words ≤ 65536 }
         requires some { IsSize target words }
-        ensures { OnOk result (progress_of self.new ≡ meaning.mark target section offset words (progress_of self.old)) }
+        ensures { Meets (λ _. progress_of self.new) (meaning.mark (origin_of origin.entry) target section offset words (progress_of self.old)) result }
     {
         match target {
-            Target::Instruction(_) => self.mark(section, offset as u16, words as u8),
+            Target::Instruction(_) => self.mark(origin, section, offset as u16, words as u8),
             Target::Words | Target::Bytes => Ok(()),
         }
     }
@@ -171,8 +203,7 @@ impl<'a> Progress<'a> {
         let section = self.current;
         let offset = self.sections.size_at(section);
         self.lay(origin, Content::Operands(target, operands), words)?;
-        self.mark_target(target, section, offset, words)?;
-        Ok(())
+        self.mark_target(origin, target, section, offset, words)
     }
 
     /// `.space`
@@ -282,8 +313,8 @@ impl<'a> Progress<'a> {
             Act::Reserve {
                 section,
                 name,
-                count,
-            } => self.reserve_count(section.as_str(), name, &count),
+                room,
+            } => self.reserve_count(section.as_str(), name, &room),
             Act::Equate { name, value } => self.equate(name, &value),
             Act::Put(target, operands) => self.put(origin, target, operands),
             Act::Load(words) => {

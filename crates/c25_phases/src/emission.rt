@@ -146,7 +146,7 @@ fn relocations_of(
 #[tactic(auto, using(c25_meaning_language::proofs::Numbers::in_range))]
 fn put_sheet(
     alloc: Global,
-    sections: &mut Sections,
+    sections: &mut Sections<'_>,
     section: u16,
     offset: u32,
     target: Target,
@@ -179,7 +179,7 @@ fn zeros(alloc: Global, count: usize) -> Result<Vec<u16>, NoMemory>
 fn emit(
     alloc: Global,
     symbols: &mut Symbols,
-    sections: &mut Sections,
+    sections: &mut Sections<'_>,
     sheet: &mut Sheet,
     item: &Item<'_>,
 ) -> Result<(), Failure<FaultKind>>
@@ -217,7 +217,7 @@ fn emit(
 pub(crate) fn emit_all<'a>(
     alloc: Global,
     symbols: &mut Symbols,
-    sections: &mut Sections,
+    sections: &mut Sections<'_>,
     sheet: &mut Sheet,
     items: &[Item<'a>],
 ) -> Result<(), Failure<AsmFault<'a>>>

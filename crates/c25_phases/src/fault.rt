@@ -7,7 +7,7 @@ use std::fmt;
 /// Why a source has no module.
 #[derive(Debug, Drop)]
 pub enum AsmFault<'a> {
-    /// The line of this number in this file is wrong (10 to 13, 20 to 26, 31 to 36, 38, 50 to 55).
+    /// The line of this number in this file is wrong (10 to 13, 20 to 26, 31 to 36, 38, 50 to 56).
     Line {
         file: &'a str,
         line: usize,

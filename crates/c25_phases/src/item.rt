@@ -15,6 +15,15 @@ pub struct Origin<'a> {
     pub line: usize,
 }
 
+/// The line of an instruction, as the records of a module have it.
+#[derive(Clone, Copy)]
+pub(crate) struct SourceLine<'a> {
+    /// The name of its file.
+    pub(crate) file: &'a str,
+    /// Its number there.
+    pub(crate) line: u32,
+}
+
 /// What waits.
 #[derive(Drop)]
 pub(crate) enum Content {

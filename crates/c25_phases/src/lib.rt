@@ -1,13 +1,16 @@
 //! Both phases of the assembler: statements to the lists of a module.
 //!
-//! The first phase goes line by line, gives sections their sizes and marks, and names their values. The
-//! second one goes over the operands that waited for all names, and gives words and relocations.
+//! The first phase goes line by line, gives sections their sizes, marks and blocks, and names their
+//! values. The second one goes over the operands that waited for all names, and gives words and
+//! relocations. A module is of version 2: it tells each instruction's file and line.
 #![tactic(auto)]
 
 mod acts;
+mod counts;
 mod emission;
 pub mod fault;
 mod item;
+mod lines;
 mod making;
 mod names;
 mod phase;

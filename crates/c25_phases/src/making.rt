@@ -1,6 +1,6 @@
 //! The module that the lines have made.
 
-ghost use Rattle.std.specs.Prelude.{◌≡◌, ◌≤◌, IfOk, map};
+ghost use Rattle.std.specs.Prelude.{◌≡◌, ◌≤◌, IfOk, length, map};
 ghost use Rattle.c25_meaning_assembly.specs.Emission as emission;
 ghost use Rattle.c25_meaning_common.specs.Results.{MeetsBy};
 ghost use Rattle.c25_meaning_assembly.specs.Sections.{name_count};
@@ -11,6 +11,7 @@ use crate::emission::{emit_all, import_all};
 use crate::fault::AsmFault;
 use crate::names::Names;
 use crate::progress::Progress;
+use crate::sections::Sections;
 use crate::sheet::Sheet;
 use c25_expr::symbols::Symbols;
 use c25_meaning_common::failure::Failure;
@@ -66,10 +67,40 @@ fn symbols_of(alloc: Global, symbols: &Symbols, exported: &Names) -> Result<Vec<
     Ok(all)
 }
 
+/// The module of sections and symbols.
+#[tactic(auto, using(crate::proofs::Filed::module_is))]
+fn module_with(
+    alloc: Global,
+    sections: Sections<'_>,
+    symbols: &Symbols,
+    exported: &Names,
+) -> Result<Parts, NoMemory>
+    requires { length (emission.lines_in sections).files ≤ 65535 }
+    ensures { IfOk result (λ p. contents p ≡ emission.module_with sections.entry symbols.now.entries exported.now) }
+{
+    let marks = sections.marks()?;
+    let relocations = sections.relocations()?;
+    let blocks = sections.blocks()?;
+    let (files, lines) = sections.lines()?.into_parts()?;
+    let symbols = symbols_of(alloc, symbols, exported)?;
+    let sections = sections.into_parts()?;
+    Ok(Parts {
+        sections,
+        marks,
+        symbols,
+        relocations,
+        version: Version::Two,
+        files,
+        lines,
+        blocks,
+    })
+}
+
 /// The module that the lines have made, or the first fault of their operands.
 #[tactic(auto, unfolding(c25_meaning_assembly::specs::Emission::finished))]
 pub fn finish(progress: Progress<'_>) -> Result<Parts, Failure<AsmFault<'_>>>
-    requires { name_count (progress_of progress).names (progress_of progress).declared ≤ 65535 }
+    requires names { name_count (progress_of progress).names (progress_of progress).declared ≤ 65535 }
+    requires files { length (emission.lines_in (progress_of progress).sections).files ≤ 65535 }
     ensures { MeetsBy fault_of contents (emission.finished (progress_of progress.entry)) result }
 {
     let Progress {
@@ -82,6 +113,8 @@ pub fn finish(progress: Progress<'_>) -> Result<Parts, Failure<AsmFault<'_>>>
         exported,
         registers: _,
         items,
+        files: _,
+        recent: _,
     } = progress;
     let mut sections = sections;
     let mut symbols = symbols;
@@ -94,18 +127,5 @@ pub fn finish(progress: Progress<'_>) -> Result<Parts, Failure<AsmFault<'_>>>
         &mut sheet,
         items.as_slice(),
     )?;
-    let marks = sections.marks()?;
-    let relocations = sections.relocations()?;
-    let symbols = symbols_of(alloc, &symbols, &exported)?;
-    let sections = sections.into_parts()?;
-    Ok(Parts {
-        sections,
-        marks,
-        symbols,
-        relocations,
-        version: Version::One,
-        files: Vec::new(alloc),
-        lines: Vec::new(alloc),
-        blocks: Vec::new(alloc),
-    })
+    Ok(module_with(alloc, sections, &symbols, &exported)?)
 }

@@ -1,6 +1,6 @@
 //! Names, each once.
 
-ghost use Rattle.std.specs.Prelude.{◌≡◌, ◌<◌, ◌^◌, [], true, length, slice_get, OnOk, OnErr};
+ghost use Rattle.std.specs.Prelude.{◌≡◌, ◌<◌, ◌^◌, [], true, is_some, length, slice_get, OnOk, OnErr};
 ghost use Rattle.std.specs.Option.{option_map};
 ghost use Rattle.c25_meaning_assembly.specs.Sections.{all_once, are_distinct, is_in, once};
 ghost use Rattle.c25_statements.specs.View.{texts_of};
@@ -55,6 +55,23 @@ impl Names {
             Some(name) => Some(name.as_str()),
             None => None,
         }
+    }
+
+    /// Whether the name of a number is this one.
+    pub(crate) fn is_at(&self, number: usize, name: &str) -> bool
+        ensures { result ≡ true → is_in self.now name.now ≡ true }
+    {
+        match self.get(number) {
+            Some(other) => name == other,
+            None => false,
+        }
+    }
+
+    /// The number of a name.
+    pub(crate) fn position(&self, name: &str) -> Option<usize>
+        ensures { is_some result ≡ is_in self.now name.now }
+    {
+        self.names.get_index_of(name)
     }
 
     pub(crate) fn len(&self) -> usize

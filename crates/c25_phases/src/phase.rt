@@ -1,14 +1,18 @@
 //! The first phase: names, counts and sections.
 
 ghost use Rattle.std.specs.Prelude.{◌≡◌, ◌≤◌, ◌<◌, ◌+◌, Ok, OnOk, IfOk};
+ghost use Rattle.std.specs.Option.{option_map};
 ghost use Rattle.c25_meaning_common.specs.Results.{Meets};
 ghost use Rattle.c25_meaning_assembly.specs.Sections as meaning;
 ghost use Rattle.c25_meaning_language.specs.Statement.{valued};
 ghost use Rattle.c25_expr.specs.View.{tree_of};
-ghost use Rattle.c25_phases.specs.Sizes.{content_size};
-ghost use Rattle.c25_phases.specs.View.{content_of, origin_of, progress_of, symbols_of};
+ghost use Rattle.c25_phases.specs.Sizes.{IsBlockSize, content_size};
+ghost use Rattle.c25_phases.specs.Origins.{origin_of, source_line};
+ghost use Rattle.c25_phases.specs.Steps.{marked};
+ghost use Rattle.c25_phases.specs.View.{content_of, progress_of, symbols_of};
 
-use crate::item::{Content, Item, Origin};
+use crate::counts::{count_of, flag_of, is_file_name, is_line_number};
+use crate::item::{Content, Item, Origin, SourceLine};
 use crate::names::Names;
 use crate::progress::Progress;
 use crate::section::Section;
@@ -20,7 +24,7 @@ use c25_meaning_common::failure::Failure;
 use c25_meaning_common::no_memory::NoMemory;
 use c25_meaning_language::statement::FaultKind;
 use c25_meaning_language::value::{Base, Value};
-use c25_meaning_objects::object::ModuleMark;
+use c25_meaning_objects::object::{Block, ModuleMark};
 use std::alloc::Global;
 
 /// How many words a section can have.
@@ -32,6 +36,9 @@ const MOST_SECTIONS: usize = 255;
 /// How many names can be defined or declared.
 const MOST_NAMES: usize = 65_535;
 
+/// How many files can hold instructions.
+const MOST_FILES: usize = 65_535;
+
 /// A place behind so many words of a section.
 pub(crate) fn place(section: u16, offset: u32) -> Value
     requires { offset ≤ 65536 }
@@ -40,22 +47,6 @@ pub(crate) fn place(section: u16, offset: u32) -> Value
     Value {
         base: Base::Section(section),
         offset: offset as i32,
-    }
-}
-
-/// The count that a value is.
-fn count_of(value: Value) -> Result<u32, FaultKind>
-    ensures { result ≡ meaning.count_of value }
-{
-    match value.base {
-        Base::Absolute => {
-            if value.offset < 0 {
-                Err(FaultKind::ValueRange)
-            } else {
-                Ok(value.offset as u32)
-            }
-        }
-        Base::Section(_) | Base::External(_) => Err(FaultKind::NotAbsolute),
     }
 }
 
@@ -76,6 +67,8 @@ impl<'a> Progress<'a> {
             exported: Names::new(alloc),
             registers: false,
             items: Vec::new(alloc),
+            files: Names::new(alloc),
+            recent: 0,
         })
     }
 
@@ -159,6 +152,20 @@ impl<'a> Progress<'a> {
         }
     }
 
+    /// Whether a flag is set, which is needed now.
+    pub(crate) fn flag_in(&mut self, flag: &Option<Expr>) -> Result<bool, FaultKind>
+        ensures value { result ≡ meaning.flag_in (meaning.table (progress_of self.old)) (option_map tree_of flag.now) }
+        ensures same { progress_of self.new ≡ progress_of self.old }
+    {
+        match flag {
+            Some(expr) => match self.valued(expr) {
+                Ok(value) => flag_of(value),
+                Err(fault) => Err(fault),
+            },
+            None => Ok(false),
+        }
+    }
+
     /// The number of the section of a name; a new one comes last.
     #[tactic(auto, unfolding(c25_meaning_assembly::specs::Sections::opened))]
     pub(crate) fn open(&mut self, name: &str, initialised: bool) -> Result<u16, Failure<FaultKind>>
@@ -214,16 +221,83 @@ impl<'a> Progress<'a> {
         Ok(())
     }
 
-    /// An instruction of so many words marks where it begins.
-    pub(crate) fn mark(&mut self, section: u16, offset: u16, words: u8) -> Result<(), NoMemory>
-        ensures { OnOk result (progress_of self.new ≡ record (progress_of self.old) { sections = meaning.changed (meaning.with_mark (record { section = section; offset = offset; size = words })) (progress_of self.old).sections section }) }
+    /// A file that holds an instruction.
+    fn use_file(&mut self, name: &str) -> Result<(), Failure<FaultKind>>
+        ensures { Meets (λ _. progress_of self.new) (meaning.use_file name.now (progress_of self.old)) result }
     {
+        if self.files.is_at(self.recent, name) {
+            return Ok(());
+        }
+        if let Some(number) = self.files.position(name) {
+            self.recent = number;
+            return Ok(());
+        }
+        let number = self.files.len();
+        if number >= MOST_FILES || !is_file_name(name) {
+            return Err(Failure::Fault(FaultKind::TooLarge));
+        }
+        self.files.add(name)?;
+        self.recent = number;
+        Ok(())
+    }
+
+    /// The line of an instruction.
+    #[tactic(auto, unfolding(c25_meaning_assembly::specs::Sections::use_line))]
+    fn use_line(&mut self, origin: Origin<'a>) -> Result<SourceLine<'a>, Failure<FaultKind>>
+        ensures told { Meets (λ _. progress_of self.new) (meaning.use_line (origin_of origin.entry) (progress_of self.old)) result }
+        ensures line { IfOk result (λ l. source_line l ≡ origin_of origin.entry) }
+    {
+        if !is_line_number(origin.line) {
+            return Err(Failure::Fault(FaultKind::TooLarge));
+        }
+        self.use_file(origin.file)?;
+        Ok(SourceLine {
+            file: origin.file,
+            line: origin.line as u32,
+        })
+    }
+
+    /// An instruction of so many words marks where it begins.
+    pub(crate) fn mark(
+        &mut self,
+        origin: Origin<'a>,
+        section: u16,
+        offset: u16,
+        words: u8,
+    ) -> Result<(), Failure<FaultKind>>
+        ensures { Meets (λ _. progress_of self.new) (marked (origin_of origin.entry) (record { section = section; offset = offset; size = words }) (progress_of self.old)) result }
+    {
+        let line = self.use_line(origin)?;
         let mark = ModuleMark {
             section,
             offset,
             size: words,
         };
-        self.sections.mark(section, mark)
+        self.sections.mark(section, line, mark)?;
+        Ok(())
+    }
+
+    /// Words that have to lie in one page are a block.
+    pub(crate) fn block(
+        &mut self,
+        flag: bool,
+        section: u16,
+        offset: u32,
+        words: usize,
+    ) -> Result<(), NoMemory>
+        requires within { offset + words ≤ 65536 }
+        requires size { IsBlockSize flag words }
+        ensures { OnOk result (progress_of self.new ≡ meaning.block flag section offset words (progress_of self.old)) }
+    {
+        if !flag {
+            return Ok(());
+        }
+        let block = Block {
+            section,
+            offset: offset as u16,
+            size: words as u8,
+        };
+        self.sections.block(section, block)
     }
 
     /// At most 65,535 names.

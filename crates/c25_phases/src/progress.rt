@@ -13,7 +13,7 @@ use std::alloc::Global;
 #[derive(Drop)]
 pub struct Progress<'a> {
     pub(crate) alloc: Global,
-    pub(crate) sections: Sections,
+    pub(crate) sections: Sections<'a>,
     /// The number of the section that lines go on in.
     pub current: u16,
     pub(crate) symbols: Symbols,
@@ -26,5 +26,9 @@ pub struct Progress<'a> {
     /// Whether there was a `.mmregs`.
     pub(crate) registers: bool,
     pub(crate) items: Vec<Item<'a>>,
+    /// The names of the files that hold instructions.
+    pub(crate) files: Names,
+    /// The number among these of the last instruction's file, so that most need no hash of it.
+    pub(crate) recent: usize,
     ghost counted: { length (imports symbols.entries declared) ≡ missing },
 }

@@ -3,8 +3,9 @@
 ghost use Rattle.std.specs.Prelude.{◌≤◌, IfOk};
 ghost use Rattle.c25_meaning_common.specs.Results.{Meets};
 ghost use Rattle.c25_meaning_assembly.specs.Sections.{name_count};
+ghost use Rattle.c25_phases.specs.Origins.{origin_of};
 ghost use Rattle.c25_phases.specs.Steps.{text_passed};
-ghost use Rattle.c25_phases.specs.View.{origin_of, progress_of};
+ghost use Rattle.c25_phases.specs.View.{progress_of};
 
 use crate::item::Origin;
 use crate::progress::Progress;

@@ -2,41 +2,47 @@
 
 ghost use Rattle.std.specs.Prelude.{◌≡◌, ◌≤◌, ◌+◌, OnOk, IfOk};
 ghost use Rattle.c25_meaning_assembly.specs.Emission.{extended, section_of};
-ghost use Rattle.c25_meaning_assembly.specs.Sections.{empty_section, is_called, longer, with_mark};
+ghost use Rattle.c25_meaning_assembly.specs.Sections.{empty_section, is_called, longer, with_block, with_mark};
+ghost use Rattle.c25_phases.specs.Origins.{source_line, source_lines};
 ghost use Rattle.c25_obj.specs.View.{section_data};
 
+use crate::item::SourceLine;
 use c25_meaning_common::no_memory::NoMemory;
-use c25_meaning_objects::object::{ModuleMark, Relocation};
+use c25_meaning_objects::object::{Block, ModuleMark, Relocation};
 use c25_obj::Body;
 use std::alloc::Global;
 use std::marker::Model;
 
-/// A section: the first phase gives its size and marks, the second one its words and relocations.
+/// A section: the first phase gives its size, its marks with the line of each, and its blocks, the
+/// second one its words and relocations.
 #[derive(Drop)]
-pub(crate) struct Section {
+pub(crate) struct Section<'a> {
     name: String,
     initialised: bool,
     size: u32,
     marks: Vec<ModuleMark>,
+    lines: Vec<SourceLine<'a>>,
+    blocks: Vec<Block>,
     words: Vec<u16>,
     relocations: Vec<Relocation>,
 }
 
-impl Model for Section {
+impl<'a> Model for Section<'a> {
     ghost use Rattle.std.specs.Prelude.{◌≤◌};
     ghost use Rattle.std.specs.String.{string_bytes};
     ghost use Rattle.c25_meaning_assembly.specs.Sections.{Section};
+    ghost use Rattle.c25_phases.specs.Origins.{source_lines};
 
     ghost Value = { Section };
 
-    ghost view = { λ s. record { name = string_bytes s.name; initialised = s.initialised; size = s.size; marks = s.marks.items; words = s.words.items; relocations = s.relocations.items } };
+    ghost view = { λ s. record { name = string_bytes s.name; initialised = s.initialised; size = s.size; marks = s.marks.items; origins = source_lines s.lines.items; blocks = s.blocks.items; words = s.words.items; relocations = s.relocations.items } };
 
     ghost invariant = { λ s. s.size ≤ 65536 };
 }
 
-impl Section {
+impl<'a> Section<'a> {
     /// A section without words.
-    pub(crate) fn new(alloc: Global, name: &str, initialised: bool) -> Result<Section, NoMemory>
+    pub(crate) fn new(alloc: Global, name: &str, initialised: bool) -> Result<Self, NoMemory>
         ensures { IfOk result (λ s. s ≡ empty_section name.now initialised) }
     {
         let name = String::from_str(alloc, name)?;
@@ -45,6 +51,8 @@ impl Section {
             initialised,
             size: 0,
             marks: Vec::new(alloc),
+            lines: Vec::new(alloc),
+            blocks: Vec::new(alloc),
             words: Vec::new(alloc),
             relocations: Vec::new(alloc),
         })
@@ -75,6 +83,19 @@ impl Section {
         self.marks.as_slice()
     }
 
+    /// The line of each mark.
+    pub(crate) fn lines(&self) -> &[SourceLine<'a>]
+        ensures { source_lines result.now ≡ self.now.origins }
+    {
+        self.lines.as_slice()
+    }
+
+    pub(crate) fn blocks(&self) -> &[Block]
+        ensures { result.now ≡ self.now.blocks }
+    {
+        self.blocks.as_slice()
+    }
+
     pub(crate) fn relocations(&self) -> &[Relocation]
         ensures { result.now ≡ self.now.relocations }
     {
@@ -89,11 +110,20 @@ impl Section {
         self.size += words;
     }
 
-    /// One mark more.
-    pub(crate) fn mark(&mut self, mark: ModuleMark) -> Result<(), NoMemory>
-        ensures { OnOk result (self.new ≡ with_mark mark self.old) }
+    /// One mark more, with its line.
+    pub(crate) fn mark(&mut self, line: SourceLine<'a>, mark: ModuleMark) -> Result<(), NoMemory>
+        ensures { OnOk result (self.new ≡ with_mark (source_line line.entry) mark self.old) }
     {
         self.marks.push(mark)?;
+        self.lines.push(line)?;
+        Ok(())
+    }
+
+    /// One block more.
+    pub(crate) fn block(&mut self, block: Block) -> Result<(), NoMemory>
+        ensures { OnOk result (self.new ≡ with_block block self.old) }
+    {
+        self.blocks.push(block)?;
         Ok(())
     }
 
@@ -112,15 +142,14 @@ impl Section {
 
     /// The section of the module.
     pub(crate) fn into_part(self) -> c25_obj::Section
-        ensures { section_data result ≡ section_of self }
+        ensures { section_data result ≡ section_of self.entry }
     {
         let Section {
             name,
             initialised,
             size,
-            marks: _,
             words,
-            relocations: _,
+            ..
         } = self;
         let body = if initialised {
             Body::Initialised(words)

@@ -3,24 +3,27 @@
 ghost use Rattle.std.specs.Prelude.{◌≡◌, ◌≤◌, ◌<◌, ◌+◌, ◌∷◌, ◌++◌, [], length, OnOk, IfOk, IfSome, map};
 ghost use Rattle.std.specs.List.{position, find, flat_map};
 ghost use Rattle.std.specs.Option.{option_copied};
-ghost use Rattle.c25_meaning_assembly.specs.Emission.{extended, section_of};
-ghost use Rattle.c25_meaning_assembly.specs.Sections.{changed, is_called, longer, same_kind, size_at, with_mark};
+ghost use Rattle.c25_meaning_assembly.specs.Emission.{extended, lines_in, section_of};
+ghost use Rattle.c25_meaning_assembly.specs.Sections.{changed, is_called, longer, same_kind, size_at, with_block, with_mark};
 ghost use Rattle.c25_obj.specs.View.{sections_data};
+ghost use Rattle.c25_phases.specs.Origins.{source_line};
 
+use crate::item::SourceLine;
+use crate::lines::Lines;
 use crate::section::Section;
 use c25_meaning_common::no_memory::NoMemory;
-use c25_meaning_objects::object::{ModuleMark, Relocation};
+use c25_meaning_objects::object::{Block, ModuleMark, Relocation};
 use std::alloc::Global;
 use std::marker::Model;
 
 /// The sections of a module, in order of first use.
 #[derive(Drop)]
-pub(crate) struct Sections {
+pub(crate) struct Sections<'a> {
     alloc: Global,
-    sections: Vec<Section>,
+    sections: Vec<Section<'a>>,
 }
 
-impl Model for Sections {
+impl<'a> Model for Sections<'a> {
     ghost use Rattle.std.specs.Prelude.{List, length, ◌≤◌};
     ghost use Rattle.c25_meaning_assembly.specs.Sections.{Section};
 
@@ -31,14 +34,14 @@ impl Model for Sections {
     ghost invariant = { λ s. length s.sections.items ≤ 255 };
 }
 
-fn find<'a>(sections: &'a [Section], name: &str) -> Option<&'a Section>
+fn find<'s, 'a>(sections: &'s [Section<'a>], name: &str) -> Option<&'s Section<'a>>
     ensures { option_copied result ≡ find (is_called name.now) sections.now }
 {
     sections.iter().find(|section| section.is_called(name))
 }
 
-impl Sections {
-    pub(crate) fn new(alloc: Global) -> Sections
+impl<'a> Sections<'a> {
+    pub(crate) fn new(alloc: Global) -> Self
         ensures { result ≡ [] }
     {
         Sections {
@@ -55,9 +58,9 @@ impl Sections {
     }
 
     /// One section more.
-    pub(crate) fn push(&mut self, section: Section) -> Result<(), NoMemory>
+    pub(crate) fn push(&mut self, section: Section<'a>) -> Result<(), NoMemory>
         requires { length self.old < 255 }
-        ensures { OnOk result (self.new ≡ self.old ++ section ∷ []) }
+        ensures { OnOk result (self.new ≡ self.old ++ section.entry ∷ []) }
     {
         self.sections.push(section)?;
         Ok(())
@@ -104,12 +107,27 @@ impl Sections {
         }
     }
 
-    /// One mark more in the section of a number.
-    pub(crate) fn mark(&mut self, number: u16, mark: ModuleMark) -> Result<(), NoMemory>
-        ensures { OnOk result (self.new ≡ changed (with_mark mark) self.old number) }
+    /// One mark more in the section of a number, with its line.
+    pub(crate) fn mark(
+        &mut self,
+        number: u16,
+        line: SourceLine<'a>,
+        mark: ModuleMark,
+    ) -> Result<(), NoMemory>
+        ensures { OnOk result (self.new ≡ changed (with_mark (source_line line.entry) mark) self.old number) }
     {
         if let Some(section) = self.sections.get_mut(number as usize) {
-            section.mark(mark)?;
+            section.mark(line, mark)?;
+        }
+        Ok(())
+    }
+
+    /// One block more in the section of a number.
+    pub(crate) fn block(&mut self, number: u16, block: Block) -> Result<(), NoMemory>
+        ensures { OnOk result (self.new ≡ changed (with_block block) self.old number) }
+    {
+        if let Some(section) = self.sections.get_mut(number as usize) {
+            section.block(block)?;
         }
         Ok(())
     }
@@ -140,6 +158,29 @@ impl Sections {
         Ok(marks)
     }
 
+    /// The files and lines of the marks of all sections.
+    pub(crate) fn lines(&self) -> Result<Lines<'a>, NoMemory>
+        requires { length (lines_in self.now).files ≤ 65535 }
+        ensures { IfOk result (λ l. l ≡ lines_in self.now) }
+    {
+        let mut lines = Lines::new(self.alloc);
+        for section in &self.sections {
+            lines.add_all(section.lines())?;
+        }
+        Ok(lines)
+    }
+
+    /// The blocks of all sections.
+    pub(crate) fn blocks(&self) -> Result<Vec<Block>, NoMemory>
+        ensures { IfOk result (λ v. v.items ≡ flat_map (λ s. s.blocks) self.now) }
+    {
+        let mut blocks = Vec::new(self.alloc);
+        for section in &self.sections {
+            blocks.extend_from_slice(section.blocks())?;
+        }
+        Ok(blocks)
+    }
+
     /// The relocations of all sections.
     pub(crate) fn relocations(&self) -> Result<Vec<Relocation>, NoMemory>
         ensures { IfOk result (λ v. v.items ≡ flat_map (λ s. s.relocations) self.now) }
@@ -153,7 +194,7 @@ impl Sections {
 
     /// The sections of the module.
     pub(crate) fn into_parts(self) -> Result<Vec<c25_obj::Section>, NoMemory>
-        ensures { IfOk result (λ v. sections_data v.items ≡ map section_of self) }
+        ensures { IfOk result (λ v. sections_data v.items ≡ map section_of self.entry) }
     {
         let Sections { alloc, sections } = self;
         let mut parts = Vec::new(alloc);

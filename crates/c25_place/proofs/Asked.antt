@@ -25,10 +25,10 @@ not_chosen : (b : Bool) (x : Output) → cond b (Some x) None ≡ None → b ≡
 not_chosen true x e = absurd cc
 not_chosen false x e = refl
 
-pub asked_by : (modules : List Contents) (o : Output) (p : PlacingData) → output_of p.name (all_sections modules) ≡ Some o → request_by o p ≡ request modules p.name p.target p.page
+pub asked_by : (modules : List Contents) (o : Output) (p : PlacingData) → output_of p.name (all_sections modules) ≡ Some o → request_by modules o p ≡ request modules p.name p.target p.page
 asked_by modules o p e =
     let c = chosen (list_any (is_section_named p.name) (all_sections modules)) (record { size = size_of_sections p.name (all_sections modules); initialised = any_words p.name (all_sections modules) }) o e in
-    ap (λ (x : Output). request_by x p) (sym c.1)
+    ap (λ (x : Output). request_by modules x p) (sym c.1)
 
 pub there_by : (modules : List Contents) (o : Output) (name : List ℕ) → output_of name (all_sections modules) ≡ Some o → is_there name modules ≡ true
 there_by modules o name e = (chosen (list_any (is_section_named name) (all_sections modules)) (record { size = size_of_sections name (all_sections modules); initialised = any_words name (all_sections modules) }) o e).0

@@ -36,10 +36,10 @@ small_view : (sections : List (Bor Section)) → AreSmall sections → All (λ s
 small_view sections small = All-map (λ s. body_size s.body ≤ 65536) (λ (b : Bor Section). section_data b.now) sections small
 
 pub sizes_bounded : (modules : List Contents) (placings : List PlacingData) (sections : List (Bor Section)) (rs : List Request) → AreSmall sections → sections_view sections ≡ all_sections modules
-    → length sections < 18446744073709551616 → requests_view rs ≡ requests modules placings → All (λ r. r.size < 1267650600228229401496703205376) rs
+    → length sections < 18446744073709551616 → requests_view modules rs ≡ requests modules placings → All (λ r. r.size < 1267650600228229401496703205376) rs
 sizes_bounded modules placings sections rs small are few is = λ k d lt.
     let r : Request = get_or rs k d in
-    let size : r.size ≡ size_of_parts r.name.now modules = unmapped (IsSized modules) request_view rs (subst (All (IsSized modules)) (sym is) (all_sized modules placings)) k d lt in
+    let size : r.size ≡ size_of_parts r.name.now modules = unmapped (IsSized modules) (request_view modules) rs (subst (All (IsSized modules)) (sym is) (all_sized modules placings)) k d lt in
     let same : size_of_parts r.name.now modules ≡ size_of_sections r.name.now (sections_view sections) = ap (size_of_sections r.name.now) (sym are) in
     let bound = sizes_small r.name.now (sections_view sections) (small_view sections small) in
     let count : length (sections_view sections) ≡ length sections = length-map sections (λ (b : Bor Section). section_data b.now) in

@@ -1,9 +1,11 @@
 pub mod Asked
+pub mod Blocked
 pub mod Bounded
 pub mod Commanded
 pub mod Fits
 pub mod Kept
 pub mod Listed
+pub mod Paged
 pub mod Placing
 pub mod Pushed
 pub mod Ranged

@@ -39,9 +39,9 @@ refused ranges requests rest before after r (Fault f) placed h = record {
 
 -- the base among the ranges that the section may stand in
 pub base_of_is : (ranges usable : List RangeData) (places : List Place) (r : Request) (page : ℕ) (answer : Result ℕ LinkFault)
-    → page ≡ page_for ranges r → usable ≡ filter (is_usable r.target page) ranges → IsBase r.target page r.size usable places answer → IsBaseOf ranges places r answer
+    → page ≡ page_for ranges r → usable ≡ filter (is_usable r.target page) ranges → IsBase r.target page r.size r.blocks usable places answer → IsBaseOf ranges places r answer
 base_of_is ranges usable places r page answer is are base =
-    subst (λ n. IsBase r.target n r.size (filter (is_usable r.target n) ranges) places answer) is (subst (λ rs. IsBase r.target page r.size rs places answer) are base)
+    subst (λ n. IsBase r.target n r.size r.blocks (filter (is_usable r.target n) ranges) places answer) is (subst (λ rs. IsBase r.target page r.size r.blocks rs places answer) are base)
 
 -- a refusal with its fault and its name
 pub refused_is : (ranges : List RangeData) (before : List Place) (r : Request) (f : FaultyLink (List ℕ)) (fault : LinkFault) → f ≡ record { fault = fault; name = r.name } → IsBaseOf ranges before r (Err fault) → IsRefused ranges before r f

@@ -41,12 +41,12 @@ seen_next sections i s x listed seen after lt is called has e =
 -- a new name
 pub unlisted_next : (modules : List Contents) (sections : List (Bor Section)) (i : ℕ) (s : Bor Section) (x : List ℕ) (listed seen : List (List ℕ)) (start : List good.Request) (old new : List Request) (r : Request) (o : Output)
     → i < length sections → s ≡ get_or sections i s → x ≡ (section_data s.now).name → HasNames seen (listed ++ names_in (take i sections)) → is_among x seen ≡ false
-    → requests_view old ≡ start ++ map (unlisted_request modules) (new_names listed (names_in (take i sections))) → new ≡ old ++ r ∷ [] → request_view r ≡ request_by o (unlisted x) → Some o ≡ output_of x (all_sections modules)
-    → requests_view new ≡ start ++ map (unlisted_request modules) (new_names listed (names_in (take (i + 1) sections)))
+    → requests_view modules old ≡ start ++ map (unlisted_request modules) (new_names listed (names_in (take i sections))) → new ≡ old ++ r ∷ [] → request_view modules r ≡ request_by modules o (unlisted x) → Some o ≡ output_of x (all_sections modules)
+    → requests_view modules new ≡ start ++ map (unlisted_request modules) (new_names listed (names_in (take (i + 1) sections)))
 unlisted_next modules sections i s x listed seen start old new r o lt is called has fresh before e made found =
     let names : List (List ℕ) = names_in (take i sections) in
     let more : List good.Request = map (unlisted_request modules) (new_names listed names) in
-    ap requests_view e ∙ map-append request_view old (r ∷ []) ∙ ap (λ zs. zs ++ request_view r ∷ []) before ∙ append_assoc start more (request_view r ∷ [])
+    ap (requests_view modules) e ∙ map-append (request_view modules) old (r ∷ []) ∙ ap (λ zs. zs ++ request_view modules r ∷ []) before ∙ append_assoc start more (request_view modules r ∷ [])
     ∙ ap (λ q. start ++ (more ++ q ∷ [])) (made ∙ asked_by modules o (unlisted x) (sym found))
     ∙ ap (λ zs. start ++ zs) (sym (map-append (unlisted_request modules) (new_names listed names) (x ∷ [])))
     ∙ ap (λ ns. start ++ map (unlisted_request modules) ns) (sym (name_new listed names x (sym (has x) ∙ fresh)))

@@ -4,7 +4,7 @@ use Rattle.c25_meaning_commands.specs.Command.{PlacingData, Anywhere}
 use Rattle.c25_meaning_placing.specs.GoodMap.{has_address, is_among}
 use Rattle.c25_meaning_placing.specs.GoodMap as good
 use Rattle.c25_meaning_objects.specs.Module.{Contents}
-use Rattle.c25_meaning_placing.specs.Place.{is_there}
+use Rattle.c25_meaning_placing.specs.Place.{blocks_of, is_there}
 use Rattle.c25_place.specs.declared.outputs.Output.{Output}
 use Rattle.c25_place.specs.declared.requests.Request.{Request}
 
@@ -13,9 +13,16 @@ abbrev pub is_due : Bool → List Contents → PlacingData → Bool
 is_due true modules p = has_address p.target && is_there p.name modules
 is_due false modules p = not (has_address p.target) && is_there p.name modules
 
--- a section with what its parts come to
-abbrev pub request_by : Output → PlacingData → good.Request
-request_by output p = record { name = p.name; size = output.size; initialised = output.initialised; target = p.target; page = p.page }
+-- a section of modules with what its parts come to
+abbrev pub request_by : List Contents → Output → PlacingData → good.Request
+request_by modules output p = record {
+  name = p.name;
+  size = output.size;
+  initialised = output.initialised;
+  target = p.target;
+  page = p.page;
+  blocks = blocks_of p.name modules;
+}
 
 -- what is said of a section that is not listed
 abbrev pub unlisted : List ℕ → PlacingData

@@ -1,5 +1,5 @@
 -- Which words of both pages are taken, as the code has it.
-use Rattle.std.specs.Prelude.{◌≡◌, ℕ, ◌+◌, ◌<◌, ◌≤◌, Bool, false, List, length, slice_index_or}
+use Rattle.std.specs.Prelude.{◌≡◌, ℕ, ◌+◌, ◌-◌, ◌%◌, ◌<◌, ◌≤◌, Bool, true, false, List, length, slice_index_or}
 use Rattle.c25_meaning_placing.specs.GoodMap.{is_taken}
 use Rattle.c25_meaning_placing.specs.Place.{Place, Covers}
 use Rattle.c25_place.specs.declared.room.Room.{Room}
@@ -18,16 +18,21 @@ pub record KnowsRoom (room : Room) (places : List Place) : Type 0 where
 abbrev pub AreFree : List Bool → ℕ → ℕ → Type 0
 AreFree taken base size = (word : ℕ) → Covers base size word → slice_index_or taken word false ≡ false
 
--- the least word from which on so many are free, among those from a start up to an end
-pub record IsFirstFree (taken : List Bool) (start end size base : ℕ) : Type 0 where
+-- so many words are free from a word on, and its place in a page of 128 words fits
+pub record IsOpen (taken fits : List Bool) (base size : ℕ) : Type 0 where
+  pub free : AreFree taken base size
+  pub paged : slice_index_or fits (base % 128) false ≡ true
+
+-- the least word from which on so many are free and that fits, among those from a start up to an end
+pub record IsFirstFree (taken fits : List Bool) (start end size base : ℕ) : Type 0 where
   pub from : start ≤ base
   pub upto : base + size ≤ end
-  pub free : AreFree taken base size
-  pub least : (other : ℕ) → start ≤ other → AreFree taken other size → base ≤ other
+  pub is_open : IsOpen taken fits base size
+  pub least : (other : ℕ) → start ≤ other → IsOpen taken fits other size → base ≤ other
 
--- before a word so many are free, from a start on and fewer than a size, and no run of that size begins before them
-pub record IsRunBefore (taken : List Bool) (start size word run : ℕ) : Type 0 where
+-- the longest run of free words before a word, from a start on, has so many; before the word no run of a size ends that fits
+pub record IsRunBefore (taken fits : List Bool) (start size word run : ℕ) : Type 0 where
   pub from : start + run ≤ word
-  pub fewer : run < size
   pub free : (other : ℕ) → word ≤ other + run → other < word → slice_index_or taken other false ≡ false
-  pub none : (other : ℕ) → start ≤ other → AreFree taken other size → word ≤ other + run
+  pub longest : (other : ℕ) → start ≤ other → AreFree taken other (word - other) → word ≤ other + run
+  pub none : (other : ℕ) → start ≤ other → IsOpen taken fits other size → word < other + size

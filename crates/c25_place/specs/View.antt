@@ -8,7 +8,8 @@ use Rattle.c25_meaning_commands.specs.Command.{RangeData, TargetData}
 use Rattle.c25_meaning_commands.specs.Command as command
 use Rattle.c25_meaning_placing.specs.GoodMap as good
 use Rattle.c25_meaning_placing.specs.Place as place
-use Rattle.c25_meaning_objects.specs.Module.{SectionData}
+use Rattle.c25_meaning_placing.specs.Place.{blocks_of}
+use Rattle.c25_meaning_objects.specs.Module.{Contents, SectionData}
 use Rattle.c25_meaning_placing.specs.declared.link_fault.FaultyLink.{FaultyLink}
 use Rattle.c25_obj.specs.declared.parts.Section.{Section}
 use Rattle.c25_obj.specs.View.{section_data}
@@ -44,13 +45,20 @@ wanted_view wanted.Anywhere = command.Anywhere
 wanted_view (wanted.InRange name) = command.InRange name.now
 wanted_view (wanted.At address) = command.At address
 
--- a section that is to be placed
-abbrev pub request_view : Request → good.Request
-request_view r = record { name = r.name.now; size = r.size; initialised = r.initialised; target = wanted_view r.wanted; page = r.page }
+-- a section of modules that is to be placed
+abbrev pub request_view : List Contents → Request → good.Request
+request_view modules r = record {
+  name = r.name.now;
+  size = r.size;
+  initialised = r.initialised;
+  target = wanted_view r.wanted;
+  page = r.page;
+  blocks = blocks_of r.name.now modules;
+}
 
--- sections that are to be placed
-abbrev pub requests_view : List Request → List good.Request
-requests_view requests = map request_view requests
+-- sections of modules that are to be placed
+abbrev pub requests_view : List Contents → List Request → List good.Request
+requests_view modules requests = map (request_view modules) requests
 
 -- a place
 abbrev pub place_view : Place → place.Place

@@ -1,6 +1,7 @@
 //! Where the sections of a program stand: the modules' sections of one name, placed as one.
 #![tactic(auto)]
 
+mod blocks;
 mod faults;
 mod names;
 mod outputs;

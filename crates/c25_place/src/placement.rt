@@ -1,16 +1,19 @@
 //! Where sections stand.
 
-ghost use Rattle.std.specs.Prelude.{◌≡◌, ◌<◌, ◌≤◌, ◌+◌, ◌^◌, ◌++◌, ◌∷◌, [], List, ℕ, Ok, Err, All, IfOk, IfSome, OnOk, OnErr, MatchOption, length};
+ghost use Rattle.std.specs.Prelude.{◌≡◌, ◌<◌, ◌≤◌, ◌+◌, ◌^◌, ◌++◌, ◌∷◌, [], List, ℕ, true, Ok, Err, All, IfOk, IfSome, OnOk, OnErr, MatchOption, length};
 ghost use Rattle.std.specs.List.{list_any};
 ghost use Rattle.c25_meaning_commands.specs.Command.{RangeData, IsRange};
-ghost use Rattle.c25_meaning_placing.specs.GoodMap.{IsLeastFit, NoneFits, IsFirstFit, IsBase, IsBaseAt, IsBaseIn, is_inside, Stands, ArePlaced, IsBaseOf};
+ghost use Rattle.c25_meaning_placing.specs.GoodMap.{IsLeastFit, NoneFits, IsFirstFit, IsBase, IsBaseAt, IsBaseIn, is_inside, may_stand, Stands, ArePlaced, IsBaseOf};
+ghost use Rattle.c25_meaning_objects.specs.Module.{Contents};
 ghost use Rattle.c25_meaning_placing.specs.Place as place;
+ghost use Rattle.c25_place.specs.Blocks.{KnowsBlocks, KnowsFits};
 ghost use Rattle.c25_place.specs.Placement.{IsPlacedOrRefused, ArePlacedOrRefused, IsWithin, AreWords};
 ghost use Rattle.c25_place.specs.Ranges.{KnowsRanges, HasRanges};
 ghost use Rattle.c25_place.specs.Requests.{HasPages};
 ghost use Rattle.c25_place.specs.Room.{KnowsTaken, KnowsRoom};
 ghost use Rattle.c25_place.specs.View.{range_view, ranges_view, request_view, requests_view, wanted_view, place_view, places_view};
 
+use crate::blocks::{Blocks, PAGE};
 use crate::faults::{Refused, refusal};
 use crate::ranges::{Range, Ranges};
 use crate::requests::{Request, Wanted};
@@ -36,35 +39,37 @@ struct Placed<'a> {
     places: Vec<Place<'a>>,
 }
 
-/// The least address of a range from which on so many words are free.
+/// The least address of a range that fits and from which on so many words are free.
 #[tactic(auto, using(crate::proofs::Fits::least_fit, crate::proofs::Fits::none_fits, crate::proofs::Fits::least_words))]
-fn least_fit(range: &Range<'_>, size: u32, taken: &[bool]) -> Option<u32>
+fn least_fit(range: &Range<'_>, size: u32, taken: &[bool], fits: &[bool]) -> Option<u32>
     requires sized { length taken.now ≡ 65536 }
+    requires paged { length fits.now ≡ 128 }
     requires range { IsRange (range_view range.now) }
     requires some { 0 < size }
-    ensures fit { (page : ℕ) (places : List place.Place) → KnowsTaken taken.now page places
-        → MatchOption result (NoneFits page size places (range_view range.now)) (IsLeastFit page size (range_view range.now) places) }
+    ensures fit { (page : ℕ) (places : List place.Place) (blocks : List place.BlockData) → KnowsTaken taken.now page places → KnowsFits fits.now blocks
+        → MatchOption result (NoneFits page size blocks places (range_view range.now)) (IsLeastFit page size blocks (range_view range.now) places) }
     ensures within { IfSome result (AreWords size) }
 {
     let start = range.origin as usize;
     let end = start + range.size as usize;
-    match first_free(taken, start, end, size as usize) {
+    match first_free(taken, fits, start, end, size as usize) {
         Some(base) => Some(base as u32),
         None => None,
     }
 }
 
 /// The least address that fits, in the first range that has one.
-fn first_fit(ranges: &[Range<'_>], size: u32, taken: &[bool]) -> Option<u32>
+fn first_fit(ranges: &[Range<'_>], size: u32, taken: &[bool], fits: &[bool]) -> Option<u32>
     requires sized { length taken.now ≡ 65536 }
+    requires paged { length fits.now ≡ 128 }
     requires ranges { All IsRange (ranges_view ranges.now) }
     requires some { 0 < size }
-    ensures fit { (page : ℕ) (places : List place.Place) → KnowsTaken taken.now page places
-        → MatchOption result (All (NoneFits page size places) (ranges_view ranges.now)) (IsFirstFit page size (ranges_view ranges.now) places) }
+    ensures fit { (page : ℕ) (places : List place.Place) (blocks : List place.BlockData) → KnowsTaken taken.now page places → KnowsFits fits.now blocks
+        → MatchOption result (All (NoneFits page size blocks places) (ranges_view ranges.now)) (IsFirstFit page size blocks (ranges_view ranges.now) places) }
     ensures within { IfSome result (AreWords size) }
 {
     for range in ranges {
-        match least_fit(range, size, taken) {
+        match least_fit(range, size, taken, fits) {
             Some(base) => return Some(base),
             None => {}
         }
@@ -94,16 +99,33 @@ fn any_inside(address: u32, size: u128, ranges: &[Range<'_>]) -> bool
     false
 }
 
+/// Whether a section may stand at its address, for its blocks and its ranges.
+fn may_stand(address: u32, size: u128, ranges: &[Range<'_>], fits: &[bool]) -> bool
+    requires size { size < 2 ^ 100 }
+    requires paged { length fits.now ≡ 128 }
+    ensures stands { (blocks : List place.BlockData) → KnowsFits fits.now blocks → result ≡ may_stand address size blocks (ranges_view ranges.now) }
+    ensures inside { result ≡ true → list_any (is_inside address size) (ranges_view ranges.now) ≡ true }
+{
+    fits[address as usize % PAGE] && any_inside(address, size, ranges)
+}
+
 /// Where a section with an address stands.
-fn base_at(address: u32, size: u128, ranges: &[Range<'_>], taken: &[bool]) -> Result<u32, LinkFault>
+fn base_at(
+    address: u32,
+    size: u128,
+    ranges: &[Range<'_>],
+    taken: &[bool],
+    fits: &[bool],
+) -> Result<u32, LinkFault>
     requires sized { length taken.now ≡ 65536 }
+    requires paged { length fits.now ≡ 128 }
     requires ranges { All IsRange (ranges_view ranges.now) }
     requires size { size < 2 ^ 100 }
-    ensures base { (page : ℕ) (places : List place.Place) → KnowsTaken taken.now page places
-        → IsBaseAt address page size (ranges_view ranges.now) places result }
+    ensures base { (page : ℕ) (places : List place.Place) (blocks : List place.BlockData) → KnowsTaken taken.now page places → KnowsFits fits.now blocks
+        → IsBaseAt address page size blocks (ranges_view ranges.now) places result }
     ensures within { IfOk result (AreWords size) }
 {
-    if !any_inside(address, size, ranges) {
+    if !may_stand(address, size, ranges, fits) {
         return Err(LinkFault::DoesNotFit);
     }
     if any_taken(taken, address as usize, address as usize + size as usize) {
@@ -118,12 +140,14 @@ fn base_in(
     first: &Range<'_>,
     ranges: &[Range<'_>],
     taken: &[bool],
+    fits: &[bool],
 ) -> Result<u32, LinkFault>
     requires first { IsRange (range_view first.now) }
     requires sized { length taken.now ≡ 65536 }
+    requires paged { length fits.now ≡ 128 }
     requires ranges { All IsRange (ranges_view ranges.now) }
-    ensures base { (page : ℕ) (places : List place.Place) → KnowsTaken taken.now page places
-        → IsBaseIn page size (range_view first.now) (ranges_view ranges.now) places result }
+    ensures base { (page : ℕ) (places : List place.Place) (blocks : List place.BlockData) → KnowsTaken taken.now page places → KnowsFits fits.now blocks
+        → IsBaseIn page size blocks (range_view first.now) (ranges_view ranges.now) places result }
     ensures within { IfOk result (AreWords size) }
 {
     if size == 0 {
@@ -132,7 +156,7 @@ fn base_in(
     if size > u128::from(PAGE_WORDS) {
         return Err(LinkFault::DoesNotFit);
     }
-    match first_fit(ranges, size as u32, taken) {
+    match first_fit(ranges, size as u32, taken, fits) {
         Some(base) => Ok(base),
         None => Err(LinkFault::DoesNotFit),
     }
@@ -144,20 +168,22 @@ fn base_of(
     size: u128,
     ranges: &[Range<'_>],
     taken: &[bool],
+    fits: &[bool],
 ) -> Result<u32, LinkFault>
     requires sized { length taken.now ≡ 65536 }
+    requires paged { length fits.now ≡ 128 }
     requires ranges { All IsRange (ranges_view ranges.now) }
     requires size { size < 2 ^ 100 }
-    ensures base { (page : ℕ) (places : List place.Place) → KnowsTaken taken.now page places
-        → IsBase (wanted_view wanted.entry) page size (ranges_view ranges.now) places result }
+    ensures base { (page : ℕ) (places : List place.Place) (blocks : List place.BlockData) → KnowsTaken taken.now page places → KnowsFits fits.now blocks
+        → IsBase (wanted_view wanted.entry) page size blocks (ranges_view ranges.now) places result }
     ensures within { IfOk result (AreWords size) }
 {
     let Some(first) = ranges.first() else {
         return Err(LinkFault::NoRange);
     };
     match wanted {
-        Wanted::At(address) => base_at(address, size, ranges, taken),
-        _ => base_in(size, first, ranges, taken),
+        Wanted::At(address) => base_at(address, size, ranges, taken, fits),
+        _ => base_in(size, first, ranges, taken, fits),
     }
 }
 
@@ -179,6 +205,7 @@ impl<'a> Placed<'a> {
         &mut self,
         alloc: Global,
         ranges: &Ranges<'_>,
+        blocks: &Blocks<'_>,
         request: &Request<'a>,
     ) -> Result<(), Refused>
         requires ranges { HasRanges ranges.now }
@@ -187,17 +214,19 @@ impl<'a> Placed<'a> {
         requires page { IfSome request.now.page (λ n. n ≤ 1) }
         requires within { All IsWithin self.old.places.items }
         ensures room { OnOk result (KnowsRoom self.new.room (places_view self.new.places.items)) }
-        ensures placed { (all : List RangeData) → KnowsRanges ranges.now all
-            → IsPlacedOrRefused all (places_view self.old.places.items) (places_view self.new.places.items) (request_view request.now) result }
+        ensures placed { (all : List RangeData) (modules : List Contents) → KnowsRanges ranges.now all → KnowsBlocks blocks.now modules
+            → IsPlacedOrRefused all (places_view self.old.places.items) (places_view self.new.places.items) (request_view modules request.now) result }
         ensures within { OnOk result (All IsWithin self.new.places.items) }
     {
         let page = ranges.page_for(request);
         let usable = ranges.usable(request.wanted, page);
+        let paging = blocks.get(request.name);
         match base_of(
             request.wanted,
             request.size,
             usable,
             self.room.on_page(page),
+            &paging.fits,
         ) {
             Ok(base) => {
                 let size = request.size as u32;
@@ -220,17 +249,19 @@ impl<'a> Placed<'a> {
 pub(crate) fn place_all<'a>(
     alloc: Global,
     ranges: &Ranges<'_>,
+    blocks: &Blocks<'_>,
     requests: &[Request<'a>],
 ) -> Result<Vec<Place<'a>>, Refused>
     requires ranges { HasRanges ranges.now }
     requires sizes { All (λ r. r.size < 2 ^ 100) requests.now }
     requires pages { HasPages requests.now }
-    ensures placed { (all : List RangeData) → KnowsRanges ranges.now all → ArePlacedOrRefused all (requests_view requests.now) result }
+    ensures placed { (all : List RangeData) (modules : List Contents) → KnowsRanges ranges.now all → KnowsBlocks blocks.now modules
+        → ArePlacedOrRefused all (requests_view modules requests.now) result }
     ensures within { IfOk result (λ v. All IsWithin v.items) }
 {
     let mut placed = Placed::new(alloc)?;
     for request in requests {
-        match placed.place(alloc, ranges, request) {
+        match placed.place(alloc, ranges, blocks, request) {
             Ok(()) => {}
             Err(refused) => return Err(refused),
         }

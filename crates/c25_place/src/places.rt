@@ -6,6 +6,7 @@ ghost use Rattle.c25_meaning_commands.specs.Command.{IsCommand};
 ghost use Rattle.c25_meaning_placing.specs.GoodMap.{placings_for, ranges_for, requests};
 ghost use Rattle.c25_place.specs.Placement.{ArePlacedOrRefused, IsWithin};
 
+use crate::blocks::Blocks;
 use crate::faults::Refused;
 use crate::outputs::{Outputs, all_sections};
 use crate::placement::{Place, place_all};
@@ -40,5 +41,6 @@ pub fn good_places<'a>(
     let outputs = Outputs::new(alloc, &sections)?;
     let list = requests(alloc, &outputs, &sections, placings_of(command))?;
     let ranges = Ranges::new(alloc, command)?;
-    place_all(alloc, &ranges, &list)
+    let blocks = Blocks::new(alloc, modules)?;
+    place_all(alloc, &ranges, &blocks, &list)
 }

@@ -3,6 +3,7 @@
 ghost use Rattle.std.specs.Prelude.{◌≡◌, ◌≤◌, ℕ, List, filter, take, drop, IfOk, IfSome};
 ghost use Rattle.c25_cmd.specs.View.{command_data, ranges_of};
 ghost use Rattle.c25_meaning_commands.specs.Command.{RangeData, AreApart, Pairwise, IsCommand};
+ghost use Rattle.c25_meaning_objects.specs.Module.{Contents};
 ghost use Rattle.c25_meaning_placing.specs.GoodMap.{default_ranges, ranges_for, default_page, page_for, is_named_on, is_usable};
 ghost use Rattle.c25_place.specs.Ranges.{KnowsPage, KnowsRanges, HasRanges};
 ghost use Rattle.c25_place.specs.View.{ranges_view, request_view, wanted_view};
@@ -166,7 +167,7 @@ impl<'a> Ranges<'a> {
     /// The page of a section.
     pub(crate) fn page_for(&self, request: &Request<'_>) -> u8
         requires { IfSome request.now.page (λ page. page ≤ 1) }
-        ensures page { (all : List RangeData) → KnowsRanges self.now all → result ≡ page_for all (request_view request.now) }
+        ensures page { (all : List RangeData) (modules : List Contents) → KnowsRanges self.now all → result ≡ page_for all (request_view modules request.now) }
         ensures known { result ≤ 1 }
     {
         match request.page {

@@ -59,7 +59,7 @@ fn has_address(target: &Target) -> bool
 
 /// A listed section.
 fn listed_request<'a>(placing: &'a Placing, output: Output) -> Request<'a>
-    ensures request { request_view result ≡ request_by output (placing_of placing.now) }
+    ensures request { (modules : List Contents) → request_view modules result ≡ request_by modules output (placing_of placing.now) }
     ensures page { result.page ≡ placing.now.page }
 {
     Request {
@@ -73,7 +73,7 @@ fn listed_request<'a>(placing: &'a Placing, output: Output) -> Request<'a>
 
 /// A section that is not listed.
 fn unlisted_request<'a>(name: &'a str, output: Output) -> Request<'a>
-    ensures request { request_view result ≡ request_by output (unlisted name.now) }
+    ensures request { (modules : List Contents) → request_view modules result ≡ request_by modules output (unlisted name.now) }
     ensures page { result.page ≡ None }
 {
     Request {
@@ -96,7 +96,7 @@ fn push_listed<'a>(
     requires pages { All (λ p. IfSome p.page (λ n. n ≤ 1)) placings.now }
     requires requests { HasPages requests.old.items }
     ensures listed { (modules : List Contents) → KnowsOutputs outputs.now (all_sections modules)
-        → OnOk result (requests_view requests.new.items ≡ requests_view requests.old.items ++ map (listed_request modules) (filter (is_due with_address modules) (placings_of placings.now))) }
+        → OnOk result (requests_view modules requests.new.items ≡ requests_view modules requests.old.items ++ map (listed_request modules) (filter (is_due with_address modules) (placings_of placings.now))) }
     ensures pages { OnOk result (HasPages requests.new.items) }
 {
     for placing in placings {
@@ -133,7 +133,7 @@ fn push_unlisted<'a>(
     requires requests { HasPages requests.old.items }
     ensures unlisted { (modules : List Contents) (listed : List (List ℕ)) → KnowsOutputs outputs.now (all_sections modules)
         → sections_view sections.now ≡ all_sections modules → HasNames seen.old listed
-        → OnOk result (requests_view requests.new.items ≡ requests_view requests.old.items ++ map (unlisted_request modules) (new_names listed (map (λ s. s.name) (sections_view sections.now)))) }
+        → OnOk result (requests_view modules requests.new.items ≡ requests_view modules requests.old.items ++ map (unlisted_request modules) (new_names listed (map (λ s. s.name) (sections_view sections.now)))) }
     ensures pages { OnOk result (HasPages requests.new.items) }
 {
     for section in sections {
@@ -157,7 +157,7 @@ pub(crate) fn requests<'a>(
 ) -> Result<Vec<Request<'a>>, AllocError>
     requires { All (λ p. IfSome p.page (λ n. n ≤ 1)) placings.now }
     ensures requests { (modules : List Contents) → KnowsOutputs outputs.now (all_sections modules) → sections_view sections.now ≡ all_sections modules
-        → IfOk result (λ v. requests_view v.items ≡ requests modules (placings_of placings.now)) }
+        → IfOk result (λ v. requests_view modules v.items ≡ requests modules (placings_of placings.now)) }
     ensures pages { IfOk result (λ v. HasPages v.items) }
 {
     let mut requests = Vec::new(alloc);

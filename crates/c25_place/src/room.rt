@@ -2,8 +2,9 @@
 
 ghost use Rattle.std.specs.Prelude.{◌≡◌, ◌<◌, ◌≤◌, ◌+◌, ◌-◌, ◌&&◌, ◌||◌, ℕ, List, [], ◌∷◌, ◌++◌, true, false, length, slice_index_or, nat_le, nat_lt, replicate, IfOk, MatchOption};
 ghost use Rattle.c25_meaning_placing.specs.Place as place;
-ghost use Rattle.c25_place.specs.Room.{KnowsTaken, KnowsRoom, AreFree, IsFirstFree};
+ghost use Rattle.c25_place.specs.Room.{KnowsTaken, KnowsRoom, IsOpen, IsFirstFree};
 
+use crate::blocks::PAGE;
 use c25_cmd::taken::{free_words, take};
 use std::alloc::{AllocError, Global};
 
@@ -17,13 +18,21 @@ pub(crate) struct Room {
     store: Vec<bool>,
 }
 
-/// The first of the words from `start` up to `end` from which on so many are free.
-#[tactic(auto, using(crate::proofs::Fits::run_none, crate::proofs::Fits::run_taken, crate::proofs::Fits::run_free, crate::proofs::Fits::run_found, crate::proofs::Fits::run_ended))]
-pub(crate) fn first_free(taken: &[bool], start: usize, end: usize, size: usize) -> Option<usize>
+/// The first of the words from `start` up to `end` from which on so many are free, among those that
+/// stand at a place of a page of 128 words that fits.
+#[tactic(auto, using(crate::proofs::Fits::run_none, crate::proofs::Fits::run_taken, crate::proofs::Fits::run_short, crate::proofs::Fits::run_unpaged, crate::proofs::Fits::run_found, crate::proofs::Fits::run_ended))]
+pub(crate) fn first_free(
+    taken: &[bool],
+    fits: &[bool],
+    start: usize,
+    end: usize,
+    size: usize,
+) -> Option<usize>
+    requires paged { length fits.now ≡ 128 }
     requires within { end ≤ length taken.now }
     requires ordered { start ≤ end }
     requires some { 0 < size }
-    ensures { MatchOption result ((base : ℕ) → start ≤ base → base + size ≤ end → ¬ AreFree taken.now base size) (IsFirstFree taken.now start end size) }
+    ensures { MatchOption result ((base : ℕ) → start ≤ base → base + size ≤ end → ¬ IsOpen taken.now fits.now base size) (IsFirstFree taken.now fits.now start end size) }
 {
     let mut free = 0;
     for k in start..end {
@@ -31,8 +40,11 @@ pub(crate) fn first_free(taken: &[bool], start: usize, end: usize, size: usize) 
             free = 0;
         } else {
             free += 1;
-            if free == size {
-                return Some(k + 1 - size);
+            if free >= size {
+                let base = k + 1 - size;
+                if fits[base % PAGE] {
+                    return Some(base);
+                }
             }
         }
     }

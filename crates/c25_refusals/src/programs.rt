@@ -23,7 +23,7 @@ pub(crate) const INPUT: &[u8] = b" LACK 65\n SACL 60h\n OUT 60h,PA1\nS B S\n";
 
 /// The object of a module without words, symbols and relocations: `.text` alone.
 const EMPTY: &[u8] =
-    b"C25O\x01\x01\x00\x00\x00\x0B\x01\x05.text\x00\x00\x00\x00\xFF\x00\x00\x00\x00";
+    b"C25O\x02\x01\x00\x00\x00\x0B\x01\x05.text\x00\x00\x00\x00\xFF\x00\x00\x00\x00";
 
 /// What `asm` writes of `t.asm`.
 pub(crate) const ASSEMBLED: [File; 2] = [

@@ -50,6 +50,7 @@ fn board_of<const CAP: usize>(
         image.words(0),
         image.words(1),
         image.marks(),
+        &[],
         schedule,
         samples,
         sink,

@@ -1,4 +1,5 @@
 pub mod Image
+pub mod InB0
 pub mod Joined
 pub mod Keeps
 pub mod KeptRuns

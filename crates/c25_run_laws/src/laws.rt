@@ -1,14 +1,17 @@
 //! Laws of runs, each the contract of a function that does nothing.
 
-ghost use Rattle.std.specs.Prelude.{◌≡◌, ℕ, ◌+◌, ◌<◌, ◌≤◌, ◌↔◌, Bool, List, Option, true, Ok, Some};
+ghost use Rattle.std.specs.Option.{option_and_then};
+ghost use Rattle.std.specs.Prelude.{◌≡◌, ℕ, ◌+◌, ◌<◌, ◌≤◌, ◌↔◌, Bool, List, [], Option, true, false, Ok, Some, None};
 ghost use Rattle.c25_meaning_instructions.specs.declared.insn.Insn.{Insn};
 ghost use Rattle.c25_meaning_processor.specs.Run.{Signals, Ending, Ran, Reaches, Runs, run_of};
-ghost use Rattle.c25_meaning_processor.specs.State.{State, World};
-ghost use Rattle.c25_meaning_processor.specs.Step.{stepped};
+ghost use Rattle.c25_meaning_processor.specs.State.{State, World, holds, loaded_marks};
+ghost use Rattle.c25_meaning_processor.specs.Step.{begun, stepped};
+ghost use Rattle.c25_meaning_processor.specs.declared.lines.Lines.{Lines};
+ghost use Rattle.c25_meaning_instructions.specs.Table.{size_of, words};
 ghost use Rattle.c25_meaning_processor.specs.declared.registers.Registers.{Registers};
-ghost use Rattle.c25_meaning_image.specs.Marks.{is_code, size_at};
-ghost use Rattle.c25_meaning_processor.specs.Statements.{Statement, IsImageOf, RunsAsStatements, KeepsStatements, statement_step};
-ghost use Rattle.c25_meaning_processor.specs.WordStep.{WordStep};
+ghost use Rattle.c25_meaning_image.specs.Marks.{is_code, is_load, run_fit, size_at};
+ghost use Rattle.c25_meaning_processor.specs.Statements.{Copied, Statement, Statements, IsImageOf, RunsAsStatements, KeepsStatements, copied_at, outside_b0, plainly, standing, statement_at, statement_step};
+ghost use Rattle.c25_meaning_processor.specs.WordStep.{IsFetched, IsFetchedBy, WordStep};
 ghost use Rattle.c25_meaning_image.specs.declared.mark.Mark.{Mark};
 ghost use Rattle.c25_run_laws.specs.KeptCode.{KeepsCode};
 
@@ -26,7 +29,7 @@ pub fn started_words_are_code()
 pub fn steps_keep_the_words_of_code()
     ensures step { (bio : Bool) (i : Option Insn) (r : Registers) (w : World) (t : State) → stepped bio i r w ≡ Ok t → KeepsCode w t.world }
     ensures words { (signals : Signals) (k n : ℕ) (s t : State) → Reaches WordStep signals k n s t → KeepsCode s.world t.world }
-    ensures statements { (statements : List Statement) (signals : Signals) (k n : ℕ) (s t : State) →
+    ensures statements { (statements : Statements) (signals : Signals) (k n : ℕ) (s t : State) →
         run_of (statement_step statements) signals k n s ≡ Ran t → KeepsCode s.world t.world }
 {}
 
@@ -34,8 +37,39 @@ pub fn steps_keep_the_words_of_code()
 /// levels and for every number of steps, the run of the words ends as the run of the statements,
 /// and the words of the statements stay.
 pub fn image_runs_as_statements()
-    ensures runs { (statements : List Statement) (s : State) → IsImageOf statements s.world → RunsAsStatements statements s }
-    ensures words { (statements : List Statement) (s : State) → IsImageOf statements s.world → KeepsStatements statements s }
+    ensures runs { (statements : Statements) (s : State) → IsImageOf statements s.world → RunsAsStatements statements s }
+    ensures words { (statements : Statements) (s : State) → IsImageOf statements s.world → KeepsStatements statements s }
+{}
+
+/// Under CNF 1 a statement whose section runs in block B0 acts at the address that it runs at, where B0 holds
+/// its words; where B0 differs, and at each other address of B0, nothing does, so that the code is left. At
+/// all other addresses, and everywhere under CNF 0, it is the statement that stands there which acts. The words
+/// of such a statement are code where they are loaded, and no instruction begins at them there.
+pub fn code_in_b0()
+    ensures held { (ss : Statements) (w : World) (pc : ℕ) (c : Copied) → copied_at ss.copied pc ≡ Some c →
+        holds w c.run (words c.insn) ≡ true → standing ss true w pc ≡ Some c.insn }
+    ensures changed { (ss : Statements) (w : World) (pc : ℕ) (c : Copied) → copied_at ss.copied pc ≡ Some c →
+        holds w c.run (words c.insn) ≡ false → standing ss true w pc ≡ None }
+    ensures no_other { (ss : Statements) (w : World) (pc : ℕ) → 0xFF00 ≤ pc → copied_at ss.copied pc ≡ None →
+        standing ss true w pc ≡ None }
+    ensures elsewhere { (ss : Statements) (w : World) (pc : ℕ) (cnf : Bool) → copied_at ss.copied pc ≡ None →
+        standing ss cnf w pc ≡ option_and_then (outside_b0 cnf pc) (statement_at ss.plain pc) }
+    ensures as_data { (ss : Statements) (w : World) (pc : ℕ) → standing ss false w pc ≡ statement_at ss.plain pc }
+    ensures loads { (ss : Statements) (w : World) (pc x : ℕ) (c : Copied) → IsImageOf ss w → copied_at ss.copied pc ≡ Some c →
+        c.load ≤ x → x < c.load + size_of c.insn → is_code (loaded_marks w) x ≡ true }
+    ensures load_stops { (w : World) (pc : ℕ) (cnf : Bool) (i : Option Insn) → run_fit w.marks w.run_marks ≡ true →
+        is_load w.run_marks pc ≡ true → IsFetchedBy cnf w pc None i → i ≡ None }
+{}
+
+/// A program of which nothing runs in block B0 steps by the statements that stand where they run, and so
+/// do its words: what runs in B0 adds nothing to it.
+pub fn programs_outside_b0_step_plainly()
+    ensures statements { (statements : List Statement) (lines : Lines) (bio : Bool) (s : State) →
+        statement_step (plainly statements) lines bio s
+        ≡ stepped bio (option_and_then (outside_b0 (begun lines s).cnf (begun lines s).pc)
+        (statement_at statements (begun lines s).pc)) (begun lines s) s.world }
+    ensures words { (w : World) (cnf : Bool) (pc : ℕ) (i : Option Insn) → w.run_marks ≡ [] →
+        IsFetched cnf w pc i ↔ IsFetchedBy cnf w pc None i }
 {}
 
 /// From any state, under all interrupt lines and levels, a run of the words has one end at most.
@@ -50,7 +84,7 @@ pub fn two_runs_are_one()
     ensures words { (signals : Signals) (k m n : ℕ) (s t : State) (e : Ending) →
         Runs WordStep signals k m s (Ran t) →
         Runs WordStep signals (k + m) n t e ↔ Runs WordStep signals k (m + n) s e }
-    ensures statements { (statements : List Statement) (signals : Signals) (k m n : ℕ) (s t : State) →
+    ensures statements { (statements : Statements) (signals : Signals) (k m n : ℕ) (s t : State) →
         run_of (statement_step statements) signals k m s ≡ Ran t →
         run_of (statement_step statements) signals k (m + n) s
         ≡ run_of (statement_step statements) signals (k + m) n t }

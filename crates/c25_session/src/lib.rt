@@ -3,6 +3,7 @@
 
 mod breakpoints;
 mod memories;
+mod program;
 pub mod session;
 mod shown;
 mod steps;

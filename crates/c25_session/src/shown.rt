@@ -2,12 +2,13 @@
 
 ghost use Rattle.std.specs.Prelude.{◌≡◌, ◌≤◌, ◌+◌, IfOk, string_bytes};
 ghost use Rattle.c25_board.specs.Board.{state};
-ghost use Rattle.c25_meaning_debugger.specs.Debugger.{data_word, program_word};
+ghost use Rattle.c25_meaning_debugger.specs.Debugger.{data_word, program_word, source_line_at};
 ghost use Rattle.c25_meaning_debugger.specs.Texts.{AreLinesOf, IsWhere, marks_from, regs_text, stack_text, symbols_text, words_text};
 ghost use Rattle.c25_meaning_image.specs.Marks as marks;
 ghost use Rattle.c25_meaning_processor.specs.Status.{regs_of};
 
 use crate::memories::{DataMemory, ProgramMemory};
+use crate::program::ImageProgram;
 use c25_answers::{push_instruction, push_instructions, push_registers, push_stack, push_words};
 use c25_board::board::Board;
 use c25_board::ports::{Feed, Sink};
@@ -73,11 +74,11 @@ pub(crate) fn show_program<F: Feed + Drop, S: Sink + Drop>(
 
 /// The image's instruction at an address.
 pub(crate) fn show_place(alloc: Global, image: &Image, address: u16) -> Result<String, NoMemory>
-    ensures { IfOk result (λ text. IsWhere image.now.program address (marks.size_at image.now.marks address) (string_bytes text)) }
+    ensures { IfOk result (λ text. IsWhere image.now.program (source_line_at image.now) address (marks.size_at image.now.marks address) (string_bytes text)) }
 {
     let mut text = String::new(alloc);
     let size = size_at(image.marks(), address);
-    push_instruction(alloc, &mut text, image.words(0), address, size)?;
+    push_instruction(alloc, &mut text, &ImageProgram { image }, address, size)?;
     Ok(text)
 }
 
@@ -88,13 +89,13 @@ pub(crate) fn show_list(
     address: u16,
     count: u32,
 ) -> Result<String, NoMemory>
-    ensures { IfOk result (λ text. AreLinesOf image.now.program (marks_from image.now.marks address count) (string_bytes text)) }
+    ensures { IfOk result (λ text. AreLinesOf image.now.program (source_line_at image.now) (marks_from image.now.marks address count) (string_bytes text)) }
 {
     let mut text = String::new(alloc);
     push_instructions(
         alloc,
         &mut text,
-        image.words(0),
+        &ImageProgram { image },
         image.marks(),
         address,
         count,

@@ -10,6 +10,7 @@ use Rattle.c25_meaning_language.specs.declared.statement.FaultKind.{FaultKind}
 use Rattle.c25_expr.specs.View.{tree_of}
 use Rattle.c25_expr.specs.declared.tree.Expr.{Expr}
 use Rattle.c25_statements.specs.declared.statement.Operation.{Operation}
+use Rattle.c25_statements.specs.declared.statement.Room.{Room}
 use Rattle.c25_statements.specs.declared.statement.Act.{Act}
 use Rattle.c25_statements.specs.declared.statement.Act.TheVariants as act
 use Rattle.c25_statements.specs.declared.statement.Statement.{Statement}
@@ -36,11 +37,20 @@ abbrev pub count_of : Result Expr FaultKind → Result Tree FaultKind
 count_of (Ok e) = Ok (tree_of e)
 count_of (Err f) = Err f
 
+-- a count and a flag
+abbrev pub room_of : Room → says.Room
+room_of r = record { count = tree_of r.count; flag = option_map tree_of r.flag }
+
+-- the same, or what is wrong with them
+abbrev pub room_in : Result Room FaultKind → Result says.Room FaultKind
+room_in (Ok r) = Ok (room_of r)
+room_in (Err f) = Err f
+
 -- what a line does
 abbrev pub act_of : Act → says.Act
 act_of act.Nothing = says.Nothing
 act_of (act.Enter section) = says.Enter (string_bytes section)
-act_of (act.Reserve section name count) = says.Reserve (string_bytes section) name.now (count_of count)
+act_of (act.Reserve section name room) = says.Reserve (string_bytes section) name.now (room_in room)
 act_of (act.Equate name value) = says.Equate name.now (tree_of value)
 act_of (act.Put target operands) = says.Put target (trees_of operands.items)
 act_of (act.Load words) = says.Load words.items

@@ -6,7 +6,7 @@ ghost use Rattle.c25_statements.specs.Steps as steps;
 ghost use Rattle.c25_expr.specs.Pieces.{pieces_of, operands_view};
 ghost use Rattle.c25_statements.specs.View.{act_of};
 
-use crate::operands::{expressions_in, later_in, some, some_names};
+use crate::operands::{alone, expressions_in, flagged, later_in, some, some_names};
 use crate::sections::section_in;
 use crate::statement::Act;
 use crate::strings::strings_in;
@@ -64,7 +64,31 @@ fn reserving_pair<'a>(
             Ok(Act::Reserve {
                 section,
                 name,
-                count,
+                room: alone(count),
+            })
+        }
+        Err(fault) => Err(Failure::Fault(fault)),
+    }
+}
+
+/// `.bss` of a name, a count and a flag
+fn reserving_flagged<'a>(
+    alloc: Global,
+    name: &[Token<'a>],
+    count: &[Token<'_>],
+    flag: &[Token<'_>],
+) -> Result<Act<'a>, Failure<FaultKind>>
+    ensures { Meets act_of (steps.reserving_flagged (pieces_of name.now) (pieces_of count.now) (pieces_of flag.now)) result }
+{
+    match name_in(name) {
+        Ok(name) => {
+            let count = later_in(alloc, count)?;
+            let flag = later_in(alloc, flag)?;
+            let section = String::from_str(alloc, ".bss")?;
+            Ok(Act::Reserve {
+                section,
+                name,
+                room: flagged(count, flag),
             })
         }
         Err(fault) => Err(Failure::Fault(fault)),
@@ -77,6 +101,7 @@ fn reserving<'a>(alloc: Global, operands: &[&[Token<'a>]]) -> Result<Act<'a>, Fa
 {
     match operands {
         [name, count] => reserving_pair(alloc, name, count),
+        [name, count, flag] => reserving_flagged(alloc, name, count, flag),
         _ => Err(Failure::Fault(FaultKind::OperandCount)),
     }
 }
@@ -95,7 +120,7 @@ fn reserving_pair_in<'a>(
     Ok(Act::Reserve {
         section,
         name,
-        count,
+        room: alone(count),
     })
 }
 

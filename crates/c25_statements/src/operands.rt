@@ -6,8 +6,9 @@ ghost use Rattle.c25_meaning_assembly.specs.AssemblyLine as says;
 ghost use Rattle.c25_meaning_common.specs.Results.{Meets};
 ghost use Rattle.c25_expr.specs.Pieces.{pieces_of, operands_view};
 ghost use Rattle.c25_expr.specs.View.{tree_of};
-ghost use Rattle.c25_statements.specs.View.{texts_of, trees_of, count_of};
+ghost use Rattle.c25_statements.specs.View.{texts_of, trees_of, count_of, room_in};
 
+use crate::statement::Room;
 use crate::trees::exprs_of;
 use c25_expr::operands::written_of;
 use c25_expr::tree::Expr;
@@ -31,6 +32,34 @@ pub(crate) fn later_in(
             Err(Failure::NoMemory(error)) => Err(Failure::NoMemory(error)),
         },
         _ => Err(Failure::Fault(FaultKind::OperandForm)),
+    }
+}
+
+/// A count alone.
+pub(crate) fn alone(count: Result<Expr, FaultKind>) -> Result<Room, FaultKind>
+    ensures { room_in result ≡ says.alone (count_of count) }
+{
+    match count {
+        Ok(count) => Ok(Room { count, flag: None }),
+        Err(fault) => Err(fault),
+    }
+}
+
+/// A count and a flag: BadExpression (20) of either comes before TooDeep (21).
+pub(crate) fn flagged(
+    count: Result<Expr, FaultKind>,
+    flag: Result<Expr, FaultKind>,
+) -> Result<Room, FaultKind>
+    ensures { room_in result ≡ says.flagged (count_of count) (count_of flag) }
+{
+    match (count, flag) {
+        (Ok(count), Ok(flag)) => Ok(Room {
+            count,
+            flag: Some(flag),
+        }),
+        (Ok(_), Err(fault)) => Err(fault),
+        (Err(FaultKind::TooDeep), Err(fault)) => Err(fault),
+        (Err(fault), _) => Err(fault),
     }
 }
 

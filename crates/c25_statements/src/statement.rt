@@ -11,6 +11,15 @@ pub struct Operation {
     pub trees: Vec<Expr>,
 }
 
+/// How much room is reserved.
+#[derive(Drop)]
+pub struct Room {
+    /// How many words.
+    pub count: Expr,
+    /// Whether they have to lie in one page of 128 words, where this is told.
+    pub flag: Option<Expr>,
+}
+
 /// What a line does.
 #[derive(Drop)]
 pub enum Act<'a> {
@@ -18,12 +27,12 @@ pub enum Act<'a> {
     Nothing,
     /// The lines behind it go on in an initialised section.
     Enter(String),
-    /// Words are reserved in an uninitialised section, and the name stands for the first of them. A
-    /// count that is no expression is a fault to be told behind a section of the other kind.
+    /// Words are reserved in an uninitialised section, and the name stands for the first of them.
+    /// Operands that are no expressions are a fault to be told behind a section of the other kind.
     Reserve {
         section: String,
         name: &'a str,
-        count: Result<Expr, FaultKind>,
+        room: Result<Room, FaultKind>,
     },
     /// The name stands for the value.
     Equate {

@@ -1,17 +1,9 @@
-//! Tests of the program's tasks, through its public calls.
+//! Tests of the program's tasks, through its public calls: what no words, files and standard input of a case bring about.
 #![tactic(auto)]
 
 #[cfg(test)]
-mod build;
-#[cfg(test)]
-mod debug;
-#[cfg(test)]
-mod files;
-#[cfg(test)]
-mod many;
+mod memory;
 #[cfg(test)]
 mod program;
-#[cfg(test)]
-mod told;
 #[cfg(test)]
 mod worlds;

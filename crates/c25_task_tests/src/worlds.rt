@@ -2,8 +2,6 @@
 
 ghost use Rattle.std.specs.Io.{WritesAtMost};
 
-use c25_disk::disk::{Disk, Refused};
-use c25_disk_tests::readers::Pieces;
 use c25_disk_tests::shelf::Shelf;
 use std::alloc::Global;
 use std::env::FillError;
@@ -84,40 +82,12 @@ impl Write for Closed {
     }
 }
 
-/// These files, and room for many more.
-pub(crate) fn shelf_of<'a>(alloc: Global, files: &'a [(&'a str, &'a [u8])]) -> Shelf<'a> {
+/// No files, and room for some.
+pub(crate) fn empty_shelf(alloc: Global) -> Shelf<'static> {
     Shelf {
-        files,
+        files: &[],
         others: None,
         room: 9,
         written: Vec::new(alloc),
-    }
-}
-
-/// A shelf that refuses the file of one name, and no other.
-#[derive(Drop)]
-pub(crate) struct Refusing<'a> {
-    pub(crate) shelf: Shelf<'a>,
-    pub(crate) refused: &'a str,
-}
-
-impl<'a> Disk for Refusing<'a> {
-    ghost use Rattle.std.specs.Prelude.{None};
-
-    type Reader = Pieces<'a>;
-
-    ghost bytes_of = { λ _ _. None };
-
-    ghost written = { λ _. None };
-
-    fn open(&self, name: &str) -> Result<Pieces<'a>, Refused> {
-        self.shelf.open(name)
-    }
-
-    fn write(&mut self, name: &str, bytes: &[u8]) -> Result<(), Refused> {
-        if name == self.refused {
-            return Err(Refused);
-        }
-        self.shelf.write(name, bytes)
     }
 }

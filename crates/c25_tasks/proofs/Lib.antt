@@ -1,4 +1,3 @@
-pub mod Told
 pub mod Unread
 pub mod Quiet
 pub mod Gathered

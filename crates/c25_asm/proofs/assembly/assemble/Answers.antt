@@ -1,7 +1,11 @@
 use Rattle.c25_obj.specs.View.{contents}
 use Rattle.c25_asm.specs.View.{passed_of}
 use Rattle.c25_asm.proofs.Made.{lists_are_a_module}
+use Rattle.c25_module_laws.proofs.ModulesOfSources.{few_files}
 use Rattle.c25_asm.proofs.assembly.assemble.Goals as goal
+
+pub finish-requires-clause-files : goal.finish-requires-clause-files
+finish-requires-clause-files c = few_files c.args.files.now c.args.name.now (passed_of c.in_ok-progress.field-0) c.in_ok-progress.ensures
 
 pub module-requires : goal.module-requires
 module-requires c =

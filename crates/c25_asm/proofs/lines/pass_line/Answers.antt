@@ -7,17 +7,16 @@ use Rattle.c25_listing.specs.View.{entry_of, entries_of}
 use Rattle.c25_phases.specs.Steps.{text_passed}
 use Rattle.c25_phases.specs.View.{progress_of}
 use Rattle.c25_asm.specs.View.{passed_of}
-use Rattle.c25_asm.proofs.Lined.{entry_is, line_passed}
+use Rattle.c25_asm.proofs.Lined.{entry_is, line_passed, refused_growth}
 use Rattle.c25_asm.proofs.lines.pass_line.Goals as goal
 
 pub returns-in-Ok : goal.returns-in-Ok
 returns-in-Ok c =
-    let l = shown c.args.line in
-    let old = progress_of c.args.passed.progress in
-    let with_text : List ℕ → Entry = λ t. record { line = l.line; text = t; section = old.current; offset = c.size_at-offset.result; count = c.saturating_sub-count.result } in
-    let same = c.in_ok-text.ensures.ok in
-    line_passed l (passed_of c.args.passed) (progress_of c.in-Ok.progress) (entries_of c.push.new.self.items)
-    (ap (λ (t : List ℕ). text_passed (origin_of l) t old) (sym same ∙ sym c.as_str.ensures.value) ∙ c.in-Ok.ensures.told)
+    line_passed (shown c.args.line) (passed_of c.args.passed) (progress_of c.in-Ok.progress) (entries_of c.push.new.self.items)
+    (ap (λ (t : List ℕ). text_passed (origin_of (shown c.args.line)) t (progress_of c.args.passed.progress)) (sym c.as_str.ensures.value) ∙ c.in-Ok.ensures.told)
     (ap entries_of c.in_ok-push-in-Ok.ensures.items ∙ map-append entry_of c.args.passed.entries.items _
     ∙ ap (λ (e : Entry). entries_of c.args.passed.entries.items ++ e ∷ [])
-    (ap with_text same ∙ entry_is l old (progress_of c.in-Ok.progress) _ _ _ c.size_at-offset.ensures.value c.size_at.ensures.value c.saturating_sub-count.ensures))
+    (entry_is (shown c.args.line) (progress_of c.args.passed.progress) (progress_of c.in-Ok.progress) _ _ _ c.size_at-offset.ensures.value c.size_at.ensures.value c.saturating_sub-count.ensures))
+
+pub returns-in_err-push-in-Ok : goal.returns-in_err-push-in-Ok
+returns-in_err-push-in-Ok c = refused_growth _ c.from_residual.result c.from_residual.ensures.1

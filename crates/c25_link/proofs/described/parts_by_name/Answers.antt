@@ -5,7 +5,7 @@ use Rattle.c25_meaning_objects.specs.Module.{Contents}
 use Rattle.c25_meaning_placing.specs.Place.{by_modules}
 use Rattle.c25_obj.specs.View.{contents}
 use Rattle.c25_link.specs.Layout.{places_in}
-use Rattle.c25_link.proofs.Search.{by_modules_more}
+use Rattle.c25_meaning_placing.proofs.ByModules.{by_modules_more}
 use Rattle.c25_link.proofs.described.parts_by_name.Goals as goal
 
 pub loop-number-preserved : goal.loop-number-preserved

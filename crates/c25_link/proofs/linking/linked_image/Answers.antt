@@ -6,9 +6,9 @@ use Rattle.c25_link.specs.Link.{IsImageAt}
 use Rattle.c25_link.proofs.linking.linked_image.Goals as goal
 
 pub new-requires : goal.new-requires
-new-requires c = subst IsPrinted (sym c.in_ok-described.ensures) c.requires.printed
+new-requires c = record { printed = subst IsPrinted (sym c.in_ok-described.ensures) c.requires.printed; lines = c.in_ok-lines.ensures.ascend }
 
 pub returns : goal.returns
 returns c =
     subst (IsImageAt c.args.layout.now.modules.now (places_in c.args.layout.now) (option_map (λ name. name.now) c.args.entry)) (sym c.new.ensures)
-    (record { fields = sym c.in-None.ensures; program = c.in_ok-pages.ensures.program; store = c.in_ok-pages.ensures.store; marks = c.in_ok-marks.ensures; described = c.in_ok-described.ensures })
+    (record { fields = sym c.in-None.ensures; program = c.in_ok-pages.ensures.program; store = c.in_ok-pages.ensures.store; marks = c.in_ok-marks.ensures; lines = c.in_ok-lines.ensures; described = c.in_ok-described.ensures })

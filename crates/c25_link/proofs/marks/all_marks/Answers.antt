@@ -5,7 +5,7 @@ use Rattle.c25_meaning_linking.specs.Words.{module_marks}
 use Rattle.c25_meaning_image.specs.declared.mark.Mark.{Mark}
 use Rattle.c25_obj.specs.View.{contents}
 use Rattle.c25_link.specs.Layout.{places_in}
-use Rattle.c25_link.proofs.Search.{by_modules_more}
+use Rattle.c25_meaning_placing.proofs.ByModules.{by_modules_more}
 use Rattle.c25_link.proofs.marks.all_marks.Goals as goal
 
 pub loop-number-preserved : goal.loop-number-preserved

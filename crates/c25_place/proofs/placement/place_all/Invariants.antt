@@ -1,7 +1,9 @@
 -- the sections so far are placed
 use Rattle.std.proofs.Common.{List, All, take}
 use Rattle.c25_meaning_commands.specs.Command.{RangeData}
+use Rattle.c25_meaning_objects.specs.Module.{Contents}
 use Rattle.c25_meaning_placing.specs.GoodMap.{ArePlaced}
+use Rattle.c25_place.specs.Blocks.{KnowsBlocks}
 use Rattle.c25_place.specs.Placement.{IsWithin}
 use Rattle.c25_place.specs.Ranges.{KnowsRanges}
 use Rattle.c25_place.specs.Room.{KnowsRoom}
@@ -10,5 +12,5 @@ use Rattle.c25_place.proofs.placement.place_all.Given as goal
 
 abbrev pub invariant-loop-request : goal.invariant-loop-request
 invariant-loop-request l = KnowsRoom l.placed.room (places_view l.placed.places.items)
-    × ((all : List RangeData) → KnowsRanges l.ranges all → ArePlaced all (requests_view (take l.request-index l.requests)) (places_view l.placed.places.items))
+    × ((all : List RangeData) (modules : List Contents) → KnowsRanges l.ranges all → KnowsBlocks l.blocks modules → ArePlaced all (requests_view modules (take l.request-index l.requests)) (places_view l.placed.places.items))
     × All IsWithin l.placed.places.items

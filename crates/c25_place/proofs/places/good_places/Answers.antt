@@ -1,11 +1,13 @@
 use Rattle.std.proofs.Common.{◌≤◌, ◌<◌, List, All, IfSome, length, ap, sym, subst, ◌∙◌}
 use Rattle.c25_cmd.specs.View.{command_data, placing_of}
 use Rattle.c25_meaning_commands.specs.Command.{PlacingData}
-use Rattle.c25_meaning_placing.specs.GoodMap.{placings_for, requests}
+use Rattle.c25_meaning_placing.specs.GoodMap.{placings_for, ranges_for, requests}
+use Rattle.c25_meaning_placing.specs.GoodMap as good
 use Rattle.c25_meaning_placing.specs.Place.{all_sections}
 use Rattle.std.specs.Borrow.{Bor}
 use Rattle.c25_obj.specs.declared.parts.Section.{Section}
 use Rattle.c25_place.specs.Outputs.{KnowsOutputs}
+use Rattle.c25_place.specs.Placement.{ArePlacedOrRefused}
 use Rattle.c25_place.specs.View.{requests_view, sections_view}
 use Rattle.c25_place.specs.declared.requests.Request.{Request}
 use Rattle.c25_place.proofs.Commanded.{pages_are}
@@ -22,7 +24,16 @@ pub place_all-requires-clause-sizes : goal.place_all-requires-clause-sizes
 place_all-requires-clause-sizes c =
     sizes_bounded c.args.modules.now (placings_for (command_data c.args.command.now)) c.in_ok-sections.sections.items c.deref-3.result.now c.in_ok-sections.ensures.small c.in_ok-sections.ensures.sections
     (subst (λ (bs : List (Bor Section)). length bs < 18446744073709551616) c.deref.ensures.value c.deref.type_inv.0)
-    (ap (λ (rs : List Request). requests_view rs) c.deref-3.ensures.value ∙ c.in_ok-list.ensures.requests c.args.modules.now knows (ap (λ (bs : List (Bor Section)). sections_view bs) c.deref-2.ensures.value ∙ c.in_ok-sections.ensures.sections) ∙ ap (λ (ps : List PlacingData). requests c.args.modules.now ps) c.placings_of.ensures)
+    (ap (λ (rs : List Request). requests_view c.args.modules.now rs) c.deref-3.ensures.value ∙ c.in_ok-list.ensures.requests c.args.modules.now knows (ap (λ (bs : List (Bor Section)). sections_view bs) c.deref-2.ensures.value ∙ c.in_ok-sections.ensures.sections) ∙ ap (λ (ps : List PlacingData). requests c.args.modules.now ps) c.placings_of.ensures)
+  where
+    knows : KnowsOutputs c.in_ok-outputs.outputs (all_sections c.args.modules.now)
+    knows = subst (λ ss. KnowsOutputs c.in_ok-outputs.outputs ss) (ap (λ (bs : List (Bor Section)). sections_view bs) c.deref.ensures.value ∙ c.in_ok-sections.ensures.sections) c.in_ok-outputs.ensures
+
+pub returns-clause-placed : goal.returns-clause-placed
+returns-clause-placed c =
+    subst (λ (rs : List good.Request). ArePlacedOrRefused (ranges_for (command_data c.args.command.now)) rs c.place_all.result)
+    (ap (λ (rs : List Request). requests_view c.args.modules.now rs) c.deref-3.ensures.value ∙ c.in_ok-list.ensures.requests c.args.modules.now knows (ap (λ (bs : List (Bor Section)). sections_view bs) c.deref-2.ensures.value ∙ c.in_ok-sections.ensures.sections) ∙ ap (λ (ps : List PlacingData). requests c.args.modules.now ps) c.placings_of.ensures)
+    (c.place_all.ensures.placed (ranges_for (command_data c.args.command.now)) c.args.modules.now c.in_ok-ranges.ensures.known c.in_ok-blocks.ensures)
   where
     knows : KnowsOutputs c.in_ok-outputs.outputs (all_sections c.args.modules.now)
     knows = subst (λ ss. KnowsOutputs c.in_ok-outputs.outputs ss) (ap (λ (bs : List (Bor Section)). sections_view bs) c.deref.ensures.value ∙ c.in_ok-sections.ensures.sections) c.in_ok-outputs.ensures

@@ -11,5 +11,5 @@ use Rattle.c25_place.proofs.requests.push_listed.Given as goal
 
 abbrev pub invariant-loop-placing : goal.invariant-loop-placing
 invariant-loop-placing l = ((modules : List Contents) → KnowsOutputs l.outputs (all_sections modules)
-    → requests_view l.requests.items ≡ requests_view l.fn.requests.items ++ map (listed_request modules) (filter (is_due l.with_address modules) (placings_of (take l.placing-index l.placings))))
+    → requests_view modules l.requests.items ≡ requests_view modules l.fn.requests.items ++ map (listed_request modules) (filter (is_due l.with_address modules) (placings_of (take l.placing-index l.placings))))
     × HasPages l.requests.items

@@ -10,6 +10,6 @@ use Rattle.c25_place.proofs.requests.push_unlisted.Given as goal
 
 abbrev pub invariant-loop-section : goal.invariant-loop-section
 invariant-loop-section l = ((modules : List Contents) (listed : List (List ℕ)) → KnowsOutputs l.outputs (all_sections modules) → sections_view l.sections ≡ all_sections modules → HasNames l.fn.seen listed
-    → (requests_view l.requests.items ≡ requests_view l.fn.requests.items ++ map (unlisted_request modules) (new_names listed (map (λ (s : SectionData). s.name) (sections_view (take l.section-index l.sections)))))
+    → (requests_view modules l.requests.items ≡ requests_view modules l.fn.requests.items ++ map (unlisted_request modules) (new_names listed (map (λ (s : SectionData). s.name) (sections_view (take l.section-index l.sections)))))
     × HasNames l.seen (listed ++ map (λ (s : SectionData). s.name) (sections_view (take l.section-index l.sections))))
     × HasPages l.requests.items

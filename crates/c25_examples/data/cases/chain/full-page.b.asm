@@ -1,0 +1,3 @@
+        .def    E
+        NOP
+E

@@ -1,0 +1,6 @@
+ .def GO
+GO LACK 1
+ SACL 60h
+ OUT 60h,PA2
+ .ref END
+ B END

@@ -1,0 +1,2 @@
+        NOP
+        OUT     60h,PA0

@@ -1,0 +1,2 @@
+        IDLE
+S       B       S

@@ -1,0 +1,2 @@
+P NOP
+ .bss X,5,P

@@ -1,0 +1,2 @@
+ .global GO
+ B GO

@@ -1,0 +1,3 @@
+ .def GO
+GO NOP
+ .bss v,3

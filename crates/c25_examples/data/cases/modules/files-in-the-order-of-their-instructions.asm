@@ -1,0 +1,8 @@
+ .text
+ NOP
+ .data
+ NOP
+ .copy "data.inc"
+ .text
+ NOP
+ .copy "text.inc"

@@ -1,0 +1,3 @@
+ .copy "macro.inc"
+ P
+ NOP

@@ -1,0 +1,3 @@
+ .asg 1,k
+ .asg "k:k:,",k ; k,k
+ .string "[:k:]"

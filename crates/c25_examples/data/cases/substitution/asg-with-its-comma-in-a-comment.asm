@@ -1,0 +1,2 @@
+ .asg 1,k
+L .asg k;,k

@@ -1,0 +1,2 @@
+ .asg 1,k
+ .string "é:k:é"

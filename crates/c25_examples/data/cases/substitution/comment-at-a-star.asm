@@ -1,0 +1,4 @@
+ .asg 1,k
+*k :k:
+* k?
+ .word k ; k :k: k?

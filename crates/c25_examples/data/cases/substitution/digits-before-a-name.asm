@@ -1,0 +1,3 @@
+ .asg 9,h
+ .asg 8,b
+ .word 5h,11b,h,b

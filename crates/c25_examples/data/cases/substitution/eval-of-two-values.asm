@@ -1,0 +1,2 @@
+ .asg 1,k
+ .eval k,k,k ; ",

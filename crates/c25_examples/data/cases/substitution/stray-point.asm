@@ -1,0 +1,2 @@
+ .asg 1,k
+ .word k.k

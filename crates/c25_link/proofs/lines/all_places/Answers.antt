@@ -1,0 +1,20 @@
+use Rattle.std.proofs.Common.{List, take, ap, sym, ◌∙◌, ◌++◌}
+use Rattle.c25_meaning_objects.specs.Module.{Contents}
+use Rattle.c25_meaning_placing.proofs.ByModules.{by_modules_more}
+use Rattle.c25_meaning_placing.specs.Place.{by_modules}
+use Rattle.c25_obj.specs.View.{contents}
+use Rattle.c25_link.specs.Layout.{places_in}
+use Rattle.c25_link.specs.Lines.{module_places}
+use Rattle.c25_link.specs.declared.lines.LinePlace.{LinePlace}
+use Rattle.c25_link.proofs.lines.all_places.Goals as goal
+
+pub loop-number-preserved : goal.loop-number-preserved
+loop-number-preserved c =
+    let modules = c.args.layout.now.modules.now in
+    let i = c.loop-number.number in
+    let own = module_places modules (places_in c.args.layout.now) in
+    let so_far : List LinePlace = by_modules own 0 (take i modules) in
+    c.in_ok-push_places.ensures
+    ∙ ap (λ (ls : List LinePlace). ls ++ own i (contents c.parts.result.now)) c.loop-number.invariant
+    ∙ ap (λ (m : Contents). so_far ++ own i m) c.parts.ensures.kept
+    ∙ sym (by_modules_more own modules i c.module-item.result c.loop-number-test.true c.module-item.is)

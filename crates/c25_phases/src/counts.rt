@@ -1,0 +1,67 @@
+//! Numbers that lines are held against.
+
+ghost use Rattle.std.specs.Prelude.{◌≡◌, ◌<◌, ◌^◌, true, IfOk};
+ghost use Rattle.c25_meaning_assembly.specs.Sections as meaning;
+ghost use Rattle.c25_phases.specs.Sizes.{IsBlockSize};
+
+use c25_meaning_language::statement::FaultKind;
+use c25_meaning_language::value::{Base, Value};
+
+/// How many words a block can have.
+const MOST_BLOCK_WORDS: u32 = 128;
+
+/// How many bytes the name of a file with instructions can have.
+const LONGEST_FILE_NAME: usize = 65_535;
+
+/// The count that a value is.
+pub(crate) fn count_of(value: Value) -> Result<u32, FaultKind>
+    ensures { result ≡ meaning.count_of value }
+{
+    match value.base {
+        Base::Absolute => {
+            if value.offset < 0 {
+                Err(FaultKind::ValueRange)
+            } else {
+                Ok(value.offset as u32)
+            }
+        }
+        Base::Section(_) | Base::External(_) => Err(FaultKind::NotAbsolute),
+    }
+}
+
+/// Whether the flag that a value is is set.
+pub(crate) fn flag_of(value: Value) -> Result<bool, FaultKind>
+    ensures { result ≡ meaning.flag_of value }
+{
+    match value.base {
+        Base::Absolute => Ok(value.offset != 0),
+        Base::Section(_) | Base::External(_) => Err(FaultKind::NotAbsolute),
+    }
+}
+
+/// A block has 1 to 128 words, else BadBlock (56).
+pub(crate) fn block_allowed(flag: bool, words: u32) -> Result<(), FaultKind>
+    ensures told { result ≡ meaning.block_allowed flag words }
+    ensures size { IfOk result (λ _. IsBlockSize flag words) }
+{
+    if flag && (words < 1 || words > MOST_BLOCK_WORDS) {
+        Err(FaultKind::BadBlock)
+    } else {
+        Ok(())
+    }
+}
+
+/// Whether the records of a module have room for the name of a file.
+pub(crate) fn is_file_name(name: &str) -> bool
+    ensures { result ≡ meaning.is_file_name name.now }
+{
+    name.len() <= LONGEST_FILE_NAME
+}
+
+/// Whether they have room for the number of a line.
+pub(crate) fn is_line_number(line: usize) -> bool
+    ensures told { result ≡ meaning.is_line_number line }
+    ensures small { result ≡ true → line < 2 ^ 32 }
+{
+    line >= 1 && line <= u32::MAX as usize
+}

@@ -1,0 +1,115 @@
+//! The files and lines of a module's marks.
+
+ghost use Rattle.std.specs.Prelude.{◌≡◌, ◌≤◌, ◌<◌, true, length, map, OnOk, IfOk};
+ghost use Rattle.std.specs.List.{fold, position_or_len};
+ghost use Rattle.std.specs.Str.{bytes_eq};
+ghost use Rattle.c25_meaning_assembly.specs.Sections.{once};
+ghost use Rattle.c25_meaning_assembly.specs.Emission.{no_lines, with_line};
+ghost use Rattle.c25_phases.specs.Lined.{IsAt, IsLined};
+ghost use Rattle.c25_phases.specs.Origins.{source_line, source_lines};
+
+use crate::item::SourceLine;
+use c25_meaning_common::no_memory::NoMemory;
+use c25_meaning_objects::object::LineMark;
+use indexmap::IndexSet;
+use std::alloc::Global;
+use std::marker::Model;
+
+/// Files in the order of their first use, and lines with the numbers of their files.
+#[derive(Drop)]
+pub(crate) struct Lines<'a> {
+    alloc: Global,
+    files: IndexSet<&'a str>,
+    /// The number of the last line's file, so that most lines need no hash of it.
+    recent: usize,
+    lines: Vec<LineMark>,
+}
+
+/// Whether the file of a number is this one.
+fn is_at(files: &IndexSet<&str>, number: usize, file: &str) -> bool
+    ensures { result ≡ true → IsAt (map (λ f. f.now) files.now.keys) number file.now }
+{
+    match files.as_slice().get(number) {
+        Some(other) => file == *other,
+        None => false,
+    }
+}
+
+impl<'a> Model for Lines<'a> {
+    ghost use Rattle.std.specs.Prelude.{map};
+    ghost use Rattle.c25_meaning_assembly.specs.Emission.{Lines};
+
+    ghost Value = { Lines };
+
+    ghost view = { λ l. record { files = map (λ f. f.now) l.files.keys; lines = l.lines.items } };
+}
+
+impl<'a> Lines<'a> {
+    /// Before the first mark.
+    pub(crate) fn new(alloc: Global) -> Self
+        ensures { result ≡ no_lines }
+    {
+        Lines {
+            alloc,
+            files: IndexSet::new(alloc),
+            recent: 0,
+            lines: Vec::new(alloc),
+        }
+    }
+
+    /// The number of a file, which is the next one where it is new.
+    fn number_of(&mut self, file: &'a str) -> Result<usize, NoMemory>
+        requires { length (once self.old.files file.now) ≤ 65535 }
+        ensures number { IfOk result (λ n. n ≡ position_or_len (bytes_eq file.now) self.old.files) }
+        ensures small { IfOk result (λ n. n < 65536) }
+        ensures files { OnOk result (self.new ≡ record self.old { files = once self.old.files file.now }) }
+    {
+        if is_at(&self.files, self.recent, file) {
+            return Ok(self.recent);
+        }
+        let (number, _) = self.files.insert_full(file)?;
+        self.recent = number;
+        Ok(number)
+    }
+
+    /// The line of one mark more.
+    fn add(&mut self, line: &SourceLine<'a>) -> Result<(), NoMemory>
+        requires { length (with_line self.old (source_line line.now)).files ≤ 65535 }
+        ensures { OnOk result (self.new ≡ with_line self.old (source_line line.now)) }
+    {
+        let number = self.number_of(line.file)?;
+        self.lines.push(LineMark {
+            file: number as u16,
+            line: line.line,
+        })?;
+        Ok(())
+    }
+
+    /// Those of the marks of a section.
+    pub(crate) fn add_all(&mut self, lines: &[SourceLine<'a>]) -> Result<(), NoMemory>
+        requires { length (fold with_line self.old (source_lines lines.now)).files ≤ 65535 }
+        ensures { OnOk result (self.new ≡ fold with_line self.old (source_lines lines.now)) }
+    {
+        for line in lines {
+            self.add(line)?;
+        }
+        Ok(())
+    }
+
+    /// The lists of the module.
+    pub(crate) fn into_parts(self) -> Result<(Vec<String>, Vec<LineMark>), NoMemory>
+        ensures { IfOk result (λ p. IsLined self.entry p.0.items p.1.items) }
+    {
+        let Lines {
+            alloc,
+            files,
+            recent: _,
+            lines,
+        } = self;
+        let mut names = Vec::new(alloc);
+        for name in files.as_slice() {
+            names.push(String::from_str(alloc, name)?)?;
+        }
+        Ok((names, lines))
+    }
+}
