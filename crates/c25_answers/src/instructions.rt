@@ -1,6 +1,6 @@
 //! The instructions of a program, as they are read from its words.
 
-ghost use Rattle.std.specs.Prelude.{◌≡◌, ◌≤◌, ◌++◌, ℕ, List, OnOk, string_bytes};
+ghost use Rattle.std.specs.Prelude.{◌≡◌, ◌≤◌, ◌++◌, ℕ, List, OnOk, Some, string_bytes};
 ghost use Rattle.std.specs.Option.{option_map};
 ghost use Rattle.c25_meaning_debugger.specs.Texts.{AreLinesOf, IsLineOf, IsWhere, ReadsAt, insn_line, insn_text, marks_from, source_line_end};
 ghost use Rattle.c25_meaning_processor.specs.FirstState.{memory_of_map};
@@ -67,19 +67,20 @@ fn push_end(text: &mut String, source: Option<(&str, u32)>) -> Result<(), NoMemo
 }
 
 /// Appends the line of an address, of what is read there and of where it stands in the sources.
-fn push_line<P: Program>(
+fn push_line(
     alloc: Global,
     text: &mut String,
-    program: &P,
     address: u16,
     insn: &Option<Insn>,
+    source: Option<(&str, u32)>,
 ) -> Result<(), NoMemory>
-    ensures { OnOk result (string_bytes text.new ≡ string_bytes text.old ++ insn_line address insn.now (P.source_line_at program.now address)) }
+    ensures { OnOk result (string_bytes text.new ≡ string_bytes text.old
+        ++ insn_line address insn.now (option_map (λ r. (r.0.now, r.1)) source.entry)) }
 {
     push_word(text, address)?;
     text.push_str(" ")?;
     push_insn(alloc, text, insn)?;
-    push_end(text, program.source_line(address))
+    push_end(text, source)
 }
 
 /// Appends the line of a mark.
@@ -94,12 +95,12 @@ fn push_mark<P: Program>(
         × (string_bytes text.new ≡ string_bytes text.old ++ line)) }
 {
     let insn = read_at(program.words(), address, size);
-    push_line(alloc, text, program, address, &insn)
+    push_line(alloc, text, address, &insn, program.source_line(address))
 }
 
 /// Appends the line of an address: the instruction of this size that the words read as there, or `none`
-/// where they read as none of that size, or where no size is given, as no instruction stands there; and
-/// where it stands in the sources, if that is known.
+/// where they read as none of that size, and where it stands in the sources, if that is known; `none`
+/// alone where no size is given, as no instruction stands there.
 pub fn push_instruction<P: Program>(
     alloc: Global,
     text: &mut String,
@@ -111,9 +112,25 @@ pub fn push_instruction<P: Program>(
         × (string_bytes text.new ≡ string_bytes text.old ++ line)) }
 {
     match size {
-        None => push_line(alloc, text, program, address, &None),
+        None => push_line(alloc, text, address, &None, None),
         Some(size) => push_mark(alloc, text, program, address, size),
     }
+}
+
+/// Appends the line of an address, of an instruction that runs there and of where that stands in the
+/// sources, if it is known: at the address where it is loaded.
+pub fn push_copied<P: Program>(
+    alloc: Global,
+    text: &mut String,
+    program: &P,
+    address: u16,
+    load: u16,
+    insn: Insn,
+) -> Result<(), NoMemory>
+    ensures { OnOk result (string_bytes text.new ≡ string_bytes text.old
+        ++ insn_line address (Some insn) (P.source_line_at program.now load)) }
+{
+    push_line(alloc, text, address, &Some(insn), program.source_line(load))
 }
 
 /// Appends the lines of the first so many marks from an address up, in the order of the marks.

@@ -15,7 +15,7 @@ mod tests;
 mod words;
 
 pub use breakpoints::{push_cleared, push_set};
-pub use instructions::{push_instruction, push_instructions};
+pub use instructions::{push_copied, push_instruction, push_instructions};
 pub use line::MOST_BYTES;
 pub use registers::{push_registers, push_stack};
 pub use steps::{push_halting, push_sink};

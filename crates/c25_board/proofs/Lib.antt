@@ -1,9 +1,11 @@
 pub mod Begins
 pub mod Behind
 pub mod Kept
+pub mod KeptCopies
 pub mod PlaceMarks
 pub mod Rising
 pub mod Runs
+pub mod RunsFound
 pub mod RunsTo
 pub mod SamplePorts
 pub mod SamplesTaken

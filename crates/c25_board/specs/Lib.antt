@@ -1,6 +1,7 @@
 pub mod Outputs
 pub mod Places
 pub mod Prepared
+pub mod Copies
 pub mod Timed
 pub mod Board
 pub mod Run

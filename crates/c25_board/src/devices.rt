@@ -11,7 +11,7 @@ use crate::ports::{Feed, Sink};
 use c25_core::{Bus, SinkFailed};
 use c25_meaning_common::no_memory::NoMemory;
 use c25_meaning_image::mark::RunMark;
-use c25_meaning_image::marks::{is_load, run_at};
+use c25_meaning_image::marks::is_load;
 use c25_meaning_image::word_map::WordMap;
 
 /// What lies around the processor. Each memory has 65,536 words; those of data memory hold block
@@ -74,7 +74,13 @@ impl<F: Feed + Drop, S: Sink + Drop> Bus for Devices<F, S> {
     }
 
     fn run_at(&self, address: u16) -> Option<RunMark> {
-        run_at(self.run_marks.as_slice(), address)
+        match self
+            .run_marks
+            .binary_search_by_key(&address, |mark| mark.run)
+        {
+            Ok(index) => Some(self.run_marks[index]),
+            Err(_) => None,
+        }
     }
 
     fn is_code(&self, address: u16) -> bool {

@@ -3,11 +3,13 @@
 
 pub mod board;
 mod clock;
+mod copies;
 mod devices;
 pub mod fixed_sink;
 mod places;
 pub mod ports;
 mod prepared;
+mod quick;
 pub mod run_to;
 pub mod samples;
 pub mod schedule;

@@ -80,7 +80,7 @@ both_read g samples entries e h =
 
 pub answered : (g : Given) (n : ℕ) (b : Built) (d : Done) (c : Chain) (samples : List Sample) (entries : List Entry) → IsBuiltAs g.files g.sources g.command b
     → samples_in g ≡ Ok samples → schedule_in g ≡ Ok entries
-    → HasRun b.linked.page0.words b.linked.page1.words b.linked.image.marks samples entries n d
+    → HasRun b.linked.page0.words b.linked.page1.words b.linked.image.marks b.linked.image.run_marks samples entries n d
     → texts_of c ≡ linked.texts_of b.linked → c.listings ≡ b.listings → run_of c ≡ run_data d → IsAnswer g n c
 answered g n b d c samples entries is e h run texts listings done =
     let image = b.linked.image in
@@ -91,7 +91,7 @@ answered g n b d c samples entries is e h run texts listings done =
       built = subst (λ (ls : Vec (String Global) Global). IsBuilt g.files g.sources g.command image (texts_of c) (map string_bytes ls.items)) (sym listings)
           (subst (λ (t : Texts). IsBuilt g.files g.sources g.command image t (map string_bytes b.listings.items)) (sym texts) built);
       read = both_read g samples entries e h;
-      run = subst (λ (r : RunData). IsRunOf image.program image.store image.marks samples entries n r) (sym done)
-          (subst (λ (w : finite.FinMap nat_cmp ℕ). IsRunOf image.program w image.marks samples entries n (run_data d)) is.linked.words1
-          (subst (λ (w : finite.FinMap nat_cmp ℕ). IsRunOf w b.linked.page1.words image.marks samples entries n (run_data d)) is.linked.words0 run));
+      run = subst (λ (r : RunData). IsRunOf image.program image.store image.marks image.run_marks samples entries n r) (sym done)
+          (subst (λ (w : finite.FinMap nat_cmp ℕ). IsRunOf image.program w image.marks image.run_marks samples entries n (run_data d)) is.linked.words1
+          (subst (λ (w : finite.FinMap nat_cmp ℕ). IsRunOf w b.linked.page1.words image.marks image.run_marks samples entries n (run_data d)) is.linked.words0 run));
     }

@@ -1,5 +1,5 @@
 -- The laws on which the claims of an answer rest: each is the contract of a public function.
-use Rattle.std.proofs.Common.{◌≡◌, ℕ, List, [], All, Ok}
+use Rattle.std.proofs.Common.{◌≡◌, ℕ, List, All, Ok}
 use Rattle.std.specs.FinMap as finite
 use Rattle.std.specs.Ordering.{nat_cmp}
 use Rattle.c25_laws.specs.ProgramStatements.{AreMarksOf, AreModulesOf, ReadsAs, lines_in, lines_of, page_statements, program_statements}
@@ -15,7 +15,7 @@ use Rattle.c25_meaning_objects.specs.Module.{Contents, IsModule}
 use Rattle.c25_meaning_processor.specs.FirstState.{first_of_pages}
 use Rattle.c25_meaning_processor.specs.Run.{Reaches, Signals}
 use Rattle.c25_meaning_processor.specs.State.{State}
-use Rattle.c25_meaning_processor.specs.Statements.{IsImageOf, RunsAsStatements, plainly}
+use Rattle.c25_meaning_processor.specs.Statements.{IsImageOf, RunsAsStatements, loaded_statements}
 use Rattle.c25_meaning_processor.specs.WordStep.{WordStep}
 use Rattle.c25_meaning_sources.specs.ModuleOfSource.{Assembled, assembled}
 use Rattle.c25_run_laws.specs.KeptCode.{KeepsCode}
@@ -38,15 +38,15 @@ pub record Laws : Type 0 where
   pub places : (modules : List Contents) (command : CommandData) (image : ImageData) → (p : IsProgram modules command image) → places_of image.described ≡ p.places
   pub words_fit : (modules : List Contents) (command : CommandData) (image : ImageData)
       → All IsModule modules → IsCommand command → IsProgram modules command image → IsWordMap image.program × IsWordMap image.store
-  pub marks : OfPrograms (λ files names modules command image p. AreMarksOf (program_statements files names modules p.places) image.marks)
-  pub program : OfPrograms (λ files names modules command image p. All (ReadsAs image.program) (program_statements files names modules p.places))
+  pub marks : OfPrograms (λ files names modules command image p. AreMarksOf (program_statements files names modules p.places) image.marks image.run_marks)
+  pub program : OfPrograms (λ files names modules command image p. All (ReadsAs image.program) (loaded_statements (program_statements files names modules p.places)))
   pub stored : OfPrograms (λ files names modules command image p. All (ReadsAs image.store) (page_statements 1 files names modules p.places))
   pub pages : OfPrograms (λ files names modules command image p. HasSourceWords files names modules p.places 0 image.program × HasSourceWords files names modules p.places 1 image.store)
   -- of runs
   pub images : (files : Files) (names : List (List ℕ)) (modules : List Contents) (command : CommandData) (image : ImageData) (samples : ℕ → List ℕ)
       → AreModulesOf files names modules → (p : IsProgram modules command image)
-      → IsImageOf (plainly (program_statements files names modules p.places)) (first_of_pages image.program image.store image.marks [] samples).world
+      → IsImageOf (program_statements files names modules p.places) (first_of_pages image.program image.store image.marks image.run_marks samples).world
   pub runs : (files : Files) (names : List (List ℕ)) (modules : List Contents) (command : CommandData) (image : ImageData) (samples : ℕ → List ℕ)
       → AreModulesOf files names modules → (p : IsProgram modules command image)
-      → RunsAsStatements (plainly (program_statements files names modules p.places)) (first_of_pages image.program image.store image.marks [] samples)
+      → RunsAsStatements (program_statements files names modules p.places) (first_of_pages image.program image.store image.marks image.run_marks samples)
   pub kept : (signals : Signals) (k n : ℕ) (s t : State) → Reaches WordStep signals k n s t → KeepsCode s.world t.world

@@ -15,17 +15,20 @@ use Rattle.c25_meaning_stimulus.specs.Samples.{samples_at}
 use Rattle.c25_meaning_stimulus.specs.Signals.{signals_of}
 use Rattle.c25_meaning_processor.specs.State.{State, state_of}
 use Rattle.c25_meaning_image.specs.declared.mark.Mark.{Mark}
+use Rattle.c25_meaning_image.specs.declared.mark.RunMark.{RunMark}
 use Rattle.c25_meaning_stimulus.specs.declared.sample.Sample.{Sample}
 use Rattle.c25_meaning_stimulus.specs.declared.schedule.Entry.{Entry}
 use Rattle.c25_chain.specs.Run.{HasRun, Shows, run_data}
 use Rattle.c25_chain.specs.declared.run.Done.{Done}
 
 -- the state of a board before its run
-pub begins : (page0 page1 : finite.FinMap nat_cmp ℕ) (places marks : List Mark) (samples : ℕ → List ℕ) (outputs : List (ℕ × ℕ)) (s : State) → s ≡ state_of reset (record (loaded places [] (memory_of_map page0) (memory_of_map page1) samples) { outputs = outputs })
-    → places ≡ marks → outputs ≡ [] → s ≡ first_of_pages page0 page1 marks [] samples
-begins page0 page1 places marks samples outputs s begin same none =
-    begin ∙ ap (λ (m : List Mark). state_of reset (record (loaded m [] (memory_of_map page0) (memory_of_map page1) samples) { outputs = outputs })) same
-    ∙ ap (λ (o : List (ℕ × ℕ)). state_of reset (record (loaded marks [] (memory_of_map page0) (memory_of_map page1) samples) { outputs = o })) none
+pub begins : (page0 page1 : finite.FinMap nat_cmp ℕ) (places marks : List Mark) (runs run_marks : List RunMark) (samples : ℕ → List ℕ) (outputs : List (ℕ × ℕ)) (s : State)
+    → s ≡ state_of reset (record (loaded places runs (memory_of_map page0) (memory_of_map page1) samples) { outputs = outputs })
+    → places ≡ marks → runs ≡ run_marks → outputs ≡ [] → s ≡ first_of_pages page0 page1 marks run_marks samples
+begins page0 page1 places marks runs run_marks samples outputs s begin same same_runs none =
+    begin ∙ ap (λ (m : List Mark). state_of reset (record (loaded m runs (memory_of_map page0) (memory_of_map page1) samples) { outputs = outputs })) same
+    ∙ ap (λ (r : List RunMark). state_of reset (record (loaded marks r (memory_of_map page0) (memory_of_map page1) samples) { outputs = outputs })) same_runs
+    ∙ ap (λ (o : List (ℕ × ℕ)). state_of reset (record (loaded marks run_marks (memory_of_map page0) (memory_of_map page1) samples) { outputs = o })) none
 
 -- a sink that has failed has failed some times
 fails_some : (failed fails : ℕ) → fails ≡ min (failed + 1) (2 ^ 64 - 1) → fails ≡ 0 → ⊥
@@ -33,15 +36,15 @@ fails_some failed fails counted none =
     let some : 1 ≤ min (failed + 1) (2 ^ 64 - 1) = le-min (omega arith) (omega arith) in
     omega (arith, some, counted, none)
 
-module _ (page0 page1 : finite.FinMap nat_cmp ℕ) (marks : List Mark) (samples : List Sample) (given : List Entry) (n : ℕ) (d : Done) where
-  ends : (o : Outcome) (j : ℕ) (t : State) (failed fails : ℕ) → IsRun (signals_of given) 0 n (first_of_pages page0 page1 marks [] (samples_at samples)) o j t failed fails
-      → fails ≡ 0 → d.outcome ≡ o → d.steps ≡ j → Shows t (run_data d) → HasRun page0 page1 marks samples given n d
+module _ (page0 page1 : finite.FinMap nat_cmp ℕ) (marks : List Mark) (run_marks : List RunMark) (samples : List Sample) (given : List Entry) (n : ℕ) (d : Done) where
+  ends : (o : Outcome) (j : ℕ) (t : State) (failed fails : ℕ) → IsRun (signals_of given) 0 n (first_of_pages page0 page1 marks run_marks (samples_at samples)) o j t failed fails
+      → fails ≡ 0 → d.outcome ≡ o → d.steps ≡ j → Shows t (run_data d) → HasRun page0 page1 marks run_marks samples given n d
   ends outcome.Ran j t failed fails run none named counted shows = (Ran t, run.0, (named, counted ∙ run.1 ∙ omega arith, shows))
   ends (outcome.Left at stop) j t failed fails run none named counted shows = (Left at stop t, run.0, (named, counted ∙ run.1, shows))
   ends (outcome.SinkFault at) j t failed fails run none named counted shows = absurd (fails_some failed fails run.5 none)
 
-  pub ends_as : (entries : List Entry) (o : Outcome) (k j : ℕ) (s t : State) (failed fails : ℕ) → entries ≡ given → k ≡ 0 → s ≡ first_of_pages page0 page1 marks [] (samples_at samples)
-      → IsRun (signals_of entries) k n s o j t failed fails → fails ≡ 0 → d.outcome ≡ o → d.steps ≡ j → Shows t (run_data d) → HasRun page0 page1 marks samples given n d
+  pub ends_as : (entries : List Entry) (o : Outcome) (k j : ℕ) (s t : State) (failed fails : ℕ) → entries ≡ given → k ≡ 0 → s ≡ first_of_pages page0 page1 marks run_marks (samples_at samples)
+      → IsRun (signals_of entries) k n s o j t failed fails → fails ≡ 0 → d.outcome ≡ o → d.steps ≡ j → Shows t (run_data d) → HasRun page0 page1 marks run_marks samples given n d
   ends_as entries o k j s t failed fails same first begin run none named counted shows =
       ends o j t failed fails
       (subst (λ (x : State). IsRun (signals_of given) 0 n x o j t failed fails) begin

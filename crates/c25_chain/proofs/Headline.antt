@@ -2,7 +2,7 @@
 use Rattle.std.proofs.Common.{◌≡◌, ℕ, List, map, ap, sym, ◌∙◌, subst, inl, inr}
 use Rattle.std.specs.List.{All}
 use Rattle.std.specs.String.{string_bytes}
-use Rattle.c25_laws.specs.ProgramStatements.{AreMarksOf, AreModulesOf, ReadsAs, page_statements, program_statements}
+use Rattle.c25_laws.specs.ProgramStatements.{AreMarksOf, AreModulesOf, PlacedStatement, ReadsAs, all_statements, on_page, program_statements, split_by_run}
 use Rattle.c25_laws.specs.SourceWords as items
 use Rattle.c25_meaning_expansion.specs.Files.{Files}
 use Rattle.c25_meaning_image.specs.WordMap.{IsWordMap}
@@ -11,7 +11,7 @@ use Rattle.c25_meaning_linking.specs.Linking.{ImageData}
 use Rattle.c25_meaning_placing.specs.Place.{Place}
 use Rattle.c25_meaning_objects.specs.Module.{Contents}
 use Rattle.c25_meaning_processor.specs.Run.{Ending, Ran}
-use Rattle.c25_meaning_processor.specs.Statements.{IsImageOf, RunsAsStatements, Statement, plainly}
+use Rattle.c25_meaning_processor.specs.Statements.{IsImageOf, RunsAsStatements, Statements, loaded_statements}
 use Rattle.c25_meaning_stimulus.specs.Samples.{samples_at}
 use Rattle.c25_meaning_stimulus.specs.Signals.{signals_of}
 use Rattle.c25_meaning_stimulus.specs.declared.sample.Sample.{Sample}
@@ -33,25 +33,25 @@ module _ (laws : Laws) (files : Files) (names : List (List ℕ)) (command : List
   places_said : places_of image.described ≡ ((b.linked).program).places
   places_said = laws.places (b.all).modules (b.linked).command image (b.linked).program
 
-  page_said : (page : ℕ) → page_statements page files names (source_modules files names) (places_of image.described) ≡ page_statements page files names (b.all).modules ((b.linked).program).places
-  page_said page =
-      ap (λ (ms : List Contents). page_statements page files names ms (places_of image.described)) modules_said
-      ∙ ap (page_statements page files names (b.all).modules) places_said
+  all_said : all_statements files names (source_modules files names) (places_of image.described) ≡ all_statements files names (b.all).modules ((b.linked).program).places
+  all_said =
+      ap (λ (ms : List Contents). all_statements files names ms (places_of image.described)) modules_said
+      ∙ ap (all_statements files names (b.all).modules) places_said
 
   said : source_statements files names image.described ≡ program_statements files names (b.all).modules ((b.linked).program).places
-  said = page_said 0
+  said = ap split_by_run all_said
 
   of : AreModulesOf files names (b.all).modules
   of = are_modules files names b.all b.assembled
 
-  marks_said : AreMarksOf (source_statements files names image.described) image.marks
-  marks_said = subst (λ (ss : List Statement). AreMarksOf ss image.marks) (sym said) (laws.marks files names (b.all).modules (b.linked).command image of (b.linked).program)
+  marks_said : AreMarksOf (source_statements files names image.described) image.marks image.run_marks
+  marks_said = subst (λ (ss : Statements). AreMarksOf ss image.marks image.run_marks) (sym said) (laws.marks files names (b.all).modules (b.linked).command image of (b.linked).program)
 
-  words_read : All (ReadsAs image.program) (source_statements files names image.described)
-  words_read = subst (All (ReadsAs image.program)) (sym said) (laws.program files names (b.all).modules (b.linked).command image of (b.linked).program)
+  words_read : All (ReadsAs image.program) (loaded_statements (source_statements files names image.described))
+  words_read = subst (λ (ss : Statements). All (ReadsAs image.program) (loaded_statements ss)) (sym said) (laws.program files names (b.all).modules (b.linked).command image of (b.linked).program)
 
   stored_read : All (ReadsAs image.store) (stored_statements files names image.described)
-  stored_read = subst (All (ReadsAs image.store)) (sym (page_said 1)) (laws.stored files names (b.all).modules (b.linked).command image of (b.linked).program)
+  stored_read = subst (λ (all : List PlacedStatement). All (ReadsAs image.store) (on_page 1 all)) (sym all_said) (laws.stored files names (b.all).modules (b.linked).command image of (b.linked).program)
 
   words_said : (page : ℕ) (words : _) → items.HasSourceWords files names (b.all).modules ((b.linked).program).places page words → HasSourceWords files names image.described page words
   words_said page words h =
@@ -74,14 +74,14 @@ module _ (laws : Laws) (files : Files) (names : List (List ℕ)) (command : List
   store_spelled : SpellsWords texts.page1 image.store
   store_spelled = subst (λ (t : List ℕ). SpellsWords t image.store) (sym ((b.linked).texts_are).page1) (laws.spelled image.store words_fit.1)
 
-  pub image_said : (samples : List Sample) → IsImageOf (plainly (source_statements files names image.described)) (first_state image samples).world
+  pub image_said : (samples : List Sample) → IsImageOf (source_statements files names image.described) (first_state image samples).world
   image_said samples =
-      subst (λ (ss : List Statement). IsImageOf (plainly ss) (first_state image samples).world) (sym said)
+      subst (λ (ss : Statements). IsImageOf ss (first_state image samples).world) (sym said)
       (laws.images files names (b.all).modules (b.linked).command image (samples_at samples) of (b.linked).program)
 
-  runs_said : (samples : List Sample) → RunsAsStatements (plainly (source_statements files names image.described)) (first_state image samples)
+  runs_said : (samples : List Sample) → RunsAsStatements (source_statements files names image.described) (first_state image samples)
   runs_said samples =
-      subst (λ (ss : List Statement). RunsAsStatements (plainly ss) (first_state image samples)) (sym said)
+      subst (λ (ss : Statements). RunsAsStatements ss (first_state image samples)) (sym said)
       (laws.runs files names (b.all).modules (b.linked).command image (samples_at samples) of (b.linked).program)
 
   marks_claimed : MarksStatements files names image

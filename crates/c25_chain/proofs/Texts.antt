@@ -3,7 +3,7 @@ use Rattle.std.proofs.Common.{◌≡◌, ℕ, List, Ok, Err, Result, ap, subst, 
 use Rattle.c25_meaning_commands.specs.Command.{CommandData}
 use Rattle.c25_meaning_commands.specs.CommandText.{command_of}
 use Rattle.c25_meaning_placing.specs.GoodMap.{IsGoodMap}
-use Rattle.c25_meaning_linking.specs.Linking.{ImageData, IsProgram, HasWords, HasMarks}
+use Rattle.c25_meaning_linking.specs.Linking.{ImageData, IsProgram, HasWords, HasMarks, HasRunMarks}
 use Rattle.c25_meaning_intel_hex.specs.HexText.{written}
 use Rattle.c25_meaning_placing.specs.MapText.{IsMapOf}
 use Rattle.c25_meaning_objects.specs.Module.{Contents}
@@ -28,6 +28,7 @@ are_texts modules command image texts p places printed page0 page1 =
       program = subst (λ (ps : List Place). HasWords modules ps 0 image.program) same p.program;
       store = subst (λ (ps : List Place). HasWords modules ps 1 image.store) same p.store;
       marks = subst (λ (ps : List Place). HasMarks modules ps image.marks) same p.marks;
+      run_marks = subst (λ (ps : List Place). HasRunMarks modules ps image.marks image.run_marks) same p.run_marks;
       page0 = page0;
       page1 = page1;
     }

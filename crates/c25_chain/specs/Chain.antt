@@ -70,7 +70,7 @@ pub record IsAnswer (g : Given) (n : ℕ) (c : Chain) : Type 0 where
   pub inputs : Inputs
   pub built : IsBuilt g.files g.sources g.command image (texts_of c) (map string_bytes c.listings.items)
   pub read : inputs_in g ≡ Ok inputs
-  pub run : IsRunOf image.program image.store image.marks inputs.samples inputs.entries n (run_of c)
+  pub run : IsRunOf image.program image.store image.marks image.run_marks inputs.samples inputs.entries n (run_of c)
 
 -- what the chain answers: that, or the first refusal, unless memory ran out
 abbrev pub Answers : Given → ℕ → Result Chain Fault → Type 0

@@ -50,6 +50,7 @@ link_number link.DoesNotFit = 73
 link_number link.Overlap = 74
 link_number link.RelocRange = 75
 link_number link.NoEntry = 76
+link_number link.BadRun = 78
 
 -- the number of a hex text's fault
 abbrev pub hex_number : HexFault → ℕ

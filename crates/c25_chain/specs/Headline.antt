@@ -19,7 +19,7 @@ use Rattle.c25_meaning_stimulus.specs.Samples.{samples_at}
 use Rattle.c25_meaning_stimulus.specs.Signals.{signals_of}
 use Rattle.c25_meaning_processor.specs.State.{State}
 use Rattle.c25_meaning_image.specs.Marks.{is_code}
-use Rattle.c25_meaning_processor.specs.Statements.{Statement, marks_of, plainly, statement_step}
+use Rattle.c25_meaning_processor.specs.Statements.{Statement, Statements, loaded_statements, marks_of, statement_step}
 use Rattle.c25_meaning_stimulus.specs.declared.sample.Sample.{Sample}
 use Rattle.c25_meaning_stimulus.specs.declared.schedule.Entry.{Entry}
 use Rattle.c25_chain.specs.Built.{IsBuilt}
@@ -41,9 +41,9 @@ without_refusal (Err r) = []
 abbrev pub source_modules : Files → List (List ℕ) → List Contents
 source_modules files names = without_refusal (modules_of files names)
 
--- the instruction statements of the sources on page 0, over all modules and sections: each at its address under the map, and its
--- mnemonic with the numbers of its operands under the map
-abbrev pub source_statements : Files → List (List ℕ) → MapData → List Statement
+-- the instruction statements of the sources on page 0, over all modules and sections, those that run where they are loaded and those
+-- that run in block B0: each at its addresses under the map, and its mnemonic with the numbers of its operands under the map
+abbrev pub source_statements : Files → List (List ℕ) → MapData → Statements
 source_statements files names printed = program_statements files names (source_modules files names) (places_of printed)
 
 -- those on page 1: their words are in its hex text, and nothing runs them
@@ -62,21 +62,21 @@ HasStatements files name = lines_of files name ≡ Ok (lines_in files name)
 
 -- the state in which every run of a program begins: a reset, with its words in both memories
 abbrev pub first_state : ImageData → List Sample → State
-first_state image samples = first_of_pages image.program image.store image.marks [] (samples_at samples)
+first_state image samples = first_of_pages image.program image.store image.marks image.run_marks (samples_at samples)
 
 -- the end of n steps of the program's words
 abbrev pub RunsItsWords : ImageData → List Sample → List Entry → ℕ → Ending → Type 0
-RunsItsWords image = RunsWords image.program image.store image.marks
+RunsItsWords image = RunsWords image.program image.store image.marks image.run_marks
 
 -- the end of n steps of the statements of the sources, read from no word
 abbrev pub statements_run : Files → List (List ℕ) → ImageData → List Sample → List Entry → ℕ → Ending
 statements_run files names image samples entries n =
-    runs.run_of (statement_step (plainly (source_statements files names image.described))) (signals_of entries) 0 n (first_state image samples)
+    runs.run_of (statement_step (source_statements files names image.described)) (signals_of entries) 0 n (first_state image samples)
 
 -- ---- claims of a program
 
 -- the hex texts hold exactly the words of the sources at the addresses of the printed map, and the words at each instruction
--- statement on either page read as its mnemonic with the numbers of its operands
+-- statement on either page, where they are loaded, read as its mnemonic with the numbers of its operands
 pub record HoldsSourceWords (c : Chain) (files : Files) (names : List (List ℕ)) (image : ImageData) : Type 0 where
   pub printed : IsMapOf (string_bytes c.map) image.described
   pub page0 : string_bytes c.page0 ≡ written image.program
@@ -85,13 +85,14 @@ pub record HoldsSourceWords (c : Chain) (files : Files) (names : List (List ℕ)
   pub spelled1 : SpellsWords (string_bytes c.page1) image.store
   pub program : HasSourceWords files names image.described 0 image.program
   pub store : HasSourceWords files names image.described 1 image.store
-  pub statements : All (ReadsAs image.program) (source_statements files names image.described)
+  pub statements : All (ReadsAs image.program) (loaded_statements (source_statements files names image.described))
   pub stored : All (ReadsAs image.store) (stored_statements files names image.described)
 
--- the marks are exactly the addresses and sizes of the instruction statements on page 0, and no source lacks its statements
+-- the marks and the run marks are exactly the addresses and sizes of the instruction statements on page 0, and no source lacks its
+-- statements
 pub record MarksStatements (files : Files) (names : List (List ℕ)) (image : ImageData) : Type 0 where
   pub sources : All (HasStatements files) names
-  pub marks : AreMarksOf (source_statements files names image.described) image.marks
+  pub marks : AreMarksOf (source_statements files names image.described) image.marks image.run_marks
 
 -- for every sample list, schedule and n the words run to an end exactly where the statements do: in the same state, outputs, registers
 -- and memories included, or leaving the code at the same step for the same reason
@@ -105,12 +106,12 @@ abbrev pub IsReached : Files → List (List ℕ) → ImageData → List Sample �
 IsReached files names image samples entries n t =
     RunsItsWords image samples entries n (Ran t) ⊎ (statements_run files names image samples entries n ≡ Ran t)
 
--- in every state of either run the words of the instruction statements are those of the hex text
+-- in every state of either run the words of the instruction statements, where they are loaded, are those of the hex text
 abbrev pub CodeStays : Files → List (List ℕ) → ImageData → Type 0
 CodeStays files names image =
     (samples : List Sample) (entries : List Entry) (n : ℕ) (t : State) (address : ℕ)
     → IsReached files names image samples entries n t
-    → is_code (marks_of (source_statements files names image.described)) address ≡ true
+    → is_code (marks_of (loaded_statements (source_statements files names image.described))) address ≡ true
     → t.world.program address ≡ memory_of_map image.program address
 
 -- ---- claims of an answer

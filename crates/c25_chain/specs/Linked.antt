@@ -5,7 +5,7 @@ use Rattle.c25_meaning_commands.specs.Command.{CommandData}
 use Rattle.c25_meaning_commands.specs.CommandText.{command_of}
 use Rattle.c25_meaning_placing.specs.GoodMap.{IsGoodMap}
 use Rattle.c25_meaning_intel_hex.specs.HexText.{written}
-use Rattle.c25_meaning_linking.specs.Linking.{ImageData, IsProgram, IsRefusal, HasWords, HasMarks}
+use Rattle.c25_meaning_linking.specs.Linking.{HasRunMarks, ImageData, IsProgram, IsRefusal, HasWords, HasMarks}
 use Rattle.c25_meaning_placing.specs.MapText.{MapData, IsMapOf}
 use Rattle.c25_meaning_objects.specs.Module.{Contents}
 use Rattle.c25_meaning_placing.specs.Place.{Place}
@@ -37,6 +37,7 @@ pub record AreTexts (modules : List Contents) (command : CommandData) (image : I
   pub program : HasWords modules (places_of image.described) 0 image.program
   pub store : HasWords modules (places_of image.described) 1 image.store
   pub marks : HasMarks modules (places_of image.described) image.marks
+  pub run_marks : HasRunMarks modules (places_of image.described) image.marks image.run_marks
   pub page0 : texts.page0 ≡ written image.program
   pub page1 : texts.page1 ≡ written image.store
 

@@ -1,5 +1,5 @@
 -- What an answer says of the run of a program.
-use Rattle.std.specs.Prelude.{◌≡◌, ℕ, ◌<◌, List, [], length, slice_index}
+use Rattle.std.specs.Prelude.{◌≡◌, ℕ, ◌<◌, List, length, slice_index}
 use Rattle.std.specs.FinMap as finite
 use Rattle.std.specs.Ordering.{nat_cmp}
 use Rattle.c25_board.specs.declared.board.Outcome.{Outcome}
@@ -12,6 +12,7 @@ use Rattle.c25_meaning_processor.specs.State.{State}
 use Rattle.c25_meaning_processor.specs.Status.{regs_of}
 use Rattle.c25_meaning_processor.specs.WordStep.{WordStep}
 use Rattle.c25_meaning_image.specs.declared.mark.Mark.{Mark}
+use Rattle.c25_meaning_image.specs.declared.mark.RunMark.{RunMark}
 use Rattle.c25_meaning_processor.specs.declared.registers.Regs.{Regs}
 use Rattle.c25_meaning_stimulus.specs.declared.sample.Sample.{Sample}
 use Rattle.c25_meaning_stimulus.specs.declared.schedule.Entry.{Entry}
@@ -37,18 +38,18 @@ abbrev pub EndsAs : ℕ → Ending → RunData → Type 0
 EndsAs n (Ran t) d = (d.outcome ≡ outcome.Ran) × (d.steps ≡ n) × Shows t d
 EndsAs n (Left j stop t) d = (d.outcome ≡ outcome.Left j stop) × (d.steps ≡ j) × Shows t d
 
--- n steps of the words of both pages, with instructions at these places, from a reset on, under these samples and this schedule
-abbrev pub RunsWords : (page0 page1 : finite.FinMap nat_cmp ℕ) → List Mark → List Sample → List Entry → ℕ → Ending → Type 0
-RunsWords page0 page1 marks samples entries n e = Runs WordStep (signals_of entries) 0 n (first_of_pages page0 page1 marks [] (samples_at samples)) e
+-- n steps of the words of both pages, with instructions at these places, and such as run in block B0, from a reset on, under these samples and this schedule
+abbrev pub RunsWords : (page0 page1 : finite.FinMap nat_cmp ℕ) → List Mark → List RunMark → List Sample → List Entry → ℕ → Ending → Type 0
+RunsWords page0 page1 marks run_marks samples entries n e = Runs WordStep (signals_of entries) 0 n (first_of_pages page0 page1 marks run_marks (samples_at samples)) e
 
 -- what was done is that run
-abbrev pub IsRunOf : (page0 page1 : finite.FinMap nat_cmp ℕ) → List Mark → List Sample → List Entry → ℕ → RunData → Type 0
-IsRunOf page0 page1 marks samples entries n d = (e : Ending) × RunsWords page0 page1 marks samples entries n e × EndsAs n e d
+abbrev pub IsRunOf : (page0 page1 : finite.FinMap nat_cmp ℕ) → List Mark → List RunMark → List Sample → List Entry → ℕ → RunData → Type 0
+IsRunOf page0 page1 marks run_marks samples entries n d = (e : Ending) × RunsWords page0 page1 marks run_marks samples entries n e × EndsAs n e d
 
 -- what the code has of a run
 abbrev pub run_data : Done → RunData
 run_data d = record { outputs = d.outputs.items; regs = d.regs; memory = d.memory.items; outcome = d.outcome; steps = d.steps }
 
 -- and it is that run
-abbrev pub HasRun : (page0 page1 : finite.FinMap nat_cmp ℕ) → List Mark → List Sample → List Entry → ℕ → Done → Type 0
-HasRun page0 page1 marks samples entries n d = IsRunOf page0 page1 marks samples entries n (run_data d)
+abbrev pub HasRun : (page0 page1 : finite.FinMap nat_cmp ℕ) → List Mark → List RunMark → List Sample → List Entry → ℕ → Done → Type 0
+HasRun page0 page1 marks run_marks samples entries n d = IsRunOf page0 page1 marks run_marks samples entries n (run_data d)

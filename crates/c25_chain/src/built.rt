@@ -20,7 +20,7 @@ pub struct Built {
 /// Assembles sources, the texts of which are among these files, and links their modules under the
 /// command that a text spells. Without sources the program has no words. The first refusal is the
 /// answer: the sources, one behind another (10 to 56), a line of the command (60 to 63), linking
-/// (70 to 76).
+/// (70 to 76 and 78).
 pub fn build(
     alloc: Global,
     files: &Files,

@@ -107,7 +107,7 @@ fn chain_of(built: Built, done: Done) -> Chain
 /// The texts of the sources are those of `files`. Each module is passed through its records, and the
 /// words of both pages through their hex texts. Without sources the program has no words. The first
 /// refusal is the answer, in this order: the sources, one behind another (10 to 56), a line of the
-/// command file (60 to 63), linking (70 to 76), the samples (91), the schedule (90). A refused growth,
+/// command file (60 to 63), linking (70 to 76 and 78), the samples (91), the schedule (90). A refused growth,
 /// of the list of outputs too, is `NoMemory`.
 pub fn run_chain(
     alloc: Global,

@@ -32,7 +32,7 @@ pub enum Refusal<Name> {
     },
     /// A line of the command file is wrong (60 to 63).
     Command(FaultyCommand),
-    /// The modules cannot be linked (70 to 76): the symbol or section that it is told with.
+    /// The modules cannot be linked (70 to 76 and 78): the symbol or section that it is told with.
     Link(FaultyLink<Name>),
     /// A line of a hex text is wrong (80 to 89).
     Hex(PlacedHexFault),

@@ -82,6 +82,7 @@ pub(crate) fn link_number(fault: LinkFault) -> u8
         LinkFault::Overlap => 74,
         LinkFault::RelocRange => 75,
         LinkFault::NoEntry => 76,
+        LinkFault::BadRun => 78,
     }
 }
 

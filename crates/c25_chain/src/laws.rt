@@ -4,7 +4,7 @@
 ghost use Rattle.std.specs.Prelude.{◌≡◌, List, ℕ};
 ghost use Rattle.c25_meaning_expansion.specs.Files.{Files};
 ghost use Rattle.c25_meaning_linking.specs.Linking.{ImageData};
-ghost use Rattle.c25_meaning_processor.specs.Statements.{IsImageOf, plainly};
+ghost use Rattle.c25_meaning_processor.specs.Statements.{IsImageOf};
 ghost use Rattle.c25_meaning_stimulus.specs.declared.sample.Sample.{Sample};
 ghost use Rattle.c25_chain.specs.Built.{IsBuilt};
 ghost use Rattle.c25_chain.specs.Chain.{Given, IsAnswer};
@@ -43,7 +43,7 @@ pub fn answers_run_as_their_sources()
     ensures code { (g : Given) (n : ℕ) (c : Chain) → IsAnswer g n c → OfProgram CodeStays g.files g.sources g.command c }
     ensures own_run { (g : Given) (n : ℕ) (c : Chain) → IsAnswer g n c → TellsStatementsRun g n c }
     ensures first_states { (files : Files) (names : List (List ℕ)) (command : List ℕ) (image : ImageData) (texts : Texts) (listings : List (List ℕ)) (samples : List Sample)
-        → IsBuilt files names command image texts listings → IsImageOf (plainly (source_statements files names image.described)) (first_state image samples).world }
+        → IsBuilt files names command image texts listings → IsImageOf (source_statements files names image.described) (first_state image samples).world }
 {
     sources_make_modules();
     spelled_commands_keep_the_rules();

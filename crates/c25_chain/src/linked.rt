@@ -72,7 +72,7 @@ fn with_texts(alloc: Global, image: Image) -> Result<Linked, NoMemory>
 
 /// Links modules under the command that a text spells, and writes the map and the hex texts of both
 /// pages. It is refused where a line of the text is wrong (60 to 63) or where the modules cannot be
-/// linked (70 to 76).
+/// linked (70 to 76 and 78).
 pub fn link_modules(alloc: Global, modules: &[Module], command: &str) -> Result<Linked, Fault>
     ensures { LinksUnder modules.now command.now result }
 {

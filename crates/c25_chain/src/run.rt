@@ -1,8 +1,8 @@
 //! A run of a linked program.
 
-ghost use Rattle.std.specs.Prelude.{◌≡◌, [], IfOk, true};
+ghost use Rattle.std.specs.Prelude.{◌≡◌, IfOk, true};
 ghost use Rattle.c25_board.specs.Board.{entries, state, steps};
-ghost use Rattle.c25_meaning_image.specs.Marks.{fit_from};
+ghost use Rattle.c25_meaning_image.specs.Marks.{fit_from, run_fit};
 ghost use Rattle.c25_meaning_processor.specs.FirstState.{first_of_pages};
 ghost use Rattle.c25_meaning_stimulus.specs.Samples.{samples_at};
 ghost use Rattle.c25_chain.specs.Run.{HasRun};
@@ -33,8 +33,9 @@ pub fn board_of(
     samples: Samples,
     schedule: Schedule,
 ) -> Result<Board<Samples, ListSink>, NoMemory>
-    requires { fit_from 0 linked.now.image.marks ≡ true }
-    ensures state { IfOk result (λ board. state board ≡ first_of_pages linked.now.page0.words linked.now.page1.words linked.now.image.marks [] (samples_at samples)) }
+    requires marks { fit_from 0 linked.now.image.marks ≡ true }
+    requires run_marks { run_fit linked.now.image.marks linked.now.image.run_marks ≡ true }
+    ensures state { IfOk result (λ board. state board ≡ first_of_pages linked.now.page0.words linked.now.page1.words linked.now.image.marks linked.now.image.run_marks (samples_at samples)) }
     ensures steps { IfOk result (λ board. steps board ≡ 0) }
     ensures schedule { IfOk result (λ board. entries board ≡ schedule) }
 {
@@ -42,7 +43,10 @@ pub fn board_of(
     let page1 = &linked.page1.words;
     let marks = linked.image.marks();
     let sink = ListSink::new(alloc);
-    let board = Board::new(alloc, page0, page1, marks, &[], schedule, samples, sink)?;
+    let run_marks = linked.image.run_marks();
+    let board = Board::new(
+        alloc, page0, page1, marks, run_marks, schedule, samples, sink,
+    )?;
     Ok(board)
 }
 
@@ -54,8 +58,9 @@ pub(crate) fn run_linked(
     schedule: Schedule,
     n: u32,
 ) -> Result<Done, NoMemory>
-    requires { fit_from 0 linked.now.image.marks ≡ true }
-    ensures { IfOk result (λ done. HasRun linked.now.page0.words linked.now.page1.words linked.now.image.marks samples schedule n done) }
+    requires marks { fit_from 0 linked.now.image.marks ≡ true }
+    requires run_marks { run_fit linked.now.image.marks linked.now.image.run_marks ≡ true }
+    ensures { IfOk result (λ done. HasRun linked.now.page0.words linked.now.page1.words linked.now.image.marks linked.now.image.run_marks samples schedule n done) }
 {
     let mut board = board_of(alloc, linked, samples, schedule)?;
     let outcome = board.run(n);

@@ -14,7 +14,7 @@ use Rattle.c25_meaning_commands.specs.Command.{RangeData, PlacingData, CommandDa
 use Rattle.c25_meaning_commands.specs.CommandTokens.{Token}
 use Rattle.c25_meaning_commands.specs.CommandGrammar.{Reading, fault_at, fault_if, passes, begins, wanted, past, repeated, up_to, CountIsEnough, number_of_kind, number_at, page_number_at, setting_at}
 use Rattle.c25_meaning_commands.specs.CommandMemory.{page_at, attributes_at, is_range, overlaps, extent_at, range_at, Ranges, more_ranges, memory_at}
-use Rattle.c25_meaning_commands.specs.CommandSections.{input_at, contents_at, place_at, target_at, section_page_at, placing_at, is_placing, more_placings, sections_at}
+use Rattle.c25_meaning_commands.specs.CommandSections.{input_at, contents_at, place_at, target_at, section_page_at, run_at, placing_at, is_placing, more_placings, sections_at}
 use Rattle.c25_meaning_commands.specs.CommandText.{entry_in, memory_in, sections_in, part_in}
 use Rattle.c25_meaning_common.specs.Results.{◌>>=◌}
 use Rattle.c25_cmd.proofs.Steps.{bound, after, chosen, wider}
@@ -168,13 +168,25 @@ section_page_left ts =
     (bound (λ x. length x.1 < length (drop 1 ts)) _ (page_number_at (drop 1 ts)) _ (page_number_taken (drop 1 ts)) (λ n h. omega arith))
     same
 
+run_left : (ts : List Token) → Leaves (length ts) (run_at ts)
+unfolding run_at
+run_left ts =
+    let fewer : length (drop 1 ts) ≤ length ts = omega (arith, length-drop 1 ts) in
+    let same : length ts ≤ length ts = omega arith in
+    chosen (λ x. length x.1 ≤ length ts) (begins (want.Keyword keyword.Run) ts) _ _
+    (bound (λ x. length x.1 < length (drop 1 ts)) _ (wanted (want.Sign sign.Equals) (drop 1 ts)) _ (one_taken (want.Sign sign.Equals) (drop 1 ts)) (λ equals h.
+    bound (λ x. length x.1 < length equals.1) _ (number_at equals.1) _ (number_taken equals.1) (λ n i. omega (arith, past_leaves (want.Sign sign.Comma) n.1))))
+    same
+
 placing_left : (name : List ℕ) (ts : List Token) → Leaves (length ts) (placing_at name ts)
 unfolding placing_at
 placing_left name ts =
     bound (λ x. length x ≤ length ts) _ (contents_at name ts) _ (contents_left name ts) (λ rest h.
     bound (λ x. length x.1 ≤ length rest) _ (target_at rest) _ (target_left rest) (λ target i.
     bound (λ x. length x.1 ≤ length target.1) _ (section_page_at target.1) _ (section_page_left target.1) (λ page j.
-    omega (arith, past_leaves (want.Sign sign.Comma) page.1))))
+    let comma = past_leaves (want.Sign sign.Comma) page.1 in
+    bound (λ x. length x.1 ≤ length (past (want.Sign sign.Comma) page.1)) _ (run_at (past (want.Sign sign.Comma) page.1)) _
+    (run_left (past (want.Sign sign.Comma) page.1)) (λ run k. omega (arith, comma)))))
 
 more_placings_take : (before : List PlacingData) (ts : List Token) → Takes (length ts) (more_placings before ts)
 unfolding more_placings

@@ -18,7 +18,7 @@ use Rattle.c25_meaning_commands.specs.Command.{RangeData, IsRange, PlacingData, 
 use Rattle.c25_meaning_commands.specs.CommandTokens.{Token, tokens}
 use Rattle.c25_meaning_commands.specs.CommandGrammar.{Reading, fault_if, begins, wanted, past, repeated, up_to, number_at, page_number_at, setting_at}
 use Rattle.c25_meaning_commands.specs.CommandMemory.{page_at, attributes_at, is_range, overlaps, extent_at, range_at, Ranges, more_ranges, memory_at}
-use Rattle.c25_meaning_commands.specs.CommandSections.{contents_at, target_at, section_page_at, placing_at, is_placing, more_placings, sections_at}
+use Rattle.c25_meaning_commands.specs.CommandSections.{contents_at, target_at, section_page_at, run_at, placing_at, is_placing, more_placings, sections_at}
 use Rattle.c25_meaning_commands.specs.CommandText.{entry_in, memory_in, sections_in, part_in, command_at, command_of}
 use Rattle.c25_meaning_common.specs.Results.{told}
 use Rattle.c25_cmd.proofs.Steps.{bound, after, chosen}
@@ -198,7 +198,8 @@ placing_kept name ts =
     after _ (contents_at name ts) _ (λ rest.
     after _ (target_at rest) _ (λ target.
     bound (λ x. IfSome x.0 (λ n. n ≤ 1)) _ (section_page_at target.1) _ (section_page_kept target.1) (λ page h.
-    record { named = refl; page = h })))
+    after _ (run_at (past (want.Sign sign.Comma) page.1)) _ (λ run.
+    record { named = refl; page = h }))))
 
 other_section : (name : List ℕ) (p new : PlacingData) → new.name ≡ name → is_placing name p ≡ false → AreOthers p new
 other_section name p new named h same = let e : p.name ≡ name = cc in let found = same_name p.name name e in absurd cc

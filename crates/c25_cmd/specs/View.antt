@@ -39,7 +39,7 @@ target_of (target.At n) = meant.At n
 
 -- what is said of one section
 abbrev pub placing_of : Placing → meant.PlacingData
-placing_of p = record { name = string_bytes p.name; target = target_of p.target; page = p.page }
+placing_of p = record { name = string_bytes p.name; target = target_of p.target; page = p.page; run = p.run }
 
 -- sections
 abbrev pub placings_of : List Placing → List meant.PlacingData

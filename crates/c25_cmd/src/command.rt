@@ -31,6 +31,9 @@ pub struct Placing {
     pub target: Target,
     /// 0 or 1 where a page is named.
     pub page: Option<u8>,
+    /// The address where they run, where it is said: they are loaded at another. A number above
+    /// 4,294,967,295 stands as that, as in [`Target::At`].
+    pub run: Option<u32>,
 }
 
 /// What a command file says.

@@ -44,7 +44,7 @@ fn line_at(text: &str, place: usize) -> usize
 ///
 /// ```text
 /// MEMORY { [PAGE n :] NAME [(attributes)] : origin = number [,] length = number ... }
-/// SECTIONS { name : [{ } or { *(name) }] [> T or load = T or load > T] [PAGE n] [,] ... }
+/// SECTIONS { name : [{ } or { *(name) }] [> T or load = T or load > T] [PAGE n] [,] [run = number [,]] ... }
 /// ```
 ///
 /// with `org` and `o` for `origin`, `len` and `l` for `length`, and T the name of a range or an

@@ -4,7 +4,7 @@ ghost use Rattle.std.specs.Prelude.{◌≡◌, length, [], ◌∷◌, ◌++◌, 
 ghost use Rattle.std.specs.List.{list_any};
 ghost use Rattle.c25_meaning_commands.specs.Command.{PlacingData};
 ghost use Rattle.c25_meaning_commands.specs.CommandGrammar.{repeated};
-ghost use Rattle.c25_meaning_commands.specs.CommandSections.{input_at, contents_at, place_at, target_at, section_page_at, is_placing, placing_at, more_placings, sections_at};
+ghost use Rattle.c25_meaning_commands.specs.CommandSections.{input_at, contents_at, place_at, target_at, section_page_at, run_at, is_placing, placing_at, more_placings, sections_at};
 ghost use Rattle.c25_meaning_commands.specs.declared.command_token.Want.TheVariants as want;
 ghost use Rattle.c25_meaning_commands.specs.declared.command_token.Sign.TheVariants as sign;
 ghost use Rattle.c25_cmd.specs.Known.{HasNames};
@@ -93,6 +93,20 @@ fn page_at(tokens: &[Token]) -> Result<(Option<u8>, &[Token]), Failure<PlacedFau
     Ok((Some(number), tokens))
 }
 
+/// `run = number` and a comma that may be left out, or nothing.
+#[tactic(auto, unfolding(c25_meaning_commands::specs::CommandSections::run_at))]
+fn run_at(tokens: &[Token]) -> Result<(Option<u32>, &[Token]), Failure<PlacedFault>>
+    ensures { Meets (λ x. (x.0, tokens_of x.1.now)) (run_at (tokens_of tokens.now)) result }
+{
+    if !begins(Want::Keyword(Keyword::Run), tokens) {
+        return Ok((None, tokens));
+    }
+    let tokens = past(Want::Keyword(Keyword::Run), tokens);
+    let (_, tokens) = wanted(Want::Sign(Sign::Equals), tokens)?;
+    let (number, tokens) = number_at(tokens)?;
+    Ok((Some(number), past(Want::Sign(Sign::Comma), tokens)))
+}
+
 /// What stands behind the colon of a section.
 #[tactic(auto, unfolding(c25_meaning_commands::specs::CommandSections::placing_at))]
 fn placing_at<'a>(
@@ -106,9 +120,15 @@ fn placing_at<'a>(
     let tokens = contents_at(name, tokens)?;
     let (target, tokens) = target_at(alloc, tokens)?;
     let (page, tokens) = page_at(tokens)?;
+    let (run, tokens) = run_at(past(Want::Sign(Sign::Comma), tokens))?;
     let name = String::from_str(alloc, name)?;
-    let placing = Placing { name, target, page };
-    Ok((placing, past(Want::Sign(Sign::Comma), tokens)))
+    let placing = Placing {
+        name,
+        target,
+        page,
+        run,
+    };
+    Ok((placing, tokens))
 }
 
 /// The sections that have been read, and their names, which find one that comes twice in time that

@@ -6,6 +6,7 @@ mod advance;
 mod ar_mem;
 mod bit;
 mod bus;
+mod copied;
 mod execute;
 mod fetch;
 mod interrupt;
@@ -26,4 +27,6 @@ mod status;
 mod step;
 
 pub use bus::{Bus, Halt, SinkFailed, Tick};
+pub use copied::CopiedInsn;
 pub use processor::Core;
+pub use quick::keeps_words;

@@ -1,21 +1,23 @@
 //! The processor.
 
-ghost use Rattle.std.specs.Prelude.{◌≡◌, ◌↔◌, ◌&&◌, not, true, OnErr, IfOk};
+ghost use Rattle.std.specs.Prelude.{◌≡◌, ◌↔◌, ◌&&◌, ℕ, Bool, Some, not, true, OnErr, IfOk};
 ghost use Rattle.c25_meaning_processor.specs.State.{StepResult, data_at, program_at, state_of};
 ghost use Rattle.c25_meaning_processor.specs.Reset.{reset};
 ghost use Rattle.c25_meaning_processor.specs.Status.{regs_of};
 ghost use Rattle.c25_meaning_processor.specs.Step.{begun};
-ghost use Rattle.c25_meaning_processor.specs.WordStep.{WordStep};
+ghost use Rattle.c25_meaning_processor.specs.WordStep.{IsFetchedBy, WordStep, mark_found};
 ghost use Rattle.c25_core.specs.Met.{IsMet};
 
 use crate::bus::{Bus, Halt, Tick};
-use crate::fetch::fetch;
+use crate::fetch::{fetch, fetch_copied, mark_found};
 use crate::interrupt::begin;
 use crate::memory::{read_data, read_program};
 use crate::status::regs_of;
 use crate::step::turn;
 use bitflags::Flags;
 use c25_meaning_arithmetic::accumulator::{Acc, ProductShift};
+use c25_meaning_image::mark::RunMark;
+use c25_meaning_instructions::insn::Insn;
 use c25_meaning_processor::lines::Lines;
 use c25_meaning_processor::registers::{ArNumber, DataPage, Registers, Regs};
 use std::marker::Model;
@@ -113,6 +115,20 @@ impl Core {
         ensures { result ≡ program_at self.now.cnf (B.world bus.now) address }
     {
         read_program(bus, self.registers.cnf, address)
+    }
+
+    /// The place of the instruction that runs at PC in block B0, under CNF 1 alone.
+    pub fn run_mark<B: Bus>(&self, bus: &B) -> Option<RunMark>
+        ensures { result ≡ mark_found self.now.cnf (B.world bus.now) self.now.pc }
+    {
+        mark_found(&self.registers, bus)
+    }
+
+    /// The instruction of such a place, where B0 holds its words and they read as it.
+    pub fn copied<B: Bus>(&self, mark: &RunMark, bus: &B) -> Option<Insn>
+        ensures { (cnf : Bool) (pc : ℕ) → IsFetchedBy cnf (B.world bus.now) pc (Some mark.now) result }
+    {
+        fetch_copied(mark, bus)
     }
 
     /// One step: latches the interrupt lines of the step, takes an interrupt where one may be

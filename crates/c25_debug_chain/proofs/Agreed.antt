@@ -10,7 +10,7 @@ use Rattle.c25_meaning_expansion.specs.Files.{Files}
 use Rattle.c25_meaning_linking.specs.Linking.{ImageData}
 use Rattle.c25_meaning_processor.specs.Run.{Signals}
 use Rattle.c25_meaning_processor.specs.State.{State}
-use Rattle.c25_meaning_processor.specs.Statements.{IsImageOf, Statements, plainly, statement_step}
+use Rattle.c25_meaning_processor.specs.Statements.{IsImageOf, Statements, statement_step}
 use Rattle.c25_meaning_processor.specs.WordStep.{WordStep}
 use Rattle.c25_meaning_stimulus.specs.Signals.{signals_of}
 use Rattle.c25_meaning_stimulus.specs.declared.sample.Sample.{Sample}
@@ -20,7 +20,7 @@ use Rattle.c25_meaning_stimulus.specs.declared.script.Cmd.{Cmd}
 abbrev pub FirstStates : Type 0
 FirstStates =
     (files : Files) (names : List (List ℕ)) (command : List ℕ) (image : ImageData) (texts : Texts) (listings : List (List ℕ)) (samples : List Sample)
-    → IsBuilt files names command image texts listings → IsImageOf (plainly (source_statements files names image.described)) (first_state image samples).world
+    → IsBuilt files names command image texts listings → IsImageOf (source_statements files names image.described) (first_state image samples).world
 
 -- a script is answered over words as over the statements that they are
 abbrev pub Alike : Type 0
@@ -33,7 +33,7 @@ Alike =
 pub by_statements : FirstStates → Alike → (g : Given) (script text : List ℕ) → AnswersBy (λ image. WordStep) g script text → AnswersBy (statements_of g) g script text
 by_statements first_states alike g script text a =
     let samples = (a.inputs).samples in
-    let statements = plainly (source_statements g.files g.sources (a.image).described) in
+    let statements = source_statements g.files g.sources (a.image).described in
     let there = first_states g.files g.sources g.command a.image a.texts a.listings samples a.built in
     let same = alike statements (signals_of (a.inputs).entries) a.image a.commands (first_state a.image samples) text there in
     record {

@@ -1,5 +1,5 @@
 -- What is answered of sources, texts and a script.
-use Rattle.std.proofs.Common.{◌≡◌, ℕ, List, [], map, Result, Ok, Err, String, string_bytes, ap, subst, sym, inl, inr}
+use Rattle.std.proofs.Common.{◌≡◌, ℕ, List, map, Result, Ok, Err, String, string_bytes, ap, subst, sym, inl, inr}
 use Rattle.std.specs.FinMap as finite
 use Rattle.std.specs.Ordering.{nat_cmp}
 use Rattle.std.specs.Result.{IsErrAnd}
@@ -13,7 +13,7 @@ use Rattle.c25_chain.specs.declared.built.Built.{Built}
 use Rattle.c25_chain.specs.declared.fault.Refusal.{Refusal}
 use Rattle.c25_chain.specs.declared.fault.Refusal.TheVariants.{Script}
 use Rattle.c25_debug_chain.specs.Debug.{AnswersBy, Debugs}
-use Rattle.c25_meaning_common.specs.Results.{FailsBy, told}
+use Rattle.c25_meaning_common.specs.Results.{FailsBy, IsNoMemory, told}
 use Rattle.c25_meaning_common.specs.declared.failure.Failure.TheVariants as failure
 use Rattle.c25_meaning_debugger.specs.Debugger.{AnswersScript}
 use Rattle.c25_meaning_processor.specs.FirstState.{first_of_pages}
@@ -68,11 +68,17 @@ pub told_on : (g : Given) (script : List ℕ) (result : Result (String Global) F
 told_on g script (Ok text) given same h = absurd same
 told_on g script (Err f) given same h = subst (λ (x : Fault). Debugs g script (Err x)) (sym same) h
 
+-- a refused growth
+pub refused_growth : (g : Given) (script : List ℕ) (result : Result (String Global) Fault) → IsErrAnd result IsNoMemory → Debugs g script result
+refused_growth g script (Ok text) h = absurd h
+refused_growth g script (Err (failure.NoMemory m)) h = tt
+refused_growth g script (Err (failure.Fault r)) h = absurd h
+
 -- ---- the answers
 
 pub debugged : (g : Given) (script : List ℕ) (b : Built) (samples : List Sample) (entries : List Entry) (commands : List Cmd) (text : List ℕ) → IsBuiltAs g.files g.sources g.command b
     → samples_in g ≡ Ok samples → schedule_in g ≡ Ok entries → script_in script ≡ Ok commands
-    → AnswersScript WordStep (signals_of entries) b.linked.image commands (first_of_pages b.linked.page0.words b.linked.page1.words b.linked.image.marks [] (samples_at samples)) text
+    → AnswersScript WordStep (signals_of entries) b.linked.image commands (first_of_pages b.linked.page0.words b.linked.page1.words b.linked.image.marks b.linked.image.run_marks (samples_at samples)) text
     → AnswersBy (λ image. WordStep) g script text
 debugged g script b samples entries commands text is e h s answers =
     let image = b.linked.image in
@@ -86,6 +92,6 @@ debugged g script b samples entries commands text is e h s answers =
       read = both_read g samples entries e h;
       script_read = told_script script commands s;
       answers =
-          subst (λ (w : finite.FinMap nat_cmp ℕ). AnswersScript WordStep (signals_of entries) image commands (first_of_pages image.program w image.marks [] (samples_at samples)) text) is.linked.words1
-          (subst (λ (w : finite.FinMap nat_cmp ℕ). AnswersScript WordStep (signals_of entries) image commands (first_of_pages w b.linked.page1.words image.marks [] (samples_at samples)) text) is.linked.words0 answers);
+          subst (λ (w : finite.FinMap nat_cmp ℕ). AnswersScript WordStep (signals_of entries) image commands (first_of_pages image.program w image.marks image.run_marks (samples_at samples)) text) is.linked.words1
+          (subst (λ (w : finite.FinMap nat_cmp ℕ). AnswersScript WordStep (signals_of entries) image commands (first_of_pages w b.linked.page1.words image.marks image.run_marks (samples_at samples)) text) is.linked.words0 answers);
     }

@@ -14,7 +14,7 @@ use Rattle.c25_meaning_common.specs.declared.failure.Failure.TheVariants as fail
 use Rattle.c25_meaning_debugger.specs.Debugger.{AnswersScript}
 use Rattle.c25_meaning_linking.specs.Linking.{ImageData}
 use Rattle.c25_meaning_processor.specs.Run.{Stepping}
-use Rattle.c25_meaning_processor.specs.Statements.{plainly, statement_step}
+use Rattle.c25_meaning_processor.specs.Statements.{statement_step}
 use Rattle.c25_meaning_processor.specs.WordStep.{WordStep}
 use Rattle.c25_meaning_stimulus.specs.Script.{script_of}
 use Rattle.c25_meaning_stimulus.specs.Signals.{signals_of}
@@ -55,7 +55,7 @@ Debugs g script (Err (failure.Fault f)) = IsRefused g (refusal_of f) ⊎ IsRefus
 
 -- a step of the statements that the sources say of a program, read from no word
 abbrev pub statements_of : Given → StepOf
-statements_of g image lines bio s outcome = outcome ≡ statement_step (plainly (source_statements g.files g.sources image.described)) lines bio s
+statements_of g image lines bio s outcome = outcome ≡ statement_step (source_statements g.files g.sources image.described) lines bio s
 
 -- the answers are those over the statements of the sources
 abbrev pub TellsStatements : Given → List ℕ → String Global → Type 0

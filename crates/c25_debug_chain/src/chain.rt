@@ -1,9 +1,9 @@
 //! The chain to the debugger: from the texts of sources to the answers of a script.
 
-ghost use Rattle.std.specs.Prelude.{◌≡◌, [], IfOk, map, string_bytes, true};
+ghost use Rattle.std.specs.Prelude.{◌≡◌, IfOk, map, string_bytes, true};
 ghost use Rattle.c25_debug_chain.specs.Debug.{Debugs, TellsStatements};
 ghost use Rattle.c25_meaning_debugger.specs.Debugger.{AnswersScript};
-ghost use Rattle.c25_meaning_image.specs.Marks.{fit_from};
+ghost use Rattle.c25_meaning_image.specs.Marks.{fit_from, run_fit};
 ghost use Rattle.c25_meaning_processor.specs.FirstState.{first_of_pages};
 ghost use Rattle.c25_meaning_processor.specs.WordStep.{WordStep};
 ghost use Rattle.c25_meaning_stimulus.specs.Samples.{samples_at};
@@ -33,9 +33,10 @@ fn debug_linked(
     schedule: Schedule,
     script: &Script,
 ) -> Result<String, NoMemory>
-    requires { fit_from 0 linked.now.image.marks ≡ true }
+    requires marks { fit_from 0 linked.now.image.marks ≡ true }
+    requires run_marks { run_fit linked.now.image.marks linked.now.image.run_marks ≡ true }
     ensures { IfOk result (λ text. AnswersScript WordStep (signals_of schedule) linked.now.image script.now
-        (first_of_pages linked.now.page0.words linked.now.page1.words linked.now.image.marks [] (samples_at samples)) (string_bytes text)) }
+        (first_of_pages linked.now.page0.words linked.now.page1.words linked.now.image.marks linked.now.image.run_marks (samples_at samples)) (string_bytes text)) }
 {
     let board = board_of(alloc, linked, samples, schedule)?;
     let mut session = Session::new(alloc, board, &linked.image);
@@ -47,7 +48,7 @@ fn debug_linked(
 /// answers stand one behind another, each with its line ends.
 ///
 /// The texts of the sources are those of `files`. The first refusal is the answer, in the order of
-/// `run_chain`: the sources (10 to 56), the command file (60 to 63), linking (70 to 76), the samples
+/// `run_chain`: the sources (10 to 56), the command file (60 to 63), linking (70 to 76 and 78), the samples
 /// (91), the schedule (90), and behind them all a line of the script (95). A refused growth, of the
 /// list of outputs too, is `NoMemory`. What the script does has no fault: where a step stops, that is
 /// its answer, and the next command follows.

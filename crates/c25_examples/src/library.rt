@@ -46,6 +46,9 @@ fn show_section<R: Print>(rt: &R, section: &OutputSection) -> Result<()> {
         "section {} {:04X} {} {}",
         section.page, section.base, section.size, section.name
     )?;
+    if let Some(run) = section.run {
+        println!(rt; "run {run:04X}")?;
+    }
     for part in &section.parts {
         println!(rt; "part {} {:X} {}", part.number, part.base, part.size)?;
     }
@@ -148,15 +151,30 @@ fn modules_of<R: Files + AllocGlobal>(rt: &R, names: &str) -> Result<Vec<Module>
     Ok(modules)
 }
 
-/// Each instruction of a program, as its address and its size, and behind them the file and the line where it stands,
-/// if the program has them.
+/// The end of an instruction's line: the file and the line where it stands, if the program has them for the address where
+/// it is loaded.
+fn show_source<R: Print>(rt: &R, image: &Image, address: u16) -> Result<()> {
+    match image.line_of(address) {
+        Some((file, line)) => println!(rt; " {file}:{line}")?,
+        None => println!(rt)?,
+    }
+    Ok(())
+}
+
+/// Each instruction that runs in block B0, as the address where it is loaded, its size, and the address where it runs.
+fn show_copied<R: Print>(rt: &R, image: &Image) -> Result<()> {
+    for mark in image.run_marks() {
+        print!(rt; "{:04X} {} at {:04X}", mark.load, mark.size, mark.run)?;
+        show_source(rt, image, mark.load)?;
+    }
+    Ok(())
+}
+
+/// Each instruction that runs where it is loaded, as its address and its size.
 fn show_places<R: Print>(rt: &R, image: &Image) -> Result<()> {
     for mark in image.marks() {
         print!(rt; "{:04X} {}", mark.address, mark.size)?;
-        if let Some((file, line)) = image.line_of(mark.address) {
-            print!(rt; " {file}:{line}")?;
-        }
-        println!(rt)?;
+        show_source(rt, image, mark.address)?;
     }
     Ok(())
 }
@@ -167,5 +185,6 @@ pub(crate) fn show_line_of<R: Files + Print + AllocGlobal>(rt: &R, names: &str) 
     let command = read_command(rt.alloc(), &fs::read_to_string(rt, command)?)?;
     let modules = modules_of(rt, objects)?;
     let image = link(rt.alloc(), &modules, &command)?;
-    show_places(rt, &image)
+    show_places(rt, &image)?;
+    show_copied(rt, &image)
 }

@@ -133,6 +133,9 @@ fn base_of(operator: BinaryOperator, x: Base, y: Base) -> Result<Base, ValueFaul
         (BinaryOperator::Subtract, Base::Section(s), Base::Section(t)) if s == t => {
             Ok(Base::Absolute)
         }
+        (BinaryOperator::Subtract, Base::Loaded(s), Base::Loaded(t)) if s == t => {
+            Ok(Base::Absolute)
+        }
         _ => Err(ValueFault::NotAbsolute),
     }
 }

@@ -3,7 +3,7 @@
 /// A row for each command file: the answer, `|`, and the text, where `^` stands for a line feed,
 /// a backquote for a carriage return and `%` for a tab. The answer is the number of the fault and its
 /// line, or what is read: `-e NAME`, `MEMORY` and each range as `NAME@PAGE:ORIGIN+LENGTH`, `SECTIONS`
-/// and each section as `NAME`, `>RANGE` or `=ADDRESS`, and `@PAGE`.
+/// and each section as `NAME`, `>RANGE` or `=ADDRESS`, `@PAGE`, and `,ADDRESS` of where it runs.
 pub(crate) const CASES: &str = r#"|
 |^^
 |/* nothing */
@@ -101,8 +101,8 @@ SECTIONS a>-5 b>-0|SECTIONS { a : > -5 b : > -0 }
 60 1|MEMORY { l : o=0 l=1 }
 MEMORY origins@0:0+1|MEMORY { origins : o=0 l=1 }
 60 1|SECTIONS { a }
-60 1|SECTIONS { a : run = 0FF00h }
-60 2|SECTIONS { a : > P^, run = 0 }
+SECTIONS a,65280|SECTIONS { a : run = 0FF00h }
+SECTIONS a>P,0|SECTIONS { a : > P^, run = 0 }
 60 1|SECTIONS { a : > run }
 60 1|SECTIONS { a : load P }
 60 1|SECTIONS { a : load =>P }

@@ -65,6 +65,9 @@ fn push_sections(alloc: Global, out: &mut String, command: &Command) -> Result<(
         if let Some(page) = placing.page {
             out.push_str(&format!(in alloc; "@{page}")?)?;
         }
+        if let Some(address) = placing.run {
+            out.push_str(&format!(in alloc; ",{address}")?)?;
+        }
     }
     Ok(())
 }

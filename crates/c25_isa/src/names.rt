@@ -1,53 +1,42 @@
 //! The names of instructions (SPRU014, "Instruction Set Summary").
 
-ghost use Rattle.std.specs.Prelude.{◌≡◌, Some, IfSome};
-ghost use Rattle.std.specs.Ordering.{nat_cmp};
-ghost use Rattle.std.specs.Cmp.Lexicographic.{slice_cmp};
-ghost use Rattle.std.specs.Str.{str_to_ascii_lowercase};
-ghost use Rattle.c25_meaning_instructions.specs.Table.{SameLetters, row_of, spelling_text};
+ghost use Rattle.std.specs.Prelude.{◌≡◌, ◌<◌, None, Some, IfSome, length, true};
+ghost use Rattle.std.specs.Char.{to_ascii_lowercase};
+ghost use Rattle.c25_isa.specs.Letters as letters;
+ghost use Rattle.c25_isa.specs.Letters.{are_bytes, lower};
+ghost use Rattle.c25_meaning_instructions.specs.Table.{SameLetters, spelling_text};
 ghost use Rattle.c25_meaning_instructions.specs.declared.mnemonic.Spelling.{Spelling};
 
-use crate::in_order::spellings;
-use crate::{ar_mem, bit, jump, long, long_mem, mem, plain, port, shifted, short};
-use c25_meaning_instructions::mnemonic::{Mnemonic, Spelling};
-use std::cmp::Ordering;
+use crate::in_order::table;
+use c25_meaning_instructions::mnemonic::Spelling;
 
-/// A row's mnemonic.
-fn text_of_row(row: Mnemonic) -> &'static str
-    ensures { result.now ≡ (row_of row).name }
+/// A letter in lower case, with room for three more behind it.
+#[inline]
+fn letter(byte: u8) -> u64
+    ensures value { result ≡ to_ascii_lowercase byte }
+    ensures byte { result < 256 }
 {
-    match row {
-        Mnemonic::Mem(name) => mem::text_of(name),
-        Mnemonic::Shifted(name) => shifted::text_of(name),
-        Mnemonic::ArMem(name) => ar_mem::text_of(name),
-        Mnemonic::Port(name) => port::text_of(name),
-        Mnemonic::Bit(name) => bit::text_of(name),
-        Mnemonic::Short(name) => short::text_of(name),
-        Mnemonic::Long(name) => long::text_of(name),
-        Mnemonic::LongMem(name) => long_mem::text_of(name),
-        Mnemonic::Jump(name) => jump::text_of(name),
-        Mnemonic::Plain(name) => plain::text_of(name),
-    }
+    u64::from(byte.to_ascii_lowercase())
 }
 
-/// A spelling's mnemonic.
-fn text_of(spelling: Spelling) -> &'static str
-    ensures { result.now ≡ spelling_text spelling }
+/// The letters of a text of at most four as one number, those of either case being the same.
+/// `None` for a longer text.
+#[inline]
+fn number_of(text: &[u8]) -> Option<u64>
+    ensures value { IfSome result (λ number. number ≡ letters.number (lower text.now)) }
+    ensures bytes { IfSome result (λ _. are_bytes (lower text.now) ≡ true) }
+    ensures long { result ≡ None → 4 < length text.now }
 {
-    match spelling {
-        Spelling::Row(row) => text_of_row(row),
-        Spelling::Zac => "ZAC",
-        Spelling::Nop => "NOP",
-        Spelling::Larp => "LARP",
+    match text {
+        [] => Some(1),
+        [a] => Some(letter(*a) + 256),
+        [a, b] => Some(letter(*a) + 256 * (letter(*b) + 256)),
+        [a, b, c] => Some(letter(*a) + 256 * (letter(*b) + 256 * (letter(*c) + 256))),
+        [a, b, c, d] => Some(
+            letter(*a) + 256 * (letter(*b) + 256 * (letter(*c) + 256 * (letter(*d) + 256))),
+        ),
+        _ => None,
     }
-}
-
-/// The order of two texts, letters in either case being the same.
-fn order_of(a: &str, b: &str) -> Ordering
-    ensures { result ≡ slice_cmp nat_cmp (str_to_ascii_lowercase a.now) (str_to_ascii_lowercase b.now) }
-{
-    let small = a.bytes().map(|byte| byte.to_ascii_lowercase());
-    small.cmp(b.bytes().map(|byte| byte.to_ascii_lowercase()))
 }
 
 /// What a mnemonic stands for: one of the 130 rows, or `ZAC`, `NOP` or `LARP`, its letters in
@@ -58,9 +47,8 @@ pub fn mnemonic(text: &str) -> Option<Spelling>
     ensures all { (spelling : Spelling) → SameLetters text.now (spelling_text spelling)
         → result ≡ Some spelling }
 {
-    let spellings = spellings();
-    let place = spellings
-        .binary_search_by(|spelling| order_of(text_of(*spelling), text))
-        .ok()?;
+    let (numbers, spellings) = table();
+    let number = number_of(text.as_bytes())?;
+    let place = numbers.binary_search(&number).ok()?;
     Some(spellings[place])
 }

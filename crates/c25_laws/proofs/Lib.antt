@@ -8,6 +8,8 @@ pub mod NamesUnder
 pub mod ProgramMarks
 pub mod ProgramRuns
 pub mod ProgramWords
+pub mod RunsInB0
+pub mod SectionsInB0
 pub mod SheetStatements
 pub mod SheetsFilled
 pub mod SourcesRead

@@ -1,17 +1,18 @@
--- What a line defines a name as is, under the map, the value of its expression, or the address where the line begins.
+-- What a line defines a name as is, under the map, the value of its expression, or the address where the line begins, as it runs or as
+-- it is loaded.
 use Rattle.std.proofs.Common.{◌≡◌, ℕ, ◌+◌, List, [], ◌∷◌, ◌++◌, Some, Ok, ℤ, pos, ◌+ℤ◌, refl, sym, ap, ◌∙◌}
 use Rattle.std.proofs.Math.IntN.{+ℤ_idl}
 use Rattle.c25_meaning_objects.specs.Module.{Contents}
 use Rattle.c25_meaning_placing.specs.Place.{Place}
 use Rattle.c25_meaning_common.specs.Results.{◌>>=◌}
-use Rattle.c25_meaning_assembly.specs.Sections.{Progress, define, equate, here, label, size_at, stands, table}
+use Rattle.c25_meaning_assembly.specs.Sections.{Progress, define, equate, here, label, loaded_here, name_loaded, size_at, stands, table}
 use Rattle.c25_meaning_language.specs.Statement.{valued}
 use Rattle.c25_meaning_language.specs.Tree.{Tree}
 use Rattle.c25_meaning_language.specs.Value.{value_named, value_of}
-use Rattle.c25_meaning_linking.specs.Words.{section_base}
+use Rattle.c25_meaning_linking.specs.Words.{section_base, section_run}
 use Rattle.c25_meaning_language.specs.declared.statement.FaultKind.TheVariants as fault
 use Rattle.c25_meaning_language.specs.declared.value.Base.{Base}
-use Rattle.c25_meaning_language.specs.declared.value.Base.TheVariants.{Absolute, Section, External}
+use Rattle.c25_meaning_language.specs.declared.value.Base.TheVariants.{Absolute, Section, Loaded, External}
 use Rattle.c25_meaning_language.specs.declared.value.Value.{Value}
 use Rattle.c25_module_laws.proofs.ResultSteps.{bound, refused, unless}
 use Rattle.c25_laws.proofs.ValuesMove.{untold, value_moves}
@@ -28,16 +29,18 @@ module _ (all : List Contents) (places : List Place) (number : ℕ) (m : Content
   -- where a base of the module's own stands
   abbrev own_base : Base → ℤ
   own_base Absolute = pos 0
-  own_base (Section k) = pos (section_base all places number m k)
+  own_base (Section k) = pos (section_run all places number m k)
+  own_base (Loaded k) = pos (section_base all places number m k)
   own_base (External k) = pos 0
 
   placed_moves : (b : Base) (z : ℤ) → placed all places number m b z ≡ own_base b +ℤ z
   placed_moves Absolute z = sym (+ℤ_idl z)
   placed_moves (Section k) z = refl
+  placed_moves (Loaded k) z = refl
   placed_moves (External k) z = sym (+ℤ_idl z)
 
   abbrev begins_at : Progress → ℤ
-  begins_at p = pos (section_base all places number m p.current + size_at p.sections p.current)
+  begins_at p = pos (section_run all places number m p.current + size_at p.sections p.current)
 
   -- the value that an expression has when its line is passed is its value under the map
   pub passed_value : (p : Progress) (e : Tree) (v : Value) → valued (table p) e ≡ Ok v → placed all places number m v.base v.offset ≡ value_under (name_under all places number m p.names) (begins_at p) e
@@ -55,3 +58,7 @@ module _ (all : List Contents) (places : List Place) (number : ℕ) (m : Content
   pub labelled : (name : List ℕ) (p q : Progress) → label (Some name) p ≡ Ok q
       → (v : Value) × (q.names ≡ p.names ++ (name, v) ∷ []) × (placed all places number m v.base v.offset ≡ begins_at p)
   labelled name p q is = (here p, defined_last name (here p) p q is, refl)
+
+  pub loaded : (name : List ℕ) (p q : Progress) → name_loaded name p ≡ Ok q
+      → (v : Value) × (q.names ≡ p.names ++ (name, v) ∷ []) × (placed all places number m v.base v.offset ≡ pos (section_base all places number m p.current + size_at p.sections p.current))
+  loaded name p q is = (loaded_here p, defined_last name (loaded_here p) p q is, refl)

@@ -14,7 +14,7 @@ use Rattle.c25_meaning_language.specs.Value.{defined, named_by, predefined}
 use Rattle.c25_meaning_linking.specs.Words.{base_value, name_value, symbol_name}
 use Rattle.c25_meaning_objects.specs.declared.object.RelocationBase.TheVariants as relocated
 use Rattle.c25_meaning_language.specs.declared.value.Base.{Base}
-use Rattle.c25_meaning_language.specs.declared.value.Base.TheVariants.{Absolute, Section, External}
+use Rattle.c25_meaning_language.specs.declared.value.Base.TheVariants.{Absolute, Section, Loaded, External}
 use Rattle.c25_meaning_language.specs.declared.value.Value.{Value}
 use Rattle.c25_module_laws.proofs.Kept.{IsInside}
 use Rattle.c25_module_laws.proofs.Spoken.{IsSymbol}
@@ -25,6 +25,7 @@ use Rattle.c25_laws.specs.SourceValues.{counts_from_place, is_place, is_place_by
 abbrev pub base_at : List Contents → List Place → ℕ → Contents → Base → ℤ
 base_at modules places number m Absolute = pos 0
 base_at modules places number m (Section k) = base_value modules places number m (relocated.Section k)
+base_at modules places number m (Loaded k) = base_value modules places number m (relocated.Loaded k)
 base_at modules places number m (External k) = base_value modules places number m (relocated.External k)
 
 -- ---- names among others
@@ -101,6 +102,7 @@ module _ (modules : List Contents) (places : List Place) (number : ℕ) (m : Con
   placed_is : (n : ℕ) (b : Base) (z : ℤ) → IsInside n b → placed modules places number m b z ≡ base_at modules places number m b +ℤ z
   placed_is n Absolute z h = sym (+ℤ_idl z)
   placed_is n (Section k) z h = refl
+  placed_is n (Loaded k) z h = refl
   placed_is n (External k) z h = absurd h
 
   module _ (n : ℕ) (names : Definitions) (declared exported : List (List ℕ)) (symbols : m.symbols ≡ map (symbol_of exported) (names_with names declared))

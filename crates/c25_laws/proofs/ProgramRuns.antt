@@ -1,5 +1,5 @@
 -- The first state of a program's pages is an image of its statements.
-use Rattle.std.proofs.Common.{◌≡◌, ℕ, ◌+◌, ◌%◌, ◌^◌, ◌≤◌, ◌<◌, Bool, true, false, ◌&&◌, ◌||◌, cond, eqb, ltb, leb, List, [], ◌∷◌, Option, Some, None, refl, sym, ap, ◌∙◌, subst, arith, inl, inr}
+use Rattle.std.proofs.Common.{◌≡◌, ℕ, ◌+◌, ◌%◌, ◌^◌, ◌≤◌, ◌<◌, Bool, true, false, ◌&&◌, ◌||◌, cond, eqb, ltb, leb, List, [], ◌∷◌, ◌++◌, map, Option, Some, None, refl, sym, ap, ◌∙◌, subst, arith, inl, inr}
 use Rattle.std.specs.Prelude.{find, unwrap_or}
 use Rattle.std.specs.FinMap as finite
 use Rattle.std.specs.List.{All, Contains, list_any}
@@ -7,18 +7,24 @@ use Rattle.std.specs.Option.{option_map}
 use Rattle.std.specs.Ordering.{nat_cmp}
 use Rattle.std.proofs.lemmas.Bool.{eqb-true}
 use Rattle.std.proofs.lemmas.Bool.Decides.{nat_tests}
-use Rattle.std.proofs.lemmas.List.Elements.{All-contains}
-use Rattle.std.proofs.lemmas.List.Sorted.{IsPermutation-sym}
+use Rattle.std.proofs.lemmas.List.{map-append}
+use Rattle.std.proofs.lemmas.List.Elements.{All-contains, Contains-append_left, Contains-append_right}
+use Rattle.std.proofs.lemmas.List.Sorted.{IsPermutation-append_left, IsPermutation-append_right, IsPermutation-map, IsPermutation-sym, IsPermutation-trans}
+use Rattle.std.proofs.lemmas.Simd.{map-map}
+use Rattle.std.specs.List.Sorted.{IsPermutation}
 use Rattle.c25_meaning_processor.specs.FirstState.{first_of_pages, memory_of_map}
 use Rattle.c25_meaning_image.specs.Marks.{fit_from, fits_behind}
-use Rattle.c25_meaning_image.specs.Marks.{is_code, run_at, size_at}
-use Rattle.c25_meaning_processor.specs.Statements.{Copied, IsImageOf, Statement, copied_at, marks_of, plainly, run_mark_of, statement_at}
+use Rattle.c25_meaning_image.specs.Marks.{is_code, load_mark, size_at, with_loads}
+use Rattle.c25_meaning_processor.specs.Statements.{Copied, IsImageOf, Statement, Statements, loaded_statement, loaded_statements, marks_of, run_mark_of, statement_at}
 use Rattle.c25_meaning_processor.specs.Statements as statements
 use Rattle.c25_meaning_instructions.specs.Table.{Reads, size_of}
 use Rattle.c25_meaning_instructions.specs.declared.insn.Insn.{Insn}
 use Rattle.c25_meaning_instructions.specs.declared.insn.Insn.TheVariants as insn
 use Rattle.c25_meaning_image.specs.declared.mark.Mark.{Mark}
+use Rattle.c25_meaning_image.specs.declared.mark.RunMark.{RunMark}
 use Rattle.c25_linking_laws.proofs.Members.{behind_in, first_in, found_in, in_front, in_map, in_permuted, none_found, nothing_in}
+use Rattle.c25_laws.proofs.RunsInB0 as b0
+use Rattle.c25_laws.proofs.RunsInB0.{one_run, runs_at, runs_same}
 use Rattle.c25_laws.specs.ProgramStatements.{AreMarksOf, ReadsAs}
 
 both : (a b : Bool) → (a && b) ≡ true → (a ≡ true) × (b ≡ true)
@@ -143,7 +149,7 @@ stands_at ss address i e = by (find (λ s. eqb s.address address) ss) refl e
         record { statement = s; there = h.0; address_is = eqb-true s.address address h.1; insn_is = cc }
 
 -- words that are the same where the instruction has them read the same
-reads_same : (i : Insn) (x y z w : ℕ) → z ≡ x → (size_of i ≡ 2 → w ≡ y) → Reads x y i → Reads z w i
+pub reads_same : (i : Insn) (x y z w : ℕ) → z ≡ x → (size_of i ≡ 2 → w ≡ y) → Reads x y i → Reads z w i
 reads_same (insn.Long name number high) x y z w e f h = rw (e, f refl) h
 reads_same (insn.LongMem name word a) x y z w e f h = rw (e, f refl) h
 reads_same (insn.Jump name word change next) x y z w e f h = rw (e, f refl) h
@@ -156,35 +162,43 @@ word_at page address word l e =
 
 -- ---- the image
 
--- none of these statements runs in B0
-no_run : (a : ℕ) → run_at [] a ≡ option_map run_mark_of (copied_at [] a)
-unfolding run_at copied_at
-no_run a = refl
+module _ (ss : Statements) (page0 page1 : finite.FinMap nat_cmp ℕ) (marks : List Mark) (run_marks : List RunMark) (samples : ℕ → List ℕ) (are : AreMarksOf ss marks run_marks)
+    (read : All (ReadsAs page0) (loaded_statements ss)) where
+  there : (m : Mark) → Contains marks m → Contains (marks_of ss.plain) m
+  there m c = in_permuted marks (marks_of ss.plain) m (IsPermutation-sym (marks_of ss.plain) marks are.same) c
 
-no_copy : (a : ℕ) (c : Copied) → copied_at [] a ≡ Some c → ⊥
-unfolding copied_at
-no_copy a c e = cc
+  back : (m : Mark) → Contains (marks_of ss.plain) m → Contains marks m
+  back m c = in_permuted (marks_of ss.plain) marks m are.same c
 
-module _ (ss : List Statement) (page0 page1 : finite.FinMap nat_cmp ℕ) (marks : List Mark) (samples : ℕ → List ℕ) (are : AreMarksOf ss marks) (read : All (ReadsAs page0) ss) where
-  there : (m : Mark) → Contains marks m → Contains (marks_of ss) m
-  there m c = in_permuted marks (marks_of ss) m (IsPermutation-sym (marks_of ss) marks are.same) c
+  room_at : (s : Statement) → Contains ss.plain s → Lies 0 (statements.mark_of s)
+  room_at s c = lies 0 marks (statements.mark_of s) are.ascend (back (statements.mark_of s) (in_map statements.mark_of ss.plain s c))
 
-  back : (m : Mark) → Contains (marks_of ss) m → Contains marks m
-  back m c = in_permuted (marks_of ss) marks m are.same c
+  copied_room_at : (c : Copied) → Contains ss.copied c → b0.Lies 0xFF00 (run_mark_of c)
+  copied_room_at c there = b0.lies marks 0xFF00 run_marks (run_mark_of c) are.fit (b0.marked ss.copied run_marks are.copied c there)
 
-  room_at : (s : Statement) → Contains ss s → Lies 0 (statements.mark_of s)
-  room_at s c = lies 0 marks (statements.mark_of s) are.ascend (back (statements.mark_of s) (in_map statements.mark_of ss s c))
+  -- the places of all of them where they are loaded
+  loads_same : IsPermutation (marks_of (loaded_statements ss)) (with_loads run_marks marks)
+  loads_same =
+      let loads = map load_mark (map run_mark_of ss.copied) in
+      let split : marks_of (loaded_statements ss) ≡ loads ++ marks_of ss.plain =
+      map-append statements.mark_of (map loaded_statement ss.copied) ss.plain
+      ∙ ap (λ ms. ms ++ marks_of ss.plain) (map-map statements.mark_of loaded_statement ss.copied ∙ sym (map-map load_mark run_mark_of ss.copied)) in
+      subst (λ (ms : List Mark). IsPermutation ms (with_loads run_marks marks)) (sym split)
+      (IsPermutation-trans (loads ++ marks_of ss.plain) (map load_mark run_marks ++ marks_of ss.plain) (with_loads run_marks marks)
+      (IsPermutation-append_left (marks_of ss.plain) loads (map load_mark run_marks) (IsPermutation-map load_mark (map run_mark_of ss.copied) run_marks are.copied))
+      (IsPermutation-append_right (map load_mark run_marks) (marks_of ss.plain) marks are.same))
 
-  codes_same : (address : ℕ) → is_code marks address ≡ is_code (marks_of ss) address
+  codes_same : (address : ℕ) → is_code (with_loads run_marks marks) address ≡ is_code (marks_of (loaded_statements ss)) address
   unfolding is_code
-  codes_same address = any_same (λ (m : Mark). leb m.address address && ltb address (m.address + m.size)) marks (marks_of ss) there back
+  codes_same address =
+      any_same (λ (m : Mark). leb m.address address && ltb address (m.address + m.size)) (with_loads run_marks marks) (marks_of (loaded_statements ss))
+      (λ m c. in_permuted (with_loads run_marks marks) (marks_of (loaded_statements ss)) m (IsPermutation-sym (marks_of (loaded_statements ss)) (with_loads run_marks marks) loads_same) c)
+      (λ m c. in_permuted (marks_of (loaded_statements ss)) (with_loads run_marks marks) m loads_same c)
 
-  reads_there : (s : Statement) → Contains ss s → Reads (memory_of_map page0 s.address) (memory_of_map page0 ((s.address + 1) % 2 ^ 16)) s.insn
-  reads_there s c =
-      let r = All-contains (ReadsAs page0) ss s read c in
-      let l = room_at s c in
-      let some = l.some in
-      let room = l.room in
+  reads_there : (s : Statement) → Contains (loaded_statements ss) s → 1 ≤ size_of s.insn → s.address + size_of s.insn ≤ 65536
+      → Reads (memory_of_map page0 s.address) (memory_of_map page0 ((s.address + 1) % 2 ^ 16)) s.insn
+  reads_there s c some room =
+      let r = All-contains (ReadsAs page0) (loaded_statements ss) s read c in
       reads_same s.insn r.first r.second (memory_of_map page0 s.address) (memory_of_map page0 ((s.address + 1) % 2 ^ 16))
       (word_at page0 s.address r.first (omega (arith, some, room)) r.first_is)
       (λ two.
@@ -192,16 +206,24 @@ module _ (ss : List Statement) (page0 page1 : finite.FinMap nat_cmp ℕ) (marks 
       ap (memory_of_map page0) next ∙ word_at page0 (s.address + 1) r.second (omega (arith, two, room)) (r.second_is two))
       r.reads
 
-  pub is_image : IsImageOf (plainly ss) (first_of_pages page0 page1 marks [] samples).world
+  plain_reads : (s : Statement) → Contains ss.plain s → Reads (memory_of_map page0 s.address) (memory_of_map page0 ((s.address + 1) % 2 ^ 16)) s.insn
+  plain_reads s c = let l = room_at s c in reads_there s (Contains-append_right (map loaded_statement ss.copied) ss.plain s c) l.some l.room
+
+  copied_reads_there : (c : Copied) → Contains ss.copied c → Reads (memory_of_map page0 c.load) (memory_of_map page0 ((c.load + 1) % 2 ^ 16)) c.insn
+  copied_reads_there c there =
+      let l = copied_room_at c there in
+      reads_there (loaded_statement c) (Contains-append_left (map loaded_statement ss.copied) ss.plain (loaded_statement c) (in_map loaded_statement ss.copied c there)) l.some l.loaded
+
+  pub is_image : IsImageOf ss (first_of_pages page0 page1 marks run_marks samples).world
   is_image = record {
-    starts = λ a. sym (sizes_same (marks_of ss) marks back there a (λ x y c d e. one_mark 0 marks x y are.ascend c d e));
+    starts = λ a. sym (sizes_same (marks_of ss.plain) marks back there a (λ x y c d e. one_mark 0 marks x y are.ascend c d e));
     code = codes_same;
-    runs = no_run;
-    copied_room = λ a c e. absurd (no_copy a c e);
-    copied_reads = λ a c e. absurd (no_copy a c e);
-    room = λ a i e. let s = stands_at ss a i e in let l = (room_at s.statement s.there).room in let at = s.address_is in let n = ap size_of s.insn_is in omega (arith, l, at, n);
+    runs = runs_same ss.copied run_marks are.copied (λ x y c d e. one_run marks 0xFF00 run_marks x y are.fit c d e);
+    copied_room = λ a c e. (copied_room_at c (runs_at ss.copied a c e).there).loaded;
+    copied_reads = λ a c e. copied_reads_there c (runs_at ss.copied a c e).there;
+    room = λ a i e. let s = stands_at ss.plain a i e in let l = (room_at s.statement s.there).room in let at = s.address_is in let n = ap size_of s.insn_is in omega (arith, l, at, n);
     reads = λ a i e.
-        let s = stands_at ss a i e in
+        let s = stands_at ss.plain a i e in
         subst (λ (j : Insn). Reads (memory_of_map page0 a) (memory_of_map page0 ((a + 1) % 2 ^ 16)) j) s.insn_is
-        (subst (λ n. Reads (memory_of_map page0 n) (memory_of_map page0 ((n + 1) % 2 ^ 16)) (s.statement).insn) s.address_is (reads_there s.statement s.there));
+        (subst (λ n. Reads (memory_of_map page0 n) (memory_of_map page0 ((n + 1) % 2 ^ 16)) (s.statement).insn) s.address_is (plain_reads s.statement s.there));
   }

@@ -1,5 +1,5 @@
 -- The words of a program at its statements read as them.
-use Rattle.std.proofs.Common.{◌≡◌, ℕ, suc, ◌+◌, ◌≤◌, ◌<◌, Bool, true, false, ◌&&◌, ◌||◌, cond, leb, eqb, List, [], ◌∷◌, length, map, filter, reverse, slice_index, Option, Some, None, refl, sym, ap, ◌∙◌, subst, arith}
+use Rattle.std.proofs.Common.{◌≡◌, ℕ, suc, ◌+◌, ◌≤◌, ◌<◌, Bool, true, false, not, ◌&&◌, ◌||◌, cond, leb, eqb, List, [], ◌∷◌, length, map, filter, reverse, slice_index, Option, Some, None, refl, sym, ap, ◌∙◌, subst, arith}
 use Rattle.std.specs.Prelude.{find}
 use Rattle.std.specs.FinMap as finite
 use Rattle.std.specs.List.{All, AllByRecursion, Contains, fold, slice_get}
@@ -9,6 +9,7 @@ use Rattle.std.proofs.lemmas.Bool.{eq-eqb, eqb-true}
 use Rattle.std.proofs.lemmas.Bool.Decides.{nat_tests}
 use Rattle.std.proofs.lemmas.List.Elements.{All-contains, All-from_recursion}
 use Rattle.std.proofs.lemmas.Option.{slice_get-get_or}
+use Rattle.std.proofs.lemmas.Simd.{map-map}
 use Rattle.c25_run_laws.proofs.Sizes.{some_word}
 use Rattle.c25_instruction_laws.proofs.RelocatedFields.{number_below}
 use Rattle.c25_meaning_assembly.specs.Addresses.{ends_first, in_order, relocation_at}
@@ -22,6 +23,7 @@ use Rattle.c25_meaning_objects.specs.Module as contents
 use Rattle.c25_meaning_placing.specs.Place.{Place, page_of, part_base}
 use Rattle.c25_meaning_language.specs.Statement.{insn_of}
 use Rattle.c25_meaning_instructions.specs.Table.{Reads}
+use Rattle.c25_meaning_processor.specs.Statements.{Statement, loaded_statement, loaded_statements}
 use Rattle.c25_meaning_linking.specs.Words.{is_relocation_at, linked_word, relocated, section_base, section_page}
 use Rattle.c25_meaning_assembly.specs.declared.assembly.Address.{Address}
 use Rattle.c25_meaning_assembly.specs.declared.assembly.Target.TheVariants as target
@@ -35,9 +37,9 @@ use Rattle.c25_laws.proofs.SourcesRead.{AreRead, IsRead, sources_read}
 use Rattle.c25_laws.proofs.StatementWords.{both_hold}
 use Rattle.c25_laws.proofs.StatementsOfSources.{HasOperands}
 use Rattle.c25_laws.specs.ModuleStatements.{AreStatements, IsAssembled, IsWithin, mark_of, relocations_in, word_at, words_of_statement}
-use Rattle.c25_laws.proofs.SheetStatements.{sheet_statements, statements_in, address_value, module_statements, operand_numbers, placed_statement, stands_on, statements_by}
+use Rattle.c25_laws.proofs.SheetStatements.{sheet_statements, statements_in, address_value, module_statements, operand_numbers, placed_statement, statements_by}
 use Rattle.c25_laws.proofs.StatementsUnder.{statements_are}
-use Rattle.c25_laws.specs.ProgramStatements.{AreModulesOf, ReadsAs, page_statements, program_statements}
+use Rattle.c25_laws.specs.ProgramStatements.{AreModulesOf, PlacedStatement, ReadsAs, all_statements, as_copied, as_loaded, page_statements, program_statements, runs_in_b0, runs_in_place, split_by_run, stands_on}
 
 -- the words of a section, if there is one
 abbrev words_by : Option SectionData → List ℕ
@@ -149,11 +151,42 @@ has_room m is i module_is h c = by (slice_get m.sections i.section) refl (room_i
     by None e l some = let none : contents.words_at m.sections i.section ≡ [] = ap words_by e in let n = ap length none in absurd (omega (arith, n, l, some))
     by (Some s) e l some = record { section = s; section_is = e; some = some; room = let n = ap (λ o. length (words_by o)) e in omega (arith, n, l) }
 
+-- ---- all statements
+
+-- what holds of each statement of each module holds of all
+pub each_placed : (modules : List Contents) (places : List Place) (P : PlacedStatement → Type 0)
+    → ((number : ℕ) (m : Contents) (is : List Instruction) (i : Instruction) → slice_get modules number ≡ Some m → IsRead m is → Contains is i → P (placed_statement modules places number m i))
+    → (files : Files) (names : List (List ℕ)) → AreModulesOf files names modules → (s : PlacedStatement) → Contains (all_statements files names modules places) s → P s
+each_placed modules places P h files names of s c =
+    each_in P (sheet_statements files names modules places) s
+    (from 0 modules (map (statements_in files) names) (λ k m at. (let z : 0 + k ≡ k = omega arith in ap (slice_get modules) z) ∙ at) (sources_read files names modules of))
+    (subst (λ (all : List PlacedStatement). Contains all s) (statements_are files names modules places of) c)
+  where
+    from : (number : ℕ) (ms : List Contents) (all : List (List Instruction)) → ((k : ℕ) (m : Contents) → slice_get ms k ≡ Some m → slice_get modules (number + k) ≡ Some m) → AreRead ms all
+        → AllByRecursion P (statements_by modules places number ms all)
+    from number [] [] at h = tt
+    from number [] (is ∷ all) at h = absurd h
+    from number (m ∷ ms) [] at h = absurd h
+    from number (m ∷ ms) (is ∷ all) at read =
+        both_hold P (module_statements modules places number m is) (statements_by modules places (number + 1) ms all)
+        (own is (λ i c. c))
+        (from (number + 1) ms all (λ k c e. ap (slice_get modules) (next k) ∙ at (suc k) c e) read.1)
+      where
+        next : (k : ℕ) → number + 1 + k ≡ number + suc k
+        next k = omega arith
+
+        here : slice_get modules number ≡ Some m
+        here = let z : number ≡ number + 0 = omega arith in ap (slice_get modules) z ∙ at 0 m refl
+
+        own : (some : List Instruction) → ((i : Instruction) → Contains some i → Contains is i) → AllByRecursion P (map (placed_statement modules places number m) some)
+        own [] f = tt
+        own (i ∷ some) f = (h number m is i here read.0 (f i (first_in i some)), own some (λ j c. f j (behind_in i j some c)))
+
 -- ---- where a statement stands in the program
 
 module _ (modules : List Contents) (places : List Place) (q : ℕ) (page : finite.FinMap nat_cmp ℕ) (has : HasWords modules places q page) where
   -- a word of a statement in the program
-  word_there : (number : ℕ) (m : Contents) (i : Instruction) (k : ℕ) → slice_get modules number ≡ Some m → stands_on q places m i ≡ true → HasRoom m i → k < words_of_statement i
+  word_there : (number : ℕ) (m : Contents) (i : Instruction) (k : ℕ) → slice_get modules number ≡ Some m → stands_on q (placed_statement modules places number m i) ≡ true → HasRoom m i → k < words_of_statement i
       → finite.get page (section_base modules places number m i.section + i.offset + k) ≡ Some (linked_word modules places number m i.section (i.offset + k) (word_at m i.section (i.offset + k)))
   word_there number m i k owner on h l =
       let s = h.section in
@@ -178,7 +211,8 @@ module _ (modules : List Contents) (places : List Place) (q : ℕ) (page : finit
         linked = refl;
       })
 
-  pub statement_reads : (number : ℕ) (m : Contents) (is : List Instruction) (i : Instruction) → slice_get modules number ≡ Some m → IsRead m is → Contains is i → stands_on q places m i ≡ true → ReadsAs page (placed_statement modules places number m i)
+  statement_reads : (number : ℕ) (m : Contents) (is : List Instruction) (i : Instruction) → slice_get modules number ≡ Some m → IsRead m is → Contains is i → stands_on q (placed_statement modules places number m i) ≡ true
+      → ReadsAs page (as_loaded (placed_statement modules places number m i))
   statement_reads number m is i owner h c on =
       let assembled = All-contains (IsAssembled m) is i (h.said).each c in
       let operands = each_in HasOperands is i h.operands c in
@@ -200,45 +234,38 @@ module _ (modules : List Contents) (places : List Place) (q : ℕ) (page : finit
         reads = reads modules places number m i assembled operands;
       }
 
-  -- ---- all statements
-
-  pub all_read : (number : ℕ) (ms : List Contents) (all : List (List Instruction)) → ((k : ℕ) (m : Contents) → slice_get ms k ≡ Some m → slice_get modules (number + k) ≡ Some m) → AreRead ms all
-      → AllByRecursion (ReadsAs page) (statements_by modules places q number ms all)
-  all_read number [] [] at h = tt
-  all_read number [] (is ∷ all) at h = absurd h
-  all_read number (m ∷ ms) [] at h = absurd h
-  all_read number (m ∷ ms) (is ∷ all) at h =
-      both_hold (ReadsAs page) (module_statements modules places q number m is) (statements_by modules places q (number + 1) ms all)
-      (own (filter (stands_on q places m) is) (λ i c. from_filter (stands_on q places m) is i c))
-      (all_read (number + 1) ms all (λ k c e. ap (slice_get modules) (next k) ∙ at (suc k) c e) h.1)
-    where
-      next : (k : ℕ) → number + 1 + k ≡ number + suc k
-      next k = omega arith
-
-      here : slice_get modules number ≡ Some m
-      here = let z : number ≡ number + 0 = omega arith in ap (slice_get modules) z ∙ at 0 m refl
-
-      own : (some : List Instruction) → ((i : Instruction) → Contains some i → Contains is i × (stands_on q places m i ≡ true)) → AllByRecursion (ReadsAs page) (map (placed_statement modules places number m) some)
-      own [] f = tt
-      own (i ∷ some) f = let g = f i (first_in i some) in (statement_reads number m is i here h.0 g.0 g.1, own some (λ j c. f j (behind_in i j some c)))
-
-sheet_words : (files : Files) (names : List (List ℕ)) (modules : List Contents) (places : List Place) (q : ℕ) (page : finite.FinMap nat_cmp ℕ) → AreModulesOf files names modules → HasWords modules places q page
-    → All (ReadsAs page) (sheet_statements q files names modules places)
-sheet_words files names modules places q page of has =
-    All-from_recursion (ReadsAs page) (sheet_statements q files names modules places)
-    (all_read modules places q page has 0 modules (map (statements_in files) names)
-    (λ k m at. (let z : 0 + k ≡ k = omega arith in ap (slice_get modules) z) ∙ at) (sources_read files names modules of))
-
 -- the words of a page read as its sources' statements
-pub page_words_are : (files : Files) (names : List (List ℕ)) (modules : List Contents) (places : List Place) (q : ℕ) (page : finite.FinMap nat_cmp ℕ) → AreModulesOf files names modules → HasWords modules places q page
+pub words_read : (files : Files) (names : List (List ℕ)) (modules : List Contents) (places : List Place) (q : ℕ) (page : finite.FinMap nat_cmp ℕ) → AreModulesOf files names modules → HasWords modules places q page
+    → (s : PlacedStatement) → Contains (all_statements files names modules places) s → stands_on q s ≡ true → ReadsAs page (as_loaded s)
+words_read files names modules places q page of has =
+    each_placed modules places (λ s. stands_on q s ≡ true → ReadsAs page (as_loaded s)) (λ number m is i. statement_reads modules places q page has number m is i) files names of
+
+-- ---- statements of one kind
+
+chosen_read : (P : Statement → Type 0) (all : List PlacedStatement) (test : PlacedStatement → Bool) → ((s : PlacedStatement) → Contains all s → test s ≡ true → P (as_loaded s)) → AllByRecursion P (map as_loaded (filter test all))
+chosen_read P all test h = by (filter test all) (λ s c. let f = from_filter test all s c in h s f.0 f.1)
+  where
+    by : (some : List PlacedStatement) → ((s : PlacedStatement) → Contains some s → P (as_loaded s)) → AllByRecursion P (map as_loaded some)
+    by [] f = tt
+    by (s ∷ some) f = (f s (first_in s some), by some (λ t c. f t (behind_in s t some c)))
+
+page_words_are : (files : Files) (names : List (List ℕ)) (modules : List Contents) (places : List Place) (q : ℕ) (page : finite.FinMap nat_cmp ℕ) → AreModulesOf files names modules → HasWords modules places q page
     → All (ReadsAs page) (page_statements q files names modules places)
 page_words_are files names modules places q page of has =
-    subst (All (ReadsAs page)) (sym (statements_are q files names modules places of)) (sheet_words files names modules places q page of has)
+    All-from_recursion (ReadsAs page) (page_statements q files names modules places)
+    (chosen_read (ReadsAs page) (all_statements files names modules places) (stands_on q) (words_read files names modules places q page of has))
 
 -- the words of a program do
 pub words_are : (files : Files) (names : List (List ℕ)) (modules : List Contents) (command : CommandData) (image : ImageData) → AreModulesOf files names modules → (p : IsProgram modules command image)
-    → All (ReadsAs image.program) (program_statements files names modules p.places)
-words_are files names modules command image of p = page_words_are files names modules p.places 0 image.program of p.program
+    → All (ReadsAs image.program) (loaded_statements (program_statements files names modules p.places))
+words_are files names modules command image of p =
+    let all = all_statements files names modules p.places in
+    let read = words_read files names modules p.places 0 image.program of p.program in
+    let plain = chosen_read (ReadsAs image.program) all runs_in_place (λ s c on. read s c (both (stands_on 0 s) (not s.elsewhere) on).0) in
+    let copied = chosen_read (ReadsAs image.program) all runs_in_b0 (λ s c on. read s c (both (stands_on 0 s) s.elsewhere on).0) in
+    All-from_recursion (ReadsAs image.program) (loaded_statements (split_by_run all))
+    (both_hold (ReadsAs image.program) (map loaded_statement (map as_copied (filter runs_in_b0 all))) (map as_loaded (filter runs_in_place all))
+    (subst (AllByRecursion (ReadsAs image.program)) (sym (map-map loaded_statement as_copied (filter runs_in_b0 all))) copied) plain)
 
 -- and those of its other page
 pub stored_words_are : (files : Files) (names : List (List ℕ)) (modules : List Contents) (command : CommandData) (image : ImageData) → AreModulesOf files names modules → (p : IsProgram modules command image)

@@ -1,5 +1,5 @@
 -- The instruction statements of a program by their sheets: the numbers of a sheet, and those of its addresses under the map.
-use Rattle.std.proofs.Common.{ℕ, ◌+◌, eqb, Bool, List, [], ◌∷◌, ◌++◌, filter, map, set, Result, Ok, Err, ℤ, ◌+ℤ◌}
+use Rattle.std.proofs.Common.{ℕ, ◌+◌, List, [], ◌∷◌, ◌++◌, map, set, Result, Ok, Err, ℤ, ◌+ℤ◌}
 use Rattle.std.specs.List.{fold}
 use Rattle.c25_meaning_language.specs.ExpansionFault.{ExpansionFault}
 use Rattle.c25_meaning_common.specs.Fields.{field_number}
@@ -8,10 +8,10 @@ use Rattle.c25_meaning_assembly.specs.InstructionStatements.{Instruction}
 use Rattle.c25_meaning_objects.specs.Module.{Contents}
 use Rattle.c25_meaning_placing.specs.Place.{Place}
 use Rattle.c25_meaning_language.specs.Statement.{insn_of}
-use Rattle.c25_meaning_processor.specs.Statements.{Statement}
-use Rattle.c25_meaning_linking.specs.Words.{base_value, section_base, section_page}
+use Rattle.c25_meaning_linking.specs.Words.{base_value, section_base, section_name, section_page, section_run, section_runs_elsewhere}
 use Rattle.c25_meaning_assembly.specs.declared.assembly.Address.{Address}
 use Rattle.c25_laws.specs.ModuleStatements.{instructions_in}
+use Rattle.c25_laws.specs.ProgramStatements.{PlacedStatement}
 
 -- statements, none where there is a fault
 abbrev pub without_fault : Result (List Instruction) ExpansionFault → List Instruction
@@ -38,27 +38,27 @@ operand_numbers modules places number m i = fold (with_address modules places nu
 
 -- ---- statements
 
--- a statement of a module: the address of its section's part and its offset, and its instruction with these numbers
-abbrev pub placed_statement : List Contents → List Place → ℕ → Contents → Instruction → Statement
+-- a statement of a module: where its section's part stands, its offset there, and its instruction with these numbers
+abbrev pub placed_statement : List Contents → List Place → ℕ → Contents → Instruction → PlacedStatement
 placed_statement modules places number m i = record {
-  address = section_base modules places number m i.section + i.offset;
+  section = section_name m i.section;
+  page = section_page places m i.section;
+  load = section_base modules places number m i.section + i.offset;
+  run = section_run modules places number m i.section + i.offset;
+  elsewhere = section_runs_elsewhere places m i.section;
   insn = insn_of i.form (operand_numbers modules places number m i);
 }
 
--- whether its section stands on a page
-abbrev pub stands_on : ℕ → List Place → Contents → Instruction → Bool
-stands_on page places m i = eqb (section_page places m i.section) page
-
--- the statements of a module on a page
-abbrev pub module_statements : List Contents → List Place → ℕ → ℕ → Contents → List Instruction → List Statement
-module_statements modules places page number m statements = map (placed_statement modules places number m) (filter (stands_on page places m) statements)
+-- the statements of a module
+abbrev pub module_statements : List Contents → List Place → ℕ → Contents → List Instruction → List PlacedStatement
+module_statements modules places number m statements = map (placed_statement modules places number m) statements
 
 -- those of modules, one module after the other; they are counted from a number
-abbrev pub statements_by : List Contents → List Place → ℕ → ℕ → List Contents → List (List Instruction) → List Statement
-statements_by modules places page number (m ∷ ms) (statements ∷ others) =
-    module_statements modules places page number m statements ++ statements_by modules places page (number + 1) ms others
-statements_by modules places page number _ _ = []
+abbrev pub statements_by : List Contents → List Place → ℕ → List Contents → List (List Instruction) → List PlacedStatement
+statements_by modules places number (m ∷ ms) (statements ∷ others) =
+    module_statements modules places number m statements ++ statements_by modules places (number + 1) ms others
+statements_by modules places number _ _ = []
 
--- the instruction statements on a page of the sources of these names, whose modules stand at these places
-abbrev pub sheet_statements : ℕ → Files → List (List ℕ) → List Contents → List Place → List Statement
-sheet_statements page files names modules places = statements_by modules places page 0 modules (map (statements_in files) names)
+-- the instruction statements of the sources of these names, whose modules stand at these places
+abbrev pub sheet_statements : Files → List (List ℕ) → List Contents → List Place → List PlacedStatement
+sheet_statements files names modules places = statements_by modules places 0 modules (map (statements_in files) names)

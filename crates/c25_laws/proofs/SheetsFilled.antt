@@ -16,7 +16,7 @@ use Rattle.c25_meaning_assembly.specs.Sections.{Definitions}
 use Rattle.c25_meaning_language.specs.Statement.{number_in, relocation_of, valued}
 use Rattle.c25_meaning_language.specs.Tree.{Tree}
 use Rattle.c25_meaning_language.specs.Value.{value_named, value_of}
-use Rattle.c25_meaning_linking.specs.Words.{base_value, section_base}
+use Rattle.c25_meaning_linking.specs.Words.{base_value, section_run}
 use Rattle.c25_meaning_assembly.specs.declared.assembly.Address.{Address}
 use Rattle.c25_meaning_assembly.specs.declared.assembly.Target.{Target}
 use Rattle.c25_meaning_objects.specs.declared.object.RelocationBase.{RelocationBase}
@@ -24,7 +24,7 @@ use Rattle.c25_meaning_objects.specs.declared.object.RelocationBase.TheVariants 
 use Rattle.c25_meaning_common.specs.declared.relocation.RelocationKind.{RelocationKind}
 use Rattle.c25_meaning_language.specs.declared.statement.Field.{Field}
 use Rattle.c25_meaning_language.specs.declared.value.Base.{Base}
-use Rattle.c25_meaning_language.specs.declared.value.Base.TheVariants.{Absolute, Section, External}
+use Rattle.c25_meaning_language.specs.declared.value.Base.TheVariants.{Absolute, Section, Loaded, External}
 use Rattle.c25_meaning_language.specs.declared.value.Value.{Value}
 use Rattle.c25_laws.proofs.FieldsFilled.{numbered}
 use Rattle.c25_module_laws.proofs.ResultSteps.{bound}
@@ -104,7 +104,7 @@ module _ (modules : List Contents) (places : List Place) (number : ℕ) (m : Con
   own f e = operand_number modules places number m names section offset f e
 
   abbrev here_under : ℤ
-  here_under = pos (section_base modules places number m section + offset)
+  here_under = pos (section_run modules places number m section + offset)
 
   moves : (e : Tree) (v : Value) → valued (table_at all section offset) e ≡ Ok v → value_under (name_under modules places number m names) here_under e ≡ base_at modules places number m v.base +ℤ v.offset
   moves e v is =
@@ -152,6 +152,7 @@ module _ (modules : List Contents) (places : List Place) (number : ℕ) (m : Con
           let grown : Grows s (with_number k.0 s) done k.0 = record { comes = more_number value s done h k.0; more = length-append s.numbers (k.0 ∷ []) } in
           with_own s new done (own (field_of t (length s.numbers)) e) k.0 number_is (subst (λ (x : Sheet). Grows s x done k.0) q grown)
       by z (Section k) out value_is kind = grown_address s new done e (relocation_of (field_of t (length s.numbers))) (relocated.Section k) z h refl kind value_is out
+      by z (Loaded k) out value_is kind = grown_address s new done e (relocation_of (field_of t (length s.numbers))) (relocated.Loaded k) z h refl kind value_is out
       by z (External k) out value_is kind = grown_address s new done e (relocation_of (field_of t (length s.numbers))) (relocated.External k) z h refl kind value_is out
 
   all_come : (es : List Tree) (s new : Sheet) (k : ℕ) (done : List ℕ) → length s.numbers ≡ k → ComesTo value s done → fold_ok (taken t (table_at all section offset)) s es ≡ Ok new

@@ -55,7 +55,7 @@ pub record HasOperands (x : Instruction) : Type 0 where
 
 some_base : (B : Base → Type 0) (b : RelocationBase) → HoldsOf B b → HoldsOf (λ b. Unit {0}) b
 some_base B (relocated.Section n) h = tt
-some_base B (relocated.Loaded n) h = h
+some_base B (relocated.Loaded n) h = tt
 some_base B (relocated.External n) h = tt
 
 operands_of : (B : Base → Type 0) (m : Made) (x : Instruction) → IsStatementOf B m x → HasOperands x

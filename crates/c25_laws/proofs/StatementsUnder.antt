@@ -1,14 +1,13 @@
 -- The statements of sources by their sheets are those by the values of their operands.
-use Rattle.std.proofs.Common.{◌≡◌, ℕ, ◌+◌, Bool, true, false, cond, eqb, List, [], ◌∷◌, ◌++◌, length, map, filter, Result, Ok, Err, refl, sym, ap, ◌∙◌, subst}
+use Rattle.std.proofs.Common.{◌≡◌, ℕ, ◌+◌, List, [], ◌∷◌, ◌++◌, length, map, Result, Ok, Err, refl, sym, ap, ◌∙◌, subst}
 use Rattle.std.specs.List.{AllByRecursion, flat_map}
 use Rattle.std.proofs.lemmas.List.{map-append}
-use Rattle.std.proofs.lemmas.List.Elements.{filter-append}
 use Rattle.c25_meaning_assembly.specs.Addresses.{Sheet, relocations_of, sheet_of, words_of}
 use Rattle.c25_meaning_assembly.specs.Emission.{all_names, finished, module_with, names_with, symbol_of, table_at}
 use Rattle.c25_meaning_language.specs.ExpansionFault.{ExpansionFault}
 use Rattle.c25_meaning_expansion.specs.ExpansionRuns.{start_of}
 use Rattle.c25_meaning_expansion.specs.Files.{Files}
-use Rattle.c25_meaning_assembly.specs.InstructionStatements.{Instruction, instructions_of}
+use Rattle.c25_meaning_assembly.specs.InstructionStatements.{instructions_of}
 use Rattle.c25_meaning_objects.specs.Module.{Contents}
 use Rattle.c25_meaning_sources.specs.ModuleOfSource.{Assembled, Passed, assembled, completed, passed_from}
 use Rattle.c25_meaning_placing.specs.Place.{Place}
@@ -16,7 +15,7 @@ use Rattle.c25_meaning_common.specs.Results.{◌>>=◌}
 use Rattle.c25_meaning_assembly.specs.Sections.{Content, Definitions, Exported, Item, Operands, Progress, Words, Zeros}
 use Rattle.c25_meaning_language.specs.Statement.{insn_of}
 use Rattle.c25_meaning_language.specs.Tree.{Tree}
-use Rattle.c25_meaning_linking.specs.Words.{section_base, section_page}
+use Rattle.c25_meaning_linking.specs.Words.{section_base, section_name, section_page, section_run, section_runs_elsewhere}
 use Rattle.c25_meaning_assembly.specs.declared.assembly.Target.TheVariants as target
 use Rattle.c25_meaning_language.specs.declared.statement.FaultKind.{FaultKind}
 use Rattle.c25_meaning_language.specs.declared.statement.Form.{Form}
@@ -32,12 +31,12 @@ use Rattle.c25_laws.specs.ModuleStatements.{instructions_in}
 use Rattle.c25_laws.proofs.NamesUnder.{name_kind, name_means}
 use Rattle.c25_laws.proofs.SheetsFilled.{sheet_comes}
 use Rattle.c25_laws.proofs.SheetStatements as sheets
-use Rattle.c25_laws.proofs.SheetStatements.{module_statements, operand_numbers, placed_statement, sheet_statements, stands_on, statements_by, statements_in}
-use Rattle.c25_laws.specs.ProgramStatements.{AreModulesOf, item_statements, line_statements, lines_in, numbers_under, page_statements, statements_from, without_fault}
+use Rattle.c25_laws.proofs.SheetStatements.{module_statements, operand_numbers, placed_statement, sheet_statements, statements_by, statements_in}
+use Rattle.c25_laws.specs.ProgramStatements.{AreModulesOf, all_statements, item_statements, line_statements, lines_in, numbers_under, statements_from, without_fault}
 
 -- ---- items
 
-module _ (modules : List Contents) (places : List Place) (page number : ℕ) (m : Contents) (n : ℕ) (names : Definitions) (declared exported : List (List ℕ))
+module _ (modules : List Contents) (places : List Place) (number : ℕ) (m : Contents) (n : ℕ) (names : Definitions) (declared exported : List (List ℕ))
     (symbols : m.symbols ≡ map (symbol_of exported) (names_with names declared)) (good : AllByRecursion (λ e. IsSymbol e.0 × IsGoodValue (IsInside n) e.1) names) where
   -- the numbers of a statement's operands under the map
   pub numbers_are : (i : Item) (f : Form) (trees : List Tree) (s : Sheet) → sheet_of (target.Instruction f) (table_at (names_with names declared) i.section i.offset) trees ≡ Ok s
@@ -47,19 +46,21 @@ module _ (modules : List Contents) (places : List Place) (page number : ℕ) (m 
       (name_means modules places number m n names declared exported symbols good) (name_kind modules places number m n names declared exported symbols good) trees s is
 
   one_item : (i : Item) (c : Content) (made : Made) → made_by (names_with names declared) i c ≡ Ok made
-      → item_statements modules places page number m names i c ≡ module_statements modules places page number m (said_by (names_with names declared) i c)
+      → item_statements modules places number m names i c ≡ module_statements modules places number m (said_by (names_with names declared) i c)
   one_item i (Operands (target.Instruction f) trees) made e = on (sheet_of (target.Instruction f) (table_at (names_with names declared) i.section i.offset) trees) refl e
     where
-      by : (s : Sheet) (b : Bool) → operand_numbers modules places number m (record { section = i.section; offset = i.offset; form = f; sheet = s }) ≡ numbers_under modules places number m names i.section i.offset (target.Instruction f) trees
-          → cond b (record { address = section_base modules places number m i.section + i.offset; insn = insn_of f (numbers_under modules places number m names i.section i.offset (target.Instruction f) trees) } ∷ []) []
-          ≡ map (placed_statement modules places number m) (cond b (record { section = i.section; offset = i.offset; form = f; sheet = s } ∷ []) [])
-      by s true same = ap (λ ns. record { address = section_base modules places number m i.section + i.offset; insn = insn_of f ns } ∷ []) (sym same)
-      by s false same = refl
-
       on : (r : Result Sheet FaultKind) → sheet_of (target.Instruction f) (table_at (names_with names declared) i.section i.offset) trees ≡ r
           → (r >>= λ s. Ok (record { section = i.section; offset = i.offset; words = words_of (target.Instruction f) s.numbers; relocations = relocations_of (target.Instruction f) i.section i.offset s.addresses })) ≡ Ok made
-          → item_statements modules places page number m names i (Operands (target.Instruction f) trees) ≡ module_statements modules places page number m (with_operands i f r)
-      on (Ok s) is e = by s (eqb (section_page places m i.section) page) (numbers_are i f trees s is)
+          → item_statements modules places number m names i (Operands (target.Instruction f) trees) ≡ module_statements modules places number m (with_operands i f r)
+      on (Ok s) is e =
+          ap (λ ns. record {
+            section = section_name m i.section;
+            page = section_page places m i.section;
+            load = section_base modules places number m i.section + i.offset;
+            run = section_run modules places number m i.section + i.offset;
+            elsewhere = section_runs_elsewhere places m i.section;
+            insn = insn_of f ns;
+          } ∷ []) (sym (numbers_are i f trees s is))
       on (Err f) is e = absurd (cc)
   one_item i (Operands target.Words trees) made e = refl
   one_item i (Operands target.Bytes trees) made e = refl
@@ -67,19 +68,14 @@ module _ (modules : List Contents) (places : List Place) (page number : ℕ) (m 
   one_item i (Zeros count) made e = refl
   one_item i (Exported exported) made e = refl
 
-  statements_append : (xs ys : List Instruction) → module_statements modules places page number m (xs ++ ys) ≡ module_statements modules places page number m xs ++ module_statements modules places page number m ys
-  statements_append xs ys =
-      ap (map (placed_statement modules places number m)) (filter-append (stands_on page places m) xs ys)
-      ∙ map-append (placed_statement modules places number m) (filter (stands_on page places m) xs) (filter (stands_on page places m) ys)
-
   pub items_say : (is : List Item) (ms : List Made) → Give (names_with names declared) is ms
-      → flat_map (λ i. item_statements modules places page number m names i i.content) is ≡ module_statements modules places page number m (said_in (names_with names declared) is)
+      → flat_map (λ i. item_statements modules places number m names i i.content) is ≡ module_statements modules places number m (said_in (names_with names declared) is)
   items_say [] [] give = refl
   items_say [] (x ∷ ms) give = absurd give
   items_say (i ∷ is) [] give = absurd give
   items_say (i ∷ is) (x ∷ ms) give =
       (λ j. one_item i i.content x give.0 j ++ items_say is ms give.1 j)
-      ∙ sym (statements_append (said_by (names_with names declared) i i.content) (said_in (names_with names declared) is))
+      ∙ sym (map-append (placed_statement modules places number m) (said_by (names_with names declared) i i.content) (said_in (names_with names declared) is))
 
 -- ---- sources
 
@@ -114,16 +110,16 @@ comes_from files name a e =
       statements = ap sheets.without_fault lines;
     }
 
-module _ (modules : List Contents) (places : List Place) (page : ℕ) (files : Files) where
-  pub source_says : (number : ℕ) (name : List ℕ) (m : Contents) → ComesFrom files name m → line_statements modules places page number m (lines_in files name) ≡ module_statements modules places page number m (statements_in files name)
+module _ (modules : List Contents) (places : List Place) (files : Files) where
+  pub source_says : (number : ℕ) (name : List ℕ) (m : Contents) → ComesFrom files name m → line_statements modules places number m (lines_in files name) ≡ module_statements modules places number m (statements_in files name)
   source_says number name m h =
       let p = h.progress in
-      ap (line_statements modules places page number m) h.lines_are
-      ∙ items_say modules places page number m (length p.sections) p.names p.declared p.exported (ap (λ (m : Contents). m.symbols) h.module_is) ((h.kept).kept).names.symbols p.items h.made h.give
-      ∙ ap (module_statements modules places page number m) (sym h.statements)
+      ap (line_statements modules places number m) h.lines_are
+      ∙ items_say modules places number m (length p.sections) p.names p.declared p.exported (ap (λ (m : Contents). m.symbols) h.module_is) ((h.kept).kept).names.symbols p.items h.made h.give
+      ∙ ap (module_statements modules places number m) (sym h.statements)
 
   sources_say : (number : ℕ) (names : List (List ℕ)) (ms : List Contents) → AreModulesOf files names ms
-      → statements_from modules places page number ms (map (lines_in files) names) ≡ statements_by modules places page number ms (map (statements_in files) names)
+      → statements_from modules places number ms (map (lines_in files) names) ≡ statements_by modules places number ms (map (statements_in files) names)
   sources_say number [] [] h = refl
   sources_say number [] (m ∷ ms) h = absurd h
   sources_say number (name ∷ names) [] h = absurd h
@@ -132,7 +128,7 @@ module _ (modules : List Contents) (places : List Place) (page : ℕ) (files : F
       let from : ComesFrom files name m = subst (ComesFrom files name) a.2 (comes_from files name a.0 a.1) in
       λ j. source_says number name m from j ++ sources_say (number + 1) names ms h.1 j
 
--- the statements on a page by the values of their operands are those by sheets
-pub statements_are : (page : ℕ) (files : Files) (names : List (List ℕ)) (modules : List Contents) (places : List Place) → AreModulesOf files names modules
-    → page_statements page files names modules places ≡ sheet_statements page files names modules places
-statements_are page files names modules places h = sources_say modules places page files 0 names modules h
+-- the statements by the values of their operands are those by sheets
+pub statements_are : (files : Files) (names : List (List ℕ)) (modules : List Contents) (places : List Place) → AreModulesOf files names modules
+    → all_statements files names modules places ≡ sheet_statements files names modules places
+statements_are files names modules places h = sources_say modules places files 0 names modules h

@@ -17,7 +17,7 @@ use Rattle.c25_meaning_language.specs.declared.expression.UnaryOperator.TheVaria
 use Rattle.c25_meaning_language.specs.declared.expression.BinaryOperator.{BinaryOperator}
 use Rattle.c25_meaning_language.specs.declared.expression.BinaryOperator.TheVariants as binary
 use Rattle.c25_meaning_language.specs.declared.value.Base.{Base}
-use Rattle.c25_meaning_language.specs.declared.value.Base.TheVariants.{Absolute, Section, External}
+use Rattle.c25_meaning_language.specs.declared.value.Base.TheVariants.{Absolute, Section, Loaded, External}
 use Rattle.c25_meaning_language.specs.declared.value.Value.{Value}
 use Rattle.c25_meaning_language.specs.declared.value.ValueFault.{ValueFault}
 use Rattle.c25_meaning_language.specs.declared.value.ValueFault.TheVariants as fault
@@ -87,6 +87,7 @@ same_value v w e = let q : v ≡ w = cc in q
 absolute_is : (b a : Base) → absolute b ≡ Ok a → (b ≡ Absolute) × (Absolute ≡ a)
 absolute_is Absolute a e = (refl, same Absolute a e)
 absolute_is (Section n) a e = absurd (cc)
+absolute_is (Loaded n) a e = absurd (cc)
 absolute_is (External n) a e = absurd (cc)
 
 section_is : (s t : ℕ) (c : Base) → cond (eqb s t) (Ok Absolute) (Err fault.NotAbsolute) ≡ Ok c → (s ≡ t) × (Absolute ≡ c)
@@ -116,15 +117,23 @@ module _ (at : Base → ℤ) (none : at Absolute ≡ pos 0) where
   pair_moves : (op : BinaryOperator) (a b c : Base) (x y z : ℤ) → base_of op a b ≡ Ok c → number_of op x y ≡ Ok z → binary_result op (at a +ℤ x) (at b +ℤ y) ≡ at c +ℤ z
   pair_moves op Absolute Absolute c x y z e n = (λ i. binary_result op (plain x i) (plain y i)) ∙ number_is op x y z n ∙ sym (plain_at c z (sym (same Absolute c e)))
   pair_moves binary.Add (Section s) Absolute c x y z e n = add_right (at (Section s)) (at Absolute) x y z none (number_is binary.Add x y z n) ∙ ap (λ b. at b +ℤ z) (same (Section s) c e)
+  pair_moves binary.Add (Loaded s) Absolute c x y z e n = add_right (at (Loaded s)) (at Absolute) x y z none (number_is binary.Add x y z n) ∙ ap (λ b. at b +ℤ z) (same (Loaded s) c e)
   pair_moves binary.Add (External s) Absolute c x y z e n = add_right (at (External s)) (at Absolute) x y z none (number_is binary.Add x y z n) ∙ ap (λ b. at b +ℤ z) (same (External s) c e)
   pair_moves binary.Add Absolute (Section t) c x y z e n = add_left (at (Section t)) (at Absolute) x y z none (number_is binary.Add x y z n) ∙ ap (λ b. at b +ℤ z) (same (Section t) c e)
+  pair_moves binary.Add Absolute (Loaded t) c x y z e n = add_left (at (Loaded t)) (at Absolute) x y z none (number_is binary.Add x y z n) ∙ ap (λ b. at b +ℤ z) (same (Loaded t) c e)
   pair_moves binary.Add Absolute (External t) c x y z e n = add_left (at (External t)) (at Absolute) x y z none (number_is binary.Add x y z n) ∙ ap (λ b. at b +ℤ z) (same (External t) c e)
   pair_moves binary.Subtract (Section s) Absolute c x y z e n = subtract_right (at (Section s)) (at Absolute) x y z none (number_is binary.Subtract x y z n) ∙ ap (λ b. at b +ℤ z) (same (Section s) c e)
+  pair_moves binary.Subtract (Loaded s) Absolute c x y z e n = subtract_right (at (Loaded s)) (at Absolute) x y z none (number_is binary.Subtract x y z n) ∙ ap (λ b. at b +ℤ z) (same (Loaded s) c e)
   pair_moves binary.Subtract (External s) Absolute c x y z e n = subtract_right (at (External s)) (at Absolute) x y z none (number_is binary.Subtract x y z n) ∙ ap (λ b. at b +ℤ z) (same (External s) c e)
   pair_moves binary.Subtract (Section s) (Section t) c x y z e n =
       let p = section_is s t c e in
       ap (λ k. (at (Section s) +ℤ x) -ℤ (at (Section k) +ℤ y)) (sym p.0)
       ∙ subtract_same (at (Section s)) (at Absolute) x y z none (number_is binary.Subtract x y z n)
+      ∙ ap (λ b. at b +ℤ z) p.1
+  pair_moves binary.Subtract (Loaded s) (Loaded t) c x y z e n =
+      let p = section_is s t c e in
+      ap (λ k. (at (Loaded s) +ℤ x) -ℤ (at (Loaded k) +ℤ y)) (sym p.0)
+      ∙ subtract_same (at (Loaded s)) (at Absolute) x y z none (number_is binary.Subtract x y z n)
       ∙ ap (λ b. at b +ℤ z) p.1
   pair_moves _ a b c x y z e n = absurd (cc)
 
@@ -178,12 +187,16 @@ none_address _ = refl
 pair_kind : (op : BinaryOperator) (a b c : Base) → base_of op a b ≡ Ok c → binary_is_address op (counts_from_place a) (counts_from_place b) ≡ counts_from_place c
 pair_kind op Absolute Absolute c e = none_address op ∙ ap counts_from_place (same Absolute c e)
 pair_kind binary.Add (Section s) Absolute c e = ap counts_from_place (same (Section s) c e)
+pair_kind binary.Add (Loaded s) Absolute c e = ap counts_from_place (same (Loaded s) c e)
 pair_kind binary.Add (External s) Absolute c e = ap counts_from_place (same (External s) c e)
 pair_kind binary.Add Absolute (Section t) c e = ap counts_from_place (same (Section t) c e)
+pair_kind binary.Add Absolute (Loaded t) c e = ap counts_from_place (same (Loaded t) c e)
 pair_kind binary.Add Absolute (External t) c e = ap counts_from_place (same (External t) c e)
 pair_kind binary.Subtract (Section s) Absolute c e = ap counts_from_place (same (Section s) c e)
+pair_kind binary.Subtract (Loaded s) Absolute c e = ap counts_from_place (same (Loaded s) c e)
 pair_kind binary.Subtract (External s) Absolute c e = ap counts_from_place (same (External s) c e)
 pair_kind binary.Subtract (Section s) (Section t) c e = ap counts_from_place (section_is s t c e).1
+pair_kind binary.Subtract (Loaded s) (Loaded t) c e = ap counts_from_place (section_is s t c e).1
 pair_kind _ a b c e = absurd (cc)
 
 binary_kind : (op : BinaryOperator) (x y v : Value) → binary_value op x y ≡ Ok v → binary_is_address op (counts_from_place x.base) (counts_from_place y.base) ≡ counts_from_place v.base

@@ -11,7 +11,7 @@ use Rattle.c25_meaning_placing.specs.Place.{Place}
 use Rattle.c25_meaning_assembly.specs.Sections.{Definitions}
 use Rattle.c25_meaning_language.specs.Tree.{Leaf, Constant, Name, Here, Tree, Single, Group, Unary, Binary}
 use Rattle.c25_meaning_language.specs.Value.{is_zero, truth, value_named, start_of_text}
-use Rattle.c25_meaning_linking.specs.Words.{name_value, section_base}
+use Rattle.c25_meaning_linking.specs.Words.{name_value, section_base, section_run}
 use Rattle.c25_meaning_language.specs.declared.expression.UnaryOperator.{UnaryOperator}
 use Rattle.c25_meaning_language.specs.declared.expression.UnaryOperator.TheVariants as unary
 use Rattle.c25_meaning_language.specs.declared.expression.BinaryOperator.{BinaryOperator}
@@ -19,7 +19,7 @@ use Rattle.c25_meaning_language.specs.declared.expression.BinaryOperator.TheVari
 use Rattle.c25_meaning_language.specs.declared.statement.Field.{Field}
 use Rattle.c25_meaning_language.specs.declared.statement.Field.TheVariants as field
 use Rattle.c25_meaning_language.specs.declared.value.Base.{Base}
-use Rattle.c25_meaning_language.specs.declared.value.Base.TheVariants.{Absolute, Section, External}
+use Rattle.c25_meaning_language.specs.declared.value.Base.TheVariants.{Absolute, Section, Loaded, External}
 use Rattle.c25_meaning_language.specs.declared.value.Value.{Value}
 
 -- ---- operators on whole numbers
@@ -56,13 +56,13 @@ binary_result binary.Or x y = int_bit_or w32 x y
 
 -- ---- expressions
 
--- what stands for itself: a constant, a name's number, the address where the statement begins
+-- what stands for itself: a constant, a name's number, the address where the statement begins as it runs
 abbrev pub leaf_under : (List ℕ → ℤ) → ℤ → Leaf → ℤ
 leaf_under names here (Constant n) = pos n
 leaf_under names here (Name text) = names text
 leaf_under names here Here = here
 
--- an expression, where names stand for these numbers and the statement begins at this address
+-- an expression, where names stand for these numbers and the statement begins at this address as it runs
 abbrev pub value_under : (List ℕ → ℤ) → ℤ → Tree → ℤ
 value_under names here (Single l) = leaf_under names here l
 value_under names here (Group e) = value_under names here e
@@ -97,11 +97,12 @@ is_address places (Binary op l r) = binary_is_address op (is_address places l) (
 
 -- ---- names
 
--- a number, or a place in a section of the module of a number: the address of the section's part, and the offset there;
--- what a module defines does not count from names of others
+-- a number, or a place in a section of the module of a number: the address of the section's part, as it runs or as it is
+-- loaded, and the offset there; what a module defines does not count from names of others
 abbrev pub placed : List Contents → List Place → ℕ → Contents → Base → ℤ → ℤ
 placed modules places number m Absolute z = z
-placed modules places number m (Section index) z = pos (section_base modules places number m index) +ℤ z
+placed modules places number m (Section index) z = pos (section_run modules places number m index) +ℤ z
+placed modules places number m (Loaded index) z = pos (section_base modules places number m index) +ℤ z
 placed modules places number m (External index) z = z
 
 -- what a module defines a name as, or what the one module that defines it for all does
@@ -145,7 +146,7 @@ field_value _ a z = cut z 16
 abbrev pub operand_number : List Contents → List Place → ℕ → Contents → Definitions → ℕ → ℕ → Field → Tree → ℕ
 operand_number modules places number m names section offset f e =
     field_value f (is_address (is_place names) e)
-    (value_under (name_under modules places number m names) (pos (section_base modules places number m section + offset)) e)
+    (value_under (name_under modules places number m names) (pos (section_run modules places number m section + offset)) e)
 
 -- what a function gives for trees, which are counted from a number
 abbrev pub counted_from : (ℕ → Tree → ℕ) → ℕ → List Tree → List ℕ

@@ -49,6 +49,17 @@ NotAbsolute| .word 5-R
 absolute 0| .word R-R
 NotAbsolute| .word R-Q
 NotAbsolute| .word E+R
+load 1 30| .word LD1
+load 1 31| .word 1+LD1
+load 1 25| .word LD1-X
+absolute 3| .word (LD1+2)-(LD1-1)
+NotAbsolute| .word LD1-LD2
+NotAbsolute| .word LD1-R
+NotAbsolute| .word R-LD1
+NotAbsolute| .word LD1-$
+NotAbsolute| .word LD1+R
+NotAbsolute| .word -LD1
+NotAbsolute| .word LD2>>1
 external 3 0| .word +E
 NotAbsolute| .word -E
 absolute 1| .word 1=1

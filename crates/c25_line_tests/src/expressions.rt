@@ -127,6 +127,8 @@ fn symbols(alloc: Global) -> Result<Symbols, Fail> {
     symbols.define("S", place(Base::Section(1), 2147483000))?;
     symbols.define("E", place(Base::External(3), 0))?;
     symbols.define("F", place(Base::External(4), 9))?;
+    symbols.define("LD1", place(Base::Loaded(1), 30))?;
+    symbols.define("LD2", place(Base::Loaded(2), 4))?;
     symbols.set_here(place(Base::Section(1), 20));
     Ok(symbols)
 }
@@ -162,6 +164,12 @@ fn answer(alloc: Global, symbols: &Symbols, text: &str) -> Result<String, Fail> 
                 offset,
             },
         ) => format!(in alloc; "section {number} {offset}")?,
+        Ok(
+            Value {
+                base: Base::Loaded(number),
+                offset,
+            },
+        ) => format!(in alloc; "load {number} {offset}")?,
         Ok(
             Value {
                 base: Base::External(number),

@@ -28,7 +28,7 @@ none_of (Some x) e = absurd cc
 -- a name that has no place yet
 pub first_new : (name : List ℕ) (places : List Place) (i : ℕ) (d : Place) (here old new : Option PartBase) → i < length places → old ≡ first_of name (places_view (take i places))
     → here ≡ first_of (get_or places i d).name.now (places_view (take i places)) → is_some here ≡ false
-    → new ≡ cond (bytes_eq (get_or places i d).name.now name) (Some (record { page = (get_or places i d).page; base = (get_or places i d).base })) old
+    → new ≡ cond (bytes_eq (get_or places i d).name.now name) (Some (record { page = (get_or places i d).page; base = (get_or places i d).base; run = (get_or places i d).run })) old
     → new ≡ first_of name (places_view (take (i + 1) places))
 first_new name places i d here old new lt before there none e =
     e ∙ place_new name ps p old before (λ same. before ∙ ap (λ n. first_of n ps) (sym (same_name p.name name same)) ∙ sym there ∙ none_of here none)

@@ -1,27 +1,30 @@
 -- The marks of a program, which share no word.
-use Rattle.std.proofs.Common.{◌≡◌, ℕ, zero, suc, ◌+◌, ◌-◌, ◌<◌, ◌≤◌, Bool, true, false, ◌&&◌, ◌||◌, cond, eqb, eqb-true, leb, max, List, [], ◌∷◌, ◌++◌, length, get_or, take, map, filter, Option, Some, None, refl, sym, ap, subst, ◌∙◌, arith, inl, inr, ◌⊎◌, ⊎_elim, All, append_assoc}
+use Rattle.std.proofs.Common.{◌≡◌, ℕ, zero, suc, ◌+◌, ◌-◌, ◌<◌, ◌≤◌, Bool, true, false, ◌&&◌, ◌||◌, not, cond, eqb, eqb-true, leb, max, List, [], ◌∷◌, ◌++◌, length, get_or, take, map, filter, Option, Some, None, refl, sym, ap, subst, ◌∙◌, arith, inl, inr, ◌⊎◌, ⊎_elim, All, append_assoc}
 use borrow.Author.Tests.{eqb-false}
 use Rattle.std.specs.List.{slice_get, swap}
+use Rattle.std.specs.Prelude.{◌==◌, IfSome, is_some, unwrap_or}
 use Rattle.std.specs.List.Sorted.{IsPermutation, IsNonDecreasingBy}
 use Rattle.std.specs.Option.{option_map_or}
 use Rattle.std.proofs.Math.Seq.{get_or-append_seam, take-append_seam}
-use Rattle.std.proofs.lemmas.Bool.{cases_lt, ne_eqb}
+use Rattle.std.proofs.lemmas.Bool.{cases_lt}
 use Rattle.std.proofs.lemmas.Bool.Decides.{nat_tests}
 use Rattle.std.proofs.lemmas.List.{append-nil, length-append, take_more, map-append}
 use Rattle.std.proofs.lemmas.List.Edits.{Swapped, swapped_from_swap, length-swap}
-use Rattle.std.proofs.lemmas.List.Elements.{All-nil, All-cons, All-head, All-tail, All-append, All-weaker, filter-append}
+use Rattle.std.proofs.lemmas.List.Elements.{All-nil, All-cons, All-head, All-tail, All-append, All-filter, All-weaker, filter-append}
 use Rattle.std.proofs.lemmas.List.Sorted.{IsPermutation-keeps, All-permutation}
 use Rattle.std.proofs.lemmas.Option.{slice_get-get_or}
 use Rattle.c25_meaning_commands.specs.Command.{Pairwise}
 use Rattle.c25_meaning_linking.specs.Linking.{HasMarks}
 use Rattle.c25_meaning_image.specs.Marks.{fit_from, fits_behind}
 use Rattle.c25_meaning_objects.specs.Module.{SectionBody, Uninitialised, Initialised, SectionData, Contents, is_module, body_size, body_words, words_at, mark_fits, mark_after, is_from, last_of, each_fits, lists_fit, has_sections}
-use Rattle.c25_meaning_placing.specs.Place.{Place, IsPart, LiesIn, page_of, part_base, by_modules}
-use Rattle.c25_meaning_linking.specs.Words.{section_base, section_page, placed_mark, is_on_program, program_marks}
+use Rattle.c25_meaning_placing.specs.Place.{Place, IsPart, LiesIn, base_of, page_of, part_base, part_run, run_base, run_base_of, size_of_parts, by_modules}
+use Rattle.c25_meaning_linking.specs.Words.{section_base, section_page, section_run, section_runs_elsewhere, placed_mark, placed_run_mark, is_copied, is_on_program, is_run_in_place, module_marks, program_marks}
 use Rattle.c25_meaning_image.specs.declared.mark.Mark.{Mark}
+use Rattle.c25_meaning_image.specs.declared.mark.RunMark.{RunMark}
 use Rattle.c25_meaning_objects.specs.declared.object.ModuleMark.{ModuleMark}
 use Rattle.c25_link.specs.Bases.{HasRoom}
 use Rattle.c25_link.specs.Layout.{AreModules, HasOnePart}
+use Rattle.c25_link.specs.declared.bases.PartBase.{PartBase}
 
 -- ---- marks that lie in parts
 
@@ -339,20 +342,127 @@ sorted_ascend modules places own marks up one room p order =
 pub marks_rise : (modules : List Contents) → AreModules modules → (k : ℕ) (m : Contents) → slice_get modules k ≡ Some m → Rising m.sections m.marks
 marks_rise modules are k m is = rising m.sections m.marks (marks_of_module m (are k m is).lists)
 
+-- ---- the marks of sections that run where they are loaded
+
+filter_both : {A : Type 0} (f g : A → Bool) (xs : List A) → filter (λ x. f x && g x) xs ≡ filter f (filter g xs)
+filter_both f g [] = refl
+filter_both {A = A} f g (x ∷ xs) = by_second (filter_both f g xs) (g x) where
+  by_first : filter (λ y. f y && g y) xs ≡ filter f (filter g xs) → (t : Bool) → cond (t && true) (x ∷ filter (λ y. f y && g y) xs) (filter (λ y. f y && g y) xs) ≡ cond t (x ∷ filter f (filter g xs)) (filter f (filter g xs))
+  by_first rest true = ap (λ (ys : List A). x ∷ ys) rest
+  by_first rest false = rest
+
+  by_never : filter (λ y. f y && g y) xs ≡ filter f (filter g xs) → (t : Bool) → cond (t && false) (x ∷ filter (λ y. f y && g y) xs) (filter (λ y. f y && g y) xs) ≡ filter f (filter g xs)
+  by_never rest true = rest
+  by_never rest false = rest
+
+  by_second : filter (λ y. f y && g y) xs ≡ filter f (filter g xs) → (u : Bool) → cond (f x && u) (x ∷ filter (λ y. f y && g y) xs) (filter (λ y. f y && g y) xs) ≡ filter f (cond u (x ∷ filter g xs) (filter g xs))
+  by_second rest true = by_first rest (f x)
+  by_second rest false = by_never rest (f x)
+
+pairwise_filter : {A : Type 0} (R : A → A → Type 0) (test : A → Bool) (xs : List A) → Pairwise R xs → Pairwise R (filter test xs)
+pairwise_filter R test [] p = tt
+pairwise_filter R test (x ∷ xs) p = by_test (pairwise_filter R test xs p.1) (test x) where
+  by_test : Pairwise R (filter test xs) → (t : Bool) → Pairwise R (cond t (x ∷ filter test xs) (filter test xs))
+  by_test rest true = (All-filter test (R x) xs p.0, rest)
+  by_test rest false = rest
+
+-- whether the section of a mark runs where it is loaded
+abbrev pub runs_there : List Place → Contents → ModuleMark → Bool
+runs_there places m x = not (section_runs_elsewhere places m x.section)
+
+-- the marks of a module whose sections do
+abbrev pub staying : List Place → Contents → List ModuleMark
+staying places m = filter (runs_there places m) m.marks
+
+staying_rise : (modules : List Contents) (places : List Place) → AreModules modules → (k : ℕ) (m : Contents) → slice_get modules k ≡ Some m → Rising m.sections (staying places m)
+staying_rise modules places are k m is =
+    let all = marks_rise modules are k m is in
+    record { good = All-filter (runs_there places m) (IsGood m.sections) m.marks all.good; pairs = pairwise_filter Before (runs_there places m) m.marks all.pairs }
+
+staying_by_modules : (modules : List Contents) (places : List Place) (number : ℕ) (rest : List Contents) → by_modules (module_marks modules places) number rest ≡ by_modules (marks_in modules places (staying places)) number rest
+staying_by_modules modules places number [] = refl
+staying_by_modules modules places number (m ∷ rest) =
+    let here = ap (map (placed_mark modules places number m)) (filter_both (is_on_program places m) (runs_there places m) m.marks) in
+    let later = staying_by_modules modules places (number + 1) rest in
+    λ i. here i ++ later i
+
 pub has_marks : (modules : List Contents) (places : List Place) (marks : List Mark) → AreModules modules → HasOnePart modules places → HasRoom modules places → IsPermutation (program_marks modules places) marks → IsNonDecreasingBy (λ m. m.address) marks → HasMarks modules places marks
-has_marks modules places marks are one room p up = record { same = p; ascend = sorted_ascend modules places (λ m. m.marks) marks (marks_rise modules are) one room p up }
+has_marks modules places marks are one room p up =
+    let moved = subst (λ ms. IsPermutation ms marks) (staying_by_modules modules places 0 modules) p in
+    record { same = p; ascend = sorted_ascend modules places (staying places) marks (staying_rise modules places are) one room moved up }
+
+-- ---- the part of a mark's section, as the code has it
+
+-- a part that passes a test stands on page 0
+pub in_place_0 : (part : PartBase) → true ≡ (part.page == 0 && not (is_some part.run)) → part.page ≡ 0
+in_place_0 part h = eqb-true part.page 0 (both (part.page == 0) (not (is_some part.run)) (sym h)).0
+
+pub copied_0 : (part : PartBase) → true ≡ (part.page == 0 && is_some part.run) → part.page ≡ 0
+copied_0 part h = eqb-true part.page 0 (both (part.page == 0) (is_some part.run) (sym h)).0
+
+pub record KnowsPart (modules : List Contents) (places : List Place) (number : ℕ) (m : Contents) (x : ModuleMark) (part : PartBase) : Type 0 where
+  pub base : part.base ≡ section_base modules places number m x.section
+  pub page : part.page ≡ section_page places m x.section
+  pub run : unwrap_or part.run part.base ≡ section_run modules places number m x.section
+  pub elsewhere : is_some part.run ≡ section_runs_elsewhere places m x.section
+
+pub knows_part : (modules : List Contents) (places : List Place) (number index : ℕ) (m : Contents) (x : ModuleMark) (part : PartBase) → index ≡ x.section → part.base ≡ section_base modules places number m index → part.page ≡ section_page places m index
+    → unwrap_or part.run part.base ≡ section_run modules places number m index → is_some part.run ≡ section_runs_elsewhere places m index → KnowsPart modules places number m x part
+knows_part modules places number index m x part named base page run elsewhere = record {
+  base = base ∙ ap (section_base modules places number m) named;
+  page = page ∙ ap (section_page places m) named;
+  run = run ∙ ap (section_run modules places number m) named;
+  elsewhere = elsewhere ∙ ap (section_runs_elsewhere places m) named;
+}
+
+module _ (modules : List Contents) (places : List Place) (number : ℕ) (m : Contents) (x : ModuleMark) (part : PartBase) (k : KnowsPart modules places number m x part) where
+  pub on_program : (part.page == 0) ≡ is_on_program places m x
+  on_program = ap (λ n. n == 0) k.page
+
+  pub run_in_place : (part.page == 0 && not (is_some part.run)) ≡ is_run_in_place places m x
+  run_in_place = λ i. (k.page i == 0) && not (k.elsewhere i)
+
+  pub run_elsewhere : (part.page == 0 && is_some part.run) ≡ is_copied places m x
+  run_elsewhere = λ i. (k.page i == 0) && k.elsewhere i
+
+  pub mark_made : ◌≡◌ {A = Mark} (record { address = part.base + x.offset; size = x.size }) (placed_mark modules places number m x)
+  mark_made = λ i. record { address = k.base i + x.offset; size = x.size }
+
+  pub run_mark_made : ◌≡◌ {A = RunMark} (record { load = part.base + x.offset; run = unwrap_or part.run part.base + x.offset; size = x.size }) (placed_run_mark modules places number m x)
+  run_mark_made = λ i. record { load = k.base i + x.offset; run = k.run i + x.offset; size = x.size }
 
 -- ---- one mark more of a module
 
--- the address of a mark on page 0 is one of the page
-pub mark_below : (modules : List Contents) (places : List Place) (number i : ℕ) (m : Contents) (x d : ModuleMark) → AreModules modules → HasRoom modules places → slice_get modules number ≡ Some m → i < length m.marks → x ≡ get_or m.marks i d
-    → section_page places m x.section ≡ 0 → section_base modules places number m x.section + x.offset < 65536
-mark_below modules places number i m x d are room is lt at on =
-    let g : IsGood m.sections x = subst (IsGood m.sections) (sym at) ((rising m.sections m.marks (marks_of_module m (are number m is).lists)).good i d lt) in
-    let p = placed_of modules places number m x is g on in
+-- the words of a section where it runs are within a page
+run_within : (words base before size : ℕ) (o : Option ℕ) → base + before + size ≤ words → IfSome o (λ run. run + before + size ≤ words) → unwrap_or o base + before + size ≤ words
+run_within words base before size None here there = here
+run_within words base before size (Some run) here there = there
+
+-- a mark on page 0 is loaded and runs at addresses of the page
+pub record IsBelow (part : PartBase) (x : ModuleMark) : Type 0 where
+  pub load : part.base + x.offset < 65536
+  pub run : unwrap_or part.run part.base + x.offset < 65536
+
+pub mark_below : (modules : List Contents) (places : List Place) (number i : ℕ) (m : Contents) (x d : ModuleMark) (part : PartBase) → AreModules modules → HasRoom modules places → slice_get modules number ≡ Some m → i < length m.marks → x ≡ get_or m.marks i d
+    → KnowsPart modules places number m x part → part.page ≡ 0 → IsBelow part x
+mark_below modules places number i m x d part are room is lt at k on =
+    let g : IsGood m.sections x = subst (IsGood m.sections) (sym at) ((marks_rise modules are number m is).good i d lt) in
+    let p = placed_of modules places number m x is g (sym k.page ∙ on) in
     let r = room number x.section p.owner p.section p.part in
-    let upto : section_base modules places number m x.section + x.offset + x.size ≤ part_base modules places number p.section.name + body_size p.section.body = p.upto in
-    omega (arith, r.within, upto, g.some)
+    let name = p.section.name in
+    let before = size_of_parts name (take number modules) in
+    let owner : p.owner ≡ m = let a = p.part.owner_is in cc in
+    let there : slice_get m.sections x.section ≡ Some p.section = subst (λ (o : Contents). slice_get o.sections x.section ≡ Some p.section) owner p.part.section_is in
+    let base : section_base modules places number m x.section ≡ part_base modules places number name = ap (λ (o : Option SectionData). option_map_or (λ s. part_base modules places number s.name) o 0) there in
+    let run : section_run modules places number m x.section ≡ part_run modules places number name = ap (λ (o : Option SectionData). option_map_or (λ s. part_run modules places number s.name) o 0) there in
+    let loaded : base_of name places ≡ r.place.base = ap (λ (o : Option Place). option_map_or (λ q. q.base) o 0) r.found in
+    let runs : run_base_of name places ≡ unwrap_or r.place.run r.place.base = ap (λ (o : Option Place). option_map_or run_base o 0) r.found in
+    let upto : section_base modules places number m x.section + x.offset + x.size ≤ part_base modules places number name + body_size p.section.body = p.upto in
+    let end = run_within 65536 r.place.base before (body_size p.section.body) r.place.run (omega (arith, r.within, loaded)) r.runs in
+    record {
+      load = omega (arith, k.base, r.within, upto, g.some);
+      run = omega (arith, k.run, base, run, runs, upto, g.some, end);
+    }
 
 pub chosen_more : {A B : Type 0} (test : A → Bool) (h : A → B) (xs : List A) (i : ℕ) (x d : A) → i < length xs → x ≡ get_or xs i d → map h (filter test (take (i + 1) xs)) ≡ map h (filter test (take i xs)) ++ map h (cond (test x) (x ∷ []) [])
 chosen_more test h xs i x d lt is =
@@ -360,41 +470,23 @@ chosen_more test h xs i x d lt is =
     ∙ ap (map h) (filter-append test (take i xs) (x ∷ []))
     ∙ map-append h (filter test (take i xs)) (cond (test x) (x ∷ []) [])
 
-pub mark_pushed : (modules : List Contents) (places : List Place) (number i : ℕ) (m : Contents) (x d : ModuleMark) (before old new : List Mark) → i < length m.marks → x ≡ get_or m.marks i d → section_page places m x.section ≡ 0
-    → old ≡ before ++ map (placed_mark modules places number m) (filter (is_on_program places m) (take i m.marks)) → new ≡ old ++ placed_mark modules places number m x ∷ []
-    → new ≡ before ++ map (placed_mark modules places number m) (filter (is_on_program places m) (take (i + 1) m.marks))
-mark_pushed modules places number i m x d before old new lt is on so next =
-    let h = placed_mark modules places number m in
-    let test : is_on_program places m x ≡ true = ap (λ n. eqb n 0) on in
-    next ∙ ap (λ zs. zs ++ h x ∷ []) so ∙ append_assoc before (map h (filter (is_on_program places m) (take i m.marks))) (h x ∷ [])
-    ∙ ap (λ b. before ++ (map h (filter (is_on_program places m) (take i m.marks)) ++ map h (cond b (x ∷ []) []))) (sym test)
-    ∙ ap (λ zs. before ++ zs) (sym (chosen_more (is_on_program places m) h m.marks i x d lt is))
+-- one more that is chosen, behind what was there before
+pub chosen_pushed : {A B : Type 0} (test : A → Bool) (h : A → B) (xs : List A) (i : ℕ) (x d : A) (before old new : List B) → i < length xs → x ≡ get_or xs i d → test x ≡ true
+    → old ≡ before ++ map h (filter test (take i xs)) → new ≡ old ++ h x ∷ [] → new ≡ before ++ map h (filter test (take (i + 1) xs))
+chosen_pushed test h xs i x d before old new lt is on so next =
+    next ∙ ap (λ zs. zs ++ h x ∷ []) so ∙ append_assoc before (map h (filter test (take i xs))) (h x ∷ [])
+    ∙ ap (λ b. before ++ (map h (filter test (take i xs)) ++ map h (cond b (x ∷ []) []))) (sym on)
+    ∙ ap (λ zs. before ++ zs) (sym (chosen_more test h xs i x d lt is))
 
-pub mark_left : (modules : List Contents) (places : List Place) (number i : ℕ) (m : Contents) (x d : ModuleMark) (before old : List Mark) → i < length m.marks → x ≡ get_or m.marks i d → (section_page places m x.section ≡ 0 → ⊥)
-    → old ≡ before ++ map (placed_mark modules places number m) (filter (is_on_program places m) (take i m.marks))
-    → old ≡ before ++ map (placed_mark modules places number m) (filter (is_on_program places m) (take (i + 1) m.marks))
-mark_left modules places number i m x d before old lt is off so =
-    let h = placed_mark modules places number m in
-    let test : is_on_program places m x ≡ false = ne_eqb (section_page places m x.section) 0 off in
-    so ∙ ap (λ zs. before ++ zs) (sym (append-nil (map h (filter (is_on_program places m) (take i m.marks)))))
-    ∙ ap (λ b. before ++ (map h (filter (is_on_program places m) (take i m.marks)) ++ map h (cond b (x ∷ []) []))) (sym test)
-    ∙ ap (λ zs. before ++ zs) (sym (chosen_more (is_on_program places m) h m.marks i x d lt is))
-
--- the same as the code reads it: the number of its section, the base and the page of that section, and its offset
-pub word_below : (modules : List Contents) (places : List Place) (number i from base page offset : ℕ) (m : Contents) (x d : ModuleMark) → AreModules modules → HasRoom modules places → slice_get modules number ≡ Some m → i < length m.marks → x ≡ get_or m.marks i d
-    → from ≡ x.section → base ≡ section_base modules places number m from → page ≡ section_page places m from → page ≡ 0 → offset ≡ x.offset → base + offset < 65536
-word_below modules places number i from base page offset m x d are room is lt at named base_is page_is on offset_is =
-    let begins : base ≡ section_base modules places number m x.section = base_is ∙ ap (section_base modules places number m) named in
-    let low = mark_below modules places number i m x d are room is lt at (ap (section_page places m) (sym named) ∙ sym page_is ∙ on) in
-    omega (arith, begins, offset_is, low)
-
-pub mark_made : (modules : List Contents) (places : List Place) (number from base offset size : ℕ) (m : Contents) (x : ModuleMark) → from ≡ x.section → base ≡ section_base modules places number m from → offset ≡ x.offset → size ≡ x.size
-    → ◌≡◌ {A = Mark} (record { address = base + offset; size = size }) (placed_mark modules places number m x)
-mark_made modules places number from base offset size m x named base_is offset_is size_is =
-    let begins : base ≡ section_base modules places number m x.section = base_is ∙ ap (section_base modules places number m) named in
-    λ j. record { address = begins j + offset_is j; size = size_is j }
+-- one that is not
+pub chosen_left : {A B : Type 0} (test : A → Bool) (h : A → B) (xs : List A) (i : ℕ) (x d : A) (before old : List B) → i < length xs → x ≡ get_or xs i d → test x ≡ false
+    → old ≡ before ++ map h (filter test (take i xs)) → old ≡ before ++ map h (filter test (take (i + 1) xs))
+chosen_left test h xs i x d before old lt is off so =
+    so ∙ ap (λ zs. before ++ zs) (sym (append-nil (map h (filter test (take i xs)))))
+    ∙ ap (λ b. before ++ (map h (filter test (take i xs)) ++ map h (cond b (x ∷ []) []))) (sym off)
+    ∙ ap (λ zs. before ++ zs) (sym (chosen_more test h xs i x d lt is))
 
 -- ---- what a sorted list leaves of the list that it was
 
-pub take_all_of : (n : ℕ) (xs ys : List Mark) → n ≡ length xs → take n (xs ++ ys) ≡ xs
+pub take_all_of : {A : Type 0} (n : ℕ) (xs ys : List A) → n ≡ length xs → take n (xs ++ ys) ≡ xs
 take_all_of n xs ys e = ap (λ k. take k (xs ++ ys)) e ∙ take-append_seam xs ys

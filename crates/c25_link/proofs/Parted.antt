@@ -2,6 +2,7 @@
 use Rattle.std.proofs.Common.{◌≡◌, ℕ, zero, suc, ◌+◌, ◌<◌, ◌≤◌, Bool, true, false, List, [], ◌∷◌, ◌++◌, length, get_or, take, Option, Some, None, refl, sym, ap, subst, ◌∙◌, arith, append_assoc, inl, inr}
 use Rattle.std.specs.Borrow.{Bor}
 use Rattle.std.specs.List.{slice_get}
+use Rattle.std.specs.Prelude.{is_some, unwrap_or}
 use Rattle.std.specs.Option.{option_map, option_map_or}
 use Rattle.std.specs.Slice.{IsItemAt}
 use Rattle.std.specs.Str.{bytes_eq}
@@ -11,8 +12,8 @@ use Rattle.std.proofs.lemmas.Bool.{cases_lt}
 use Rattle.std.proofs.lemmas.List.{take_more, take_all, get_or-take, length-append, length-take-le, flat_map_more, take-map}
 use Rattle.std.proofs.lemmas.Option.{slice_get-get_or, slice_get_within, slice_get_past, get_or_from_slice_get, slice_get_read, slice_get-map}
 use Rattle.c25_meaning_objects.specs.Module.{SectionData, Contents, IsModule, body_size, each_fits, section_fits}
-use Rattle.c25_meaning_placing.specs.Place.{Place, all_sections, part_base, page_of}
-use Rattle.c25_meaning_linking.specs.Words.{section_base, section_page}
+use Rattle.c25_meaning_placing.specs.Place.{Place, all_sections, part_base, part_run, page_of, place_named, run_base, runs_elsewhere, size_of_parts}
+use Rattle.c25_meaning_linking.specs.Words.{section_base, section_page, section_run, section_runs_elsewhere}
 use Rattle.c25_meaning_placing.proofs.Parts.{same_index, sections_of_module}
 use Rattle.c25_meaning_placing.proofs.PlaceNames.{same_name}
 use Rattle.c25_obj.specs.View.{contents, body_data, section_data, sections_data}
@@ -40,6 +41,40 @@ page_found modules places number index m p e = ap (λ (q : Option PartBase). opt
   by_option : (o : Option SectionData) → option_map_or (λ b. b.page) (option_map (part_of modules places number) o) 0 ≡ option_map_or (λ s. page_of s.name places) o 0
   by_option None = refl
   by_option (Some s) = refl
+
+-- where a part runs
+abbrev pub run_base_in : PartBase → ℕ
+run_base_in b = unwrap_or b.run b.base
+
+pub run_found : (modules : List Contents) (places : List Place) (number index : ℕ) (m : Contents) (p : Option PartBase) → p ≡ parts_of modules places number m index
+    → option_map_or run_base_in p 0 ≡ section_run modules places number m index
+run_found modules places number index m p e = ap (λ (q : Option PartBase). option_map_or run_base_in q 0) e ∙ by_option (slice_get m.sections index) where
+  by_run : (k base : ℕ) (o : Option ℕ) → unwrap_or (option_map (λ run. run + k) o) (base + k) ≡ unwrap_or o base + k
+  by_run k base None = refl
+  by_run k base (Some run) = refl
+
+  by_place : (k : ℕ) (o : Option Place) → unwrap_or (option_map (λ run. run + k) (elim o [ None ↦ None | Some q ↦ q.run ])) (option_map_or (λ q. q.base) o 0 + k) ≡ option_map_or run_base o 0 + k
+  by_place k None = refl
+  by_place k (Some q) = by_run k q.base q.run
+
+  by_option : (o : Option SectionData) → option_map_or run_base_in (option_map (part_of modules places number) o) 0 ≡ option_map_or (λ s. part_run modules places number s.name) o 0
+  by_option None = refl
+  by_option (Some s) = by_place (size_of_parts s.name (take number modules)) (place_named s.name places)
+
+pub elsewhere_found : (modules : List Contents) (places : List Place) (number index : ℕ) (m : Contents) (p : Option PartBase) → p ≡ parts_of modules places number m index
+    → option_map_or (λ b. is_some b.run) p false ≡ section_runs_elsewhere places m index
+elsewhere_found modules places number index m p e = ap (λ (q : Option PartBase). option_map_or (λ b. is_some b.run) q false) e ∙ by_option (slice_get m.sections index) where
+  by_run : (k : ℕ) (o : Option ℕ) → is_some (option_map (λ run. run + k) o) ≡ is_some o
+  by_run k None = refl
+  by_run k (Some run) = refl
+
+  by_place : (k : ℕ) (o : Option Place) → is_some (option_map (λ run. run + k) (elim o [ None ↦ None | Some q ↦ q.run ])) ≡ option_map_or (λ q. is_some q.run) o false
+  by_place k None = refl
+  by_place k (Some q) = by_run k q.run
+
+  by_option : (o : Option SectionData) → option_map_or (λ b. is_some b.run) (option_map (part_of modules places number) o) false ≡ option_map_or (λ s. runs_elsewhere s.name places) o false
+  by_option None = refl
+  by_option (Some s) = by_place (size_of_parts s.name (take number modules)) (place_named s.name places)
 
 -- the list of a number, and no list
 pub in_list : (lists : List (Vec PartBase Global)) (number index : ℕ) (parts : Vec PartBase Global) → slice_get lists number ≡ Some parts → slice_get parts.items index ≡ part_in lists number index
@@ -126,6 +161,11 @@ part_there modules places number owner i s module_is room is lt at =
       part = part_is modules places number own (section_data s) r none;
       here = ap (option_map (part_of modules places number)) (sym there);
     }
+
+-- so a part that begins behind them is the module's
+pub part_kept : (modules : List Contents) (places : List Place) (number : ℕ) (owner : Parts) (i : ℕ) (s : Section) (part : PartBase) (k : PartIs modules places number owner i s)
+    → part ≡ next_part (all_sections (take number modules) ++ sections_data (take i owner.sections.items)) k.place → Some part ≡ parts_of modules places number (contents owner) i
+part_kept modules places number owner i s part k same = ap Some (same ∙ k.part) ∙ k.here
 
 -- one section more
 pub sections_next : (before : List SectionData) (ss : List Section) (i : ℕ) (s : Section) → i < length ss → s ≡ get_or ss i s

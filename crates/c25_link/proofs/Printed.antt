@@ -8,6 +8,7 @@ pub have_digits : (m : MapData) → IsPrinted m → All HasDigits m.sections
 have_digits m p =
     All-weaker IsPrintedSection HasDigits (λ s h. record {
       base = h.base;
+      run = h.run;
       parts = All-weaker IsPrintedPart (λ (q : PartData). q.base ≤ 65536) (λ q part. part.base) s.parts h.parts;
     }) m.sections p.sections
 

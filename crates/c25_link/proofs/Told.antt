@@ -1,5 +1,5 @@
 -- The lines of a program's instructions: their marks ascend and are apart, as all marks do.
-use Rattle.std.proofs.Common.{◌≡◌, ℕ, zero, suc, ◌+◌, ◌<◌, ◌≤◌, Bool, true, false, ◌&&◌, cond, eqb, eqb-true, leb, ltb, List, [], ◌∷◌, ◌++◌, length, get_or, take, map, filter, find, Option, Some, None, unwrap_or, Ok, Err, refl, sym, ap, subst, ◌∙◌, arith, inl, inr, append_assoc}
+use Rattle.std.proofs.Common.{◌≡◌, ℕ, zero, suc, ◌+◌, ◌<◌, ◌≤◌, Bool, true, false, ◌&&◌, cond, eqb, eqb-true, leb, ltb, List, [], ◌∷◌, ◌++◌, length, get_or, take, map, filter, find, Option, Some, None, unwrap_or, Ok, Err, refl, sym, ap, subst, ◌∙◌, arith, inl, inr}
 use Rattle.std.specs.Borrow.{Bor}
 use Rattle.std.specs.List.{slice_get, zip}
 use Rattle.std.specs.List.Sorted.{IsPermutation, IsNonDecreasingBy, IsBinarySearchResult}
@@ -8,17 +8,16 @@ use Rattle.std.specs.Ordering.{MatchOrdering, nat_cmp, ordering_index}
 use Rattle.std.specs.Slice.{IsItemAt}
 use Rattle.std.specs.declared.cmp.Ordering.{Ordering}
 use Rattle.std.specs.declared.cmp.Ordering.TheVariants.{Less, Equal, Greater}
-use Rattle.std.proofs.Math.Seq.{take-append_seam}
-use Rattle.std.proofs.lemmas.Bool.{cases_lt, ne_eqb}
+use Rattle.std.proofs.lemmas.Bool.{cases_lt}
 use Rattle.std.proofs.lemmas.Bool.Decides.{nat_tests}
-use Rattle.std.proofs.lemmas.List.{append-nil, map-append, get_or-map, length-map, take_all}
+use Rattle.std.proofs.lemmas.List.{map-append, get_or-map, length-map, take_all}
 use Rattle.std.proofs.lemmas.List.Sorted.{IsPermutation-map}
 use Rattle.std.proofs.lemmas.Option.{slice_get-map, slice_get_read, slice_get_within, get_or_from_slice_get}
 use Rattle.std.proofs.lemmas.Slice.Zip.{get_or-zip, length-zip}
 use Rattle.c25_meaning_image.specs.Marks.{fit_from, fits_behind}
 use Rattle.c25_meaning_image.specs.declared.mark.Mark.{Mark}
 use Rattle.c25_meaning_linking.specs.Linking.{HasLines, line_at}
-use Rattle.c25_meaning_linking.specs.Words.{LineData, section_page, file_name, placed_mark, placed_line, is_on_program, is_line_on_program, module_lines, program_lines}
+use Rattle.c25_meaning_linking.specs.Words.{LineData, file_name, placed_mark, placed_line, is_on_program, is_line_on_program, module_lines, program_lines}
 use Rattle.c25_meaning_objects.specs.Module.{Contents, each_fits, mark_fits}
 use Rattle.c25_meaning_objects.specs.declared.object.LineMark.{LineMark}
 use Rattle.c25_meaning_objects.specs.declared.object.ModuleMark.{ModuleMark}
@@ -27,7 +26,7 @@ use Rattle.c25_link.specs.Bases.{HasRoom}
 use Rattle.c25_link.specs.Layout.{AreModules, HasOnePart}
 use Rattle.c25_link.specs.Lines.{file_at, line_data, line_place, module_places, all_places}
 use Rattle.c25_link.specs.declared.lines.LinePlace.{LinePlace}
-use Rattle.c25_link.proofs.Marked.{Rising, rising, marks_of_module, chosen_more, marks_in, sorted_ascend}
+use Rattle.c25_link.proofs.Marked.{Rising, rising, marks_of_module, marks_in, sorted_ascend}
 
 -- ---- the marks that have lines
 
@@ -267,31 +266,7 @@ line_missing files places address i ascend parted = sym (ap (option_map (λ (l :
       let there : get_or lines k d ≡ line_data files (get_or places k (nowhere d.mark)) = get_or-map (line_data files) places k (nowhere d.mark) d low in
       none_at k (nowhere d.mark) low (sym (ap (λ (l : LineData). l.mark.address) there) ∙ same)
 
--- what a sorted list leaves of the list that it was
-pub take_all_of : (n : ℕ) (xs ys : List LinePlace) → n ≡ length xs → take n (xs ++ ys) ≡ xs
-take_all_of n xs ys e = ap (λ k. take k (xs ++ ys)) e ∙ take-append_seam xs ys
-
 -- ---- one line more of a module
-
-pub line_pushed : (modules : List Contents) (places : List Place) (number i : ℕ) (m : Contents) (ts : List (ModuleMark × LineMark)) (t d : ModuleMark × LineMark) (before old new : List LinePlace) → i < length ts → t ≡ get_or ts i d → section_page places m t.0.section ≡ 0
-    → old ≡ before ++ map (line_place modules places number m) (filter (is_line_on_program places m) (take i ts)) → new ≡ old ++ line_place modules places number m t ∷ []
-    → new ≡ before ++ map (line_place modules places number m) (filter (is_line_on_program places m) (take (i + 1) ts))
-line_pushed modules places number i m ts t d before old new lt is on so next =
-    let h = line_place modules places number m in
-    let test : is_line_on_program places m t ≡ true = ap (λ n. eqb n 0) on in
-    next ∙ ap (λ zs. zs ++ h t ∷ []) so ∙ append_assoc before (map h (filter (is_line_on_program places m) (take i ts))) (h t ∷ [])
-    ∙ ap (λ b. before ++ (map h (filter (is_line_on_program places m) (take i ts)) ++ map h (cond b (t ∷ []) []))) (sym test)
-    ∙ ap (λ zs. before ++ zs) (sym (chosen_more (is_line_on_program places m) h ts i t d lt is))
-
-pub line_left : (modules : List Contents) (places : List Place) (number i : ℕ) (m : Contents) (ts : List (ModuleMark × LineMark)) (t d : ModuleMark × LineMark) (before old : List LinePlace) → i < length ts → t ≡ get_or ts i d → (section_page places m t.0.section ≡ 0 → ⊥)
-    → old ≡ before ++ map (line_place modules places number m) (filter (is_line_on_program places m) (take i ts))
-    → old ≡ before ++ map (line_place modules places number m) (filter (is_line_on_program places m) (take (i + 1) ts))
-line_left modules places number i m ts t d before old lt is off so =
-    let h = line_place modules places number m in
-    let test : is_line_on_program places m t ≡ false = ne_eqb (section_page places m t.0.section) 0 off in
-    so ∙ ap (λ zs. before ++ zs) (sym (append-nil (map h (filter (is_line_on_program places m) (take i ts)))))
-    ∙ ap (λ b. before ++ (map h (filter (is_line_on_program places m) (take i ts)) ++ map h (cond b (t ∷ []) []))) (sym test)
-    ∙ ap (λ zs. before ++ zs) (sym (chosen_more (is_line_on_program places m) h ts i t d lt is))
 
 -- the pair that a loop over both lists gives
 pub pair_at : (ms : List ModuleMark) (ls : List LineMark) (i : ℕ) (x d : ModuleMark) (y e : LineMark) → i < length ms → i < length ls → x ≡ get_or ms i d → y ≡ get_or ls i e → (x, y) ≡ get_or (zip ms ls) i (d, e)

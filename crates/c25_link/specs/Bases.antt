@@ -1,19 +1,27 @@
 -- Where the parts of modules stand, as the code has it.
-use Rattle.std.specs.Prelude.{◌≡◌, ◌≤◌, ℕ, ◌+◌, List, Option, Some, None, option_map}
+use Rattle.std.specs.Prelude.{◌≡◌, ◌≤◌, ℕ, ◌+◌, List, IfSome, Option, Some, None, option_map, take}
 use Rattle.std.specs.List.{slice_get}
 use Rattle.std.specs.declared.alloc.Global.{Global}
 use Rattle.std.specs.declared.vec.Vec.{Vec}
 use Rattle.c25_meaning_objects.specs.Module.{SectionData, Contents, body_size}
-use Rattle.c25_meaning_placing.specs.Place.{Place, place_named, page_of, part_base, IsPart}
+use Rattle.c25_meaning_placing.specs.Place.{Place, place_named, page_of, part_base, size_of_parts, IsPart}
 use Rattle.c25_place.specs.View.{named}
 use Rattle.c25_place.specs.Outputs.{size_of_sections}
 use Rattle.c25_link.specs.declared.bases.PartBase.{PartBase}
 use Rattle.c25_link.specs.declared.bases.Bases.{Bases}
 use Rattle.c25_link.specs.declared.bases.NextParts.{NextParts}
 
+-- where the section of a name runs, if that is not where it is loaded
+abbrev pub run_of : List ℕ → List Place → Option ℕ
+run_of name places = elim (place_named name places) [ None ↦ None | Some p ↦ p.run ]
+
 -- where the part of a module's section stands
 abbrev pub part_of : List Contents → List Place → ℕ → SectionData → PartBase
-part_of modules places number s = record { page = page_of s.name places; base = part_base modules places number s.name }
+part_of modules places number s = record {
+  page = page_of s.name places;
+  base = part_base modules places number s.name;
+  run = option_map (λ run. run + size_of_parts s.name (take number modules)) (run_of s.name places);
+}
 
 -- the parts of a module
 abbrev pub parts_of : List Contents → List Place → ℕ → Contents → ℕ → Option PartBase
@@ -34,25 +42,31 @@ KnowsBases bases modules places =
 
 -- the place of a section, and behind it the parts of these sections
 abbrev pub next_part : List SectionData → Place → PartBase
-next_part sections p = record { page = p.page; base = p.base + size_of_sections p.name sections }
+next_part sections p = record {
+  page = p.page;
+  base = p.base + size_of_sections p.name sections;
+  run = option_map (λ run. run + size_of_sections p.name sections) p.run;
+}
 
 -- behind the parts of these sections the next ones begin
 abbrev pub KnowsNext : NextParts → List Place → List SectionData → Type 0
 KnowsNext next places sections = (name : List ℕ) → named next.found name ≡ option_map (next_part sections) (place_named name places)
 
--- a section has a place of its name on page 0 or 1, and its part ends within the page
+-- a section has a place of its name on page 0 or 1, and its part ends within the page, where it is loaded and where it runs
 pub record HasRoomFor (modules : List Contents) (places : List Place) (number : ℕ) (section : SectionData) : Type 0 where
   pub place : Place
   pub found : place_named section.name places ≡ Some place
   pub page : place.page ≤ 1
   pub within : part_base modules places number section.name + body_size section.body ≤ 65536
+  pub runs : IfSome place.run (λ run. run + size_of_parts section.name (take number modules) + body_size section.body ≤ 65536)
 
 -- each section of each module has
 abbrev pub HasRoom : List Contents → List Place → Type 0
 HasRoom modules places =
     (number index : ℕ) (owner : Contents) (section : SectionData) → IsPart modules number index owner section → HasRoomFor modules places number section
 
--- behind the parts of these sections the place of a section has room for one more
+-- behind the parts of these sections the place of a section has room for one more, where it is loaded and where it runs
 pub record HasPlaceFor (places : List Place) (sections : List SectionData) (section : SectionData) (p : Place) : Type 0 where
   pub found : place_named section.name places ≡ Some p
   pub within : p.base + size_of_sections section.name sections + body_size section.body ≤ 65536
+  pub runs : IfSome p.run (λ run. run + size_of_sections section.name sections + body_size section.body ≤ 65536)

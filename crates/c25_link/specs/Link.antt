@@ -2,7 +2,7 @@
 use Rattle.std.specs.Prelude.{◌≡◌, List, ℕ, Option, None, Result, Ok, Err, String}
 use Rattle.std.specs.declared.alloc.Global.{Global}
 use Rattle.c25_meaning_commands.specs.Command.{CommandData}
-use Rattle.c25_meaning_linking.specs.Linking.{ImageData, IsProgram, IsRefusal, HasWords, HasMarks, HasLines, first_spilled, refused_with, map_of}
+use Rattle.c25_meaning_linking.specs.Linking.{ImageData, IsProgram, IsRefusal, HasWords, HasMarks, HasRunMarks, HasLines, first_spilled, refused_with, map_of}
 use Rattle.c25_meaning_objects.specs.Module.{Contents}
 use Rattle.c25_meaning_placing.specs.Place.{Place}
 use Rattle.c25_meaning_common.specs.declared.failure.Failure.{Failure}
@@ -23,6 +23,7 @@ pub record IsImageAt (modules : List Contents) (places : List Place) (entry : Op
   pub program : HasWords modules places 0 image.program
   pub store : HasWords modules places 1 image.store
   pub marks : HasMarks modules places image.marks
+  pub run_marks : HasRunMarks modules places image.marks image.run_marks
   pub lines : HasLines modules places image.lines
   pub described : image.described ≡ map_of modules entry places
 

@@ -1,11 +1,11 @@
 //! Where the parts of sections stand that modules have.
 
-ghost use Rattle.std.specs.Prelude.{◌≡◌, ◌≤◌, ◌+◌, ◌++◌, ◌∷◌, [], ℕ, List, IfOk, OnOk, Some, take};
+ghost use Rattle.std.specs.Prelude.{◌≡◌, ◌≤◌, ◌+◌, ◌==◌, ◌&&◌, ◌++◌, ◌∷◌, [], ℕ, List, IfOk, IfSome, OnOk, Some, is_some, not, option_map, take, unwrap_or};
 ghost use Rattle.std.specs.List.{slice_get};
 ghost use Rattle.c25_meaning_objects.specs.Module.{SectionData, Contents, IsModule, body_size};
 ghost use Rattle.c25_meaning_placing.specs.Place as place;
 ghost use Rattle.c25_meaning_placing.specs.Place.{all_sections};
-ghost use Rattle.c25_meaning_linking.specs.Words.{section_base, section_page};
+ghost use Rattle.c25_meaning_linking.specs.Words.{section_base, section_page, section_run, section_runs_elsewhere};
 ghost use Rattle.c25_obj.specs.View.{contents, body_data, section_data};
 ghost use Rattle.c25_link.specs.Bases.{parts_of, next_part, KnowsBases, KnowsNext, HasRoom, HasPlaceFor};
 ghost use Rattle.c25_place.specs.View.{places_view};
@@ -15,11 +15,13 @@ use c25_place::{Place, body_size};
 use std::alloc::{AllocError, Global};
 use std::collections::HashMap;
 
-/// The page of a part and the address of its first word.
+/// The page of a part, the address where its first word is loaded, and the one where it runs, if that is
+/// another.
 #[derive(Clone, Copy)]
 pub(crate) struct PartBase {
     pub page: u8,
     pub base: u32,
+    pub run: Option<u32>,
 }
 
 /// Those of each section of each module.
@@ -44,6 +46,7 @@ fn first_parts<'a>(alloc: Global, places: &[Place<'a>]) -> Result<NextParts<'a>,
             let part = PartBase {
                 page: place.page,
                 base: place.base,
+                run: place.run,
             };
             found.insert(place.name, part)?;
         }
@@ -52,7 +55,21 @@ fn first_parts<'a>(alloc: Global, places: &[Place<'a>]) -> Result<NextParts<'a>,
 }
 
 /// The part of a section where none begins.
-const NO_PART: PartBase = PartBase { page: 0, base: 0 };
+const NO_PART: PartBase = PartBase {
+    page: 0,
+    base: 0,
+    run: None,
+};
+
+/// An address so many words on, if there is one.
+fn moved(address: Option<u32>, words: u32) -> Option<u32>
+    ensures { IfSome address (λ a. a + words ≤ 65536) → result ≡ option_map (λ a. a + words) address }
+{
+    match address {
+        Some(address) => Some(address.saturating_add(words)),
+        None => None,
+    }
+}
 
 impl<'a> NextParts<'a> {
     /// Where the part of a section begins; the next one of its name begins behind it.
@@ -68,10 +85,11 @@ impl<'a> NextParts<'a> {
         let name = section.name.as_str();
         match self.found.get(name).copied() {
             Some(part) => {
-                let base = part.base.saturating_add(body_size(&section.body));
+                let words = body_size(&section.body);
                 let after = PartBase {
                     page: part.page,
-                    base,
+                    base: part.base.saturating_add(words),
+                    run: moved(part.run, words),
                 };
                 self.found.insert(name, after)?;
                 Ok(part)
@@ -101,6 +119,29 @@ fn module_bases<'a>(
     Ok(list)
 }
 
+impl PartBase {
+    /// The address where its first word runs.
+    pub(crate) fn run_base(&self) -> u32
+        ensures { result ≡ unwrap_or self.now.run self.now.base }
+    {
+        self.run.unwrap_or(self.base)
+    }
+
+    /// Whether it stands on page 0 and runs there.
+    pub(crate) fn is_run_in_place(&self) -> bool
+        ensures { result ≡ (self.now.page == 0 && not (is_some self.now.run)) }
+    {
+        self.page == 0 && self.run.is_none()
+    }
+
+    /// Whether it stands on page 0 and runs elsewhere.
+    pub(crate) fn is_copied(&self) -> bool
+        ensures { result ≡ (self.now.page == 0 && is_some self.now.run) }
+    {
+        self.page == 0 && self.run.is_some()
+    }
+}
+
 impl Bases {
     /// The parts of all modules where the sections stand at these places.
     pub(crate) fn new<'a>(
@@ -124,6 +165,10 @@ impl Bases {
             → result.base ≡ section_base modules places number m index }
         ensures page { (modules : List Contents) (places : List place.Place) (m : Contents) → KnowsBases self.now modules places → slice_get modules number ≡ Some m
             → result.page ≡ section_page places m index }
+        ensures run { (modules : List Contents) (places : List place.Place) (m : Contents) → KnowsBases self.now modules places → slice_get modules number ≡ Some m
+            → unwrap_or result.run result.base ≡ section_run modules places number m index }
+        ensures elsewhere { (modules : List Contents) (places : List place.Place) (m : Contents) → KnowsBases self.now modules places → slice_get modules number ≡ Some m
+            → is_some result.run ≡ section_runs_elsewhere places m index }
     {
         match self.modules.get(number) {
             Some(parts) => match parts.get(index) {

@@ -123,6 +123,7 @@ fn output_section(
         page: place.page,
         base: place.base,
         size: place.size,
+        run: place.run,
         parts: described_parts(alloc, parts)?,
     })
 }

@@ -11,7 +11,7 @@ ghost use Rattle.c25_link.specs.Lines.{lines_view};
 use crate::lines::Lines;
 use c25_map::{GlobalSymbol, Map, write_map};
 use c25_meaning_common::no_memory::NoMemory;
-use c25_meaning_image::mark::Mark;
+use c25_meaning_image::mark::{Mark, RunMark};
 use c25_meaning_image::word_map::WordMap;
 use std::alloc::Global;
 use std::marker::Model;
@@ -22,6 +22,7 @@ pub struct Image {
     program: WordMap,
     store: WordMap,
     marks: Vec<Mark>,
+    run_marks: Vec<RunMark>,
     lines: Lines,
     described: Map,
 }
@@ -39,7 +40,7 @@ impl Model for Image {
 
     ghost coded = { Prim.hlevel (codes, finite.code {R = nat_cmp} coded_ℕ coded_ℕ) };
 
-    ghost view = { λ i. record { program = i.program; store = i.store; marks = i.marks.items; lines = lines_view i.lines; described = map_data i.described } };
+    ghost view = { λ i. record { program = i.program; store = i.store; marks = i.marks.items; run_marks = i.run_marks.items; lines = lines_view i.lines; described = map_data i.described } };
 
     ghost invariant = { λ i. IsSound (lines_view i.lines) (map_data i.described) };
 }
@@ -50,17 +51,19 @@ impl Image {
         program: WordMap,
         store: WordMap,
         marks: Vec<Mark>,
+        run_marks: Vec<RunMark>,
         lines: Lines,
         described: Map,
     ) -> Self
         requires lines { fit_from 0 (map (λ l. l.mark) (lines_view lines)) ≡ true }
         requires printed { IsPrinted (map_data described) }
-        ensures { result ≡ record { program = program; store = store; marks = marks.items; lines = lines_view lines; described = map_data described } }
+        ensures { result ≡ record { program = program; store = store; marks = marks.items; run_marks = run_marks.items; lines = lines_view lines; described = map_data described } }
     {
         Image {
             program,
             store,
             marks,
+            run_marks,
             lines,
             described,
         }
@@ -78,15 +81,23 @@ impl Image {
         }
     }
 
-    /// The instructions on page 0, by their addresses.
+    /// The instructions on page 0 that run where they are loaded, by their addresses.
     pub fn marks(&self) -> &[Mark]
         ensures { result.now ≡ self.now.marks }
     {
         &self.marks
     }
 
-    /// The name of the file and the number of the line where the instruction at an address of page 0
-    /// stands, counted from 1; None where there is none, or its module is of an object that tells no
+    /// The instructions on page 0 that run elsewhere than they are loaded, in block B0, by the addresses
+    /// where they run.
+    pub fn run_marks(&self) -> &[RunMark]
+        ensures { result.now ≡ self.now.run_marks }
+    {
+        &self.run_marks
+    }
+
+    /// The name of the file and the number of the line where the instruction that is loaded at an
+    /// address of page 0 stands, counted from 1; None where there is none, or its module is of an object that tells no
     /// lines (version 1). It takes no memory.
     pub fn line_of(&self, address: u16) -> Option<(&str, u32)>
         ensures { option_map (λ r. (r.0.now, r.1)) result ≡ line_at address self.now.lines }

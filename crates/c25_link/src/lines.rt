@@ -10,6 +10,7 @@ ghost use Rattle.c25_link.specs.Layout.{IsLaidOut, IsOwner, places_in};
 ghost use Rattle.c25_link.specs.Lines.{module_places, all_places, file_at, files_view, lines_view};
 
 use crate::layout::Layout;
+use crate::marks::placed_mark;
 use c25_meaning_image::mark::Mark;
 use c25_obj::{Module, Parts};
 use std::alloc::{AllocError, Global};
@@ -49,10 +50,7 @@ fn push_places(
                 let part = layout.bases.get(number, usize::from(mark.section));
                 if part.page == 0 {
                     places.push(LinePlace {
-                        mark: Mark {
-                            address: (part.base + u32::from(mark.offset)) as u16,
-                            size: u16::from(mark.size),
-                        },
+                        mark: placed_mark(&part, mark),
                         number,
                         file: told.file,
                         line: told.line,

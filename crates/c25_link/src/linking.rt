@@ -19,10 +19,10 @@ use crate::image::Image;
 use crate::layout::{Layout, are_modules};
 use crate::lines::program_lines;
 use crate::loading::load;
-use crate::marks::program_marks;
+use crate::marks::{program_marks, program_run_marks};
 use crate::uses::{first_spilled, first_unresolved, is_missing};
 use c25_cmd::Command;
-use c25_linking_laws::laws::program_maps_have_their_form;
+use c25_linking_laws::laws::{instructions_run_apart, program_maps_have_their_form};
 use c25_meaning_common::failure::Failure;
 use c25_meaning_placing::link_fault::LinkFault;
 use c25_obj::Module;
@@ -80,9 +80,17 @@ fn linked_image(
     }
     let pages = load(alloc, layout)?;
     let marks = program_marks(alloc, layout)?;
+    let run_marks = program_run_marks(alloc, layout, &marks)?;
     let lines = program_lines(alloc, layout)?;
     let described = described(alloc, layout, entry)?;
-    Ok(Image::new(pages.program, pages.store, marks, lines, described))
+    Ok(Image::new(
+        pages.program,
+        pages.store,
+        marks,
+        run_marks,
+        lines,
+        described,
+    ))
 }
 
 /// Links modules under a command.
@@ -93,7 +101,7 @@ fn linked_image(
 /// in its range, or in the first such range of its page.
 ///
 /// The first refusal is the answer: `DefinedTwice`, `Unresolved` and `NoEntry`, each over all
-/// modules; `NoRange`, `DoesNotFit` and `Overlap`, section by section as they are placed;
+/// modules; `NoRange`, `DoesNotFit`, `Overlap` and `BadRun`, section by section as they are placed;
 /// `RelocRange` by modules and relocations.
 pub fn link<'a>(
     alloc: Global,
@@ -103,6 +111,7 @@ pub fn link<'a>(
     requires { IsCommand (command_data command.now) }
     ensures { Links modules.now (command_data command.now) result }
 {
+    instructions_run_apart();
     program_maps_have_their_form();
     let entry = entry_of(command);
     let definitions = checked_definitions(alloc, modules, entry)?;

@@ -2,7 +2,7 @@
 
 ghost use Rattle.std.specs.Prelude.{◌≡◌, ◌^◌, Some, pos, negsuc, ◌≤ℤ◌, ◌+ℤ◌};
 ghost use Rattle.c25_meaning_objects.specs.Module.{Contents};
-ghost use Rattle.c25_meaning_linking.specs.Words.{section_base, kind_value, definition_value, name_value, base_value, relocated_value};
+ghost use Rattle.c25_meaning_linking.specs.Words.{section_base, section_run, kind_value, definition_value, name_value, base_value, relocated_value};
 ghost use Rattle.c25_obj.specs.View.{contents};
 ghost use Rattle.c25_link.specs.Layout.{IsLaidOut, IsOwner, places_in};
 ghost use Rattle.c25_link.specs.View.{definition_view};
@@ -22,7 +22,7 @@ fn sum(base: i64, addend: i32) -> i64
     base + i64::from(addend)
 }
 
-/// The address where a module's section begins.
+/// The address where a module's section begins as it is loaded.
 fn section_base(layout: &Layout<'_, '_>, number: usize, index: u16) -> i64
     requires { IsLaidOut layout.now }
     ensures low { pos 0 ≤ℤ result }
@@ -30,6 +30,16 @@ fn section_base(layout: &Layout<'_, '_>, number: usize, index: u16) -> i64
     ensures value { (m : Contents) → IsOwner layout.now number m → result ≡ pos (section_base layout.now.modules.now (places_in layout.now) number m index) }
 {
     i64::from(layout.bases.get(number, usize::from(index)).base)
+}
+
+/// The address where it begins as it runs.
+fn section_run(layout: &Layout<'_, '_>, number: usize, index: u16) -> i64
+    requires { IsLaidOut layout.now }
+    ensures low { pos 0 ≤ℤ result }
+    ensures high { result ≤ℤ pos (2 ^ 32) }
+    ensures value { (m : Contents) → IsOwner layout.now number m → result ≡ pos (section_run layout.now.modules.now (places_in layout.now) number m index) }
+{
+    i64::from(layout.bases.get(number, usize::from(index)).run_base())
 }
 
 /// What a symbol of a module stands for.
@@ -41,9 +51,8 @@ fn kind_value(layout: &Layout<'_, '_>, number: usize, kind: SymbolKind, value: i
 {
     match kind {
         SymbolKind::Absolute => i64::from(value),
-        SymbolKind::InSection(index) | SymbolKind::Loaded(index) => {
-            sum(section_base(layout, number, index), value)
-        }
+        SymbolKind::InSection(index) => sum(section_run(layout, number, index), value),
+        SymbolKind::Loaded(index) => sum(section_base(layout, number, index), value),
         SymbolKind::External => 0,
     }
 }
@@ -82,9 +91,8 @@ fn base_value(layout: &Layout<'_, '_>, number: usize, owner: &Parts, base: Reloc
     ensures value { result ≡ base_value layout.now.modules.now (places_in layout.now) number (contents owner.now) base }
 {
     match base {
-        RelocationBase::Section(index) | RelocationBase::Loaded(index) => {
-            section_base(layout, number, index)
-        }
+        RelocationBase::Section(index) => section_run(layout, number, index),
+        RelocationBase::Loaded(index) => section_base(layout, number, index),
         RelocationBase::External(index) => name_value(layout, symbol_name(owner, index)),
     }
 }

@@ -1,8 +1,13 @@
+pub mod Copied
 pub mod Members
 pub mod Named
 pub mod Numerals
 pub mod OneProgram
+pub mod Pairs
 pub mod Placed
 pub mod Printed
 pub mod Ranges
+pub mod Rising
+pub mod RunPlaces
+pub mod RunsFit
 pub mod WordsFit

@@ -12,12 +12,13 @@ use Rattle.c25_linking_laws.proofs.Members.{behind_in, first_in, in_front, in_pe
 use Rattle.c25_placing_laws.proofs.OneMap.{placed_once}
 use Rattle.c25_meaning_commands.specs.Command.{CommandData}
 use Rattle.c25_meaning_placing.specs.GoodMap.{placings_for, ranges_for, requests}
-use Rattle.c25_meaning_linking.specs.Linking.{HasLines, HasMarks, HasWords, ImageData, IsProgram, map_of}
-use Rattle.c25_meaning_image.specs.Marks.{fit_from, fits_behind}
+use Rattle.c25_meaning_linking.specs.Linking.{HasLines, HasMarks, HasRunMarks, HasWords, ImageData, IsProgram, map_of}
+use Rattle.c25_meaning_image.specs.Marks.{fit_from, fits_behind, load_is_free, run_fit_from, run_fits_behind, with_loads}
 use Rattle.c25_meaning_objects.specs.Module.{Contents}
 use Rattle.c25_meaning_placing.specs.Place.{Place}
-use Rattle.c25_meaning_linking.specs.Words.{LineData, program_lines, program_marks}
+use Rattle.c25_meaning_linking.specs.Words.{LineData, program_lines, program_marks, program_run_marks}
 use Rattle.c25_meaning_image.specs.declared.mark.Mark.{Mark}
+use Rattle.c25_meaning_image.specs.declared.mark.RunMark.{RunMark}
 
 -- ---- words
 
@@ -87,8 +88,8 @@ marked_once mark low high (x ∷ xs) (y ∷ ys) h k there back =
     λ i. same i ∷ rest i
 
 -- the same of lists that have what a list has
-permuted_once : {A : Type 0} (mark : A → Mark) (all xs ys : List A) → IsPermutation all xs → IsPermutation all ys → fit_from 0 (map mark xs) ≡ true → fit_from 0 (map mark ys) ≡ true → xs ≡ ys
-permuted_once mark all xs ys p q h k = marked_once mark 0 0 xs ys h k (λ m c. in_permuted all ys m q (in_permuted xs all m (IsPermutation-sym all xs p) c)) (λ m c. in_permuted all xs m p (in_permuted ys all m (IsPermutation-sym all ys q) c))
+permuted_once : {A : Type 0} (mark : A → Mark) (low : ℕ) (all xs ys : List A) → IsPermutation all xs → IsPermutation all ys → fit_from low (map mark xs) ≡ true → fit_from low (map mark ys) ≡ true → xs ≡ ys
+permuted_once mark low all xs ys p q h k = marked_once mark low low xs ys h k (λ m c. in_permuted all ys m q (in_permuted xs all m (IsPermutation-sym all xs p) c)) (λ m c. in_permuted all xs m p (in_permuted ys all m (IsPermutation-sym all ys q) c))
 
 abbrev self : Mark → Mark
 self m = m
@@ -99,6 +100,19 @@ unmapped ms h = ap (fit_from 0) (map-self ms) ∙ h where
   map-self [] = refl
   map-self (x ∷ xs) = ap (λ ys. x ∷ ys) (map-self xs)
 
+-- where an instruction runs
+abbrev run_place : RunMark → Mark
+run_place m = record { address = m.run; size = m.size }
+
+-- those that run behind one another are marks that ascend, by where they run
+runs_ascend : (marks : List Mark) (from : ℕ) (run_marks : List RunMark) → run_fit_from marks from run_marks ≡ true → fit_from from (map run_place run_marks) ≡ true
+runs_ascend marks from [] fit = refl
+runs_ascend marks from (m ∷ run_marks) fit =
+    let b = both (run_fits_behind from m && load_is_free (with_loads run_marks marks) m) (run_fit_from marks (m.run + m.size) run_marks) fit in
+    let a = both (run_fits_behind from m) (load_is_free (with_loads run_marks marks) m) b.0 in
+    let fits = both (fits_behind from (run_place m)) (leb (m.load + m.size) 65536) a.0 in
+    rw (fits.0) (runs_ascend marks (m.run + m.size) run_marks b.1)
+
 -- ---- the program
 
 pub program_once : (modules : List Contents) (command : CommandData) (image other : ImageData) → IsProgram modules command image → IsProgram modules command other → image ≡ other
@@ -107,8 +121,11 @@ program_once modules command image other p q =
     let program = words_once modules p.places 0 image.program other.program p.program (subst (λ (ps : List Place). HasWords modules ps 0 other.program) places q.program) in
     let store = words_once modules p.places 1 image.store other.store p.store (subst (λ (ps : List Place). HasWords modules ps 1 other.store) places q.store) in
     let marks_there = subst (λ (ps : List Place). HasMarks modules ps other.marks) places q.marks in
-    let marks = permuted_once self (program_marks modules p.places) image.marks other.marks p.marks.same marks_there.same (unmapped image.marks p.marks.ascend) (unmapped other.marks marks_there.ascend) in
+    let marks = permuted_once self 0 (program_marks modules p.places) image.marks other.marks p.marks.same marks_there.same (unmapped image.marks p.marks.ascend) (unmapped other.marks marks_there.ascend) in
+    let run_marks_there = subst (λ (ps : List Place). HasRunMarks modules ps other.marks other.run_marks) places q.run_marks in
+    let run_marks = permuted_once run_place 0xFF00 (program_run_marks modules p.places) image.run_marks other.run_marks p.run_marks.same run_marks_there.same
+    (runs_ascend image.marks 0xFF00 image.run_marks p.run_marks.fit) (runs_ascend other.marks 0xFF00 other.run_marks run_marks_there.fit) in
     let lines_there = subst (λ (ps : List Place). HasLines modules ps other.lines) places q.lines in
-    let lines = permuted_once (λ (l : LineData). l.mark) (program_lines modules p.places) image.lines other.lines p.lines.same lines_there.same p.lines.ascend lines_there.ascend in
+    let lines = permuted_once (λ (l : LineData). l.mark) 0 (program_lines modules p.places) image.lines other.lines p.lines.same lines_there.same p.lines.ascend lines_there.ascend in
     let described = p.described ∙ ap (map_of modules command.entry) (sym places) ∙ sym q.described in
-    λ i. record { program = program i; store = store i; marks = marks i; lines = lines i; described = described i }
+    λ i. record { program = program i; store = store i; marks = marks i; run_marks = run_marks i; lines = lines i; described = described i }

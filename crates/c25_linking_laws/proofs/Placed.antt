@@ -1,13 +1,13 @@
--- The places of a good map lie within their pages.
-use Rattle.std.proofs.Common.{◌≡◌, ℕ, ◌+◌, ◌<◌, ◌≤◌, ◌==◌, ◌||◌, Bool, true, false, List, [], ◌∷◌, ◌++◌, reverse, All, Ok, sym, subst, arith, inl, inr}
-use Rattle.std.specs.Prelude.{max, nat_le}
+-- The places of a good map lie within their pages, and those that run elsewhere in block B0.
+use Rattle.std.proofs.Common.{◌≡◌, ℕ, ◌+◌, ◌<◌, ◌≤◌, ◌==◌, ◌||◌, Bool, true, false, List, [], ◌∷◌, ◌++◌, reverse, All, Ok, Option, Some, None, sym, subst, arith, inl, inr}
+use Rattle.std.specs.Prelude.{IfSome, max, nat_le}
 use Rattle.std.specs.List.{list_any}
 use Rattle.std.specs.Str.{bytes_eq}
 use Rattle.std.proofs.lemmas.Bool.{and_parts, cases_lt, eqb-true, leb-true}
 use Rattle.std.proofs.lemmas.List.{reverse-reverse, reverse-append}
 use Rattle.std.proofs.lemmas.List.Elements.{All-nil, All-cons, All-head, All-tail, All-same, All-push, All-filter, filter_passes}
 use Rattle.c25_meaning_commands.specs.Command.{RangeData, TargetData, Anywhere, InRange, At, CommandData, IsCommand, IsRange}
-use Rattle.c25_meaning_placing.specs.GoodMap.{Request, ranges_for, placings_for, requests, page_for, is_usable, usable, is_inside, blocks_fit, IsBase, IsBaseIn, IsBaseAt, Stands, Stand, IsGoodMap}
+use Rattle.c25_meaning_placing.specs.GoodMap.{Request, ranges_for, placings_for, requests, page_for, is_usable, usable, is_inside, blocks_fit, IsBase, IsBaseIn, IsBaseAt, RunsAt, Stands, Stand, IsGoodMap}
 use Rattle.c25_meaning_objects.specs.Module.{Contents, IsModule, is_section_name}
 use Rattle.c25_meaning_placing.specs.Place.{Place, BlockData}
 use Rattle.c25_linking_laws.proofs.Ranges.{ranges_are}
@@ -18,12 +18,19 @@ record IsInPage (base size : ℕ) : Type 0 where
   first : base < 65536
   last : base + size ≤ 65536
 
--- a place with a name, on one of two pages and within it
+-- so many words from an address on are words of block B0
+pub record IsInB0 (size run : ℕ) : Type 0 where
+  pub from : 0xFF00 ≤ run
+  pub below : run < 65536
+  pub upto : run + size ≤ 65536
+
+-- a place with a name, on one of two pages and within it, which runs there or in block B0
 pub record IsGoodPlace (p : Place) : Type 0 where
   pub name : is_section_name p.name ≡ true
   pub page : p.page ≤ 1
   pub first : p.base < 65536
   pub last : p.base + p.size ≤ 65536
+  pub run : IfSome p.run (IsInB0 p.size)
 
 -- ---- one section
 
@@ -84,6 +91,13 @@ some_usable target page size blocks (first ∷ ranges) places base all are h =
     let low = (All-head IsRange first ranges all).page in
     omega (arith, same, low)
 
+runs_well : (ranges : List RangeData) (before : List Place) (r : Request) (run : Option ℕ) (size : ℕ) → size ≡ r.size → IfSome run (RunsAt ranges before r) → IfSome run (IsInB0 size)
+runs_well ranges before r None size sized h = tt
+runs_well ranges before r (Some run) size sized h =
+    let upto = h.upto in
+    let below = h.below in
+    record { from = h.from; below = omega (arith, below); upto = omega (arith, upto, sized) }
+
 stands_well : (ranges : List RangeData) (before : List Place) (r : Request) (p : Place) → All IsRange ranges → IsNamedRequest r → Stands ranges before r p → IsGoodPlace p
 stands_well ranges before r p all named s =
     let test = is_usable r.target (page_for ranges r) in
@@ -99,6 +113,7 @@ stands_well ranges before r p all named s =
       page = omega (arith, low, paged);
       first = first;
       last = omega (arith, last, sized);
+      run = runs_well ranges before r p.run p.size s.size_is (subst (λ o. IfSome o (RunsAt ranges before r)) (sym s.run_is) s.runs);
     }
 
 -- ---- all sections

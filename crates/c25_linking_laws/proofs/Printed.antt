@@ -16,7 +16,7 @@ use Rattle.c25_meaning_placing.specs.Place.{Place, is_section_named}
 use Rattle.c25_meaning_linking.specs.Words.{Definition, definitions, definition_value, name_value}
 use Rattle.c25_linking_laws.proofs.Named.{IsNamedDefinition, all_by_modules, fine_sections, found_holds, module_at, named_definitions, named_entry}
 use Rattle.c25_linking_laws.proofs.Numerals.{is_decimal}
-use Rattle.c25_linking_laws.proofs.Placed.{IsGoodPlace, good_places}
+use Rattle.c25_linking_laws.proofs.Placed.{IsGoodPlace, IsInB0, good_places}
 
 -- ---- sections and parts
 
@@ -35,6 +35,10 @@ module _ (modules : List Contents) (command : CommandData) (places : List Place)
       All-map IsPrintedPart (section_part modules places number) (filter (is_section_named name) m.sections)
       (All-filter (is_section_named name) (λ (s : SectionData). IsPrintedPart (section_part modules places number s)) m.sections each)
 
+  printed_run : (size : ℕ) (run : Option ℕ) → IfSome run (IsInB0 size) → IfSome run (λ run. run < 65536)
+  printed_run size None h = tt
+  printed_run size (Some run) h = h.below
+
   printed_section : (p : Place) → IsGoodPlace p → IsPrintedSection (section_place modules places p)
   printed_section p h =
       let last = h.last in
@@ -43,6 +47,7 @@ module _ (modules : List Contents) (command : CommandData) (places : List Place)
         page = h.page;
         base = h.first;
         size = omega (arith, last);
+        run = printed_run p.size p.run h.run;
         parts = all_by_modules IsPrintedPart (section_parts modules places p.name) 0 modules
             (λ k m e. let z : k ≡ 0 + k = omega arith in subst (λ n. All IsPrintedPart (section_parts modules places p.name n m)) z (printed_parts p.name k m e));
       }

@@ -10,21 +10,21 @@ use Rattle.std.proofs.lemmas.List.Splits.{join_with_byte-slice_split, slice_spli
 use Rattle.std.proofs.lemmas.List.Elements.{All-nil, All-head, All-tail, All-weaker}
 use Rattle.c25_meaning_placing.specs.Place.{Place}
 use Rattle.c25_meaning_common.specs.Digits.{four_digits}
-use Rattle.c25_meaning_placing.specs.MapText.{PartData, SectionPlace, NamedValue, MapData, address_text, five_digits, eight_digits, part_text, place_text, section_text, symbol_text, entry_text, entry_lines, map_text, map_line, IsPrintedPart, IsPrintedSection, IsPrintedValue, IsPrinted, IsMapOf, HasDigits}
+use Rattle.c25_meaning_placing.specs.MapText.{PartData, SectionPlace, NamedValue, MapData, address_text, five_digits, eight_digits, part_text, place_text, run_lines, section_text, symbol_text, entry_text, entry_lines, map_text, map_line, IsPrintedPart, IsPrintedSection, IsPrintedValue, IsPrinted, IsMapOf, HasDigits}
 use Rattle.c25_meaning_common.specs.Results.{◌>>=◌, Meets}
 use Rattle.c25_meaning_common.specs.declared.failure.Failure.{Failure}
 use Rattle.c25_meaning_common.specs.declared.failure.Failure.TheVariants.{NoMemory, Fault}
 use Rattle.c25_map.specs.Answer.{IsNoMap, IsRefused}
-use Rattle.c25_map.specs.Reading.{with_section, onto_last, with_part, with_symbol, with_entry, with_fields, with_line, with_lines, with_head, finished, nothing, cut, map_of}
+use Rattle.c25_map.specs.Reading.{with_section, onto_last, with_part, run_of_last, with_run, with_symbol, with_entry, with_fields, with_line, with_lines, with_head, finished, nothing, cut, map_of}
 use Rattle.c25_map.specs.View.{map_data}
 use Rattle.c25_map.specs.declared.map.Map.{Map}
 use Rattle.c25_map.specs.declared.map_fault.MapFault.{MapFault}
 use Rattle.c25_map.specs.declared.map_fault.MapFault.TheVariants.{BadMap}
 use Rattle.c25_map.proofs.Cuts.{has_no_by, NoneHas, none_has_more, IsLine, AreFields, no_end, fields_back, fields_line}
-use Rattle.c25_map.proofs.Digits.{same_text, other_text}
-use Rattle.c25_map.proofs.Spelled.{part_line, section_line, named_line, part_text_is, place_text_is, symbol_text_is, entry_text_is, IsPrintedPlace, part_back, place_back, value_back, number_field, section_field, symbol_field, page_field, four_field, address_field, eight_field, five_field, word_field}
-use Rattle.c25_map.proofs.Last.{with_one}
-use Rattle.c25_map.proofs.Steady.{body, sections_text, names_text, Grows, fields_grow}
+use Rattle.c25_map.proofs.Digits.{same_text, other_text, word_back}
+use Rattle.c25_map.proofs.Spelled.{part_line, section_line, run_line, named_line, part_text_is, place_text_is, run_text_is, symbol_text_is, entry_text_is, IsPrintedPlace, as_loaded, part_back, place_back, value_back, number_field, section_field, symbol_field, page_field, four_field, address_field, eight_field, five_field, word_field}
+use Rattle.c25_map.proofs.Last.{with_one, running_at}
+use Rattle.c25_map.proofs.Steady.{body, sections_text, names_text, run_text, Grows, fields_grow}
 use Rattle.c25_map.proofs.Steps.{tested, stepped}
 
 -- ---- what is read has this text
@@ -161,7 +161,7 @@ part_read m n part fits h =
     ap (λ (fs : List (List ℕ)). with_fields m fs) (fields_back (codes "PART") rest is fields) ∙ ap (λ r. r >>= λ p. with_part m p) (part_back part fits) ∙ h in
     read_as m n (part_line part ++ 10 ∷ []) (part_text part) (sym (part_text_is part)) (one_line m n (part_line part) (fields_line (codes "PART") rest is fields) read)
 
-place_read : (m n : MapData) (place : Place) → IsPrintedPlace place → with_section m place ≡ Ok n → ReadsTo m (place_text place) n
+place_read : (m n : MapData) (place : Place) → IsPrintedPlace place → with_section m (as_loaded place) ≡ Ok n → ReadsTo m (place_text place) n
 unfolding with_fields
 place_read m n place fits h =
     let is = word_field (codes "SECTION") refl in
@@ -170,6 +170,16 @@ place_read m n place fits h =
     let read : with_line m (section_line place) ≡ Ok n =
     ap (λ (fs : List (List ℕ)). with_fields m fs) (fields_back (codes "SECTION") rest is fields) ∙ ap (λ r. r >>= λ p. with_section m p) (place_back place fits) ∙ h in
     read_as m n (section_line place ++ 10 ∷ []) (place_text place) (sym (place_text_is place)) (one_line m n (section_line place) (fields_line (codes "SECTION") rest is fields) read)
+
+run_read : (m n : MapData) (run : ℕ) → run < 65536 → with_run m run ≡ Ok n → ReadsTo m (run_text run) n
+unfolding with_fields
+run_read m n run fits h =
+    let is = word_field (codes "RUN") refl in
+    let fields : AreFields (four_digits run ∷ []) = (four_field run fits, tt) in
+    let rest = four_digits run ∷ [] in
+    let read : with_line m (run_line run) ≡ Ok n =
+    ap (λ (fs : List (List ℕ)). with_fields m fs) (fields_back (codes "RUN") rest is fields) ∙ ap (λ r. r >>= λ w. with_run m w) (word_back run fits) ∙ h in
+    read_as m n (run_line run ++ 10 ∷ []) (run_text run) (sym (run_text_is run)) (one_line m n (run_line run) (fields_line (codes "RUN") rest is fields) read)
 
 symbol_read : (m n : MapData) (symbol : NamedValue) → IsPrintedValue symbol → with_symbol m symbol ≡ Ok n → ReadsTo m (symbol_text symbol) n
 unfolding with_fields
@@ -226,6 +236,27 @@ parts_read before place parts (part ∷ more) fits =
     subst (λ ps. ReadsTo m (flat_map part_text (part ∷ more)) (of_sections (before ++ with_parts place ps ∷ []))) (append_assoc parts (part ∷ []) more)
     (joined m n (of_sections (before ++ with_parts place ((parts ++ part ∷ []) ++ more) ∷ [])) (part_text part) (flat_map part_text more) one later)
 
+run_behind : (before : List SectionPlace) (s : SectionPlace) (run : ℕ) → s.place.run ≡ None → s.parts ≡ [] → run_of_last (before ++ s ∷ []) run ≡ Some (before ++ running_at s run ∷ [])
+run_behind [] s run none empty = rw (none, empty) refl
+run_behind (b ∷ []) s run none empty = rw (none, empty) refl
+run_behind (b ∷ c ∷ before) s run none empty =
+    ap (λ (o : Option (List SectionPlace)). option_map (λ (rest : List SectionPlace). b ∷ rest) o) (run_behind (c ∷ before) s run none empty)
+
+run_put : (before : List SectionPlace) (place : Place) (run : ℕ)
+    → with_run (of_sections (before ++ with_parts (as_loaded place) [] ∷ [])) run ≡ Ok (of_sections (before ++ running_at (with_parts (as_loaded place) []) run ∷ []))
+unfolding with_run
+run_put before place run = rw (run_behind before (with_parts (as_loaded place) []) run refl refl) refl
+
+-- a section that runs at an address, if at one
+abbrev run_as : Place → Option ℕ → Place
+run_as place run = record place { run = run }
+
+run_lines_read : (before : List SectionPlace) (place : Place) (run : Option ℕ) → IfSome run (λ run. run < 65536)
+    → ReadsTo (of_sections (before ++ with_parts (as_loaded place) [] ∷ [])) (run_lines run) (of_sections (before ++ with_parts (run_as place run) [] ∷ []))
+run_lines_read before place None fits = no_lines (of_sections (before ++ with_parts (as_loaded place) [] ∷ []))
+run_lines_read before place (Some run) fits =
+    run_read (of_sections (before ++ with_parts (as_loaded place) [] ∷ [])) (of_sections (before ++ with_parts (run_as place (Some run)) [] ∷ [])) run fits (run_put before place run)
+
 section_put : (before : List SectionPlace) (place : Place) → with_section (of_sections before) place ≡ Ok (of_sections (before ++ with_parts place [] ∷ []))
 unfolding with_section
 section_put before place = refl
@@ -236,9 +267,12 @@ section_fits s h = record { name = h.name; page = h.page; base = h.base; size = 
 section_read : (before : List SectionPlace) (s : SectionPlace) → IsPrintedSection s → ReadsTo (of_sections before) (section_text s) (of_sections (before ++ s ∷ []))
 section_read before s fits =
     let m = of_sections before in
-    let n = of_sections (before ++ with_parts s.place [] ∷ []) in
-    joined m n (of_sections (before ++ s ∷ [])) (place_text s.place) (flat_map part_text s.parts)
-    (place_read m n s.place (section_fits s fits) (section_put before s.place)) (parts_read before s.place [] s.parts fits.parts)
+    let loaded = of_sections (before ++ with_parts (as_loaded s.place) [] ∷ []) in
+    let running = of_sections (before ++ with_parts s.place [] ∷ []) in
+    joined m running (of_sections (before ++ s ∷ [])) (place_text s.place ++ run_lines s.place.run) (flat_map part_text s.parts)
+    (joined m loaded running (place_text s.place) (run_lines s.place.run)
+    (place_read m loaded s.place (section_fits s fits) (section_put before (as_loaded s.place))) (run_lines_read before s.place s.place.run fits.run))
+    (parts_read before s.place [] s.parts fits.parts)
 
 sections_read : (before sections : List SectionPlace) → All IsPrintedSection sections → ReadsTo (of_sections before) (sections_text sections) (of_sections (before ++ sections))
 sections_read before [] fits = subst (λ ss. ReadsTo (of_sections before) [] (of_sections ss)) (sym (append-nil before)) (no_lines (of_sections before))
@@ -357,7 +391,7 @@ part_prints : (p : PartData) → IsPrintedPart p → p.base ≤ 65536
 part_prints p h = h.base
 
 section_prints : (s : SectionPlace) → IsPrintedSection s → HasDigits s
-section_prints s h = record { base = h.base; parts = All-weaker IsPrintedPart (λ (p : PartData). p.base ≤ 65536) part_prints s.parts h.parts }
+section_prints s h = record { base = h.base; run = h.run; parts = All-weaker IsPrintedPart (λ (p : PartData). p.base ≤ 65536) part_prints s.parts h.parts }
 
 -- what is read can be printed
 pub is_printable : (text : List ℕ) (r : Result Map (Failure MapFault)) → Meets map_data (map_of text) r → IfOk r (λ m. All HasDigits (map_data m).sections)

@@ -1,5 +1,5 @@
 -- The lines of a map: what is printed is read, and what is read was printed.
-use Rattle.std.proofs.Common.{◌≡◌, ℕ, ◌+◌, append_assoc, ◌<◌, ◌≤◌, true, ◌&&◌, ◌||◌, nat_lt, nat_le, not, eqb, List, [], ◌∷◌, ◌++◌, length, codes, Ok, refl, sym, ap, subst, ◌∙◌, arith}
+use Rattle.std.proofs.Common.{◌≡◌, ℕ, ◌+◌, append_assoc, ◌<◌, ◌≤◌, true, ◌&&◌, ◌||◌, nat_lt, nat_le, not, eqb, List, [], ◌∷◌, ◌++◌, length, codes, None, Ok, refl, sym, ap, subst, ◌∙◌, arith}
 use Rattle.std.specs.List.{list_all, join_with_byte, slice_index}
 use Rattle.std.specs.Fmt.{decimal}
 use Rattle.std.proofs.lemmas.Bool.{and_parts}
@@ -26,6 +26,9 @@ part_line p = join_with_byte 32 (codes "PART" ∷ p.number ∷ address_text p.ba
 abbrev pub section_line : Place → List ℕ
 section_line p = join_with_byte 32 (codes "SECTION" ∷ decimal p.page ∷ four_digits p.base ∷ five_digits p.size ∷ p.name ∷ [])
 
+abbrev pub run_line : ℕ → List ℕ
+run_line run = join_with_byte 32 (codes "RUN" ∷ four_digits run ∷ [])
+
 abbrev pub named_line : List ℕ → NamedValue → List ℕ
 named_line kind n = join_with_byte 32 (kind ∷ eight_digits n.value ∷ n.name ∷ [])
 
@@ -34,6 +37,9 @@ part_joined number base size = simp append_assoc
 
 place_joined : (page base size name : List ℕ) → map_line (codes "SECTION " ++ page ++ codes " " ++ base ++ codes " " ++ size ++ codes " " ++ name) ≡ join_with_byte 32 (codes "SECTION" ∷ page ∷ base ∷ size ∷ name ∷ []) ++ 10 ∷ []
 place_joined page base size name = simp append_assoc
+
+run_joined : (run : List ℕ) → map_line (codes "RUN " ++ run) ≡ join_with_byte 32 (codes "RUN" ∷ run ∷ []) ++ 10 ∷ []
+run_joined run = simp append_assoc
 
 symbol_joined : (value name : List ℕ) → codes "SYMBOL " ++ map_line (value ++ codes " " ++ name) ≡ join_with_byte 32 (codes "SYMBOL" ∷ value ∷ name ∷ []) ++ 10 ∷ []
 symbol_joined value name = simp append_assoc
@@ -48,6 +54,9 @@ part_text_is p = part_joined p.number (address_text p.base) (five_digits p.size)
 pub place_text_is : (p : Place) → place_text p ≡ section_line p ++ 10 ∷ []
 unfolding place_text
 place_text_is p = place_joined (decimal p.page) (four_digits p.base) (five_digits p.size) p.name
+
+pub run_text_is : (run : ℕ) → map_line (codes "RUN " ++ four_digits run) ≡ run_line run ++ 10 ∷ []
+run_text_is run = run_joined (four_digits run)
 
 pub symbol_text_is : (n : NamedValue) → symbol_text n ≡ named_line (codes "SYMBOL") n ++ 10 ∷ []
 unfolding value_text
@@ -70,7 +79,11 @@ pub record IsPrintedPlace (p : Place) : Type 0 where
   pub base : p.base < 65536
   pub size : p.size ≤ 99999
 
-pub place_back : (p : Place) → IsPrintedPlace p → place_of (decimal p.page) (four_digits p.base) (five_digits p.size) p.name ≡ Ok p
+-- a section as its own line says it, which is not where it runs
+abbrev pub as_loaded : Place → Place
+as_loaded p = record p { run = None }
+
+pub place_back : (p : Place) → IsPrintedPlace p → place_of (decimal p.page) (four_digits p.base) (five_digits p.size) p.name ≡ Ok (as_loaded p)
 unfolding place_of
 place_back p h = rw (h.name, page_back p.page h.page, word_back p.base h.base, size_back p.size h.size) refl
 
@@ -106,10 +119,11 @@ part_found number base size p h =
 -- these fields are those of a section
 pub record IsPlaceOf (page base size name : List ℕ) (p : Place) : Type 0 where
   pub printed : IsPrintedPlace p
+  pub loaded : p.run ≡ None
   pub same : join_with_byte 32 (codes "SECTION" ∷ page ∷ base ∷ size ∷ name ∷ []) ≡ section_line p
 
 abbrev a_place : List ℕ → ℕ → ℕ → ℕ → Place
-a_place name page base size = record { name = name; page = page; base = base; size = size }
+a_place name page base size = record { name = name; page = page; base = base; size = size; run = None }
 
 pub place_found : (page base size name : List ℕ) (p : Place) → place_of page base size name ≡ Ok p → IsPlaceOf page base size name p
 unfolding place_of
@@ -124,6 +138,7 @@ place_found page base size name p h =
     let is : a_place name one.0 two.0 three.0 ≡ p = let last = three.2 in cc in
     subst (IsPlaceOf page base size name) {x = a_place name one.0 two.0 three.0} is (record {
       printed = record { name = test.0; page = g.1; base = b.1; size = s.1 };
+      loaded = refl;
       same = ap (λ (t : List ℕ). join_with_byte 32 (codes "SECTION" ∷ t ∷ base ∷ size ∷ name ∷ [])) g.0
           ∙ ap (λ (t : List ℕ). join_with_byte 32 (codes "SECTION" ∷ decimal one.0 ∷ t ∷ size ∷ name ∷ [])) b.0
           ∙ ap (λ (t : List ℕ). join_with_byte 32 (codes "SECTION" ∷ decimal one.0 ∷ four_digits two.0 ∷ t ∷ name ∷ [])) s.0;

@@ -1,6 +1,6 @@
 -- What a line changes: the text of what has been read grows by the line, and all of it has the form of a map.
-use Rattle.std.proofs.Common.{◌≡◌, ℕ, Bool, true, false, not, eqb, List, [], ◌∷◌, ◌++◌, length, codes, Option, Some, None, Ok, Err, refl, sym, ap, subst, ◌∙◌, if◌then◌else◌, append_assoc}
-use Rattle.std.specs.Prelude.{All, is_some}
+use Rattle.std.proofs.Common.{◌≡◌, ℕ, ◌<◌, Bool, true, false, ◌||◌, not, eqb, List, [], ◌∷◌, ◌++◌, length, codes, Option, Some, None, Ok, Err, refl, sym, ap, subst, ◌∙◌, if◌then◌else◌, append_assoc}
+use Rattle.std.specs.Prelude.{All, IfSome, is_some}
 use Rattle.std.specs.Option.{option_map, ok_or}
 use Rattle.std.specs.Str.{bytes_eq}
 use Rattle.std.specs.List.{flat_map, join_with_byte}
@@ -9,14 +9,15 @@ use Rattle.std.proofs.lemmas.List.{append-nil, nil_from_length}
 use Rattle.std.proofs.lemmas.Grind.{flat_map-append}
 use Rattle.std.proofs.lemmas.List.Elements.{All-nil, All-cons, All-head, All-tail, All-push}
 use Rattle.c25_meaning_placing.specs.Place.{Place}
-use Rattle.c25_meaning_placing.specs.MapText.{PartData, SectionPlace, NamedValue, MapData, part_text, place_text, section_text, symbol_text, entry_text, entry_lines, IsPrintedPart, IsPrintedSection, IsPrintedValue, IsPrinted}
+use Rattle.c25_meaning_common.specs.Digits.{four_digits}
+use Rattle.c25_meaning_placing.specs.MapText.{PartData, SectionPlace, NamedValue, MapData, map_line, part_text, place_text, run_lines, section_text, symbol_text, entry_text, entry_lines, IsPrintedPart, IsPrintedSection, IsPrintedValue, IsPrinted}
 use Rattle.c25_meaning_common.specs.Results.{◌>>=◌}
-use Rattle.c25_map.specs.Reading.{is_open, with_section, onto_last, with_part, with_symbol, with_entry, with_fields, part_of, place_of, value_of}
+use Rattle.c25_map.specs.Reading.{is_open, with_section, onto_last, with_part, run_of_last, with_run, with_symbol, with_entry, with_fields, word_of, part_of, place_of, value_of}
 use Rattle.c25_map.specs.declared.map_fault.MapFault.TheVariants.{BadMap}
-use Rattle.c25_map.proofs.Digits.{same_text}
-use Rattle.c25_map.proofs.Last.{with_one}
-use Rattle.c25_map.proofs.Spelled.{part_text_is, place_text_is, symbol_text_is, entry_text_is, IsPrintedPlace, part_found, place_found, value_found}
-use Rattle.c25_map.proofs.Steps.{tested, untested, stepped, given}
+use Rattle.c25_map.proofs.Digits.{same_text, word_found}
+use Rattle.c25_map.proofs.Last.{with_one, running_at}
+use Rattle.c25_map.proofs.Spelled.{part_text_is, place_text_is, run_text_is, symbol_text_is, entry_text_is, IsPrintedPlace, part_found, place_found, value_found}
+use Rattle.c25_map.proofs.Steps.{tested, untested, stepped, given, none_tested}
 
 -- the lines of sections, and those of symbols and entry
 abbrev pub sections_text : List SectionPlace → List ℕ
@@ -43,6 +44,10 @@ no_entry : (o : Option NamedValue) → is_some o ≡ false → o ≡ None
 no_entry None h = refl
 no_entry (Some x) h = absurd cc
 
+no_run : (o : Option ℕ) → is_some o ≡ false → o ≡ None
+no_run None h = refl
+no_run (Some x) h = absurd cc
+
 not_true : (b : Bool) → not b ≡ true → b ≡ false
 not_true true h = absurd cc
 not_true false h = refl
@@ -63,32 +68,41 @@ before_names old new text names none e = rw (none, e) (simp append-nil)
 abbrev pub new_section : Place → SectionPlace
 new_section place = record { place = place; parts = [] }
 
-section_grows : (sections : List SectionPlace) (place : Place) → sections_text (sections ++ new_section place ∷ []) ≡ sections_text sections ++ place_text place
-section_grows sections place = flat_map-append section_text sections (new_section place ∷ []) ∙ ap (λ (t : List ℕ). sections_text sections ++ t) (simp append-nil)
+new_text : (line : List ℕ) (run : Option ℕ) → run ≡ None → ((line ++ run_lines run) ++ []) ++ [] ≡ line
+new_text line run e = rw e (simp append-nil)
 
-printed_section : (place : Place) → IsPrintedPlace place → IsPrintedSection (new_section place)
-printed_section place h = record { name = h.name; page = h.page; base = h.base; size = h.size; parts = All-nil IsPrintedPart }
+section_grows : (sections : List SectionPlace) (place : Place) → place.run ≡ None → sections_text (sections ++ new_section place ∷ []) ≡ sections_text sections ++ place_text place
+section_grows sections place loaded =
+    flat_map-append section_text sections (new_section place ∷ []) ∙ ap (λ (t : List ℕ). sections_text sections ++ t) (new_text (place_text place) place.run loaded)
 
-section_added : (m n : MapData) (place : Place) → IsPrintedPlace place → with_section m place ≡ Ok n → Grows m (place_text place) n
+no_run_fits : (run : Option ℕ) → run ≡ None → IfSome run (λ run. run < 65536)
+no_run_fits None e = tt
+no_run_fits (Some run) e = absurd cc
+
+printed_section : (place : Place) → place.run ≡ None → IsPrintedPlace place → IsPrintedSection (new_section place)
+printed_section place loaded h = record { name = h.name; page = h.page; base = h.base; size = h.size; run = no_run_fits place.run loaded; parts = All-nil IsPrintedPart }
+
+section_added : (m n : MapData) (place : Place) → place.run ≡ None → IsPrintedPlace place → with_section m place ≡ Ok n → Grows m (place_text place) n
 unfolding with_section
-section_added m n place fits h =
+section_added m n place loaded fits h =
     let longer : MapData = record m { sections = m.sections ++ new_section place ∷ [] } in
     let test = tested (is_open m) (Ok longer) BadMap n h in
     let is : longer ≡ n = let last = test.1 in cc in
     subst (Grows m (place_text place)) is (record {
-      same = before_names (sections_text m.sections) (sections_text longer.sections) (place_text place) (names_text m) (open_names m test.0) (section_grows m.sections place);
-      printed = λ before. record { sections = All-push IsPrintedSection m.sections (new_section place) before.sections (printed_section place fits); symbols = before.symbols; entry = before.entry };
+      same = before_names (sections_text m.sections) (sections_text longer.sections) (place_text place) (names_text m) (open_names m test.0) (section_grows m.sections place loaded);
+      printed = λ before. record { sections = All-push IsPrintedSection m.sections (new_section place) before.sections (printed_section place loaded fits); symbols = before.symbols; entry = before.entry };
     })
 
 -- ---- parts
 
 one_grows : (s : SectionPlace) (part : PartData) → section_text (with_one s part) ≡ section_text s ++ part_text part
 one_grows s part =
-    ap (λ (t : List ℕ). place_text s.place ++ t) (flat_map-append part_text s.parts (part ∷ []) ∙ ap (λ (t : List ℕ). flat_map part_text s.parts ++ t) (append-nil (part_text part)))
-    ∙ sym (append_assoc (place_text s.place) (flat_map part_text s.parts) (part_text part))
+    let head = place_text s.place ++ run_lines s.place.run in
+    ap (λ (t : List ℕ). head ++ t) (flat_map-append part_text s.parts (part ∷ []) ∙ ap (λ (t : List ℕ). flat_map part_text s.parts ++ t) (append-nil (part_text part)))
+    ∙ sym (append_assoc head (flat_map part_text s.parts) (part_text part))
 
 printed_one : (s : SectionPlace) (part : PartData) → IsPrintedPart part → IsPrintedSection s → IsPrintedSection (with_one s part)
-printed_one s part fits h = record { name = h.name; page = h.page; base = h.base; size = h.size; parts = All-push IsPrintedPart s.parts part h.parts fits }
+printed_one s part fits h = record { name = h.name; page = h.page; base = h.base; size = h.size; run = h.run; parts = All-push IsPrintedPart s.parts part h.parts fits }
 
 -- the sections have grown by a part
 record PartAdded (old new : List SectionPlace) (part : PartData) : Type 0 where
@@ -124,6 +138,67 @@ part_added m n part fits h =
     let added = part_put m.sections found.0 part found.1 in
     subst (Grows m (part_text part)) found.2 (record {
       same = before_names (sections_text m.sections) (sections_text found.0) (part_text part) (names_text m) (open_names m test.0) added.same;
+      printed = λ before. record { sections = added.printed fits before.sections; symbols = before.symbols; entry = before.entry };
+    })
+
+-- ---- where a section runs
+
+-- the line of the address where a section runs
+abbrev pub run_text : ℕ → List ℕ
+run_text run = map_line (codes "RUN " ++ four_digits run)
+
+neither : (a b : Bool) → a || b ≡ false → (a ≡ false) × (b ≡ false)
+neither true b h = absurd cc
+neither false b h = (refl, h)
+
+not_false : (b : Bool) → not b ≡ false → b ≡ true
+not_false true h = refl
+not_false false h = absurd cc
+
+running_text : (line more : List ℕ) (run : Option ℕ) (parts : List PartData) → run ≡ None → parts ≡ []
+    → (line ++ more) ++ flat_map part_text parts ≡ ((line ++ run_lines run) ++ flat_map part_text parts) ++ more
+running_text line more run parts none empty = rw (none, empty) (simp append-nil)
+
+running_grows : (s : SectionPlace) (run : ℕ) → s.place.run ≡ None → s.parts ≡ [] → section_text (running_at s run) ≡ section_text s ++ run_text run
+unfolding place_text
+running_grows s run none empty = running_text (place_text s.place) (run_text run) s.place.run s.parts none empty
+
+printed_running : (s : SectionPlace) (run : ℕ) → run < 65536 → IsPrintedSection s → IsPrintedSection (running_at s run)
+printed_running s run fits h = record { name = h.name; page = h.page; base = h.base; size = h.size; run = fits; parts = h.parts }
+
+-- the sections have grown by the line of where the last one runs
+record RunAdded (old new : List SectionPlace) (run : ℕ) : Type 0 where
+  same : sections_text new ≡ sections_text old ++ run_text run
+  printed : run < 65536 → All IsPrintedSection old → All IsPrintedSection new
+
+run_put : (old new : List SectionPlace) (run : ℕ) → run_of_last old run ≡ Some new → RunAdded old new run
+run_put [] new run h = absurd cc
+run_put (s ∷ []) new run h =
+    let test = none_tested (is_some s.place.run || not (eqb (length s.parts) 0)) (running_at s run ∷ []) new h in
+    let both = neither (is_some s.place.run) (not (eqb (length s.parts) 0)) test.0 in
+    let none = no_run s.place.run both.0 in
+    let empty = nil_from_length s.parts (eqb-true (length s.parts) 0 (not_false (eqb (length s.parts) 0) both.1)) in
+    subst (λ ss. RunAdded (s ∷ []) ss run) test.1 (record {
+      same = append-nil (section_text (running_at s run)) ∙ running_grows s run none empty ∙ ap (λ (t : List ℕ). t ++ run_text run) (sym (append-nil (section_text s)));
+      printed = λ fits before. All-cons IsPrintedSection (running_at s run) [] (printed_running s run fits (All-head IsPrintedSection s [] before)) (All-nil IsPrintedSection);
+    })
+run_put (s ∷ t ∷ more) new run h =
+    let found = some_mapped (run_of_last (t ∷ more) run) (λ (rest : List SectionPlace). s ∷ rest) new h in
+    let later = run_put (t ∷ more) found.0 run found.1 in
+    subst (λ ss. RunAdded (s ∷ t ∷ more) ss run) found.2 (record {
+      same = ap (λ (x : List ℕ). section_text s ++ x) later.same ∙ sym (append_assoc (section_text s) (sections_text (t ∷ more)) (run_text run));
+      printed = λ fits before. All-cons IsPrintedSection s found.0 (All-head IsPrintedSection s (t ∷ more) before) (later.printed fits (All-tail IsPrintedSection s (t ∷ more) before));
+    })
+
+run_added : (m n : MapData) (run : ℕ) → run < 65536 → with_run m run ≡ Ok n → Grows m (run_text run) n
+unfolding with_run
+run_added m n run fits h =
+    let test = tested (is_open m) (ok_or (option_map (λ (sections : List SectionPlace). record m { sections = sections }) (run_of_last m.sections run)) BadMap) BadMap n h in
+    let there = given (option_map (λ (sections : List SectionPlace). record m { sections = sections }) (run_of_last m.sections run)) BadMap n test.1 in
+    let found = some_mapped (run_of_last m.sections run) (λ (sections : List SectionPlace). record m { sections = sections }) n there in
+    let added = run_put m.sections found.0 run found.1 in
+    subst (Grows m (run_text run)) found.2 (record {
+      same = before_names (sections_text m.sections) (sections_text found.0) (run_text run) (names_text m) (open_names m test.0) added.same;
       printed = λ before. record { sections = added.printed fits before.sections; symbols = before.symbols; entry = before.entry };
     })
 
@@ -189,7 +264,17 @@ place_grows m n kind page base size name h =
     let is = place_found page base size name found.0 found.1 in
     grown m n (place_text found.0) (fields_text (kind ∷ page ∷ base ∷ size ∷ name ∷ []))
     (place_text_is found.0 ∙ ap (λ (t : List ℕ). t ++ 10 ∷ []) (sym is.same) ∙ kind_is kind (codes "SECTION") (page ∷ base ∷ size ∷ name ∷ []) test.0)
-    (section_added m n found.0 is.printed found.2)
+    (section_added m n found.0 is.loaded is.printed found.2)
+
+run_grows : (m n : MapData) (kind run : List ℕ) → with_fields m (kind ∷ run ∷ []) ≡ Ok n → Grows m (fields_text (kind ∷ run ∷ [])) n
+unfolding with_fields
+run_grows m n kind run h =
+    let test = tested (bytes_eq kind (codes "RUN")) (word_of run >>= λ r. with_run m r) BadMap n h in
+    let found = stepped (word_of run) (λ (r : ℕ). with_run m r) n test.1 in
+    let is = word_found run found.0 found.1 in
+    grown m n (run_text found.0) (fields_text (kind ∷ run ∷ []))
+    (run_text_is found.0 ∙ ap (λ (t : List ℕ). fields_text (codes "RUN" ∷ t ∷ [])) (sym is.0) ∙ kind_is kind (codes "RUN") (run ∷ []) test.0)
+    (run_added m n found.0 is.1 found.2)
 
 named_grows : (m n : MapData) (kind value name : List ℕ) (a b : Bool) → bytes_eq kind (codes "SYMBOL") ≡ a → bytes_eq kind (codes "ENTRY") ≡ b
     → (if a then (value_of value name >>= λ symbol. with_symbol m symbol) else (if b then (value_of value name >>= λ entry. with_entry m entry) else Err BadMap)) ≡ Ok n
@@ -212,7 +297,7 @@ pub fields_grow : (m n : MapData) (fields : List (List ℕ)) → with_fields m f
 unfolding with_fields
 fields_grow m n [] h = absurd cc
 fields_grow m n (a ∷ []) h = absurd cc
-fields_grow m n (a ∷ b ∷ []) h = absurd cc
+fields_grow m n (kind ∷ run ∷ []) h = run_grows m n kind run h
 fields_grow m n (kind ∷ value ∷ name ∷ []) h = named_grows m n kind value name (bytes_eq kind (codes "SYMBOL")) (bytes_eq kind (codes "ENTRY")) refl refl h
 fields_grow m n (kind ∷ number ∷ base ∷ size ∷ []) h = part_grows m n kind number base size h
 fields_grow m n (kind ∷ page ∷ base ∷ size ∷ name ∷ []) h = place_grows m n kind page base size name h

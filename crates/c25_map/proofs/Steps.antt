@@ -27,3 +27,8 @@ given None e v h = absurd cc
 pub some_tested : {A : Type 0} (b : Bool) (x v : A) → (if b then Some x else None) ≡ Some v → (b ≡ true) × (x ≡ v)
 some_tested true x v h = (refl, cc)
 some_tested false x v h = absurd cc
+
+-- the value was there since a test failed
+pub none_tested : {A : Type 0} (b : Bool) (x v : A) → (if b then None else Some x) ≡ Some v → (b ≡ false) × (x ≡ v)
+none_tested true x v h = absurd cc
+none_tested false x v h = (refl, cc)

@@ -51,7 +51,7 @@ part_of number base size =
 -- a section, without its parts
 unfoldable pub place_of : List ℕ → List ℕ → List ℕ → List ℕ → Result Place MapFault
 place_of page base size name =
-    if is_section_name name then (page_of page >>= λ p. word_of base >>= λ b. size_of size >>= λ s. Ok (record { name = name; page = p; base = b; size = s }))
+    if is_section_name name then (page_of page >>= λ p. word_of base >>= λ b. size_of size >>= λ s. Ok (record { name = name; page = p; base = b; size = s; run = None }))
     else Err BadMap
 
 -- a value and its name
@@ -82,6 +82,21 @@ unfoldable pub with_part : MapData → PartData → Result MapData MapFault
 with_part m part =
     if is_open m then ok_or (option_map (λ sections. record m { sections = sections }) (onto_last m.sections part)) BadMap else Err BadMap
 
+-- whether it has been told where a section runs, or a part of it
+abbrev pub is_settled : SectionPlace → Bool
+is_settled s = is_some s.place.run || not (length s.parts == 0)
+
+-- the sections with the address where the last one runs, which comes once and before its parts
+abbrev pub run_of_last : List SectionPlace → ℕ → Option (List SectionPlace)
+run_of_last [] run = None
+run_of_last (s ∷ []) run = if is_settled s then None else Some (record s { place = record s.place { run = Some run } } ∷ [])
+run_of_last (s ∷ t ∷ more) run = option_map (λ rest. s ∷ rest) (run_of_last (t ∷ more) run)
+
+-- the map with the address where its last section runs
+unfoldable pub with_run : MapData → ℕ → Result MapData MapFault
+with_run m run =
+    if is_open m then ok_or (option_map (λ sections. record m { sections = sections }) (run_of_last m.sections run)) BadMap else Err BadMap
+
 -- the map with a symbol more
 unfoldable pub with_symbol : MapData → NamedValue → Result MapData MapFault
 with_symbol m symbol = if is_some m.entry then Err BadMap else Ok (record m { symbols = m.symbols ++ symbol ∷ [] })
@@ -94,6 +109,7 @@ with_entry m entry = if is_some m.entry then Err BadMap else Ok (record m { entr
 
 -- the map with what the fields of a line say
 unfoldable pub with_fields : MapData → List (List ℕ) → Result MapData MapFault
+with_fields m (kind ∷ run ∷ []) = if bytes_eq kind (codes "RUN") then (word_of run >>= λ r. with_run m r) else Err BadMap
 with_fields m (kind ∷ value ∷ name ∷ []) =
     if bytes_eq kind (codes "SYMBOL") then (value_of value name >>= λ symbol. with_symbol m symbol)
     else (if bytes_eq kind (codes "ENTRY") then (value_of value name >>= λ entry. with_entry m entry)

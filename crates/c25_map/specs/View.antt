@@ -13,7 +13,7 @@ part_data p = record { number = string_bytes p.number; base = p.base; size = p.s
 -- a section
 abbrev pub section_data : OutputSection → meant.SectionPlace
 section_data s = record {
-  place = record { name = string_bytes s.name; page = s.page; base = s.base; size = s.size };
+  place = record { name = string_bytes s.name; page = s.page; base = s.base; size = s.size; run = s.run };
   parts = map part_data s.parts.items;
 }
 

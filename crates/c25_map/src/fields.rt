@@ -55,6 +55,7 @@ pub(crate) fn section_of(
         page,
         base,
         size,
+        run: None,
         parts: Vec::new(alloc),
     })
 }

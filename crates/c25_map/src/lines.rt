@@ -9,6 +9,7 @@ ghost use Rattle.c25_map.specs.View.{part_data, section_data, symbol_data, map_d
 use crate::fields::{part_of, section_of, symbol_of};
 use crate::map::{GlobalSymbol, Map, OutputSection, Part};
 use crate::map_fault::MapFault;
+use crate::numbers::word_of;
 use c25_meaning_common::failure::Failure;
 use std::alloc::{AllocError, Global};
 
@@ -48,6 +49,40 @@ fn add_part(so_far: &mut Map, part: Part) -> Result<(), Failure<MapFault>>
         return Err(Failure::Fault(MapFault::BadMap));
     }
     add_to_last(&mut so_far.sections, part)
+}
+
+/// Whether it has been told where a section runs, or a part of it.
+fn is_settled(section: &OutputSection) -> bool
+    ensures { result ≡ reading.is_settled (section_data section.now) }
+{
+    section.run.is_some() || !section.parts.is_empty()
+}
+
+/// Tells where the last section runs.
+fn run_of_last(sections: &mut Vec<OutputSection>, run: u16) -> Result<(), Failure<MapFault>>
+    ensures { Meets (λ _. map section_data sections.new.items) (ok_or (reading.run_of_last (map section_data sections.old.items) run) BadMap) result }
+{
+    match sections.last_mut() {
+        None => Err(Failure::Fault(MapFault::BadMap)),
+        Some(section) => {
+            if is_settled(section) {
+                return Err(Failure::Fault(MapFault::BadMap));
+            }
+            section.run = Some(u32::from(run));
+            Ok(())
+        }
+    }
+}
+
+/// Tells where the last section runs, if neither symbols nor an entry have come yet.
+#[tactic(auto, unfolding(crate::specs::Reading::with_run))]
+fn set_run(so_far: &mut Map, run: u16) -> Result<(), Failure<MapFault>>
+    ensures { Meets (λ _. map_data so_far.new) (reading.with_run (map_data so_far.old) run) result }
+{
+    if !is_open(so_far) {
+        return Err(Failure::Fault(MapFault::BadMap));
+    }
+    run_of_last(&mut so_far.sections, run)
 }
 
 #[tactic(auto, unfolding(crate::specs::Reading::with_symbol))]
@@ -97,6 +132,12 @@ fn add_fields(alloc: Global, so_far: &mut Map, fields: &[&str]) -> Result<(), Fa
     ensures { Meets (λ _. map_data so_far.new) (reading.with_fields (map_data so_far.old) (map (λ f. f.now) fields.now)) result }
 {
     match fields {
+        [kind, run] => {
+            if *kind != "RUN" {
+                return Err(Failure::Fault(MapFault::BadMap));
+            }
+            set_run(so_far, word_of(run.as_bytes())?)
+        }
         [kind, value, name] => add_named(alloc, so_far, kind, value, name),
         [kind, number, base, size] => {
             if *kind != "PART" {

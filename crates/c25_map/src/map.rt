@@ -17,10 +17,12 @@ pub struct OutputSection {
     pub name: String,
     /// 0 for program memory, 1 for data memory.
     pub page: u8,
-    /// The address of its first word.
+    /// The address where its first word is loaded.
     pub base: u32,
     /// How many words it has.
     pub size: u32,
+    /// The address where its first word runs, if that is another.
+    pub run: Option<u32>,
     /// The parts, by modules.
     pub parts: Vec<Part>,
 }

@@ -1,9 +1,9 @@
 //! The text of a map.
 
-ghost use Rattle.std.specs.Prelude.{◌≡◌, ◌<◌, ◌≤◌, ◌++◌, OnOk, IfOk, All, map, ◌∷◌, [], string_bytes};
+ghost use Rattle.std.specs.Prelude.{◌≡◌, ◌<◌, ◌≤◌, ◌++◌, OnOk, IfOk, IfSome, All, map, ◌∷◌, [], string_bytes};
 ghost use Rattle.std.specs.List.{flat_map};
 ghost use Rattle.std.specs.Option.{option_map};
-ghost use Rattle.c25_meaning_placing.specs.MapText.{address_text, decimal_digit, five_digits, eight_digits, part_text, place_text, section_text, value_text, symbol_text, entry_text, entry_lines, map_text, HasDigits};
+ghost use Rattle.c25_meaning_placing.specs.MapText.{address_text, decimal_digit, five_digits, eight_digits, part_text, place_text, run_lines, section_text, value_text, symbol_text, entry_text, entry_lines, map_text, HasDigits};
 ghost use Rattle.c25_meaning_common.specs.Digits.{four_digits};
 ghost use Rattle.c25_map.specs.View.{part_data, section_data, symbol_data, map_data};
 
@@ -99,6 +99,21 @@ fn push_place(out: &mut String, section: &OutputSection) -> Result<(), NoMemory>
     Ok(out.push_str("\n")?)
 }
 
+/// Appends the line of the address where a section runs, if that is not where it is loaded.
+fn push_run(out: &mut String, run: Option<u32>) -> Result<(), NoMemory>
+    requires { IfSome run (λ run. run < 65536) }
+    ensures { OnOk result (string_bytes out.new ≡ string_bytes out.old ++ run_lines run) }
+{
+    match run {
+        Some(run) => {
+            out.push_str("RUN ")?;
+            push_four(out, run as u16)?;
+            Ok(out.push_str("\n")?)
+        }
+        None => Ok(()),
+    }
+}
+
 /// Appends the lines of parts.
 fn push_parts(out: &mut String, parts: &[Part]) -> Result<(), NoMemory>
     requires { All (λ p. p.base ≤ 65536) parts.now }
@@ -110,12 +125,13 @@ fn push_parts(out: &mut String, parts: &[Part]) -> Result<(), NoMemory>
     Ok(())
 }
 
-/// Appends the lines of a section and of its parts.
+/// Appends the lines of a section, of where it runs and of its parts.
 fn push_section(out: &mut String, section: &OutputSection) -> Result<(), NoMemory>
     requires { HasDigits (section_data section.now) }
     ensures { OnOk result (string_bytes out.new ≡ string_bytes out.old ++ section_text (section_data section.now)) }
 {
     push_place(out, section)?;
+    push_run(out, section.run)?;
     push_parts(out, &section.parts)
 }
 
@@ -177,10 +193,11 @@ fn push_entry_lines(out: &mut String, entry: &Option<GlobalSymbol>) -> Result<()
     }
 }
 
-/// The text of a map whose sections lie within their pages: a line for each section, behind it one for each of
-/// its parts, a line for each global symbol, one for the entry if there is one, between a first line
-/// `C25 MAP 1` and a last line `END`. Addresses and values are hexadecimal in upper case, sizes
-/// decimal in five digits. It refuses for want of memory alone.
+/// The text of a map whose sections lie within their pages: a line for each section, behind it one with
+/// the address where it runs, if that is not where it is loaded, and one for each of its parts, a line
+/// for each global symbol, one for the entry if there is one, between a first line `C25 MAP 1` and a
+/// last line `END`. Addresses and values are hexadecimal in upper case, sizes decimal in five digits.
+/// It refuses for want of memory alone.
 pub fn write_map(alloc: Global, map: &Map) -> Result<String, NoMemory>
     requires { All HasDigits (map_data map.now).sections }
     ensures { IfOk result (λ text. string_bytes text ≡ map_text (map_data map.now)) }

@@ -20,7 +20,7 @@ use Rattle.c25_meaning_language.specs.declared.statement.FaultKind.TheVariants a
 use Rattle.c25_meaning_language.specs.declared.statement.Field.{Field}
 use Rattle.c25_meaning_language.specs.declared.statement.Form.TheVariants as form
 use Rattle.c25_meaning_language.specs.declared.value.Base.{Base}
-use Rattle.c25_meaning_language.specs.declared.value.Base.TheVariants.{Absolute, Section, External}
+use Rattle.c25_meaning_language.specs.declared.value.Base.TheVariants.{Absolute, Section, Loaded, External}
 
 -- ---- numbers and addresses
 
@@ -47,6 +47,7 @@ with_address (Some kind) base addend s =
 abbrev pub with_value : Base → Field → ℤ → Sheet → Result Sheet FaultKind
 with_value Absolute field z s = number_in field z >>= λ n. Ok (with_number n s)
 with_value (Section number) field z s = with_address (relocation_of field) (relocated.Section number) z s
+with_value (Loaded number) field z s = with_address (relocation_of field) (relocated.Loaded number) z s
 with_value (External number) field z s = with_address (relocation_of field) (relocated.External number) z s
 
 -- one expression more

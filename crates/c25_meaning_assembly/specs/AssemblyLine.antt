@@ -44,6 +44,8 @@ pub data Act : Type 0 where
   Declare : (names : List (List ℕ)) → Act
   -- `.def`
   Export : (names : List (List ℕ)) → Act
+  -- `.label`
+  Label : (name : List ℕ) → Act
   -- `.mmregs`
   Registers : Act
 
@@ -62,7 +64,7 @@ directives =
     ∷ (codes ".int", directive.Word) ∷ (codes ".byte", directive.Byte) ∷ (codes ".string", directive.Characters)
     ∷ (codes ".space", directive.Space) ∷ (codes ".set", directive.Set) ∷ (codes ".equ", directive.Set)
     ∷ (codes ".global", directive.Global) ∷ (codes ".ref", directive.Global) ∷ (codes ".def", directive.Def)
-    ∷ (codes ".mmregs", directive.Registers) ∷ []
+    ∷ (codes ".label", directive.Label) ∷ (codes ".mmregs", directive.Registers) ∷ []
 
 -- the directives of listings alone, which have no effect
 abbrev pub ignored : List (List ℕ)
@@ -200,6 +202,11 @@ strings_in (o ∷ os) = string_in o >>= λ text. strings_in os >>= λ words. Ok 
 abbrev pub loading : List (List Piece) → Result Act FaultKind
 loading operands = some operands >>= λ _. strings_in operands >>= λ words. Ok (Load words)
 
+-- `.label`: a name
+abbrev pub naming : List (List Piece) → Result Act FaultKind
+naming (o ∷ []) = name_in o >>= λ name. Ok (Label name)
+naming _ = Err fault.OperandCount
+
 -- what a directive does on a line with this label and these operands
 unfoldable pub act_of : Directive → List ℕ → List (List Piece) → Result Act FaultKind
 act_of directive.Text label operands = without (Enter (codes ".text")) operands
@@ -214,6 +221,7 @@ act_of directive.Space label operands = with_expression Space operands
 act_of directive.Set label operands = with_expression (Equate label) operands
 act_of directive.Global label operands = some_names operands >>= λ names. Ok (Declare names)
 act_of directive.Def label operands = some_names operands >>= λ names. Ok (Export names)
+act_of directive.Label label operands = naming operands
 act_of directive.Registers label operands = without Registers operands
 act_of directive.Ignored label operands = Ok Nothing
 

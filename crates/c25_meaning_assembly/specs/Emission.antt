@@ -47,6 +47,7 @@ extended words relocations s = record s { words = s.words ++ words; relocations 
 abbrev pub is_inside : Base → Bool
 is_inside base.Absolute = true
 is_inside (base.Section n) = true
+is_inside (base.Loaded n) = true
 is_inside (base.External n) = false
 
 -- the same of a value, if there is one
@@ -102,6 +103,7 @@ section_of s = record { name = s.name; body = body_of s }
 abbrev pub kind_of : Base → SymbolKind
 kind_of base.Absolute = symbol.Absolute
 kind_of (base.Section n) = symbol.InSection n
+kind_of (base.Loaded n) = symbol.Loaded n
 kind_of (base.External n) = symbol.External
 
 -- who sees a symbol

@@ -5,7 +5,7 @@ use Rattle.std.specs.List.{position, find, list_any}
 use Rattle.std.specs.Ordering.{int_eq}
 use Rattle.std.specs.Str.{bytes_eq, is_utf8}
 use Rattle.c25_meaning_assembly.specs.OperandFields.{target_size}
-use Rattle.c25_meaning_assembly.specs.AssemblyLine.{Room, Act, Nothing, Enter, Reserve, Equate, Put, Load, Space, Declare, Export, Registers, Statement}
+use Rattle.c25_meaning_assembly.specs.AssemblyLine.{Room, Act, Nothing, Enter, Reserve, Equate, Put, Load, Space, Declare, Export, Label, Registers, Statement}
 use Rattle.c25_meaning_common.specs.Results.{◌>>=◌, fold_ok}
 use Rattle.c25_meaning_language.specs.Absolute.{number_by}
 use Rattle.c25_meaning_language.specs.Statement.{valued}
@@ -114,6 +114,10 @@ stands names name = is_some (value_named (record { entries = names; here = start
 -- a name that stands for nothing yet stands for this from now on
 unfoldable pub define : List ℕ → Value → Progress → Result Progress FaultKind
 define name value p = if stands p.names name then Err fault.Defined else Ok (record p { names = p.names ++ (name, value) ∷ [] })
+
+-- the place where the words of the next line are loaded
+abbrev pub loaded_here : Progress → Value
+loaded_here p = record { base = base.Loaded p.current; offset = pos (size_at p.sections p.current) }
 
 -- a label stands for the place where its line begins
 abbrev pub label : Option (List ℕ) → Progress → Result Progress FaultKind
@@ -346,6 +350,10 @@ export origin names p =
     if list_any is_predefined names then Err fault.Defined
     else Ok (with_item origin (Exported names) (record p { exported = all_once p.exported names }))
 
+-- `.label`: a name for where the words behind it are loaded, wherever they run
+abbrev pub name_loaded : List ℕ → Progress → Result Progress FaultKind
+name_loaded name p = define name (loaded_here p) p
+
 -- `.mmregs`; a second one does nothing
 unfoldable pub registers : Progress → Result Progress FaultKind
 registers p = if p.registers then Ok p else fold_ok define_pair (record p { registers = true }) register_names
@@ -361,6 +369,7 @@ act origin (Load words) p = lay origin (Words words) (length words) p
 act origin (Space e) p = space origin e p
 act origin (Declare names) p = declare names p
 act origin (Export names) p = export origin names p
+act origin (Label name) p = name_loaded name p
 act origin Registers p = registers p
 
 -- ---- how many names

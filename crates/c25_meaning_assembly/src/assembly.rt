@@ -32,6 +32,8 @@ pub enum Directive {
     Global,
     /// `.def`
     Def,
+    /// `.label`
+    Label,
     /// `.mmregs`
     Registers,
     /// A directive of listings alone, as `.title`: it has no effect here.

@@ -15,11 +15,13 @@ pub data TargetData : Type 0 where
   InRange : List ℕ → TargetData
   At : ℕ → TargetData
 
--- what is said of one section; the page only where it is named
+-- what is said of one section; the page only where it is named, and an address only where it runs at another than it is
+-- loaded at
 pub record PlacingData : Type 0 where
   pub name : List ℕ
   pub target : TargetData
   pub page : Option ℕ
+  pub run : Option ℕ
 
 -- the name of the entry, the ranges of MEMORY and the sections of SECTIONS, each where it is given
 pub record CommandData : Type 0 where

@@ -1,5 +1,5 @@
--- SECTIONS { name : [{ } or { *(name) }] [> T or load = T or load > T] [PAGE n] [,] ... } (SPRU018, linker
--- description, the SECTIONS directive, in part; where each fault is told is this project's own).
+-- SECTIONS { name : [{ } or { *(name) }] [> T or load = T or load > T] [PAGE n] [,] [run = number [,]] ... } (SPRU018,
+-- linker description, the SECTIONS directive, in part; where each fault is told is this project's own).
 use Rattle.std.specs.Prelude.{ℕ, Bool, not, List, [], ◌∷◌, ◌++◌, drop, Option, Some, None, Result, Ok, if◌then◌else◌}
 use Rattle.std.specs.List.{list_any}
 use Rattle.std.specs.Str.{bytes_eq}
@@ -51,13 +51,21 @@ section_page_at ts = if begins (want.Keyword keyword.Page) ts then (do
   n ← page_number_at (drop 1 ts)
   Ok (Some n.0, n.1)) else Ok (None, ts)
 
+-- `run = number` and a comma that may be left out, or nothing
+unfoldable pub run_at : List Token → Reading (Option ℕ)
+run_at ts = if begins (want.Keyword keyword.Run) ts then (do
+  equals ← wanted (want.Sign sign.Equals) (drop 1 ts)
+  n ← number_at equals.1
+  Ok (Some n.0, past (want.Sign sign.Comma) n.1)) else Ok (None, ts)
+
 -- what stands behind a section's colon
 unfoldable pub placing_at : List ℕ → List Token → Reading PlacingData
 placing_at name ts = do
   after ← contents_at name ts
   target ← target_at after
   page ← section_page_at target.1
-  Ok (record { name = name; target = target.0; page = page.0 }, past (want.Sign sign.Comma) page.1)
+  run ← run_at (past (want.Sign sign.Comma) page.1)
+  Ok (record { name = name; target = target.0; page = page.0; run = run.0 }, run.1)
 
 -- whether a section has this name
 abbrev pub is_placing : List ℕ → PlacingData → Bool

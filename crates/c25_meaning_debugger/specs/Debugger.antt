@@ -1,15 +1,18 @@
 -- The answers of a debugger's script, over an image and the states of a run, whatever one step is (own).
-use Rattle.std.specs.Prelude.{◌≡◌, ℕ, ◌-◌, List, [], ◌∷◌, ◌++◌, min}
+use Rattle.std.specs.Prelude.{◌≡◌, ℕ, ◌-◌, List, [], ◌∷◌, ◌++◌, Option, Some, None, min}
 use Rattle.c25_meaning_linking.specs.Linking.{ImageData, line_at}
 use Rattle.c25_meaning_processor.specs.Run.{Signals, Stepping}
 use Rattle.c25_meaning_image.specs.Marks.{size_at}
 use Rattle.c25_meaning_processor.specs.State.{State, data_at, program_at}
 use Rattle.c25_meaning_processor.specs.Status.{regs_of}
+use Rattle.c25_meaning_processor.specs.WordStep.{IsFetchedBy, mark_found}
+use Rattle.c25_meaning_instructions.specs.declared.insn.Insn.{Insn}
+use Rattle.c25_meaning_image.specs.declared.mark.RunMark.{RunMark}
 use Rattle.c25_meaning_stimulus.specs.declared.script.Cmd.{Cmd}
 use Rattle.c25_meaning_stimulus.specs.declared.script.Cmd.TheVariants as cmd
 use Rattle.c25_meaning_breakpoints.specs.Goes.{Goes, Halting, is_breakpoint}
 use Rattle.c25_meaning_breakpoints.specs.Set.{can_set, with_breakpoint, without_breakpoint}
-use Rattle.c25_meaning_debugger.specs.Texts.{AreLinesOf, IsWhere, SourceLine, cleared_text, halting_text, marks_from, regs_text, set_text, stack_text, symbols_text, words_text}
+use Rattle.c25_meaning_debugger.specs.Texts.{AreLinesOf, IsWhere, SourceLine, cleared_text, halting_text, insn_line, marks_from, regs_text, set_text, stack_text, symbols_text, words_text}
 
 -- where a session stands: how many steps are done in all, the state, and the breakpoints in the order in which they were set
 pub record Point : Type 0 where
@@ -43,6 +46,21 @@ program_word s address = program_at s.registers.cnf s.world address
 abbrev pub source_line_at : ImageData → ℕ → SourceLine
 source_line_at image address = line_at address image.lines
 
+-- a text is the line of PC: of an instruction's mark there
+abbrev pub IsMarkAt : ImageData → State → List ℕ → Type 0
+IsMarkAt image s text = IsWhere image.program (source_line_at image) s.registers.pc (size_at image.marks s.registers.pc) text
+
+-- or else of the instruction that is fetched there from block B0, if one is, which stands in the sources where it is loaded
+abbrev pub IsFetchedLine : ImageData → State → RunMark → Option Insn → List ℕ → Type 0
+IsFetchedLine image s m None text = IsMarkAt image s text
+IsFetchedLine image s m (Some i) text = text ≡ insn_line s.registers.pc (Some i) (source_line_at image m.load)
+
+-- the same by the place of the instruction that runs there in B0, if one does
+abbrev pub IsWhereBy : ImageData → State → Option RunMark → List ℕ → Type 0
+IsWhereBy image s None text = IsMarkAt image s text
+IsWhereBy image s (Some m) text =
+    (i : Option Insn) × IsFetchedBy s.registers.cnf s.world s.registers.pc (Some m) i × IsFetchedLine image s m i text
+
 -- what a command answers at a point, and the point behind it
 abbrev pub Answers : Stepping → Signals → ImageData → Cmd → Point → List ℕ → Point → Type 0
 Answers step signals image (cmd.Step n) p text q = Steps step signals [] n p text q
@@ -56,7 +74,7 @@ Answers step signals image (cmd.Data address count) p text q = (text ≡ words_t
 Answers step signals image (cmd.Prog address count) p text q = (text ≡ words_text (program_word p.state) address count) × (q ≡ p)
 Answers step signals image cmd.Stack p text q = (text ≡ stack_text (regs_of p.state.registers)) × (q ≡ p)
 Answers step signals image cmd.Where p text q =
-    IsWhere image.program (source_line_at image) p.state.registers.pc (size_at image.marks p.state.registers.pc) text × (q ≡ p)
+    IsWhereBy image p.state (mark_found p.state.registers.cnf p.state.world p.state.registers.pc) text × (q ≡ p)
 Answers step signals image (cmd.List n) p text q = AreLinesOf image.program (source_line_at image) (marks_from image.marks p.state.registers.pc n) text × (q ≡ p)
 Answers step signals image cmd.Symbols p text q = (text ≡ symbols_text image.described.symbols) × (q ≡ p)
 

@@ -117,7 +117,7 @@ AreLinesOf words source_line_at (mark ∷ marks) text =
 
 -- a text is the line of an address: of the instruction there, if a mark of this size is there
 abbrev pub IsWhere : map.FinMap nat_cmp ℕ → (ℕ → SourceLine) → ℕ → Option ℕ → List ℕ → Type 0
-IsWhere words source_line_at address None text = text ≡ insn_line address None (source_line_at address)
+IsWhere words source_line_at address None text = text ≡ insn_line address None None
 IsWhere words source_line_at address (Some size) text = IsLineOf words source_line_at (record { address = address; size = size }) text
 
 -- the first n marks from an address up

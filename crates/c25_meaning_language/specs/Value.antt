@@ -16,7 +16,7 @@ use Rattle.c25_meaning_language.specs.declared.expression.BinaryOperator.TheVari
 use Rattle.c25_meaning_language.specs.declared.value.ValueFault.{ValueFault}
 use Rattle.c25_meaning_language.specs.declared.value.ValueFault.TheVariants.{Undefined, NotAbsolute, DivideByZero, ValueRange}
 use Rattle.c25_meaning_language.specs.declared.value.Base.{Base}
-use Rattle.c25_meaning_language.specs.declared.value.Base.TheVariants.{Absolute, Section}
+use Rattle.c25_meaning_language.specs.declared.value.Base.TheVariants.{Absolute, Section, Loaded}
 use Rattle.c25_meaning_language.specs.declared.value.Value.{Value}
 
 -- a number, if it has 32 signed bits
@@ -63,6 +63,7 @@ base_of binary.Add b Absolute = Ok b
 base_of binary.Add Absolute b = Ok b
 base_of binary.Subtract b Absolute = Ok b
 base_of binary.Subtract (Section s) (Section t) = if s == t then Ok Absolute else Err NotAbsolute
+base_of binary.Subtract (Loaded s) (Loaded t) = if s == t then Ok Absolute else Err NotAbsolute
 base_of _ a b = Err NotAbsolute
 
 -- an operator between values: first their kinds, then their numbers

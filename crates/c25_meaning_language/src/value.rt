@@ -41,8 +41,10 @@ pub enum Base {
     /// Nothing: the value is a plain number.
     #[default]
     Absolute,
-    /// The start of a section of this module, by the section's number.
+    /// The start of a section of this module where it runs, by the section's number.
     Section(u16),
+    /// Where the words of a section of this module are loaded, by the section's number.
+    Loaded(u16),
     /// The address of an external symbol, by the symbol's number.
     External(u16),
 }

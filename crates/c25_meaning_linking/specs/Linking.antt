@@ -1,5 +1,5 @@
 -- What modules come to under a command: a program, or the first refusal (SPRU018, linker description; which refusal is
--- told first is this project's own: 71, 70 and 76 over all modules, then 72, 73 and 74 by sections as they are placed,
+-- told first is this project's own: 71, 70 and 76 over all modules, then 72, 73, 74 and 78 by sections as they are placed,
 -- then 75).
 use Rattle.std.specs.Prelude.{◌≡◌, ◌==◌, ℕ, List, [], ◌∷◌, map, find, filter, ℤ, Bool, false, not, Option, Some, None, is_none, Result, Ok, Err, if◌then◌else◌, ◌⊎◌, ◌↔◌, true}
 use Rattle.std.specs.Option.{option_map}
@@ -12,15 +12,16 @@ use Rattle.c25_meaning_commands.specs.Command.{CommandData}
 use Rattle.c25_meaning_common.specs.Fields.{takes}
 use Rattle.c25_meaning_placing.specs.GoodMap.{is_among, IsGoodMap, IsUnplaced, ranges_for, placings_for, requests}
 use Rattle.c25_meaning_placing.specs.MapText.{MapData, PartData, SectionPlace, NamedValue}
-use Rattle.c25_meaning_image.specs.Marks.{fit_from}
+use Rattle.c25_meaning_image.specs.Marks.{fit_from, run_fit}
 use Rattle.c25_meaning_objects.specs.Module.{SectionData, Contents, body_size}
 use Rattle.c25_meaning_placing.specs.Place.{Place, by_modules, is_section_named, part_base}
 use Rattle.c25_meaning_common.specs.Results.{◌>>=◌}
-use Rattle.c25_meaning_linking.specs.Words.{Definition, symbol_name, section_name, definitions, definition_of, definition_value, name_value, relocated_value, HasWord, program_marks, LineData, program_lines}
+use Rattle.c25_meaning_linking.specs.Words.{Definition, symbol_name, section_name, definitions, definition_of, definition_value, name_value, relocated_value, HasWord, program_marks, program_run_marks, LineData, program_lines}
 use Rattle.c25_meaning_placing.specs.declared.link_fault.LinkFault.{LinkFault}
 use Rattle.c25_meaning_placing.specs.declared.link_fault.LinkFault.TheVariants.{Unresolved, DefinedTwice, RelocRange, NoEntry}
 use Rattle.c25_meaning_placing.specs.declared.link_fault.FaultyLink.{FaultyLink}
 use Rattle.c25_meaning_image.specs.declared.mark.Mark.{Mark}
+use Rattle.c25_meaning_image.specs.declared.mark.RunMark.{RunMark}
 use Rattle.c25_meaning_objects.specs.declared.object.RelocationBase.{RelocationBase}
 use Rattle.c25_meaning_objects.specs.declared.object.RelocationBase.TheVariants as base
 use Rattle.c25_meaning_objects.specs.declared.object.Relocation.{Relocation}
@@ -141,11 +142,13 @@ map_of modules entry places = record {
 
 -- ---- linking
 
--- a program: the words of both pages, the instructions on page 0, those that have a line of a file, and the map
+-- a program: the words of both pages, the instructions on page 0 that run where they are loaded, those that run elsewhere, those that
+-- have a line of a file, and the map
 pub record ImageData : Type 0 where
   pub program : finite.FinMap nat_cmp ℕ
   pub store : finite.FinMap nat_cmp ℕ
   pub marks : List Mark
+  pub run_marks : List RunMark
   pub lines : List LineData
   pub described : MapData
 
@@ -153,17 +156,22 @@ pub record ImageData : Type 0 where
 abbrev pub HasWords : List Contents → List Place → ℕ → finite.FinMap nat_cmp ℕ → Type 0
 HasWords modules places page words = (address word : ℕ) → (finite.get words address ≡ Some word) ↔ HasWord modules places page address word
 
--- the marks are those of the instructions on page 0, in ascending order
+-- the marks are those of the instructions on page 0 that run where they are loaded, in ascending order
 pub record HasMarks (modules : List Contents) (places : List Place) (marks : List Mark) : Type 0 where
   pub same : IsPermutation (program_marks modules places) marks
   pub ascend : fit_from 0 marks ≡ true
+
+-- the run marks are those of the instructions on page 0 that run elsewhere, in the order in which they run
+pub record HasRunMarks (modules : List Contents) (places : List Place) (marks : List Mark) (run_marks : List RunMark) : Type 0 where
+  pub same : IsPermutation (program_run_marks modules places) run_marks
+  pub fit : run_fit marks run_marks ≡ true
 
 -- the lines are those of the instructions on page 0 that have one, in ascending order
 pub record HasLines (modules : List Contents) (places : List Place) (lines : List LineData) : Type 0 where
   pub same : IsPermutation (program_lines modules places) lines
   pub ascend : fit_from 0 (map (λ l. l.mark) lines) ≡ true
 
--- the file and the line of the instruction at an address, where it has one
+-- the file and the line of the instruction that is loaded at an address, where it has one
 abbrev pub line_at : ℕ → List LineData → Option (List ℕ × ℕ)
 line_at address lines = option_map (λ l. (l.file, l.line)) (find (λ l. l.mark.address == address) lines)
 
@@ -176,6 +184,7 @@ pub record IsProgram (modules : List Contents) (command : CommandData) (image : 
   pub program : HasWords modules places 0 image.program
   pub store : HasWords modules places 1 image.store
   pub marks : HasMarks modules places image.marks
+  pub run_marks : HasRunMarks modules places image.marks image.run_marks
   pub lines : HasLines modules places image.lines
   pub described : image.described ≡ map_of modules command.entry places
 

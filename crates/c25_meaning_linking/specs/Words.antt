@@ -1,13 +1,14 @@
 -- The words of a program, from its modules: the words of initialised sections at their addresses, each relocated field
 -- holding its base's address or value plus the addend (SPRU018, linker description, relocation and symbols).
-use Rattle.std.specs.Prelude.{◌≡◌, ℕ, ◌+◌, ◌==◌, ℤ, pos, ◌+ℤ◌, Bool, true, false, ◌&&◌, List, [], Option, Some, None, find, filter, map, unwrap_or}
+use Rattle.std.specs.Prelude.{◌≡◌, ℕ, ◌+◌, ◌==◌, ℤ, pos, ◌+ℤ◌, Bool, true, false, not, ◌&&◌, List, [], Option, Some, None, find, filter, map, unwrap_or}
 use Rattle.std.specs.Option.{option_map_or}
 use Rattle.std.specs.List.{slice_get, zip}
 use Rattle.std.specs.Str.{bytes_eq}
 use Rattle.c25_meaning_objects.specs.Module.{SectionData, SymbolData, Contents, is_global, body_words}
 use Rattle.c25_meaning_common.specs.Fields.{filled, field_number}
-use Rattle.c25_meaning_placing.specs.Place.{Place, by_modules, part_base, page_of, IsPart}
+use Rattle.c25_meaning_placing.specs.Place.{Place, by_modules, part_base, part_run, page_of, runs_elsewhere, IsPart}
 use Rattle.c25_meaning_image.specs.declared.mark.Mark.{Mark}
+use Rattle.c25_meaning_image.specs.declared.mark.RunMark.{RunMark}
 use Rattle.c25_meaning_objects.specs.declared.object.LineMark.{LineMark}
 use Rattle.c25_meaning_objects.specs.declared.object.ModuleMark.{ModuleMark}
 use Rattle.c25_meaning_objects.specs.declared.object.SymbolKind.{SymbolKind}
@@ -28,9 +29,17 @@ symbol_name m index = option_map_or (λ y. y.name) (slice_get m.symbols index) [
 
 -- ---- where a module's sections stand
 
--- the address of the part that a module has of its section of a number, 0 where there is none
+-- the address of the part that a module has of its section of a number, as it is loaded, 0 where there is none
 abbrev pub section_base : List Contents → List Place → ℕ → Contents → ℕ → ℕ
 section_base modules places number m index = option_map_or (λ s. part_base modules places number s.name) (slice_get m.sections index) 0
+
+-- the same as it runs
+abbrev pub section_run : List Contents → List Place → ℕ → Contents → ℕ → ℕ
+section_run modules places number m index = option_map_or (λ s. part_run modules places number s.name) (slice_get m.sections index) 0
+
+-- whether that section runs elsewhere than it is loaded
+abbrev pub section_runs_elsewhere : List Place → Contents → ℕ → Bool
+section_runs_elsewhere places m index = option_map_or (λ s. runs_elsewhere s.name places) (slice_get m.sections index) false
 
 -- the page of that section
 abbrev pub section_page : List Place → Contents → ℕ → ℕ
@@ -69,10 +78,11 @@ definitions modules = by_modules module_definitions 0 modules
 abbrev pub definition_of : List ℕ → List Definition → Option Definition
 definition_of name ds = find (λ d. bytes_eq name d.symbol.name) ds
 
--- what a symbol of a module stands for: a number, or the address of its section's part plus an offset
+-- what a symbol of a module stands for: a number, or the address of its section's part, as it runs or as it is loaded, plus an
+-- offset
 abbrev pub kind_value : List Contents → List Place → ℕ → Contents → SymbolKind → ℤ → ℤ
 kind_value modules places number m kind.Absolute z = z
-kind_value modules places number m (kind.InSection index) z = pos (section_base modules places number m index) +ℤ z
+kind_value modules places number m (kind.InSection index) z = pos (section_run modules places number m index) +ℤ z
 kind_value modules places number m (kind.Loaded index) z = pos (section_base modules places number m index) +ℤ z
 kind_value modules places number m kind.External z = pos 0
 
@@ -88,7 +98,7 @@ name_value modules places name = option_map_or (definition_value modules places)
 
 -- what a relocation adds its addend to
 abbrev pub base_value : List Contents → List Place → ℕ → Contents → RelocationBase → ℤ
-base_value modules places number m (base.Section index) = pos (section_base modules places number m index)
+base_value modules places number m (base.Section index) = pos (section_run modules places number m index)
 base_value modules places number m (base.Loaded index) = pos (section_base modules places number m index)
 base_value modules places number m (base.External index) = name_value modules places (symbol_name m index)
 
@@ -137,17 +147,41 @@ placed_mark modules places number m mark = record { address = section_base modul
 abbrev pub is_on_program : List Place → Contents → ModuleMark → Bool
 is_on_program places m mark = section_page places m mark.section == 0
 
--- the marks of a module on page 0
-abbrev pub module_marks : List Contents → List Place → ℕ → Contents → List Mark
-module_marks modules places number m = map (placed_mark modules places number m) (filter (is_on_program places m) m.marks)
+-- whether it stands there and runs elsewhere
+abbrev pub is_copied : List Place → Contents → ModuleMark → Bool
+is_copied places m mark = is_on_program places m mark && section_runs_elsewhere places m mark.section
 
--- the instructions on page 0, by modules and marks
+-- whether it stands there and runs there
+abbrev pub is_run_in_place : List Place → Contents → ModuleMark → Bool
+is_run_in_place places m mark = is_on_program places m mark && not (section_runs_elsewhere places m mark.section)
+
+-- the marks of a module on page 0 whose sections run where they are loaded
+abbrev pub module_marks : List Contents → List Place → ℕ → Contents → List Mark
+module_marks modules places number m = map (placed_mark modules places number m) (filter (is_run_in_place places m) m.marks)
+
+-- the mark of an instruction that runs elsewhere than it is loaded
+abbrev pub placed_run_mark : List Contents → List Place → ℕ → Contents → ModuleMark → RunMark
+placed_run_mark modules places number m mark = record {
+  load = section_base modules places number m mark.section + mark.offset;
+  run = section_run modules places number m mark.section + mark.offset;
+  size = mark.size;
+}
+
+-- those of a module
+abbrev pub module_run_marks : List Contents → List Place → ℕ → Contents → List RunMark
+module_run_marks modules places number m = map (placed_run_mark modules places number m) (filter (is_copied places m) m.marks)
+
+-- the instructions on page 0 that run elsewhere than they are loaded, by modules and marks
+abbrev pub program_run_marks : List Contents → List Place → List RunMark
+program_run_marks modules places = by_modules (module_run_marks modules places) 0 modules
+
+-- the instructions on page 0 that run where they are loaded, by modules and marks
 abbrev pub program_marks : List Contents → List Place → List Mark
 program_marks modules places = by_modules (module_marks modules places) 0 modules
 
 -- ---- lines
 
--- an instruction of a program, and the line of a file where it stands
+-- an instruction of a program, where it is loaded, and the line of a file where it stands
 pub record LineData : Type 0 where
   pub mark : Mark
   pub file : List ℕ

@@ -13,6 +13,7 @@ link_name link.DoesNotFit = codes "DoesNotFit"
 link_name link.Overlap = codes "Overlap"
 link_name link.RelocRange = codes "RelocRange"
 link_name link.NoEntry = codes "NoEntry"
+link_name link.BadRun = codes "BadRun"
 
 -- what a linker's fault says, where it is known what its name is
 abbrev pub link_text : {Name : Type 0} → (Name → Option (List ℕ)) → FaultyLink Name → Option (List ℕ)

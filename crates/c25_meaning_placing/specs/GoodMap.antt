@@ -1,19 +1,21 @@
 -- Where the sections of a program stand, or which of them cannot be placed (SPRU018, linker description, the directives
 -- MEMORY and SECTIONS, and assembler description, the blocking flag of .bss; the order of placement and the ranges without
 -- MEMORY are this project's own).
-use Rattle.std.specs.Prelude.{◌≡◌, ℕ, ◌+◌, ◌%◌, ◌<◌, ◌≤◌, ◌==◌, Bool, true, false, ◌&&◌, not, List, [], ◌∷◌, ◌++◌, Option, None, Result, Ok, Err, filter, map, reverse, max, unwrap_or, codes, if◌then◌else◌, All, nat_le, nat_lt}
+use Rattle.std.specs.Prelude.{◌≡◌, ℕ, ◌+◌, ◌%◌, ◌<◌, ◌≤◌, ◌==◌, Bool, true, false, ◌&&◌, not, List, [], ◌∷◌, ◌++◌, Option, None, IfSome, Result, Ok, Err, filter, map, reverse, max, unwrap_or, codes, if◌then◌else◌, All, nat_le, nat_lt, ◌⊎◌}
 use Rattle.std.specs.List.{list_all, list_any}
+use Rattle.std.specs.Option.{option_map_or}
 use Rattle.std.specs.Str.{bytes_eq}
 use Rattle.c25_meaning_objects.specs.Module.{Contents}
 use Rattle.c25_meaning_commands.specs.Command.{RangeData, TargetData, Anywhere, InRange, At, PlacingData, CommandData}
 use Rattle.c25_meaning_placing.specs.Place.{Place, Covers, BlockData, all_sections, blocks_of, size_of_parts, is_there, is_initialised}
 use Rattle.c25_meaning_placing.specs.declared.link_fault.LinkFault.{LinkFault}
-use Rattle.c25_meaning_placing.specs.declared.link_fault.LinkFault.TheVariants.{NoRange, DoesNotFit, Overlap}
+use Rattle.c25_meaning_placing.specs.declared.link_fault.LinkFault.TheVariants.{NoRange, DoesNotFit, Overlap, BadRun}
 use Rattle.c25_meaning_placing.specs.declared.link_fault.FaultyLink.{FaultyLink}
 
 -- ---- the sections to be placed, in the order of placement
 
--- a section that is to be placed: its size, whether it is initialised, what is said of its place, and its blocks
+-- a section that is to be placed: its size, whether it is initialised, what is said of its place, its blocks, and the address where
+-- it runs, if that is not where it is loaded
 pub record Request : Type 0 where
   pub name : List ℕ
   pub size : ℕ
@@ -21,25 +23,27 @@ pub record Request : Type 0 where
   pub target : TargetData
   pub page : Option ℕ
   pub blocks : List BlockData
+  pub run : Option ℕ
 
 -- the modules' section of a name
-abbrev pub request : List Contents → List ℕ → TargetData → Option ℕ → Request
-request modules name target page = record {
+abbrev pub request : List Contents → List ℕ → TargetData → Option ℕ → Option ℕ → Request
+request modules name target page run = record {
   name = name;
   size = size_of_parts name modules;
   initialised = is_initialised name modules;
   target = target;
   page = page;
   blocks = blocks_of name modules;
+  run = run;
 }
 
 -- a section that SECTIONS lists
 abbrev pub listed_request : List Contents → PlacingData → Request
-listed_request modules p = request modules p.name p.target p.page
+listed_request modules p = request modules p.name p.target p.page p.run
 
 -- one that it does not list
 abbrev pub unlisted_request : List Contents → List ℕ → Request
-unlisted_request modules name = request modules name Anywhere None
+unlisted_request modules name = request modules name Anywhere None None
 
 -- whether the target is an address
 abbrev pub has_address : TargetData → Bool
@@ -196,12 +200,48 @@ IsBase target page size blocks (first ∷ ranges) places answer = IsBaseIn page 
 abbrev pub IsBaseOf : List RangeData → List Place → Request → Result ℕ LinkFault → Type 0
 IsBaseOf ranges places r answer = IsBase r.target (page_for ranges r) r.size r.blocks (usable ranges r) places answer
 
+-- ---- where a section runs
+
+-- whether a place that runs elsewhere than it is loaded runs at a word
+abbrev pub runs_at : ℕ → Place → Bool
+runs_at word p = option_map_or (λ run. nat_le run word && nat_lt word (run + p.size)) p.run false
+
+-- whether one of these places does
+abbrev pub is_run_at : List Place → ℕ → Bool
+is_run_at places word = list_any (runs_at word) places
+
+-- no word from a first one on, so many, is one that these places run at
+abbrev pub IsRunFree : ℕ → ℕ → List Place → Type 0
+IsRunFree run size places = (word : ℕ) → Covers run size word → is_run_at places word ≡ false
+
+-- a section may run at an address: it is initialised, stands on page 0, and runs at words of block B0, seen at FF00h to FFFFh, at
+-- which no section placed before it runs
+pub record RunsAt (ranges : List RangeData) (places : List Place) (r : Request) (run : ℕ) : Type 0 where
+  pub from : 0xFF00 ≤ run
+  pub below : run ≤ 0xFFFF
+  pub upto : run + r.size ≤ 0x10000
+  pub initialised : r.initialised ≡ true
+  pub page : page_for ranges r ≡ 0
+  pub free : IsRunFree run r.size places
+
+-- a section may run where the command says, if it says where
+abbrev pub Runs : List RangeData → List Place → Request → Type 0
+Runs ranges places r = IfSome r.run (RunsAt ranges places r)
+
+-- why a section cannot be placed: it cannot stand, or else not run where the command says
+abbrev pub IsUnfit : List RangeData → List Place → Request → LinkFault → Type 0
+IsUnfit ranges places r fault =
+    IsBaseOf ranges places r (Err fault)
+    ⊎ ((base : ℕ) × IsBaseOf ranges places r (Ok base) × ¬ Runs ranges places r × (fault ≡ BadRun))
+
 -- a section stands here, among the places before it
 pub record Stands (ranges : List RangeData) (places : List Place) (r : Request) (p : Place) : Type 0 where
   pub name_is : p.name ≡ r.name
   pub page_is : p.page ≡ page_for ranges r
   pub size_is : p.size ≡ r.size
   pub base_is : IsBaseOf ranges places r (Ok p.base)
+  pub run_is : p.run ≡ r.run
+  pub runs : Runs ranges places r
 
 -- ---- all sections
 
@@ -224,7 +264,7 @@ pub record IsUnplaced (ranges : List RangeData) (requests : List Request) (refus
   pub places : List Place
   pub requests_are : requests ≡ before ++ refused ∷ after
   pub placed : ArePlaced ranges before places
-  pub fault_is : IsBaseOf ranges places refused (Err refusal.fault)
+  pub fault_is : IsUnfit ranges places refused refusal.fault
   pub name_is : refusal.name ≡ refused.name
 
 -- the places of the sections of modules under a command

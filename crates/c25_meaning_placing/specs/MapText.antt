@@ -62,9 +62,14 @@ part_text p = map_line (codes "PART " ++ p.number ++ codes " " ++ address_text p
 unfoldable pub place_text : Place → List ℕ
 place_text p = map_line (codes "SECTION " ++ decimal p.page ++ codes " " ++ four_digits p.base ++ codes " " ++ five_digits p.size ++ codes " " ++ p.name)
 
+-- the line of the address where a section runs, if that is not where it is loaded
+abbrev pub run_lines : Option ℕ → List ℕ
+run_lines None = []
+run_lines (Some run) = map_line (codes "RUN " ++ four_digits run)
+
 -- the lines of a section and of its parts
 abbrev pub section_text : SectionPlace → List ℕ
-section_text s = place_text s.place ++ flat_map part_text s.parts
+section_text s = place_text s.place ++ run_lines s.place.run ++ flat_map part_text s.parts
 
 -- a value and its name
 unfoldable pub value_text : NamedValue → List ℕ
@@ -106,11 +111,13 @@ pub record IsPrintedSection (s : SectionPlace) : Type 0 where
   pub page : s.place.page ≤ 1
   pub base : s.place.base < 65536
   pub size : s.place.size ≤ 99999
+  pub run : IfSome s.place.run (λ run. run < 65536)
   pub parts : All IsPrintedPart s.parts
 
 -- a section whose addresses have their digits
 pub record HasDigits (s : SectionPlace) : Type 0 where
   pub base : s.place.base < 65536
+  pub run : IfSome s.place.run (λ run. run < 65536)
   pub parts : All (λ p. p.base ≤ 65536) s.parts
 
 -- a symbol whose name has the form of one and whose value has 32 bits

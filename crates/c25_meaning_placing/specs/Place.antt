@@ -1,18 +1,24 @@
 -- Where the parts of a program stand: the sections of one name of all modules are one section of the program, in the order
 -- of the modules and one behind the other (SPRU018, linker description, the SECTIONS directive).
-use Rattle.std.specs.Prelude.{◌≡◌, ℕ, ◌+◌, ◌<◌, ◌≤◌, Bool, false, ◌&&◌, List, [], ◌∷◌, ◌++◌, Option, Some, filter, find, map, take, if◌then◌else◌}
+use Rattle.std.specs.Prelude.{◌≡◌, ℕ, ◌+◌, ◌<◌, ◌≤◌, Bool, false, ◌&&◌, List, [], ◌∷◌, ◌++◌, Option, Some, filter, is_some, unwrap_or, find, map, take, if◌then◌else◌}
 use Rattle.std.specs.Option.{option_map_or}
 use Rattle.std.specs.List.{list_any, flat_map, slice_get, sum_by}
 use Rattle.std.specs.Str.{bytes_eq}
 use Rattle.c25_meaning_objects.specs.Module.{SectionData, Contents, body_size, has_words}
 use Rattle.c25_meaning_objects.specs.declared.object.Block.{Block}
 
--- a section of the program: its page, the address of its first word, and how many words it has
+-- a section of the program: its page, the address of its first word, how many words it has, and where it runs, if that is not where
+-- it is loaded
 pub record Place : Type 0 where
   pub name : List ℕ
   pub page : ℕ
   pub base : ℕ
   pub size : ℕ
+  pub run : Option ℕ
+
+-- the address where its first word runs
+abbrev pub run_base : Place → ℕ
+run_base p = unwrap_or p.run p.base
 
 -- what each module gives, one module after the other; they are counted from a number
 abbrev pub by_modules : {A : Type 0} → (ℕ → Contents → List A) → ℕ → List Contents → List A
@@ -72,17 +78,30 @@ blocks_of name modules = by_modules (part_blocks modules name) 0 modules
 abbrev pub place_named : List ℕ → List Place → Option Place
 place_named name places = find (λ p. bytes_eq name p.name) places
 
--- the address where a section begins
+-- the address where a section begins as it is loaded
 abbrev pub base_of : List ℕ → List Place → ℕ
 base_of name places = option_map_or (λ p. p.base) (place_named name places) 0
+
+-- the address where it begins as it runs
+abbrev pub run_base_of : List ℕ → List Place → ℕ
+run_base_of name places = option_map_or run_base (place_named name places) 0
+
+-- whether it runs where the command file says, and not where it is loaded
+abbrev pub runs_elsewhere : List ℕ → List Place → Bool
+runs_elsewhere name places = option_map_or (λ p. is_some p.run) (place_named name places) false
 
 -- its page
 abbrev pub page_of : List ℕ → List Place → ℕ
 page_of name places = option_map_or (λ p. p.page) (place_named name places) 0
 
--- the address where the part of a module begins, behind the parts of the modules before it; modules are counted from 0
+-- the address where the part of a module begins as it is loaded, behind the parts of the modules before it; modules are counted
+-- from 0
 abbrev pub part_base : List Contents → List Place → ℕ → List ℕ → ℕ
 part_base modules places number name = base_of name places + size_of_parts name (take number modules)
+
+-- the same as it runs
+abbrev pub part_run : List Contents → List Place → ℕ → List ℕ → ℕ
+part_run modules places number name = run_base_of name places + size_of_parts name (take number modules)
 
 -- from a first word on, so many words: a word is one of them
 pub record Covers (base size word : ℕ) : Type 0 where

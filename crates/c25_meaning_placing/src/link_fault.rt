@@ -20,6 +20,8 @@ pub enum LinkFault {
     RelocRange,
     /// The entry is no global symbol that a module defines (76).
     NoEntry,
+    /// A section cannot run at the address that the command file says (78).
+    BadRun,
 }
 
 impl fmt::Display for LinkFault {
@@ -37,6 +39,7 @@ impl fmt::Display for LinkFault {
             LinkFault::Overlap => f.write_str("Overlap"),
             LinkFault::RelocRange => f.write_str("RelocRange"),
             LinkFault::NoEntry => f.write_str("NoEntry"),
+            LinkFault::BadRun => f.write_str("BadRun"),
         }
     }
 }
@@ -44,7 +47,7 @@ impl fmt::Display for LinkFault {
 impl Error for LinkFault {}
 
 /// A fault and the name that it is told with: the symbol's in 70, 71 and 76, the section's in 72 to
-/// 75. The code has the name as a text, the definitions as a list of bytes.
+/// 75 and 78. The code has the name as a text, the definitions as a list of bytes.
 #[derive(Debug, Drop)]
 pub struct FaultyLink<Name> {
     pub fault: LinkFault,

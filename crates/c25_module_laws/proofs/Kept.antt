@@ -12,7 +12,7 @@ use Rattle.c25_meaning_assembly.specs.declared.assembly.Target.TheVariants as ta
 use Rattle.c25_meaning_objects.specs.declared.object.Block.{Block}
 use Rattle.c25_meaning_objects.specs.declared.object.ModuleMark.{ModuleMark}
 use Rattle.c25_meaning_language.specs.declared.value.Base.{Base}
-use Rattle.c25_meaning_language.specs.declared.value.Base.TheVariants.{Absolute, Section as InSection, External}
+use Rattle.c25_meaning_language.specs.declared.value.Base.TheVariants.{Absolute, Section as InSection, Loaded, External}
 pub use Rattle.c25_meaning_assembly.specs.ItemPlaces.{part, total, words_in}
 use Rattle.c25_module_laws.proofs.Counted.{IsCount}
 use Rattle.c25_module_laws.proofs.Spoken.{IsSymbol, AreWords}
@@ -93,10 +93,11 @@ pub record IsKept (items marked : List Item) (k : ℕ) (s : Section) : Type 0 wh
 abbrev pub Each : (ℕ → Section → Type 0) → List Section → Type 0
 Each P sections = (k : ℕ) (s : Section) → slice_get sections k ≡ Some s → P k s
 
--- a value counts from nothing or from one of so many sections
+-- a value counts from nothing or from one of so many sections, where it runs or where it is loaded
 abbrev pub IsInside : ℕ → Base → Type 0
 IsInside n Absolute = Unit {0}
 IsInside n (InSection k) = k < n
+IsInside n (Loaded k) = k < n
 IsInside n (External k) = ⊥
 
 abbrev pub first_names : Definitions → List (List ℕ)

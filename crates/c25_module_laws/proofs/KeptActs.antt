@@ -7,13 +7,13 @@ use Rattle.std.proofs.lemmas.List.{map-append, length-append, length-map}
 use Rattle.std.proofs.lemmas.Bool.{and_from, and_parts, ltb-true, ltb-false, leb-true, leb-false, cond_both, le-ltb, lt-ltb, not_from_false, not-true}
 use Rattle.c25_meaning_objects.specs.Module.{each_fits}
 use Rattle.c25_meaning_assembly.specs.Sections as meaning
-use Rattle.c25_meaning_assembly.specs.Sections.{Definitions, Section, Content, Operands, Words, Zeros, Exported, Origin, Item, Progress, changed, longer, with_mark, is_in, are_distinct, once, all_once, stands, define, label, here, table, place_in, same_kind, of_kind, opened, grow, lay, with_item, size_at, size_by, empty_section, is_called, count_in, reserve, register_names, absolute, define_pair}
+use Rattle.c25_meaning_assembly.specs.Sections.{Definitions, Section, Content, Operands, Words, Zeros, Exported, Origin, Item, Progress, changed, longer, with_mark, is_in, are_distinct, once, all_once, stands, define, label, here, table, place_in, same_kind, of_kind, opened, grow, lay, loaded_here, with_item, size_at, size_by, empty_section, is_called, count_in, reserve, register_names, absolute, define_pair}
 use Rattle.c25_meaning_language.specs.Statement.{valued}
 use Rattle.c25_meaning_language.specs.Tree.{Tree}
 use Rattle.c25_meaning_language.specs.Value.{named_by, predefined, defined, upper}
 use Rattle.c25_meaning_language.specs.declared.statement.FaultKind.TheVariants as fault
 use Rattle.c25_meaning_language.specs.declared.value.Base.{Base}
-use Rattle.c25_meaning_language.specs.declared.value.Base.TheVariants.{Absolute, Section as InSection, External}
+use Rattle.c25_meaning_language.specs.declared.value.Base.TheVariants.{Absolute, Section as InSection, Loaded, External}
 use Rattle.c25_meaning_language.specs.declared.value.Value.{Value}
 use Rattle.c25_module_laws.proofs.Valued.{IsGoodValue, good_valued, natural_fits}
 use Rattle.c25_meaning_assembly.proofs.Distinct.{distinct_push, turned}
@@ -101,6 +101,9 @@ place_good p i n there kept = let small = size_small p i kept in (there, natural
 pub here_good : (p : Progress) → AllKept p → IsGoodValue (IsInside (length p.sections)) (here p)
 here_good p kept = place_good p p.current (length p.sections) (code_within p.sections p.current kept.sections.code) kept
 
+pub loaded_good : (p : Progress) → AllKept p → IsGoodValue (IsInside (length p.sections)) (loaded_here p)
+loaded_good p kept = here_good p kept
+
 pub label_kept : (l : Option (List ℕ)) (p q : Progress) → IfSome l IsSymbol → AllKept p → label l p ≡ Ok q → AllKept q × (q.sections ≡ p.sections)
 label_kept None p q symbol kept e = let same : p ≡ q = cc in subst (λ (x : Progress). AllKept x × (x.sections ≡ p.sections)) same (kept, refl)
 label_kept (Some name) p q symbol kept e = define_kept name (here p) p q symbol (here_good p kept) kept e
@@ -148,6 +151,7 @@ valued_good p t v kept e =
 inside_more : (n m : ℕ) (b : Base) → n ≤ m → IsInside n b → IsInside m b
 inside_more n m Absolute l h = tt
 inside_more n m (InSection k) l h = omega (arith, l, h)
+inside_more n m (Loaded k) l h = omega (arith, l, h)
 inside_more n m (External k) l h = absurd h
 
 -- ---- sections that are opened

@@ -15,7 +15,7 @@ use Rattle.c25_meaning_objects.specs.Module.{each_fits}
 use Rattle.c25_meaning_sources.specs.ModuleOfSource.{Passed, no_lines, entry_of, origin_of, pass_line, passed, passed_by, passed_from, read_and_pass}
 use Rattle.c25_meaning_common.specs.Results.{◌>>=◌, fold_ok}
 use Rattle.c25_meaning_assembly.specs.Sections as meaning
-use Rattle.c25_meaning_assembly.specs.Sections.{Definitions, Section, Content, Operands, Words, Zeros, Exported, Origin, Item, Progress, changed, longer, with_block, with_mark, use_line, block, block_allowed, flag_in, is_in, are_distinct, once, all_once, stands, define, label, here, table, place_in, same_kind, of_kind, opened, grow, lay, with_item, size_at, size_by, is_called, count_in, reserve, reserve_room, register_names, define_pair, name_count, few, pass, allowed, act}
+use Rattle.c25_meaning_assembly.specs.Sections.{Definitions, Section, Content, Operands, Words, Zeros, Exported, Origin, Item, Progress, changed, longer, with_block, with_mark, use_line, block, block_allowed, flag_in, is_in, are_distinct, once, all_once, stands, define, label, here, loaded_here, table, place_in, same_kind, of_kind, opened, grow, lay, with_item, size_at, size_by, is_called, count_in, reserve, reserve_room, register_names, define_pair, name_count, few, pass, allowed, act}
 use Rattle.c25_meaning_language.specs.Statement.{valued, form_row}
 use Rattle.c25_meaning_instructions.specs.Table.{size}
 use Rattle.c25_meaning_language.specs.Tree.{Tree}
@@ -33,7 +33,7 @@ use Rattle.std.proofs.lemmas.List.{append-nil}
 use Rattle.c25_module_laws.proofs.Counted.{IsCount}
 use Rattle.c25_meaning_assembly.proofs.Distinct.{distinct_push}
 use Rattle.c25_module_laws.proofs.Kept.{AllBut, AllKept, AreDeclared, AreNames, AreSections, AreTold, Each, Head, IsGoodContent, IsInside, IsKept, IsOrigin, IsTold, each_changed, head_fits, head_of, heads, heads_changed, is_code, laid_push, length_changed, mark_by, mark_here, mark_there, marks_in, marks_part, marks_push, marks_same, part_here, part_there, pushed, total, total_push, weaker, words_in}
-use Rattle.c25_module_laws.proofs.KeptActs.{code_is, code_section, define_kept, label_kept, opened_kept, place_good, valued_good}
+use Rattle.c25_module_laws.proofs.KeptActs.{code_is, code_section, define_kept, label_kept, loaded_good, opened_kept, place_good, valued_good}
 use Rattle.c25_module_laws.proofs.KeptFiles.{block_size, in_last, in_push, line_used, told_block, told_longer, told_mark}
 use Rattle.c25_module_laws.proofs.ResultSteps.{bound, permitted, refused, unless}
 use Rattle.c25_module_laws.proofs.Valued.{IsGoodValue, natural_fits}
@@ -414,6 +414,7 @@ KindFits (line.Load words) sections = Unit {0}
 KindFits (line.Space bits) sections = Unit {0}
 KindFits (line.Declare names) sections = Unit {0}
 KindFits (line.Export names) sections = Unit {0}
+KindFits (line.Label name) sections = Unit {0}
 KindFits line.Registers sections = Unit {0}
 
 kind_fits : (a : Act) (p : Progress) (u : Unit {0}) → allowed a p ≡ Ok u → KindFits a p.sections
@@ -428,6 +429,7 @@ kind_fits (line.Load words) p u e = tt
 kind_fits (line.Space bits) p u e = tt
 kind_fits (line.Declare names) p u e = tt
 kind_fits (line.Export names) p u e = tt
+kind_fits (line.Label name) p u e = tt
 kind_fits line.Registers p u e = tt
 
 act_kept : (origin : Origin) (a : Act) (p q : Progress) → IsGoodAct a → KindFits a p.sections → AllKept p → act origin a p ≡ Ok q → AllKept q
@@ -451,6 +453,7 @@ act_kept origin (line.Space bits) p q good kind kept e =
     lay_bare origin (Zeros ((a.0 + 15) / 16)) ((a.0 + 15) / 16) p q refl tt refl kept a.2
 act_kept origin (line.Declare names) p q good kind kept e = declare_kept names p q good kept e
 act_kept origin (line.Export names) p q good kind kept e = export_kept origin names p q kept e
+act_kept origin (line.Label name) p q good kind kept e = (define_kept name (loaded_here p) p q good (loaded_good p kept) kept e).0
 act_kept origin line.Registers p q good kind kept e = registers_kept p q kept e
 
 -- ---- lines

@@ -187,7 +187,7 @@ module _ (D : List SectionData) where
 
     base_is : (b : RelocationBase) → HoldsOf (IsBase (length D) symbols) b → base_fits Two D symbols b ≡ true
     base_is (relocated.Section n) h = lt-ltb n (length D) h
-    base_is (relocated.Loaded n) h = absurd h
+    base_is (relocated.Loaded n) h = lt-ltb n (length D) h
     base_is (relocated.External n) h = h
 
     clear_is : (k : ℕ) (r : Relocation) → IsFilled (IsBase (length D) symbols) k 0 (modules.words_at D k) r → field_is_clear (modules.words_at D r.section) r ≡ true

@@ -19,16 +19,16 @@ use Rattle.c25_meaning_objects.specs.declared.object.RelocationBase.{RelocationB
 use Rattle.c25_meaning_objects.specs.declared.object.RelocationBase.TheVariants as relocated
 use Rattle.c25_meaning_common.specs.declared.relocation.RelocationKind.{RelocationKind}
 use Rattle.c25_meaning_language.specs.declared.value.Base.{Base}
-use Rattle.c25_meaning_language.specs.declared.value.Base.TheVariants.{Absolute, Section, External}
+use Rattle.c25_meaning_language.specs.declared.value.Base.TheVariants.{Absolute, Section, Loaded, External}
 use Rattle.c25_meaning_language.specs.declared.value.Value.{Value}
 use Rattle.c25_module_laws.proofs.Chains.{Chain, chain_push, chain_weaker, chain_longer}
 use Rattle.c25_module_laws.proofs.ResultSteps.{bound}
 use Rattle.c25_module_laws.proofs.Valued.{IsGoodValue, good_valued}
 
--- what holds of a value's base, of the relocation's base that comes of it; no value counts from where a section is loaded
+-- what holds of a value's base, of the relocation's base that comes of it
 abbrev pub HoldsOf : (Base → Type 0) → RelocationBase → Type 0
 HoldsOf B (relocated.Section n) = B (Section n)
-HoldsOf B (relocated.Loaded n) = ⊥
+HoldsOf B (relocated.Loaded n) = B (Loaded n)
 HoldsOf B (relocated.External n) = B (External n)
 
 -- an address among these numbers
@@ -104,6 +104,7 @@ module _ (B : Base → Type 0) (none : B Absolute) (t : Target) where
           let q : with_number m.0 s ≡ new = let last = m.2 in cc in
           subst (λ (x : Sheet). IsSheet B t (n + 1) x) q (more_number s n m.0 h (holds_number (field_of t (length s.numbers)) v.offset m.0 m.1))
       by (Section k) is e = more_address s new n (relocation_of (field_of t (length s.numbers))) (relocated.Section k) v.offset refl (subst B is good.0) good.1 h e
+      by (Loaded k) is e = more_address s new n (relocation_of (field_of t (length s.numbers))) (relocated.Loaded k) v.offset refl (subst B is good.0) good.1 h e
       by (External k) is e = more_address s new n (relocation_of (field_of t (length s.numbers))) (relocated.External k) v.offset refl (subst B is good.0) good.1 h e
 
   module _ (table : Table) (known : (name : List ℕ) (w : Value) → value_named table name ≡ Some w → IsGoodValue B w) (here : IsGoodValue B table.here) where

@@ -300,6 +300,7 @@ IsGoodAct (line.Load words) = AreWords words
 IsGoodAct (line.Space bits) = Unit {0}
 IsGoodAct (line.Declare names) = AllByRecursion IsSymbol names
 IsGoodAct (line.Export names) = Unit {0}
+IsGoodAct (line.Label name) = IsSymbol name
 IsGoodAct line.Registers = Unit {0}
 
 given : (a act : Act) → ◌≡◌ {A = Result Act FaultKind} (Ok a) (Ok act) → IsGoodAct a → IsGoodAct act
@@ -352,6 +353,11 @@ loading_good : (os : List (List Piece)) (act : Act) → AreGood os → loading o
 loading_good [] act h e = absurd (cc)
 loading_good (o ∷ os) act h e = let a = bound (line.strings_in (o ∷ os)) (λ words. Ok (line.Load words)) act e in given (line.Load a.0) act a.2 (strings_good (o ∷ os) a.0 h a.1)
 
+naming_good : (os : List (List Piece)) (act : Act) → AreGood os → line.naming os ≡ Ok act → IsGoodAct act
+naming_good [] act h e = absurd (cc)
+naming_good (o ∷ []) act h e = let a = bound (name_in o) (λ name. Ok (line.Label name)) act e in given (line.Label a.0) act a.2 (name_good o a.0 h.0 a.1)
+naming_good (o ∷ p ∷ os) act h e = absurd (cc)
+
 act_good : (d : Directive) (label : List ℕ) (os : List (List Piece)) (act : Act) → (names_label (Some d) ≡ true → IsSymbol label) → AreGood os → act_of d label os ≡ Ok act → IsGoodAct act
 unfolding act_of
 act_good directive.Text label os act l h e = without_good _ act os refl e
@@ -366,6 +372,7 @@ act_good directive.Space label os act l h e = expression_good line.Space os act 
 act_good directive.Set label os act l h e = expression_good (line.Equate label) os act (λ _. l refl) e
 act_good directive.Global label os act l h e = let a = bound (some_names os) (λ names. Ok (line.Declare names)) act e in given (line.Declare a.0) act a.2 (declaring_good os a.0 h a.1)
 act_good directive.Def label os act l h e = let a = bound (some_names os) (λ names. Ok (line.Export names)) act e in given (line.Export a.0) act a.2 tt
+act_good directive.Label label os act l h e = naming_good os act h e
 act_good directive.Registers label os act l h e = without_good _ act os tt e
 act_good directive.Ignored label os act l h e = given line.Nothing act e tt
 

@@ -13,7 +13,7 @@ use Rattle.c25_meaning_assembly.specs.Sections.{Definitions, are_distinct, impor
 use Rattle.c25_meaning_language.specs.Value.{named_by, predefined, defined}
 use Rattle.c25_meaning_objects.specs.declared.object.Version.TheVariants.{Two}
 use Rattle.c25_meaning_language.specs.declared.value.Base.{Base}
-use Rattle.c25_meaning_language.specs.declared.value.Base.TheVariants.{Absolute, Section, External}
+use Rattle.c25_meaning_language.specs.declared.value.Base.TheVariants.{Absolute, Section, Loaded, External}
 use Rattle.c25_meaning_language.specs.declared.value.Value.{Value}
 use Rattle.c25_meaning_assembly.proofs.Distinct.{both, neither, turned}
 use Rattle.c25_module_laws.proofs.Kept.{IsInside, first_names}
@@ -115,6 +115,7 @@ defined_good sections exported e symbol good = record {
     by : (b : Base) → IsInside (length sections) b → place_fits sections (symbol_of exported e) (kind_of b) ≡ true
     by Absolute h = refl
     by (Section k) h = lt-ltb k (length sections) h
+    by (Loaded k) h = lt-ltb k (length sections) h
     by (External k) h = absurd h
 
 imported_good : (sections : List SectionData) (exported : List (List ℕ)) (n : ℕ) (ds : List (List ℕ)) → AllByRecursion IsSymbol ds → AllByRecursion (λ d. is_in exported d ≡ true) ds
@@ -175,11 +176,13 @@ symbols_fit sections exported before (x ∷ xs) good distinct new few =
 abbrev pub IsBase : ℕ → List SymbolData → Base → Type 0
 IsBase n symbols Absolute = Unit {0}
 IsBase n symbols (Section k) = k < n
+IsBase n symbols (Loaded k) = k < n
 IsBase n symbols (External k) = is_external (slice_get symbols k) ≡ true
 
 inside_base : (n : ℕ) (symbols : List SymbolData) (b : Base) → IsInside n b → IsBase n symbols b
 inside_base n symbols Absolute h = tt
 inside_base n symbols (Section k) h = h
+inside_base n symbols (Loaded k) h = h
 inside_base n symbols (External k) h = absurd h
 
 get_behind : {X Y : Type 0} (f : X → Y) (pre : List X) (x : X) (rest : List X) → slice_get (map f (pre ++ x ∷ rest)) (length pre) ≡ Some (f x)

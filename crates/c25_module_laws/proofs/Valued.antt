@@ -16,7 +16,7 @@ use Rattle.c25_meaning_language.specs.declared.expression.UnaryOperator.TheVaria
 use Rattle.c25_meaning_language.specs.declared.expression.BinaryOperator.{BinaryOperator}
 use Rattle.c25_meaning_language.specs.declared.expression.BinaryOperator.TheVariants as binary
 use Rattle.c25_meaning_language.specs.declared.value.Base.{Base}
-use Rattle.c25_meaning_language.specs.declared.value.Base.TheVariants.{Absolute, Section, External}
+use Rattle.c25_meaning_language.specs.declared.value.Base.TheVariants.{Absolute, Section, Loaded, External}
 use Rattle.c25_meaning_language.specs.declared.value.Value.{Value}
 use Rattle.c25_meaning_language.specs.declared.value.ValueFault.{ValueFault}
 use Rattle.c25_meaning_language.specs.declared.value.ValueFault.TheVariants as fault
@@ -80,6 +80,7 @@ module _ (B : Base → Type 0) (none : B Absolute) where
   absolute_base : (b a : Base) → absolute b ≡ Ok a → B a
   absolute_base Absolute a e = subst B (same Absolute a e) none
   absolute_base (Section n) a e = absurd (cc)
+  absolute_base (Loaded n) a e = absurd (cc)
   absolute_base (External n) a e = absurd (cc)
 
   same_section : (s t : ℕ) (c : Base) → cond (eqb s t) (Ok Absolute) (Err fault.NotAbsolute) ≡ Ok c → B c
@@ -88,12 +89,16 @@ module _ (B : Base → Type 0) (none : B Absolute) where
   joined : (op : BinaryOperator) (a b c : Base) → B a → B b → base_of op a b ≡ Ok c → B c
   joined op Absolute Absolute c g h e = subst B (same Absolute c e) none
   joined binary.Add (Section s) Absolute c g h e = subst B (same (Section s) c e) g
+  joined binary.Add (Loaded s) Absolute c g h e = subst B (same (Loaded s) c e) g
   joined binary.Add (External s) Absolute c g h e = subst B (same (External s) c e) g
   joined binary.Add Absolute (Section t) c g h e = subst B (same (Section t) c e) h
+  joined binary.Add Absolute (Loaded t) c g h e = subst B (same (Loaded t) c e) h
   joined binary.Add Absolute (External t) c g h e = subst B (same (External t) c e) h
   joined binary.Subtract (Section s) Absolute c g h e = subst B (same (Section s) c e) g
+  joined binary.Subtract (Loaded s) Absolute c g h e = subst B (same (Loaded s) c e) g
   joined binary.Subtract (External s) Absolute c g h e = subst B (same (External s) c e) g
   joined binary.Subtract (Section s) (Section t) c g h e = same_section s t c e
+  joined binary.Subtract (Loaded s) (Loaded t) c g h e = same_section s t c e
   joined _ a b c g h e = absurd (cc)
 
   same_value : (v w : Value) → ◌≡◌ {A = Result Value ValueFault} (Ok v) (Ok w) → IsGoodValue B v → IsGoodValue B w

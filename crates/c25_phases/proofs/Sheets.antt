@@ -27,7 +27,7 @@ use Rattle.c25_meaning_language.specs.declared.statement.FaultKind.{FaultKind}
 use Rattle.c25_meaning_language.specs.declared.statement.Form.{Form}
 use Rattle.c25_meaning_language.specs.declared.statement.Form.TheVariants as form
 use Rattle.c25_meaning_language.specs.declared.value.Base.{Base}
-use Rattle.c25_meaning_language.specs.declared.value.Base.TheVariants.{Absolute, Section, External}
+use Rattle.c25_meaning_language.specs.declared.value.Base.TheVariants.{Absolute, Section, Loaded, External}
 use Rattle.c25_meaning_language.specs.declared.value.Value.{Value}
 
 -- an address is of an operand before the n-th, whose field takes it
@@ -92,6 +92,7 @@ more_value t s new Absolute z good h = on (number_in (field_of t (length s.numbe
     on (Ok n) holds e = let q : with_number n s ≡ new = cc in subst (λ (x : Sheet). More t s x) q (more_number t s n good (holds n refl))
     on (Err f) holds e = absurd (cc)
 more_value t s new (Section n) z good h = more_address t s new (relocation_of (field_of t (length s.numbers))) (relocated.Section n) z refl good h
+more_value t s new (Loaded n) z good h = more_address t s new (relocation_of (field_of t (length s.numbers))) (relocated.Loaded n) z refl good h
 more_value t s new (External n) z good h = more_address t s new (relocation_of (field_of t (length s.numbers))) (relocated.External n) z refl good h
 
 more_taken : (t : Target) (table : Table) (s new : Sheet) (e : Tree) → Good t s → taken t table s e ≡ Ok new → More t s new

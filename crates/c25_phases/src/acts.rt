@@ -276,6 +276,14 @@ impl<'a> Progress<'a> {
         Ok(())
     }
 
+    /// `.label`
+    fn name_loaded(&mut self, name: &str) -> Result<(), Failure<FaultKind>>
+        ensures { Meets (λ _. progress_of self.new) (meaning.name_loaded name.now (progress_of self.old)) result }
+    {
+        let here = self.loaded_here();
+        self.define(name, here)
+    }
+
     fn define_register(&mut self, name: &str, number: u8) -> Result<(), Failure<FaultKind>>
         ensures { Meets (λ _. progress_of self.new) (meaning.define name.now (meaning.absolute number) (progress_of self.old)) result }
     {
@@ -324,6 +332,7 @@ impl<'a> Progress<'a> {
             Act::Space(bits) => self.space(origin, &bits),
             Act::Declare(names) => self.declare(names.as_slice()),
             Act::Export(names) => self.export(origin, names.as_slice()),
+            Act::Label(name) => self.name_loaded(name),
             Act::Registers => self.name_registers(),
         }
     }

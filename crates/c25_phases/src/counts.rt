@@ -25,7 +25,7 @@ pub(crate) fn count_of(value: Value) -> Result<u32, FaultKind>
                 Ok(value.offset as u32)
             }
         }
-        Base::Section(_) | Base::External(_) => Err(FaultKind::NotAbsolute),
+        Base::Section(_) | Base::Loaded(_) | Base::External(_) => Err(FaultKind::NotAbsolute),
     }
 }
 
@@ -35,7 +35,7 @@ pub(crate) fn flag_of(value: Value) -> Result<bool, FaultKind>
 {
     match value.base {
         Base::Absolute => Ok(value.offset != 0),
-        Base::Section(_) | Base::External(_) => Err(FaultKind::NotAbsolute),
+        Base::Section(_) | Base::Loaded(_) | Base::External(_) => Err(FaultKind::NotAbsolute),
     }
 }
 

@@ -63,7 +63,7 @@ fn is_inside(base: Base) -> bool
     ensures { result ≡ emission.is_inside base }
 {
     match base {
-        Base::Absolute | Base::Section(_) => true,
+        Base::Absolute | Base::Section(_) | Base::Loaded(_) => true,
         Base::External(_) => false,
     }
 }

@@ -27,6 +27,7 @@ fn kind_of(base: Base) -> SymbolKind
     match base {
         Base::Absolute => SymbolKind::Absolute,
         Base::Section(number) => SymbolKind::InSection(number),
+        Base::Loaded(number) => SymbolKind::Loaded(number),
         Base::External(_) => SymbolKind::External,
     }
 }

@@ -87,6 +87,16 @@ impl<'a> Progress<'a> {
         place(section, self.sections.size_at(section))
     }
 
+    /// The place where the words of the next line are loaded.
+    pub(crate) fn loaded_here(&self) -> Value
+        ensures { result ≡ meaning.loaded_here (progress_of self.now) }
+    {
+        Value {
+            base: Base::Loaded(self.current),
+            offset: self.sections.size_at(self.current) as i32,
+        }
+    }
+
     /// The place where the next line begins.
     pub(crate) fn here(&self) -> Value
         ensures { result ≡ meaning.here (progress_of self.now) }

@@ -124,6 +124,10 @@ impl Sheet {
                 let base = RelocationBase::Section(number);
                 self.put_address(relocation_of(field), base, value.offset)
             }
+            Base::Loaded(number) => {
+                let base = RelocationBase::Loaded(number);
+                self.put_address(relocation_of(field), base, value.offset)
+            }
             Base::External(number) => {
                 let base = RelocationBase::External(number);
                 self.put_address(relocation_of(field), base, value.offset)

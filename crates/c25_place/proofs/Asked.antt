@@ -25,7 +25,7 @@ not_chosen : (b : Bool) (x : Output) → cond b (Some x) None ≡ None → b ≡
 not_chosen true x e = absurd cc
 not_chosen false x e = refl
 
-pub asked_by : (modules : List Contents) (o : Output) (p : PlacingData) → output_of p.name (all_sections modules) ≡ Some o → request_by modules o p ≡ request modules p.name p.target p.page
+pub asked_by : (modules : List Contents) (o : Output) (p : PlacingData) → output_of p.name (all_sections modules) ≡ Some o → request_by modules o p ≡ request modules p.name p.target p.page p.run
 asked_by modules o p e =
     let c = chosen (list_any (is_section_named p.name) (all_sections modules)) (record { size = size_of_sections p.name (all_sections modules); initialised = any_words p.name (all_sections modules) }) o e in
     ap (λ (x : Output). request_by modules x p) (sym c.1)

@@ -2,6 +2,7 @@ pub mod Asked
 pub mod Blocked
 pub mod Bounded
 pub mod Commanded
+pub mod Elsewhere
 pub mod Fits
 pub mod Kept
 pub mod Listed

@@ -1,11 +1,12 @@
 -- Sections placed one behind the other.
-use Rattle.std.proofs.Common.{◌≡◌, ℕ, List, [], ◌∷◌, ◌++◌, Result, Err, reverse, filter, refl, sym, ap, subst, String}
+use Rattle.std.proofs.Common.{◌≡◌, ℕ, List, [], ◌∷◌, ◌++◌, Result, Ok, Err, inr, reverse, filter, refl, sym, ap, subst, String}
 use Rattle.std.specs.declared.alloc.Global.{Global}
 use Rattle.std.proofs.lemmas.List.{reverse-append, reverse-reverse}
 use Rattle.c25_meaning_commands.specs.Command.{RangeData}
-use Rattle.c25_meaning_placing.specs.GoodMap.{Request, Stands, Stand, ArePlaced, IsBase, IsBaseOf, is_usable, page_for}
+use Rattle.c25_meaning_placing.specs.GoodMap.{Request, Stands, Stand, ArePlaced, IsBase, IsBaseOf, IsUnfit, Runs, is_usable, page_for}
 use Rattle.c25_meaning_placing.specs.Place.{Place}
 use Rattle.c25_meaning_placing.specs.declared.link_fault.LinkFault.{LinkFault}
+use Rattle.c25_meaning_placing.specs.declared.link_fault.LinkFault.TheVariants.{BadRun}
 use Rattle.c25_meaning_common.specs.declared.failure.Failure.{Failure}
 use Rattle.c25_meaning_common.specs.declared.failure.Failure.TheVariants.{NoMemory, Fault}
 use Rattle.c25_meaning_placing.specs.declared.link_fault.FaultyLink.{FaultyLink}
@@ -43,9 +44,13 @@ pub base_of_is : (ranges usable : List RangeData) (places : List Place) (r : Req
 base_of_is ranges usable places r page answer is are base =
     subst (λ n. IsBase r.target n r.size r.blocks (filter (is_usable r.target n) ranges) places answer) is (subst (λ rs. IsBase r.target page r.size r.blocks rs places answer) are base)
 
+-- it can stand, and not run where the command says
+pub bad_run : (ranges : List RangeData) (places : List Place) (r : Request) (base : ℕ) → IsBaseOf ranges places r (Ok base) → ¬ Runs ranges places r → IsUnfit ranges places r BadRun
+bad_run ranges places r base stands not_there = inr (base, stands, not_there, refl)
+
 -- a refusal with its fault and its name
-pub refused_is : (ranges : List RangeData) (before : List Place) (r : Request) (f : FaultyLink (List ℕ)) (fault : LinkFault) → f ≡ record { fault = fault; name = r.name } → IsBaseOf ranges before r (Err fault) → IsRefused ranges before r f
+pub refused_is : (ranges : List RangeData) (before : List Place) (r : Request) (f : FaultyLink (List ℕ)) (fault : LinkFault) → f ≡ record { fault = fault; name = r.name } → IsUnfit ranges before r fault → IsRefused ranges before r f
 refused_is ranges before r f fault e h = record {
-  fault_is = subst (λ (x : LinkFault). IsBaseOf ranges before r (Err x)) (sym (ap (λ (g : FaultyLink (List ℕ)). g.fault) e)) h;
+  fault_is = subst (λ (x : LinkFault). IsUnfit ranges before r x) (sym (ap (λ (g : FaultyLink (List ℕ)). g.fault) e)) h;
   name_is = ap (λ (g : FaultyLink (List ℕ)). g.name) e;
 }

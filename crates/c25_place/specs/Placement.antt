@@ -1,13 +1,14 @@
 -- Sections placed one after the other, as the code places them.
-use Rattle.std.specs.Prelude.{◌≡◌, ℕ, ◌+◌, ◌<◌, ◌≤◌, List, [], ◌∷◌, ◌++◌, Result, Ok, Err, String}
+use Rattle.std.specs.Prelude.{◌≡◌, ℕ, ◌+◌, ◌<◌, ◌≤◌, List, [], ◌∷◌, ◌++◌, IfSome, Result, Ok, Err, String}
 use Rattle.std.specs.declared.alloc.Global.{Global}
 use Rattle.std.specs.declared.vec.Vec.{Vec}
 use Rattle.c25_meaning_commands.specs.Command.{RangeData}
-use Rattle.c25_meaning_placing.specs.GoodMap.{Request, Stands, ArePlaced, IsUnplaced, IsBaseOf}
+use Rattle.c25_meaning_placing.specs.GoodMap.{Request, Stands, ArePlaced, IsUnplaced, IsBaseOf, IsUnfit, Runs}
 use Rattle.c25_meaning_placing.specs.Place as place
 use Rattle.c25_meaning_common.specs.declared.failure.Failure.{Failure}
 use Rattle.c25_meaning_common.specs.declared.failure.Failure.TheVariants.{NoMemory, Fault}
 use Rattle.c25_meaning_placing.specs.declared.link_fault.FaultyLink.{FaultyLink}
+use Rattle.c25_meaning_placing.specs.declared.link_fault.LinkFault.{LinkFault}
 use Rattle.c25_place.specs.View.{refusal_of, places_view}
 use Rattle.c25_place.specs.declared.placement.Place.{Place}
 
@@ -16,11 +17,17 @@ pub record IsWithin (p : Place) : Type 0 where
   pub page : p.page ≤ 1
   pub base : p.base < 65536
   pub end : p.base + p.size ≤ 65536
+  pub run : IfSome p.run (λ run. run < 65536)
 
 -- so many words from there on are within a page
 pub record AreWords (size base : ℕ) : Type 0 where
   pub first : base < 65536
   pub last : base + size ≤ 65536
+
+-- where a section stands, and it may run where the command says; or why it cannot be placed
+abbrev pub IsFitOrNot : List RangeData → List place.Place → Request → Result ℕ LinkFault → Type 0
+IsFitOrNot ranges before r (Ok base) = IsBaseOf ranges before r (Ok base) × Runs ranges before r
+IsFitOrNot ranges before r (Err fault) = IsUnfit ranges before r fault
 
 -- a place more, behind those before it
 pub record IsPlacedNext (ranges : List RangeData) (before after : List place.Place) (r : Request) : Type 0 where
@@ -30,7 +37,7 @@ pub record IsPlacedNext (ranges : List RangeData) (before after : List place.Pla
 
 -- why a section cannot be placed
 pub record IsRefused (ranges : List RangeData) (before : List place.Place) (r : Request) (refusal : FaultyLink (List ℕ)) : Type 0 where
-  pub fault_is : IsBaseOf ranges before r (Err refusal.fault)
+  pub fault_is : IsUnfit ranges before r refusal.fault
   pub name_is : refusal.name ≡ r.name
 
 -- a section is placed behind those before it, or refused

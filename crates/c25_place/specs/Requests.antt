@@ -22,11 +22,12 @@ request_by modules output p = record {
   target = p.target;
   page = p.page;
   blocks = blocks_of p.name modules;
+  run = p.run;
 }
 
 -- what is said of a section that is not listed
 abbrev pub unlisted : List ℕ → PlacingData
-unlisted name = record { name = name; target = Anywhere; page = None }
+unlisted name = record { name = name; target = Anywhere; page = None; run = None }
 
 -- no page is named but 0 and 1
 abbrev pub HasPages : List Request → Type 0

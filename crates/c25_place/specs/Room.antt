@@ -1,8 +1,9 @@
 -- Which words of both pages are taken, as the code has it.
 use Rattle.std.specs.Prelude.{◌≡◌, ℕ, ◌+◌, ◌-◌, ◌%◌, ◌<◌, ◌≤◌, Bool, true, false, List, length, slice_index_or}
-use Rattle.c25_meaning_placing.specs.GoodMap.{is_taken}
+use Rattle.c25_meaning_placing.specs.GoodMap.{is_taken, is_run_at}
 use Rattle.c25_meaning_placing.specs.Place.{Place, Covers}
 use Rattle.c25_place.specs.declared.room.Room.{Room}
+use Rattle.c25_place.specs.declared.runs.RunWords.{RunWords}
 
 -- the words of a page that are marked are those of these places
 pub record KnowsTaken (taken : List Bool) (page : ℕ) (places : List Place) : Type 0 where
@@ -13,6 +14,11 @@ pub record KnowsTaken (taken : List Bool) (page : ℕ) (places : List Place) : T
 pub record KnowsRoom (room : Room) (places : List Place) : Type 0 where
   pub program : KnowsTaken room.program.items 0 places
   pub store : KnowsTaken room.store.items 1 places
+
+-- the words that are marked are those that these places run at
+pub record KnowsRuns (runs : RunWords) (places : List Place) : Type 0 where
+  pub sized : length runs.taken.items ≡ 65536
+  pub words : (word : ℕ) → word < 65536 → slice_index_or runs.taken.items word false ≡ is_run_at places word
 
 -- from a word on so many words are not marked
 abbrev pub AreFree : List Bool → ℕ → ℕ → Type 0

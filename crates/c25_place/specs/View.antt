@@ -54,6 +54,7 @@ request_view modules r = record {
   target = wanted_view r.wanted;
   page = r.page;
   blocks = blocks_of r.name.now modules;
+  run = r.run;
 }
 
 -- sections of modules that are to be placed
@@ -62,7 +63,7 @@ requests_view modules requests = map (request_view modules) requests
 
 -- a place
 abbrev pub place_view : Place → place.Place
-place_view p = record { name = p.name.now; page = p.page; base = p.base; size = p.size }
+place_view p = record { name = p.name.now; page = p.page; base = p.base; size = p.size; run = p.run }
 
 -- places
 abbrev pub places_view : List Place → List place.Place

@@ -10,6 +10,7 @@ mod places;
 mod ranges;
 mod requests;
 mod room;
+mod runs;
 
 pub use faults::{Refused, refusal};
 pub use outputs::body_size;

@@ -1,16 +1,16 @@
 //! Where sections stand.
 
-ghost use Rattle.std.specs.Prelude.{◌≡◌, ◌<◌, ◌≤◌, ◌+◌, ◌^◌, ◌++◌, ◌∷◌, [], List, ℕ, true, Ok, Err, All, IfOk, IfSome, OnOk, OnErr, MatchOption, length};
+ghost use Rattle.std.specs.Prelude.{◌≡◌, ◌<◌, ◌≤◌, ◌+◌, ◌^◌, ◌++◌, ◌∷◌, [], List, ℕ, true, false, Ok, Err, All, IfOk, IfSome, OnOk, OnErr, MatchOption, length};
 ghost use Rattle.std.specs.List.{list_any};
 ghost use Rattle.c25_meaning_commands.specs.Command.{RangeData, IsRange};
-ghost use Rattle.c25_meaning_placing.specs.GoodMap.{IsLeastFit, NoneFits, IsFirstFit, IsBase, IsBaseAt, IsBaseIn, is_inside, may_stand, Stands, ArePlaced, IsBaseOf};
+ghost use Rattle.c25_meaning_placing.specs.GoodMap.{IsLeastFit, NoneFits, IsFirstFit, IsBase, IsBaseAt, IsBaseIn, is_inside, may_stand, Stands, ArePlaced, IsBaseOf, Runs, page_for};
 ghost use Rattle.c25_meaning_objects.specs.Module.{Contents};
 ghost use Rattle.c25_meaning_placing.specs.Place as place;
 ghost use Rattle.c25_place.specs.Blocks.{KnowsBlocks, KnowsFits};
-ghost use Rattle.c25_place.specs.Placement.{IsPlacedOrRefused, ArePlacedOrRefused, IsWithin, AreWords};
+ghost use Rattle.c25_place.specs.Placement.{IsPlacedOrRefused, ArePlacedOrRefused, IsFitOrNot, IsWithin, AreWords};
 ghost use Rattle.c25_place.specs.Ranges.{KnowsRanges, HasRanges};
 ghost use Rattle.c25_place.specs.Requests.{HasPages};
-ghost use Rattle.c25_place.specs.Room.{KnowsTaken, KnowsRoom};
+ghost use Rattle.c25_place.specs.Room.{KnowsTaken, KnowsRoom, KnowsRuns};
 ghost use Rattle.c25_place.specs.View.{range_view, ranges_view, request_view, requests_view, wanted_view, place_view, places_view};
 
 use crate::blocks::{Blocks, PAGE};
@@ -18,6 +18,7 @@ use crate::faults::{Refused, refusal};
 use crate::ranges::{Range, Ranges};
 use crate::requests::{Request, Wanted};
 use crate::room::{PAGE_WORDS, Room, first_free};
+use crate::runs::RunWords;
 use c25_cmd::taken::any_taken;
 use c25_meaning_common::failure::Failure;
 use c25_meaning_placing::link_fault::LinkFault;
@@ -28,14 +29,18 @@ use std::alloc::{AllocError, Global};
 pub struct Place<'a> {
     pub name: &'a str,
     pub page: u8,
+    /// The address where its first word is loaded.
     pub base: u32,
     pub size: u32,
+    /// The address where its first word runs, if that is another.
+    pub run: Option<u32>,
 }
 
-/// The sections that have been placed, and the words that they take.
+/// The sections that have been placed, the words that they take, and those that they run at.
 #[derive(Drop)]
 struct Placed<'a> {
     room: Room,
+    runs: RunWords,
     places: Vec<Place<'a>>,
 }
 
@@ -191,16 +196,68 @@ impl<'a> Placed<'a> {
     /// No sections.
     fn new(alloc: Global) -> Result<Self, AllocError>
         ensures room { IfOk result (λ p. KnowsRoom p.room []) }
+        ensures runs { IfOk result (λ p. KnowsRuns p.runs []) }
         ensures places { IfOk result (λ p. p.places.items ≡ []) }
     {
         Ok(Placed {
             room: Room::new(alloc)?,
+            runs: RunWords::new(alloc)?,
             places: Vec::new(alloc),
         })
     }
 
-    /// Places a section among those before it, or tells why it cannot stand.
-    #[tactic(auto, using(crate::proofs::Placing::base_of_is))]
+    /// Whether a section may run where the command says, if it says where.
+    fn may_run(&self, page: u8, size: u32, request: &Request<'_>) -> bool
+        requires runs { KnowsRuns self.now.runs (places_view self.now.places.items) }
+        requires size { request.now.size ≡ size }
+        requires fits { size ≤ 65536 }
+        ensures yes { result ≡ true → (all : List RangeData) (modules : List Contents) → page ≡ page_for all (request_view modules request.now)
+            → Runs all (places_view self.now.places.items) (request_view modules request.now) }
+        ensures no { result ≡ false → (all : List RangeData) (modules : List Contents) → page ≡ page_for all (request_view modules request.now)
+            → ¬ Runs all (places_view self.now.places.items) (request_view modules request.now) }
+        ensures within { result ≡ true → IfSome request.now.run (AreWords size) }
+    {
+        match request.run {
+            Some(run) => page == 0 && request.initialised && self.runs.are_open(run, size),
+            None => true,
+        }
+    }
+
+    /// Where a section stands among those before it, or why it cannot be placed.
+    fn base_for(
+        &self,
+        ranges: &Ranges<'_>,
+        blocks: &Blocks<'_>,
+        page: u8,
+        request: &Request<'_>,
+    ) -> Result<u32, LinkFault>
+        requires ranges { HasRanges ranges.now }
+        requires room { KnowsRoom self.now.room (places_view self.now.places.items) }
+        requires runs { KnowsRuns self.now.runs (places_view self.now.places.items) }
+        requires size { request.now.size < 2 ^ 100 }
+        requires page { page ≤ 1 }
+        ensures fits { (all : List RangeData) (modules : List Contents) → KnowsRanges ranges.now all → KnowsBlocks blocks.now modules
+            → page ≡ page_for all (request_view modules request.now)
+            → IsFitOrNot all (places_view self.now.places.items) (request_view modules request.now) result }
+        ensures within { IfOk result (AreWords request.now.size) }
+        ensures run { IfOk result (λ _. IfSome request.now.run (AreWords request.now.size)) }
+    {
+        let usable = ranges.usable(request.wanted, page);
+        let paging = blocks.get(request.name);
+        let taken = self.room.on_page(page);
+        match base_of(request.wanted, request.size, usable, taken, &paging.fits) {
+            Ok(base) => {
+                if self.may_run(page, request.size as u32, request) {
+                    Ok(base)
+                } else {
+                    Err(LinkFault::BadRun)
+                }
+            }
+            Err(fault) => Err(fault),
+        }
+    }
+
+    /// Places a section among those before it, or tells why it cannot be placed.
     fn place(
         &mut self,
         alloc: Global,
@@ -210,32 +267,28 @@ impl<'a> Placed<'a> {
     ) -> Result<(), Refused>
         requires ranges { HasRanges ranges.now }
         requires room { KnowsRoom self.old.room (places_view self.old.places.items) }
+        requires runs { KnowsRuns self.old.runs (places_view self.old.places.items) }
         requires size { request.now.size < 2 ^ 100 }
         requires page { IfSome request.now.page (λ n. n ≤ 1) }
         requires within { All IsWithin self.old.places.items }
         ensures room { OnOk result (KnowsRoom self.new.room (places_view self.new.places.items)) }
+        ensures runs { OnOk result (KnowsRuns self.new.runs (places_view self.new.places.items)) }
         ensures placed { (all : List RangeData) (modules : List Contents) → KnowsRanges ranges.now all → KnowsBlocks blocks.now modules
             → IsPlacedOrRefused all (places_view self.old.places.items) (places_view self.new.places.items) (request_view modules request.now) result }
         ensures within { OnOk result (All IsWithin self.new.places.items) }
     {
         let page = ranges.page_for(request);
-        let usable = ranges.usable(request.wanted, page);
-        let paging = blocks.get(request.name);
-        match base_of(
-            request.wanted,
-            request.size,
-            usable,
-            self.room.on_page(page),
-            &paging.fits,
-        ) {
+        match self.base_for(ranges, blocks, page, request) {
             Ok(base) => {
                 let size = request.size as u32;
                 self.room.take(page, base, size);
+                self.runs.take(request.run, size);
                 self.places.push(Place {
                     name: request.name,
                     page,
                     base,
                     size,
+                    run: request.run,
                 })?;
                 Ok(())
             }

@@ -34,6 +34,8 @@ pub(crate) struct Request<'a> {
     pub initialised: bool,
     pub wanted: Wanted<'a>,
     pub page: Option<u8>,
+    /// Where it runs, if that is not where it is loaded.
+    pub run: Option<u32>,
 }
 
 /// What a command says of the place.
@@ -68,6 +70,7 @@ fn listed_request<'a>(placing: &'a Placing, output: Output) -> Request<'a>
         initialised: output.initialised,
         wanted: place_wanted(&placing.target),
         page: placing.page,
+        run: placing.run,
     }
 }
 
@@ -82,6 +85,7 @@ fn unlisted_request<'a>(name: &'a str, output: Output) -> Request<'a>
         initialised: output.initialised,
         wanted: Wanted::Anywhere,
         page: None,
+        run: None,
     }
 }
 

@@ -38,12 +38,12 @@ base_once Anywhere page size blocks (r ∷ rs) places a b x y = in_once page siz
 base_once (InRange name) page size blocks (r ∷ rs) places a b x y = in_once page size blocks r (r ∷ rs) places a b x y
 base_once (At address) page size blocks (r ∷ rs) places a b x y = x.0 ∙ sym y.0
 
-same_place : (p q : Place) → p.name ≡ q.name → p.page ≡ q.page → p.base ≡ q.base → p.size ≡ q.size → p ≡ q
-same_place p q n g b l = λ i. record { name = n i; page = g i; base = b i; size = l i }
+same_place : (p q : Place) → p.name ≡ q.name → p.page ≡ q.page → p.base ≡ q.base → p.size ≡ q.size → p.run ≡ q.run → p ≡ q
+same_place p q n g b l r = λ i. record { name = n i; page = g i; base = b i; size = l i; run = r i }
 
 stands_once : (ranges : List RangeData) (places : List Place) (r : Request) (p q : Place) → Stands ranges places r p → Stands ranges places r q → p ≡ q
 stands_once ranges places r p q x y =
-    same_place p q (x.name_is ∙ sym y.name_is) (x.page_is ∙ sym y.page_is) (base_once r.target (page_for ranges r) r.size r.blocks (usable ranges r) places p.base q.base x.base_is y.base_is) (x.size_is ∙ sym y.size_is)
+    same_place p q (x.name_is ∙ sym y.name_is) (x.page_is ∙ sym y.page_is) (base_once r.target (page_for ranges r) r.size r.blocks (usable ranges r) places p.base q.base x.base_is y.base_is) (x.size_is ∙ sym y.size_is) (x.run_is ∙ sym y.run_is)
 
 stand_once : (ranges : List RangeData) (requests : List Request) (ps qs : List Place) → Stand ranges requests ps → Stand ranges requests qs → ps ≡ qs
 stand_once ranges [] [] [] x y = refl

@@ -93,7 +93,7 @@ impl<'a, F: Feed + Drop, S: Sink + Drop> Session<'a, F, S> {
                 count,
             )?)),
             Cmd::Stack => Ok(shown(show_stack(alloc, &self.board)?)),
-            Cmd::Where => Ok(shown(show_place(alloc, image, self.board.pc())?)),
+            Cmd::Where => Ok(shown(show_place(alloc, image, &self.board)?)),
             Cmd::List(count) => Ok(shown(show_list(alloc, image, self.board.pc(), count)?)),
             Cmd::Symbols => Ok(shown(show_symbols(alloc, image)?)),
         }

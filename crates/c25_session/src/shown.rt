@@ -2,14 +2,17 @@
 
 ghost use Rattle.std.specs.Prelude.{◌≡◌, ◌≤◌, ◌+◌, IfOk, string_bytes};
 ghost use Rattle.c25_board.specs.Board.{state};
-ghost use Rattle.c25_meaning_debugger.specs.Debugger.{data_word, program_word, source_line_at};
+ghost use Rattle.c25_meaning_debugger.specs.Debugger.{IsWhereBy, data_word, program_word, source_line_at};
 ghost use Rattle.c25_meaning_debugger.specs.Texts.{AreLinesOf, IsWhere, marks_from, regs_text, stack_text, symbols_text, words_text};
 ghost use Rattle.c25_meaning_image.specs.Marks as marks;
 ghost use Rattle.c25_meaning_processor.specs.Status.{regs_of};
+ghost use Rattle.c25_meaning_processor.specs.WordStep.{mark_found};
 
 use crate::memories::{DataMemory, ProgramMemory};
 use crate::program::ImageProgram;
-use c25_answers::{push_instruction, push_instructions, push_registers, push_stack, push_words};
+use c25_answers::{
+    push_copied, push_instruction, push_instructions, push_registers, push_stack, push_words,
+};
 use c25_board::board::Board;
 use c25_board::ports::{Feed, Sink};
 use c25_link::Image;
@@ -73,13 +76,43 @@ pub(crate) fn show_program<F: Feed + Drop, S: Sink + Drop>(
 }
 
 /// The image's instruction at an address.
-pub(crate) fn show_place(alloc: Global, image: &Image, address: u16) -> Result<String, NoMemory>
+fn show_mark(alloc: Global, image: &Image, address: u16) -> Result<String, NoMemory>
     ensures { IfOk result (λ text. IsWhere image.now.program (source_line_at image.now) address (marks.size_at image.now.marks address) (string_bytes text)) }
 {
     let mut text = String::new(alloc);
     let size = size_at(image.marks(), address);
     push_instruction(alloc, &mut text, &ImageProgram { image }, address, size)?;
     Ok(text)
+}
+
+/// The instruction at PC: that which is fetched there from block B0, if one is, else the image's.
+pub(crate) fn show_place<F: Feed + Drop, S: Sink + Drop>(
+    alloc: Global,
+    image: &Image,
+    board: &Board<F, S>,
+) -> Result<String, NoMemory>
+    ensures { IfOk result (λ text. IsWhereBy image.now (state board.now)
+        (mark_found (state board.now).registers.cnf (state board.now).world (state board.now).registers.pc) (string_bytes text)) }
+{
+    let address = board.pc();
+    match board.run_mark() {
+        Some(mark) => match board.copied(&mark) {
+            Some(insn) => {
+                let mut text = String::new(alloc);
+                push_copied(
+                    alloc,
+                    &mut text,
+                    &ImageProgram { image },
+                    address,
+                    mark.load,
+                    insn,
+                )?;
+                Ok(text)
+            }
+            None => show_mark(alloc, image, address),
+        },
+        None => show_mark(alloc, image, address),
+    }
 }
 
 /// The image's first so many instructions from an address up.

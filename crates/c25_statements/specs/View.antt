@@ -57,6 +57,7 @@ act_of (act.Load words) = says.Load words.items
 act_of (act.Space bits) = says.Space (tree_of bits)
 act_of (act.Declare names) = says.Declare (texts_of names.items)
 act_of (act.Export names) = says.Export (texts_of names.items)
+act_of (act.Label name) = says.Label name.now
 act_of act.Registers = says.Registers
 
 -- what a line says

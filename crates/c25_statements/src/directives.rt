@@ -175,6 +175,19 @@ fn loading<'a>(alloc: Global, operands: &[&[Token<'_>]]) -> Result<Act<'a>, Fail
     }
 }
 
+/// `.label`
+fn naming<'a>(operands: &[&[Token<'a>]]) -> Result<Act<'a>, Failure<FaultKind>>
+    ensures { Meets act_of (says.naming (operands_view operands.now)) result }
+{
+    match operands {
+        [operand] => match name_in(operand) {
+            Ok(name) => Ok(Act::Label(name)),
+            Err(fault) => Err(Failure::Fault(fault)),
+        },
+        _ => Err(Failure::Fault(FaultKind::OperandCount)),
+    }
+}
+
 /// `.word`, `.int`, `.byte`
 fn putting<'a>(
     alloc: Global,
@@ -209,6 +222,7 @@ pub(crate) fn act_of<'a>(
         Directive::Set => equating(alloc, label, operands),
         Directive::Global => Ok(Act::Declare(some_names(alloc, operands)?)),
         Directive::Def => Ok(Act::Export(some_names(alloc, operands)?)),
+        Directive::Label => naming(operands),
         Directive::Registers => without(Act::Registers, operands),
         Directive::Ignored => Ok(Act::Nothing),
     }

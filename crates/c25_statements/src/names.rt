@@ -86,6 +86,8 @@ fn find_directive(word: &str) -> Option<Directive>
         Some(Directive::Global)
     } else if word.eq_ignore_ascii_case(".def") {
         Some(Directive::Def)
+    } else if word.eq_ignore_ascii_case(".label") {
+        Some(Directive::Label)
     } else if word.eq_ignore_ascii_case(".mmregs") {
         Some(Directive::Registers)
     } else if is_ignored(word) {

@@ -49,6 +49,8 @@ pub enum Act<'a> {
     Declare(Vec<&'a str>),
     /// Other modules see the names, which have to be defined here.
     Export(Vec<&'a str>),
+    /// The name stands for where the words of the next line are loaded.
+    Label(&'a str),
     /// The names of the memory-mapped registers stand for their addresses.
     Registers,
 }

@@ -7,9 +7,21 @@ use Rattle.c25_meaning_language.specs.Quoting.{behind}
 use Rattle.c25_meaning_language.specs.Fragments.{Names, without, Fragment, Kept, front}
 use Rattle.c25_meaning_language.specs.Substitution.{as_is, joined, rewritten}
 use Rattle.c25_meaning_language.specs.declared.quoting.Quoting.{Quoting}
-use Rattle.c25_meaning_language.specs.declared.quoting.Quoting.TheVariants.{Comment}
+use Rattle.c25_meaning_language.specs.declared.quoting.Quoting.TheVariants.{Outside, Within, Throughout, Comment}
 use Rattle.c25_substitution.proofs.Kept.{kept_front, comment_stays}
 use Rattle.c25_substitution.proofs.Writing.{step, part, joined_assoc, drafted-empty}
+
+-- a blank is a fragment of its own
+first_blank : (names : Names) (q : Quoting) (xs : List ℕ) → (Kept (32 ∷ []) ≡ (front names q (32 ∷ xs)).fragment) × (1 ≡ (front names q (32 ∷ xs)).size)
+unfolding front
+first_blank names Outside xs = (refl, refl)
+first_blank names (Within quote) xs = (refl, refl)
+first_blank names Throughout xs = (refl, refl)
+first_blank names Comment xs = (refl, refl)
+
+blank_front : (names : Names) (q : Quoting) (xs : List ℕ) → 0 < length xs → 32 ≡ get_or xs 0 0 → (Kept (32 ∷ []) ≡ (front names q xs).fragment) × (1 ≡ (front names q xs).size)
+blank_front names q [] more is = absurd (omega arith)
+blank_front names q (x ∷ xs) more is = subst (λ y. (Kept (32 ∷ []) ≡ (front names q (y ∷ xs)).fragment) × (1 ≡ (front names q (y ∷ xs)).size)) is (first_blank names q xs)
 
 module _ (names : Names) (begins : Quoting) (text : List ℕ) where
   -- what stands before the rest stays as it is
@@ -69,3 +81,9 @@ module _ (names : Names) (begins : Quoting) (text : List ℕ) where
           (number : ℕ) → rewritten names number begins text ≡ joined (as_is before) (joined (part names number 0 [] p) (rewritten names number (behind first q) after))
       changes before b number =
           goes number ∙ ap (λ t. joined (as_is t) (joined (part names number 0 [] p) (rewritten names number (behind first q) after))) (sym (b ∙ taken))
+
+    -- behind a blank
+    pub keeps_blank : (after : List ℕ) → 0 < length rest → 32 ≡ get_or rest 0 0 → after ≡ drop 1 rest → length after < length rest → IsKeptTo (behind 32 q) after
+    keeps_blank after more is cut shorter =
+        let blank = blank_front (without [] names) q rest more is in
+        keeps_on after (Kept (32 ∷ [])) 32 [] refl more blank.0 (cut ∙ ap (λ n. drop n rest) blank.1) shorter is (32 ∷ []) refl

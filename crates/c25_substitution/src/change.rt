@@ -4,7 +4,7 @@ ghost use Rattle.std.specs.Prelude.{◌≡◌, []};
 ghost use Rattle.c25_substitution.specs.View.{names_of, IsFirstChange};
 
 use crate::aside::Aside;
-use crate::fragments::{Fragment, first_fragment};
+use crate::fragments::{Fragment, behind_blank, first_fragment};
 use crate::quoting::{behind, is_comment};
 use crate::visible::Visible;
 use c25_meaning_language::quoting::Quoting;
@@ -36,8 +36,13 @@ pub(crate) fn first_change<'a>(
             return None;
         }
         let first = rest.as_bytes()[0];
-        let (fragment, after) = first_fragment(names, aside, quoting, rest);
         let next = behind(first, quoting);
+        if first == b' ' {
+            quoting = next;
+            rest = behind_blank(rest);
+            continue;
+        }
+        let (fragment, after) = first_fragment(names, aside, quoting, rest);
         match fragment {
             Fragment::Kept(_) => {
                 quoting = next;

@@ -73,6 +73,16 @@ fn character(text: &str) -> (Fragment<'_>, &str)
     kept(text, beyond_run(text.as_bytes()).max(1))
 }
 
+/// What stands behind a blank, which is a fragment of its own.
+#[inline]
+pub(crate) fn behind_blank(text: &str) -> &str
+    requires { slice_index text.now 0 ≡ 32 }
+    ensures rest { result.now ≡ drop 1 text.now }
+    ensures shorter { length result.now < length text.now }
+{
+    &text[1..]
+}
+
 /// The name between two colons at the front of a text.
 fn between_colons(text: &str) -> Option<&str>
     ensures value { option_map (λ s. s.now) result ≡ between_colons text.now }

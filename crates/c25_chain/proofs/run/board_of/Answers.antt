@@ -5,5 +5,5 @@ use Rattle.c25_chain.proofs.run.board_of.Goals as goal
 
 pub returns-clause-state : goal.returns-clause-state
 returns-clause-state c =
-    begins c.args.linked.now.page0.words c.args.linked.now.page1.words c.marks-marks.result.now c.args.linked.now.image.marks
-    (samples_at c.args.samples) (outputs_of c.new-sink.result) _ c.in_ok-board.ensures.state c.marks-marks.ensures c.new-sink.ensures.words
+    begins c.args.linked.now.page0.words c.args.linked.now.page1.words c.marks-marks.result.now c.args.linked.now.image.marks c.run_marks-run_marks.result.now c.args.linked.now.image.run_marks
+    (samples_at c.args.samples) (outputs_of c.new-sink.result) _ c.in_ok-board.ensures.state c.marks-marks.ensures c.run_marks-run_marks.ensures c.new-sink.ensures.words

@@ -1,5 +1,4 @@
-        .title  "Filter"
-        .width  132
-        .mnolist
-L       .page
-        NOP
+        .mmregs
+        LDPK    0
+        LACK    1
+        SACL    IMR

@@ -1,4 +1,4 @@
-use Rattle.std.proofs.Common.{ap, ◌∙◌, []}
+use Rattle.std.proofs.Common.{ap, ◌∙◌, [], None}
 use Rattle.c25_place.specs.View.{named}
 use Rattle.c25_place.specs.declared.placement.Place.{Place}
 use Rattle.c25_link.proofs.First.{copied_some, first_new, first_seen}
@@ -7,7 +7,7 @@ use Rattle.c25_link.proofs.bases.first_parts.Goals as goal
 
 -- what an index past the end would read
 abbrev nowhere : Place
-nowhere = record { name = record { ref_ptr = (0, 0); now = [] }; page = 0; base = 0; size = 0 }
+nowhere = record { name = record { ref_ptr = (0, 0); now = [] }; page = 0; base = 0; size = 0; run = None }
 
 pub loop-place-preserved : goal.loop-place-preserved
 loop-place-preserved c = λ name. elim c.if-is_none.branch [

@@ -1,11 +1,11 @@
-use Rattle.std.proofs.Common.{◌≡◌, ◌<◌, ◌≤◌, ap, subst, ◌∙◌, ◌++◌, take, length, get_or, List, arith, Some}
+use Rattle.std.proofs.Common.{◌≡◌, ◌<◌, ◌≤◌, ap, subst, ◌∙◌, ◌++◌, take, length, get_or, List, arith}
 use Rattle.std.proofs.lemmas.List.{length-map}
 use Rattle.c25_meaning_objects.specs.Module.{SectionData}
 use Rattle.c25_meaning_placing.specs.Place.{all_sections}
 use Rattle.c25_obj.specs.View.{contents, section_data, sections_data}
 use Rattle.c25_obj.specs.declared.parts.Section.{Section}
 use Rattle.c25_link.specs.Bases.{KnowsNext, part_of, parts_of}
-use Rattle.c25_link.proofs.Parted.{small_section, part_there, sections_next, items_more, items_all, one_longer, module_whole}
+use Rattle.c25_link.proofs.Parted.{small_section, part_there, part_kept, sections_next, items_more, items_all, one_longer, module_whole}
 use Rattle.c25_link.proofs.bases.module_bases.Goals as goal
 
 pub take-requires : goal.take-requires
@@ -28,7 +28,7 @@ loop-section-preserved c =
           let own : List SectionData = sections_data (take i items) in (
             subst (λ (ss : List SectionData). KnowsNext c.take.new.self places ss) (sections_next before items i s lt at) (c.in_ok-take.ensures.next places (before ++ own) k.place so_far.0 k.has),
             items_more c.loop-section.list.items c.push.new.self.items c.in_ok-take.field-0 i (parts_of modules places number (contents c.args.owner.now)) c.in_ok-push.ensures.items c.loop-section.invariant.1 so_far.1
-                (ap Some (c.in_ok-take.ensures.part places (before ++ own) k.place so_far.0 k.has ∙ k.part) ∙ k.here),
+                (part_kept modules places number c.args.owner.now i s c.in_ok-take.field-0 k (c.in_ok-take.ensures.part places (before ++ own) k.place so_far.0 k.has)),
           ),
       one_longer c.loop-section.list.items c.push.new.self.items c.in_ok-take.field-0 i c.in_ok-push.ensures.items c.loop-section.invariant.1,
     )

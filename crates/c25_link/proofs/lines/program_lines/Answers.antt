@@ -5,7 +5,8 @@ use Rattle.c25_meaning_linking.specs.Linking.{HasLines}
 use Rattle.c25_link.specs.Layout.{places_in}
 use Rattle.c25_link.specs.Lines.{files_view, line_data}
 use Rattle.c25_link.specs.declared.lines.LinePlace.{LinePlace}
-use Rattle.c25_link.proofs.Told.{has_lines, take_all_of}
+use Rattle.c25_link.proofs.Marked.{take_all_of}
+use Rattle.c25_link.proofs.Told.{has_lines}
 use Rattle.c25_link.proofs.lines.program_lines.Goals as goal
 
 pub returns : goal.returns

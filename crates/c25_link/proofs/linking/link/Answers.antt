@@ -5,7 +5,7 @@ use Rattle.c25_meaning_placing.specs.GoodMap.{IsGoodMap}
 use Rattle.c25_meaning_linking.specs.Linking.{map_of, names_checked}
 use Rattle.c25_meaning_placing.specs.MapText.{IsPrinted}
 use Rattle.c25_link.specs.Bases.{HasRoom, KnowsBases}
-use Rattle.c25_link.specs.Layout.{HasOnePart}
+use Rattle.c25_link.specs.Layout.{HasOnePart, RunApart}
 use Rattle.c25_link.specs.Link.{LinksAt}
 use Rattle.c25_link.proofs.Linked.{all_modules, within_pages, low_bases, has_room, has_one_part, links}
 use Rattle.c25_place.specs.Placement.{IsWithin}
@@ -31,6 +31,7 @@ linked_image-requires-clause-laid c =
       bases = subst (λ (ps : List Place). KnowsBases c.in_ok-bases.bases modules (places_view ps)) (first ∙ sym second) known;
       room = subst (λ (ps : List Place). HasRoom modules (places_view ps)) (sym second) room;
       parts = subst (λ (ps : List Place). HasOnePart modules (places_view ps)) (sym second) one;
+      runs = subst (λ (ps : List Place). RunApart modules (places_view ps)) (sym second) (c.instructions_run_apart.ensures modules command (places_view items) (all_modules modules c.are_modules.ensures.each) c.requires good);
       places = low_bases (places_view c.deref-2.result.now) (within_pages c.deref-2.result.now (subst (λ (ps : List Place). All IsWithin ps) (sym second) c.in_ok-places.ensures.within));
     }
 

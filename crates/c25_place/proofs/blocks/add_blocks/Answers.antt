@@ -1,4 +1,4 @@
-use Rattle.std.proofs.Common.{◌≡◌, ◌<◌, ◌≤◌, ◌++◌, ◌+◌, ℕ, List, length, get_or, map, filter, take, unwrap_or, sym, ap, subst, ◌∙◌, arith}
+use Rattle.std.proofs.Common.{◌≡◌, ◌<◌, ◌≤◌, ◌++◌, ◌+◌, List, length, get_or, map, filter, unwrap_or, sym, ap, subst, ◌∙◌, arith}
 use Rattle.std.proofs.lemmas.List.{take_all}
 use Rattle.c25_meaning_objects.specs.declared.object.Block.{Block}
 use Rattle.c25_meaning_placing.specs.Place.{block_behind, is_block_named}

@@ -10,15 +10,16 @@ pub returns-in-Err-clause-placed : goal.returns-in-Err-clause-placed
 returns-in-Err-clause-placed c = λ all modules knows blocks.
     subst (λ (rs : List Request). ArePlacedOrRefused all rs (Err c.in-Err.refused)) (sym (split_at (request_view modules) c.args.requests.now c.loop-request.request-index _ c.loop-request-test.true))
     (refused all (requests_view modules (take c.loop-request.request-index c.args.requests.now)) (requests_view modules (drop (suc c.loop-request.request-index) c.args.requests.now)) (places_view c.loop-request.placed.places.items) (places_view c.place.new.self.places.items) _ c.in-Err.refused
-    (c.loop-request.invariant.1 all modules knows blocks) (c.in-Err.ensures.placed all modules knows blocks))
+    (c.loop-request.invariant.2 all modules knows blocks) (c.in-Err.ensures.placed all modules knows blocks))
 
 pub loop-request-preserved : goal.loop-request-preserved
 loop-request-preserved c = (
   c.in-Ok.ensures.room,
+  c.in-Ok.ensures.runs,
   λ all modules knows blocks.
       let i = c.loop-request.request-index in
       let after = places_view c.place.new.self.places.items in
       subst (λ (rs : List Request). ArePlaced all rs after) (sym (mapped_more (request_view modules) c.args.requests.now i _ c.loop-request-test.true))
-      (placed_next all (requests_view modules (take i c.args.requests.now)) (places_view c.loop-request.placed.places.items) after _ (c.loop-request.invariant.1 all modules knows blocks) (c.in-Ok.ensures.placed all modules knows blocks)),
+      (placed_next all (requests_view modules (take i c.args.requests.now)) (places_view c.loop-request.placed.places.items) after _ (c.loop-request.invariant.2 all modules knows blocks) (c.in-Ok.ensures.placed all modules knows blocks)),
   c.in-Ok.ensures.within,
 )

@@ -5,11 +5,24 @@ use Rattle.c25_meaning_language.specs.Substitution.{as_is, joined, rewritten}
 use Rattle.c25_meaning_language.specs.declared.quoting.Quoting.{Quoting}
 use Rattle.c25_substitution.specs.View.{names_of, fragment_of}
 use Rattle.c25_substitution.proofs.Writing.{part}
-use Rattle.c25_substitution.proofs.Changes.{IsKeptTo, cut_before, keeps_all, keeps_comment, keeps_on, changes}
+use Rattle.c25_substitution.proofs.Changes.{IsKeptTo, cut_before, keeps_all, keeps_comment, keeps_blank, keeps_on, changes}
 use Rattle.c25_substitution.proofs.change.first_change.Goals as goal
 
 pub returns-then-is_comment : goal.returns-then-is_comment
 returns-then-is_comment c = keeps_comment (names_of c.args.names.now) c.args.quoting c.args.text.now c.loop-rest.quoting c.loop-rest.rest.now c.loop-rest.invariant.kept (c.is_comment.ensures c.if-is_comment.true)
+
+pub loop-rest-preserved-then-first-eq32 : goal.loop-rest-preserved-then-first-eq32
+loop-rest-preserved-then-first-eq32 c =
+    let names = names_of c.args.names.now in
+    let rest = c.loop-rest.rest.now in
+    let more : 0 < length rest = grind (arith, nat_tests) in
+    let byte : 32 ≡ get_or rest 0 0 = sym c.if-first-eq32.true ∙ ap (λ (t : List ℕ). get_or t 0 0) c.as_bytes.ensures.value in
+    let next : c.behind-next.result ≡ behind 32 c.loop-rest.quoting = c.behind-next.ensures ∙ ap (λ b. behind b c.loop-rest.quoting) c.if-first-eq32.true in
+    let on = keeps_blank names c.args.quoting c.args.text.now c.loop-rest.quoting rest c.loop-rest.invariant.kept c.behind_blank-rest.result.now more byte c.behind_blank-rest.ensures.rest c.behind_blank-rest.ensures.shorter in
+    record {
+      text = search rules;
+      kept = subst (λ (q : Quoting). IsKeptTo names c.args.quoting c.args.text.now q c.behind_blank-rest.result.now) (sym next) on;
+    }
 
 pub loop-rest-preserved : goal.loop-rest-preserved
 loop-rest-preserved c =

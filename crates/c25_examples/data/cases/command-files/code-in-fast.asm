@@ -1,0 +1,3 @@
+ NOP
+ .sect "fast"
+R B R

@@ -1,0 +1,3 @@
+SECTIONS {
+ fast : load = 40h, ,
+ .text : }

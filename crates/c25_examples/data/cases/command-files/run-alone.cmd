@@ -1,0 +1,1 @@
+SECTIONS { .text : fast : Run=0FF00h }

@@ -1,0 +1,2 @@
+SECTIONS {
+ fast : load = 40h, run

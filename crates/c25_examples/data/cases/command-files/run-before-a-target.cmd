@@ -1,0 +1,3 @@
+SECTIONS {
+ fast : run = 0FF00h
+ load = 40h }

@@ -1,0 +1,1 @@
+SECTIONS { fast : load = 40h PAGE 0, run = 65280 }

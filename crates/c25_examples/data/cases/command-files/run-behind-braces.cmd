@@ -1,0 +1,1 @@
+SECTIONS { .text : fast : { *(fast) } run = 0FF00h }

@@ -1,0 +1,2 @@
+SECTIONS {
+ run : load = 40h }

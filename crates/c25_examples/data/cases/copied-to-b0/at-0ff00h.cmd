@@ -1,0 +1,1 @@
+SECTIONS { fast : load = 0FF00h }

@@ -1,0 +1,29 @@
+N .set 3
+ LRLK AR1,F-0FD00h
+ LARP 1
+ RPTK LEND-L-1
+ BLKP L,*+
+ CNFP
+ LARK AR2,4
+ ZAC
+ CALL F
+ SACL 60h
+ OUT 60h,PA0
+ LALK G
+ CALA
+ SACL 60h
+ OUT 60h,PA1
+S B S
+P ADDK 100
+ RET
+ .sect "fast"
+ .label L
+F LARP 2
+LOOP RPTK N-1
+ ADDK 1
+ BANZ LOOP,*-
+ CALL P
+ RET
+G LALK $
+ RET
+ .label LEND

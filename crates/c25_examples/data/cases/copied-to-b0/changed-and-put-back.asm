@@ -1,0 +1,23 @@
+ LRLK AR1,200h
+ LARP 1
+ RPTK 3
+ BLKP L,*+
+ CNFP
+ CALL R
+ CNFD
+ LRLK AR1,201h
+ LACK 0
+ SACL *
+ BLKP L+1,*
+ CNFP
+ CALL R
+ CNFD
+ SACL *
+ CNFP
+ CALL R
+ .sect "fast"
+ .label L
+R LACK 6
+ SACL 60h
+ OUT 60h,PA2
+ RET

@@ -1,0 +1,1 @@
+SECTIONS { .text : coefs : > PROG run = 0FF00h }

@@ -1,0 +1,26 @@
+ LRLK AR1,200h
+ LARP 1
+ LALK D
+ SACL 62h
+ LACK 77h
+ SACL 61h
+ LALK L
+ TBLW 61h
+ RPTK 12
+ BLKP L,*+
+ CNFP
+ B R
+ .sect "fast"
+ .label L
+D .word 1234h
+R LAC 62h
+ TBLR 60h
+ OUT 60h,PA0
+ LACK 99h
+ SACL 60h
+ LAC 62h
+ TBLW 60h
+ MAR *
+ TBLR 63h
+ OUT 63h,PA1
+S B S

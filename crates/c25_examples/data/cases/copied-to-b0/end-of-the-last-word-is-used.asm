@@ -1,0 +1,5 @@
+ .sect "fast"
+R NOP
+E
+ .text
+ .word E

@@ -1,0 +1,4 @@
+ .sect "fast"
+ .label L
+R NOP
+E .word R

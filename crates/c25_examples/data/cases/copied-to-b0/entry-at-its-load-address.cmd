@@ -1,0 +1,2 @@
+-e M
+SECTIONS { fast : load = 0C0h, run = 0FF40h, }

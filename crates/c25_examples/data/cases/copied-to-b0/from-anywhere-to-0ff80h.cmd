@@ -1,0 +1,1 @@
+SECTIONS { .text : fast : run = 0FF80h }

@@ -1,0 +1,18 @@
+ B GO
+ B ISR
+GO LRLK AR1,200h
+ LARP 1
+ RPTK 7
+ BLKP L,*+
+ LACK 1
+ SACL 4
+ CNFP
+ B R
+ISR OUT 4,PA0
+ EINT
+ RET
+ .sect "fast"
+ .label L
+R IDLE
+ OUT 4,PA1
+ B R

@@ -1,0 +1,19 @@
+ B GO
+ B ISR
+GO LRLK AR1,200h
+ LARP 1
+ RPTK 5
+ BLKP L,*+
+ LACK 1
+ SACL 4
+ CNFP
+ EINT
+ ZAC
+W ADDK 1
+ B W
+ .sect "fast"
+ .label L
+ISR SACL 60h
+ OUT 60h,PA0
+ EINT
+ RET

@@ -1,0 +1,27 @@
+ B GO
+ B ISR
+GO LRLK AR1,200h
+ LARP 1
+ RPTK 7
+ BLKP L,*+
+ LACK 1
+ SACL 4
+ CNFP
+ EINT
+ ZAC
+ B R
+ISR SACL 60h
+ OUT 60h,PA0
+ PSHD 60h
+ POP
+ POPD 61h
+ OUT 61h,PA1
+ PSHD 61h
+ EINT
+ RET
+ .sect "fast"
+ .label L
+R ADDK 1
+ RPTK 2
+ ADDK 16
+ B R

@@ -1,0 +1,5 @@
+ .sect "fast"
+R NOP
+ .label E
+ .text
+ .word E

@@ -1,0 +1,18 @@
+ LRLK AR1,200h
+ LARP 1
+ RPTK 7
+ BLKP L,*+
+ CNFP
+ LRLK AR3,2999
+ LARP 3
+ ZAC
+ CALL R
+ CNFD
+ SACL 60h
+ OUT 60h,PA0
+S B S
+ .sect "fast"
+ .label L
+R ADDK 1
+ BANZ R,*-
+ RET

@@ -1,0 +1,25 @@
+TAPS .set 3
+ LRLK AR1,200h
+ LARP 1
+ RPTK TAPS-1
+ BLKP CL,*+
+ CNFP
+ LRLK AR1,302h
+ LACK 3
+ SACL *-
+ LACK 2
+ SACL *-
+ LACK 1
+ SACL *
+ LRLK AR1,302h
+ ZAC
+ MPYK 0
+ RPTK TAPS-1
+ MAC C,*-
+ APAC
+ SACL 60h
+ OUT 60h,PA0
+ CALL C
+ .sect "coefs"
+ .label CL
+C .word 100,10,1

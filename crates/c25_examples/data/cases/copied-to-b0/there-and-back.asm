@@ -1,0 +1,17 @@
+GO LRLK AR1,200h
+ LARP 1
+ RPTK 3
+ BLKP L,*+
+T CNFP
+ CALL R
+ CNFD
+ CALL Q
+ B T
+Q SACL 60h
+ OUT 60h,PA0
+ RET
+ .sect "fast"
+ .label L
+R ADDK 1
+ ADDK 1
+ RET

@@ -1,0 +1,19 @@
+ LRLK AR1,200h
+ LARP 1
+ RPTK 7
+ BLKP LA,*+
+ CNFP
+ CALL RB
+ CALL RA
+S B S
+ .sect "a"
+ .label LA
+RA LACK 1
+ SACL 60h
+ OUT 60h,PA0
+ RET
+ .sect "b"
+RB LACK 2
+ SACL 60h
+ OUT 60h,PA0
+ RET

@@ -1,0 +1,16 @@
+ LRLK AR1,200h
+ LARP 1
+ RPTK 15
+ BLKP L,*+
+ LALK 5500h
+ SACL 61h
+ CNFP
+ B R
+ .sect "fast"
+ .label L
+R LALK L+2
+T TBLW 61h
+N LACK 5
+ SACL 60h
+ OUT 60h,PA0
+S B S

@@ -1,0 +1,2 @@
+X NOP
+ .label X

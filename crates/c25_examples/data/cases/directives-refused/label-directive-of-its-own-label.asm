@@ -1,0 +1,1 @@
+X .label X

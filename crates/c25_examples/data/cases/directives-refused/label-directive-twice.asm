@@ -1,0 +1,2 @@
+ .label X
+ .label X

@@ -1,0 +1,2 @@
+ .label L
+ LAC 5,L

@@ -1,0 +1,2 @@
+X .set L
+ .label L

@@ -1,0 +1,2 @@
+ .label L
+ .word L==L

@@ -1,0 +1,2 @@
+ .label L
+ .bss X,L

@@ -1,0 +1,2 @@
+ .label L
+ .byte L

@@ -1,0 +1,3 @@
+ .label L
+ .if L
+ .endif

@@ -1,0 +1,3 @@
+ .ref E
+ .label L
+ .word L-E

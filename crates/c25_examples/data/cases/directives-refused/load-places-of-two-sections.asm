@@ -1,0 +1,4 @@
+ .label L
+ .sect "s"
+ .label M
+ .word M-L

@@ -1,0 +1,2 @@
+ .label L
+ .word 1-L

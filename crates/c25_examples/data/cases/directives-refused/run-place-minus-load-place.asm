@@ -1,0 +1,3 @@
+R NOP
+ .label L
+ .word R-L

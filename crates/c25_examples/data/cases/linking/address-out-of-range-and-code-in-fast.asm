@@ -1,0 +1,3 @@
+ LALK E-20000h
+ .sect "fast"
+E NOP

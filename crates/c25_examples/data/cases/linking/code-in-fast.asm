@@ -1,0 +1,5 @@
+ NOP
+ .sect "fast"
+ NOP
+ NOP
+R B R

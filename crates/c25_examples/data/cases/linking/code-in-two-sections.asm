@@ -1,0 +1,7 @@
+ NOP
+ .sect "a"
+ NOP
+ NOP
+ .sect "b"
+ NOP
+ NOP

@@ -1,0 +1,1 @@
+SECTIONS { fast : PAGE 0 run = 0FF00h }

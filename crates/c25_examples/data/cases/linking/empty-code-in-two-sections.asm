@@ -1,0 +1,6 @@
+ NOP
+ .sect "a"
+ .text
+ .sect "b"
+ NOP
+ NOP

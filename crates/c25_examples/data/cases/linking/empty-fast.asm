@@ -1,0 +1,2 @@
+ NOP
+ .sect "fast"

@@ -1,0 +1,1 @@
+SECTIONS { fast : run = 10000h }

@@ -1,0 +1,1 @@
+SECTIONS { fast : run = 0FEFFh }

@@ -1,0 +1,5 @@
+ .text
+ .word E
+ .sect "fast"
+R NOP
+ .label E

@@ -1,0 +1,1 @@
+SECTIONS { fast : load = 0FFFFh, run = 0FF00h }

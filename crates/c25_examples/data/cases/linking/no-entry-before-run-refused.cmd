@@ -1,0 +1,1 @@
+-e NO SECTIONS { fast : run = 0 }

@@ -1,0 +1,1 @@
+SECTIONS { fast : > NO, run = 0 }

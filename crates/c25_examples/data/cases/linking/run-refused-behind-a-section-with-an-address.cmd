@@ -1,0 +1,1 @@
+SECTIONS { fast : run = 0 more : load = 0FFFFFh }

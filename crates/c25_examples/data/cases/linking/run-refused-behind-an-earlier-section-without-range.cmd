@@ -1,0 +1,1 @@
+SECTIONS { more : > NO fast : run = 0 }

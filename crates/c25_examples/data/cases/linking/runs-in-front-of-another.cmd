@@ -1,0 +1,1 @@
+SECTIONS { a : run = 0FF02h b : run = 0FF00h }

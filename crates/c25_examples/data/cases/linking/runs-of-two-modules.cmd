@@ -1,0 +1,1 @@
+SECTIONS { fast : > PROG, run = 0FF00h }

@@ -1,0 +1,1 @@
+SECTIONS { b : run = 0FF00h a : run = 0FF00h }

@@ -1,0 +1,1 @@
+SECTIONS { fast : run = 0FF00h }

@@ -1,0 +1,3 @@
+ .ref NO
+ .sect "fast"
+ B NO

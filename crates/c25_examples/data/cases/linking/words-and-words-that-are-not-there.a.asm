@@ -1,0 +1,2 @@
+ NOP
+V .usect "fast",4

@@ -1,0 +1,3 @@
+ .sect "fast"
+ NOP
+ NOP

@@ -1,0 +1,5 @@
+        .title  "Filter"
+        .width  132
+        .mnolist
+L       .page
+        NOP

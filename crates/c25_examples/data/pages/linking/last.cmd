@@ -1,0 +1,1 @@
+SECTIONS { .text : fast : PAGE 0, run = 0FFF9h }

@@ -1,0 +1,5 @@
+SECTIONS
+{
+  .text :
+  fast  : > PROG, run = 0FF00h
+}

@@ -1,0 +1,20 @@
+use Rattle.std.proofs.Common.{List, take, ap, sym, ◌∙◌, ◌++◌}
+use Rattle.c25_meaning_objects.specs.Module.{Contents}
+use Rattle.c25_meaning_placing.specs.Place.{by_modules}
+use Rattle.c25_meaning_linking.specs.Words.{module_run_marks}
+use Rattle.c25_meaning_image.specs.declared.mark.RunMark.{RunMark}
+use Rattle.c25_obj.specs.View.{contents}
+use Rattle.c25_link.specs.Layout.{places_in}
+use Rattle.c25_meaning_placing.proofs.ByModules.{by_modules_more}
+use Rattle.c25_link.proofs.marks.all_run_marks.Goals as goal
+
+pub loop-number-preserved : goal.loop-number-preserved
+loop-number-preserved c =
+    let modules = c.args.layout.now.modules.now in
+    let i = c.loop-number.number in
+    let own = module_run_marks modules (places_in c.args.layout.now) in
+    let so_far : List RunMark = by_modules own 0 (take i modules) in
+    c.in_ok-push_run_marks.ensures
+    ∙ ap (λ (ms : List RunMark). ms ++ own i (contents c.parts.result.now)) c.loop-number.invariant
+    ∙ ap (λ (m : Contents). so_far ++ own i m) c.parts.ensures.kept
+    ∙ sym (by_modules_more own modules i c.module-item.result c.loop-number-test.true c.module-item.is)
