@@ -20,10 +20,14 @@ abbrev pub columns : ℕ → Option ℕ → List ℕ
 columns first None = four_digits first ++ codes "     "
 columns first (Some second) = four_digits first ++ codes " " ++ four_digits second
 
+-- a second word of data, behind a comma
+abbrev pub further_text : Option ℕ → List ℕ
+further_text None = []
+further_text (Some second) = codes "," ++ long_text second
+
 -- words as data, in the assembler's spelling
 abbrev pub data_text : ℕ → Option ℕ → List ℕ
-data_text first None = codes ".word " ++ long_text first
-data_text first (Some second) = codes ".word " ++ long_text first ++ codes "," ++ long_text second
+data_text first second = codes ".word " ++ long_text first ++ further_text second
 
 -- words as their instruction, or as data
 abbrev pub code_text : ℕ → Option ℕ → Option Insn → List ℕ

@@ -86,12 +86,12 @@ is_second m section zero = false
 is_second m section (suc place) = is_long (mark_at m section place)
 
 -- the second word of the line at a place, if it has one
-abbrev pub second_by : Bool → Contents → ℕ → ℕ → Option ℕ
-second_by true m section place = slice_get (words_at m.sections section) (place + 1)
-second_by false m section place = None
+abbrev pub second_by : Bool → List ℕ → ℕ → Option ℕ
+second_by true words place = slice_get words (place + 1)
+second_by false words place = None
 
 abbrev pub second_at : Contents → ℕ → ℕ → Option ℕ
-second_at m section place = second_by (is_long (mark_at m section place)) m section place
+second_at m section place = second_by (is_long (mark_at m section place)) (words_at m.sections section) place
 
 -- what is filled into the words of the line at a place
 abbrev pub notes_by : Option ℕ → Contents → ℕ → ℕ → List ℕ
@@ -144,8 +144,12 @@ pub record IsSection (m : Contents) (section : ℕ) (s : SectionData) (text : Li
   pub text_is : text ≡ heading s ++ places
 
 -- the same of the section of a number
+abbrev pub IsSectionBy : Contents → ℕ → Option SectionData → List ℕ → Type 0
+IsSectionBy m section None text = text ≡ []
+IsSectionBy m section (Some s) text = IsSection m section s text
+
 abbrev pub IsSectionAt : Contents → ℕ → List ℕ → Type 0
-IsSectionAt m section text = elim (slice_get m.sections section) [ None ↦ text ≡ [] | Some s ↦ IsSection m section s text ]
+IsSectionAt m section text = IsSectionBy m section (slice_get m.sections section) text
 
 -- a text is a module's: its sections in their order
 abbrev pub IsModuleText : Contents → List ℕ → Type 0

@@ -32,6 +32,11 @@ pub record AreIndexed (p : Places) : Type 0 where
   pub marks : IsIndexOf (λ x. mark_place x p.section) p.parts.now.marks.items p.marks.items
   pub relocations : IsIndexOf (λ r. relocation_place r p.section) p.parts.now.relocations.items p.relocations.items
 
+-- the line of a symbol, if there is one
+abbrev pub label_in : ℕ → Option Symbol → List ℕ
+label_in place None = []
+label_in place (Some y) = label_line place (string_bytes y.name)
+
 -- the line of the symbol of a number
 abbrev pub label_by : List Symbol → ℕ → Placed → List ℕ
-label_by symbols place x = elim (slice_get symbols x.number) [ None ↦ [] | Some y ↦ label_line place (string_bytes y.name) ]
+label_by symbols place x = label_in place (slice_get symbols x.number)

@@ -5,6 +5,10 @@ use Rattle.std.specs.Ordering.{nat_cmp}
 use Rattle.c25_meaning_instructions.specs.declared.insn.Insn.{Insn}
 use Rattle.c25_dis.specs.Lines.{IsCode, line_text}
 
+-- the word at an address, if one is there; an address has sixteen bits
+abbrev pub word_at : map.FinMap nat_cmp ℕ → ℕ → Option ℕ
+word_at words address = if nat_lt address 65536 then map.get words address else None
+
 -- a word is an instruction, or it and the next one are, if there is one, or it is data
 abbrev pub IsTaken : ℕ → Option ℕ → Option ℕ → Option Insn → Type 0
 IsTaken word next None (Some i) = IsCode word None i
@@ -41,7 +45,7 @@ abbrev pub AreWords : map.FinMap nat_cmp ℕ → ℕ → ℕ → Option ℕ → 
 AreWords words from zero end text = (end ≡ None) × (text ≡ [])
 AreWords words from (suc n) end text =
     (was : Option ℕ) × (before last : List ℕ) × AreWords words from n was before
-    × IsAddressText (map.get words (from + n)) (map.get words (from + n + 1)) (is_before (from + n) was) (from + n) was end last × (text ≡ before ++ last)
+    × IsAddressText (word_at words (from + n)) (word_at words (from + n + 1)) (is_before (from + n) was) (from + n) was end last × (text ≡ before ++ last)
 
 -- a text is that of the words from an address on
 abbrev pub IsWordsText : map.FinMap nat_cmp ℕ → ℕ → List ℕ → Type 0

@@ -1,6 +1,6 @@
 //! Which items of a list stand at a place of a section, found in time near linear in their number.
 
-ghost use Rattle.std.specs.Prelude.{◌≡◌, ℕ, OnOk, IfOk, Option, filter, find};
+ghost use Rattle.std.specs.Prelude.{◌≡◌, ℕ, OnOk, IfOk, Option, filter, find, slice_get};
 ghost use Rattle.std.specs.List.Sorted.{IsNonDecreasingBy};
 ghost use Rattle.c25_dis.specs.Index.{IsIndexOf, is_at, is_there, numbered};
 
@@ -41,7 +41,7 @@ fn numbered<T: Stands>(alloc: Global, items: &[T], section: usize) -> Result<Vec
 /// Brings items into the order of their places; those of one place stay in their order.
 fn sort(alloc: Global, index: &mut [Placed]) -> Result<(), NoMemory>
     ensures sorted { OnOk result (IsNonDecreasingBy (λ x. x.place) index.new) }
-    ensures stable { (place : ℕ) → filter (is_at place) index.new ≡ filter (is_at place) index.old }
+    ensures stable { OnOk result ((place : ℕ) → filter (is_at place) index.new ≡ filter (is_at place) index.old) }
 {
     index.sort_by_key(alloc, |item| item.place)?;
     Ok(())
@@ -70,6 +70,13 @@ pub(crate) fn at(index: &[Placed], place: usize) -> &[Placed]
     &index[from..end]
 }
 
+/// The item of a number, if there is one.
+pub(crate) fn item_at<T: Copy>(items: &[T], number: usize) -> Option<T>
+    ensures { result ≡ slice_get items.now number }
+{
+    items.get(number).copied()
+}
+
 /// The first item of a list that stands at a place of a section, by the index of that section.
 pub(crate) fn first_at<T: Stands + Copy>(
     items: &[T],
@@ -80,6 +87,8 @@ pub(crate) fn first_at<T: Stands + Copy>(
     requires { IsIndexOf (λ x. T.place_of x section) items.now index.now }
     ensures { result ≡ find (λ x. is_there place (T.place_of x section)) items.now }
 {
-    let found = at(index, place).first()?;
-    items.get(found.number).copied()
+    match at(index, place).first() {
+        None => None,
+        Some(found) => item_at(items, found.number),
+    }
 }

@@ -3,7 +3,7 @@
 ghost use Rattle.std.specs.Prelude.{◌≡◌, ◌++◌, OnOk, codes, string_bytes};
 ghost use Rattle.c25_meaning_common.specs.Digits.{four_digits};
 ghost use Rattle.c25_meaning_instructions.specs.Show.{long_text};
-ghost use Rattle.c25_dis.specs.Lines.{columns, data_text, code_text, line_text};
+ghost use Rattle.c25_dis.specs.Lines.{columns, data_text, code_text, further_text, line_text};
 
 use c25_digits::four;
 use c25_isa::show;
@@ -50,12 +50,10 @@ fn push_constant(text: &mut String, word: u16) -> Result<(), NoMemory>
     Ok(text.push_str("h")?)
 }
 
-/// Appends words as data.
-fn push_data(text: &mut String, first: u16, second: Option<u16>) -> Result<(), NoMemory>
-    ensures { OnOk result (string_bytes text.new ≡ string_bytes text.old ++ data_text first second) }
+/// Appends a second word of data, if there is one.
+fn push_further(text: &mut String, second: Option<u16>) -> Result<(), NoMemory>
+    ensures { OnOk result (string_bytes text.new ≡ string_bytes text.old ++ further_text second) }
 {
-    text.push_str(".word ")?;
-    push_constant(text, first)?;
     match second {
         None => Ok(()),
         Some(second) => {
@@ -63,6 +61,16 @@ fn push_data(text: &mut String, first: u16, second: Option<u16>) -> Result<(), N
             push_constant(text, second)
         }
     }
+}
+
+/// Appends words as data.
+fn push_data(text: &mut String, first: u16, second: Option<u16>) -> Result<(), NoMemory>
+    ensures { OnOk result (string_bytes text.new ≡ string_bytes text.old ++ data_text first second) }
+{
+    text.push_str(".word ")?;
+    push_constant(text, first)?;
+    push_further(text, second)?;
+    Ok(())
 }
 
 /// Appends words as their instruction, or as data where they are none's.

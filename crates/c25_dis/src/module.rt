@@ -18,10 +18,10 @@ use std::alloc::Global;
 /// hexadecimal.
 ///
 /// `NoMemory` where a growth was refused, and in no other case.
-pub fn disassemble_module(alloc: Global, module: &Module) -> Result<String, NoMemory>
-    ensures { IfOk result (λ text. IsModuleText module.now (string_bytes text)) }
+pub fn disassemble_module(alloc: Global, object: &Module) -> Result<String, NoMemory>
+    ensures { IfOk result (λ text. IsModuleText object.now (string_bytes text)) }
 {
-    let parts = module.parts();
+    let parts = object.parts();
     let mut text = String::new(alloc);
     for (number, section) in parts.sections.iter().enumerate() {
         push_section(alloc, &mut text, parts, number, section)?;

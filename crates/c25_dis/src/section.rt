@@ -1,13 +1,14 @@
 //! The text of a section: its heading, and what stands at each of its places.
 
-ghost use Rattle.std.specs.Prelude.{◌≡◌, ◌+◌, ◌++◌, ℕ, List, Some, OnOk, IfOk, length, string_bytes, slice_get};
+ghost use Rattle.std.specs.Prelude.{◌≡◌, ◌+◌, ◌^◌, ◌<◌, ◌++◌, ℕ, List, Some, OnOk, IfOk, filter, string_bytes, slice_get};
 ghost use Rattle.std.specs.List.{flat_map};
-ghost use Rattle.c25_dis.specs.Sections.{addend_text, base_text, counts_from, filled_text, heading, is_long, is_second, label_line, labels_at, mark_at, note_at, notes_by, relocation_at, second_by, section_name, symbol_name, AreTexts, IsLineAt, IsPlace, IsReadBy, IsSection};
-ghost use Rattle.c25_dis.specs.View.{AreIndexed, label_by, mark_place, relocation_place, symbol_place};
-ghost use Rattle.c25_meaning_objects.specs.Module.{words_at};
-ghost use Rattle.c25_obj.specs.View.{contents, section_data};
+ghost use Rattle.c25_dis.specs.Sections.{addend_text, base_text, body_text, counts_from, filled_text, heading, is_long, is_second, label_line, labels_at, mark_at, note_at, notes_by, relocation_at, second_by, section_name, stands_at, symbol_name, AreTexts, IsLineAt, IsPlace, IsReadBy, IsSection};
+ghost use Rattle.c25_dis.specs.Index.{IsIndexOf};
+ghost use Rattle.c25_dis.specs.View.{AreIndexed, label_by, symbol_place};
+ghost use Rattle.c25_meaning_objects.specs.Module.{body_size, body_words, words_at};
+ghost use Rattle.c25_obj.specs.View.{body_data, contents, section_data, symbols_data};
 
-use crate::index::{Placed, Stands, at, first_at, index_of};
+use crate::index::{Placed, Stands, at, first_at, index_of, item_at};
 use crate::line::{push_address, push_line};
 use crate::reading::instruction;
 use c25_meaning_common::no_memory::NoMemory;
@@ -136,6 +137,22 @@ fn push_labels(
     Ok(())
 }
 
+/// Appends the lines of the symbols of a section that stand at a place, by the index of that section.
+fn push_labels_at(
+    text: &mut String,
+    symbols: &[Symbol],
+    index: &[Placed],
+    section: usize,
+    place: usize,
+) -> Result<(), NoMemory>
+    requires { IsIndexOf (λ y. symbol_place y section) symbols.now index.now }
+    ensures { OnOk result (string_bytes text.new ≡ string_bytes text.old
+        ++ flat_map (λ y. label_line place y.name) (filter (stands_at section place) (symbols_data symbols.now))) }
+{
+    push_labels(text, symbols, place, at(index, place))?;
+    Ok(())
+}
+
 /// Appends the name of the section of a number.
 fn push_section_name(text: &mut String, parts: &Parts, number: u16) -> Result<(), NoMemory>
     ensures { OnOk result (string_bytes text.new ≡ string_bytes text.old ++ section_name (contents parts.now) number) }
@@ -203,9 +220,12 @@ fn is_long(mark: Option<ModuleMark>) -> bool
 }
 
 /// The word behind a place, where the line there has two.
-fn second_at(words: &[u16], place: usize, is_long: bool) -> Option<u16> {
+fn second_at(words: &[u16], place: usize, is_long: bool) -> Option<u16>
+    requires { place < 2 ^ 63 }
+    ensures { result ≡ second_by is_long words.now place }
+{
     if is_long {
-        words.get(place + 1).copied()
+        item_at(words, place + 1)
     } else {
         None
     }
@@ -265,7 +285,8 @@ impl Places<'_> {
         place: usize,
         second: Option<u16>,
     ) -> Result<(), NoMemory>
-        requires { AreIndexed self.now }
+        requires indexed { AreIndexed self.now }
+        requires few { place < 2 ^ 63 }
         ensures { OnOk result (string_bytes text.new ≡ string_bytes text.old ++ notes_by second (contents self.now.parts.now) self.now.section place) }
     {
         self.push_note(text, place)?;
@@ -286,6 +307,7 @@ impl Places<'_> {
     ) -> Result<(), NoMemory>
         requires indexed { AreIndexed self.now }
         requires words { words.now ≡ words_at (contents self.now.parts.now).sections self.now.section }
+        requires few { place < 2 ^ 63 }
         ensures { OnOk result ((line : List ℕ) × IsLineAt (contents self.now.parts.now) self.now.section place first line
             × (string_bytes text.new ≡ string_bytes text.old ++ line)) }
     {
@@ -295,6 +317,21 @@ impl Places<'_> {
         push_line(alloc, text, place, first, second, &insn)?;
         self.push_notes(text, place, second)?;
         Ok(text.push_str("\n")?)
+    }
+
+    /// Appends the lines of the symbols at a place.
+    fn push_own_labels(&self, text: &mut String, place: usize) -> Result<(), NoMemory>
+        requires { AreIndexed self.now }
+        ensures { OnOk result (string_bytes text.new ≡ string_bytes text.old ++ labels_at (contents self.now.parts.now) self.now.section place) }
+    {
+        push_labels_at(
+            text,
+            &self.parts.symbols,
+            &self.symbols,
+            self.section,
+            place,
+        )?;
+        Ok(())
     }
 
     /// Appends what stands at a place.
@@ -307,17 +344,19 @@ impl Places<'_> {
     ) -> Result<(), NoMemory>
         requires indexed { AreIndexed self.now }
         requires words { words.now ≡ words_at (contents self.now.parts.now).sections self.now.section }
+        requires few { place < 2 ^ 63 }
         ensures { OnOk result ((own : List ℕ) × IsPlace (contents self.now.parts.now) self.now.section place own
             × (string_bytes text.new ≡ string_bytes text.old ++ own)) }
     {
-        push_labels(text, &self.parts.symbols, place, at(&self.symbols, place))?;
-        match words.get(place) {
+        self.push_own_labels(text, place)?;
+        match item_at(words, place) {
             None => Ok(()),
             Some(first) => {
                 if self.is_second(place) {
                     Ok(())
                 } else {
-                    self.push_word_line(alloc, text, words, place, *first)
+                    self.push_word_line(alloc, text, words, place, first)?;
+                    Ok(())
                 }
             }
         }
@@ -333,7 +372,7 @@ impl Places<'_> {
     ) -> Result<(), NoMemory>
         requires indexed { AreIndexed self.now }
         requires words { words.now ≡ words_at (contents self.now.parts.now).sections self.now.section }
-        requires few { count ≤ 65536 }
+        requires few { count < 2 ^ 63 }
         ensures { OnOk result ((places : List ℕ) × AreTexts (IsPlace (contents self.now.parts.now) self.now.section) (count + 1) places
             × (string_bytes text.new ≡ string_bytes text.old ++ places)) }
     {
@@ -344,16 +383,25 @@ impl Places<'_> {
     }
 }
 
+/// Appends whether a section is initialised, or how many words it reserves.
+fn push_body_text(text: &mut String, body: &Body) -> Result<(), NoMemory>
+    ensures { OnOk result (string_bytes text.new ≡ string_bytes text.old ++ body_text (body_data body.now)) }
+{
+    match body {
+        Body::Initialised(_) => Ok(text.push_str("initialised")?),
+        Body::Uninitialised(size) => Ok(write!(text, "reserves {size}")?),
+    }
+}
+
 /// Appends the heading of a section.
 fn push_heading(text: &mut String, section: &Section) -> Result<(), NoMemory>
     ensures { OnOk result (string_bytes text.new ≡ string_bytes text.old ++ heading (section_data section.now)) }
 {
     text.push_str("section ")?;
     text.push_str(&section.name)?;
-    match &section.body {
-        Body::Initialised(_) => Ok(text.push_str(" initialised\n")?),
-        Body::Uninitialised(size) => Ok(write!(text, " reserves {size}\n")?),
-    }
+    text.push_str(" ")?;
+    push_body_text(text, &section.body)?;
+    Ok(text.push_str("\n")?)
 }
 
 /// Appends what stands in a section.
@@ -362,7 +410,12 @@ fn push_body(
     text: &mut String,
     places: &Places<'_>,
     body: &Body,
-) -> Result<(), NoMemory> {
+) -> Result<(), NoMemory>
+    requires indexed { AreIndexed places.now }
+    requires words { body_words (body_data body.now) ≡ words_at (contents places.now.parts.now).sections places.now.section }
+    ensures { OnOk result ((own : List ℕ) × AreTexts (IsPlace (contents places.now.parts.now) places.now.section) (body_size (body_data body.now) + 1) own
+        × (string_bytes text.new ≡ string_bytes text.old ++ own)) }
+{
     match body {
         Body::Initialised(words) => places.push_places(alloc, text, words, words.len()),
         Body::Uninitialised(size) => places.push_places(alloc, text, &[], *size as usize),

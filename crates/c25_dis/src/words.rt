@@ -1,8 +1,9 @@
 //! The text of words by their addresses.
 
-ghost use Rattle.std.specs.Prelude.{◌≡◌, ◌+◌, ◌++◌, ◌∷◌, ℕ, List, OnOk, IfOk, Some, length, option_to_list, string_bytes};
-ghost use Rattle.std.specs.FinMap as map;
-ghost use Rattle.c25_dis.specs.Words.{gap_text, is_before, IsAddressText, IsTaken, IsWordLine, IsWordsText};
+ghost use Rattle.std.specs.Prelude.{◌≡◌, ◌+◌, ◌≤◌, ◌++◌, ℕ, List, OnOk, IfOk, None, string_bytes};
+ghost use Rattle.c25_dis.specs.Lines.{IsCode};
+ghost use Rattle.c25_dis.specs.Words.{gap_text, is_before, word_at, IsAddressText, IsTaken, IsWordLine, IsWordsText};
+ghost use Rattle.c25_meaning_instructions.specs.declared.insn.Insn.{Insn};
 
 use crate::line::push_line;
 use crate::reading::instruction;
@@ -17,18 +18,19 @@ struct Taken {
     insn: Option<Insn>,
 }
 
-/// What a word is taken for, with the next one, if there is one.
-fn read_word(word: u16, next: Option<u16>) -> Taken
+/// What a word is taken for that is no instruction alone, with the next one, if there is one.
+fn read_two(word: u16, next: Option<u16>) -> Taken
+    requires { (i : Insn) → IsCode word None i → ⊥ }
     ensures { IsTaken word next result.second result.insn }
 {
-    match instruction(word, None) {
-        Some(insn) => Taken {
+    match next {
+        None => Taken {
             second: None,
-            insn: Some(insn),
+            insn: None,
         },
-        None => match instruction_of_two(word, next) {
+        Some(second) => match instruction(word, Some(second)) {
             Some(insn) => Taken {
-                second: next,
+                second: Some(second),
                 insn: Some(insn),
             },
             None => Taken {
@@ -39,17 +41,22 @@ fn read_word(word: u16, next: Option<u16>) -> Taken
     }
 }
 
-/// The instruction of a word and the next one, if there is one.
-fn instruction_of_two(word: u16, next: Option<u16>) -> Option<Insn> {
-    match next {
-        None => None,
-        Some(second) => instruction(word, Some(second)),
+/// What a word is taken for, with the next one, if there is one.
+fn read_word(word: u16, next: Option<u16>) -> Taken
+    ensures { IsTaken word next result.second result.insn }
+{
+    match instruction(word, None) {
+        Some(insn) => Taken {
+            second: None,
+            insn: Some(insn),
+        },
+        None => read_two(word, next),
     }
 }
 
 /// The word at an address.
 fn word_at(words: &WordMap, address: u32) -> Option<u16>
-    ensures { result ≡ map.get words.now address }
+    ensures { result ≡ word_at words.now address }
 {
     if address < 65_536 {
         words.get(address as u16)
@@ -117,7 +124,7 @@ fn push_address_text(
 ) -> Result<Option<u32>, NoMemory>
     requires { address ≤ 65536 }
     ensures { IfOk result (λ after. (own : List ℕ)
-        × IsAddressText (map.get words.now address) (map.get words.now (address + 1)) (is_before address end) address end after own
+        × IsAddressText (word_at words.now address) (word_at words.now (address + 1)) (is_before address end) address end after own
         × (string_bytes text.new ≡ string_bytes text.old ++ own)) }
 {
     match word_at(words, address) {
