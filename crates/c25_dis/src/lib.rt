@@ -2,10 +2,13 @@
 #![tactic(auto)]
 
 mod index;
+pub mod laws;
 mod line;
 mod module;
+mod notes;
 mod reading;
 mod section;
+mod standing;
 #[cfg(test)]
 mod tests;
 mod words;

@@ -2,74 +2,21 @@
 
 ghost use Rattle.std.specs.Prelude.{◌≡◌, ◌+◌, ◌^◌, ◌<◌, ◌++◌, ℕ, List, Some, OnOk, IfOk, filter, string_bytes, slice_get};
 ghost use Rattle.std.specs.List.{flat_map};
-ghost use Rattle.c25_dis.specs.Sections.{addend_text, base_text, body_text, counts_from, filled_text, heading, is_long, is_second, label_line, labels_at, mark_at, note_at, notes_by, relocation_at, second_by, section_name, stands_at, symbol_name, AreTexts, IsLineAt, IsPlace, IsReadBy, IsSection};
+ghost use Rattle.c25_dis.specs.Sections.{body_text, heading, is_long, is_second, label_line, labels_at, mark_at, note_at, notes_by, second_by, stands_at, AreTexts, IsLineAt, IsPlace, IsReadBy, IsSection};
 ghost use Rattle.c25_dis.specs.Index.{IsIndexOf};
 ghost use Rattle.c25_dis.specs.View.{AreIndexed, label_by, symbol_place};
 ghost use Rattle.c25_meaning_objects.specs.Module.{body_size, body_words, words_at};
 ghost use Rattle.c25_obj.specs.View.{body_data, contents, section_data, symbols_data};
 
-use crate::index::{Placed, Stands, at, first_at, index_of, item_at};
+use crate::index::{Placed, at, first_at, index_of, item_at};
 use crate::line::{push_address, push_line};
+use crate::notes::push_filled;
 use crate::reading::instruction;
 use c25_meaning_common::no_memory::NoMemory;
 use c25_meaning_instructions::insn::Insn;
-use c25_meaning_objects::object::{ModuleMark, Relocation, RelocationBase, SymbolKind};
+use c25_meaning_objects::object::ModuleMark;
 use c25_obj::{Body, Parts, Section, Symbol};
 use std::alloc::Global;
-
-/// Whether values of a kind count from a section.
-fn counts_from(kind: SymbolKind, section: usize) -> bool
-    ensures { result ≡ counts_from section kind }
-{
-    match kind {
-        SymbolKind::InSection(number) => usize::from(number) == section,
-        SymbolKind::Loaded(number) => usize::from(number) == section,
-        SymbolKind::Absolute => false,
-        SymbolKind::External => false,
-    }
-}
-
-impl Stands for Symbol {
-    ghost use Rattle.c25_dis.specs.View.{symbol_place};
-
-    ghost place_of = { symbol_place };
-
-    fn place(&self, section: usize) -> Option<usize> {
-        if counts_from(self.kind, section) && self.value >= 0 {
-            Some(self.value as usize)
-        } else {
-            None
-        }
-    }
-}
-
-impl Stands for ModuleMark {
-    ghost use Rattle.c25_dis.specs.View.{mark_place};
-
-    ghost place_of = { mark_place };
-
-    fn place(&self, section: usize) -> Option<usize> {
-        if usize::from(self.section) == section {
-            Some(usize::from(self.offset))
-        } else {
-            None
-        }
-    }
-}
-
-impl Stands for Relocation {
-    ghost use Rattle.c25_dis.specs.View.{relocation_place};
-
-    ghost place_of = { relocation_place };
-
-    fn place(&self, section: usize) -> Option<usize> {
-        if usize::from(self.section) == section {
-            Some(usize::from(self.offset))
-        } else {
-            None
-        }
-    }
-}
 
 /// A section of a module, by its number, and which symbols, marks and relocations stand where in it.
 #[derive(Drop)]
@@ -151,62 +98,6 @@ fn push_labels_at(
 {
     push_labels(text, symbols, place, at(index, place))?;
     Ok(())
-}
-
-/// Appends the name of the section of a number.
-fn push_section_name(text: &mut String, parts: &Parts, number: u16) -> Result<(), NoMemory>
-    ensures { OnOk result (string_bytes text.new ≡ string_bytes text.old ++ section_name (contents parts.now) number) }
-{
-    match parts.sections.get(usize::from(number)) {
-        None => Ok(()),
-        Some(section) => Ok(text.push_str(&section.name)?),
-    }
-}
-
-/// Appends the name of the symbol of a number.
-fn push_symbol_name(text: &mut String, parts: &Parts, number: u16) -> Result<(), NoMemory>
-    ensures { OnOk result (string_bytes text.new ≡ string_bytes text.old ++ symbol_name (contents parts.now) number) }
-{
-    match parts.symbols.get(usize::from(number)) {
-        None => Ok(()),
-        Some(symbol) => Ok(text.push_str(&symbol.name)?),
-    }
-}
-
-/// Appends what an addend is added to.
-fn push_base(text: &mut String, parts: &Parts, base: RelocationBase) -> Result<(), NoMemory>
-    ensures { OnOk result (string_bytes text.new ≡ string_bytes text.old ++ base_text (contents parts.now) base) }
-{
-    match base {
-        RelocationBase::Section(number) => push_section_name(text, parts, number),
-        RelocationBase::Loaded(number) => {
-            text.push_str("load of ")?;
-            push_section_name(text, parts, number)
-        }
-        RelocationBase::External(number) => push_symbol_name(text, parts, number),
-    }
-}
-
-/// Appends an addend with its sign, if it is not 0.
-fn push_addend(text: &mut String, addend: i32) -> Result<(), NoMemory>
-    ensures { OnOk result (string_bytes text.new ≡ string_bytes text.old ++ addend_text addend) }
-{
-    if addend == 0 {
-        Ok(())
-    } else if addend > 0 {
-        Ok(write!(text, "+{addend}")?)
-    } else {
-        Ok(write!(text, "{addend}")?)
-    }
-}
-
-/// Appends what a relocation fills in.
-fn push_filled(text: &mut String, parts: &Parts, relocation: &Relocation) -> Result<(), NoMemory>
-    ensures { OnOk result (string_bytes text.new ≡ string_bytes text.old ++ filled_text (contents parts.now) relocation.now) }
-{
-    text.push_str("  ; ")?;
-    push_base(text, parts, relocation.base)?;
-    push_addend(text, relocation.addend)
 }
 
 /// Whether a mark is that of an instruction of two words.
