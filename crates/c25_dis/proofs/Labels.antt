@@ -1,6 +1,6 @@
 -- The labels, the mark and the relocation that indexes find are those of the module.
-use Rattle.std.proofs.Common.{◌≡◌, ℕ, ℤ, pos, negsuc, ◌==◌, ◌&&◌, Bool, true, false, cond, if◌then◌else◌, List, [], ◌∷◌, ◌++◌, filter, find, map, Option, Some, None, refl, sym, ap, ◌∙◌, string_bytes, nat_lt, arith}
-use Rattle.std.specs.List.{flat_map, slice_get}
+use Rattle.std.proofs.Common.{◌≡◌, ℕ, ℤ, pos, negsuc, ◌==◌, ◌&&◌, Bool, true, false, cond, if◌then◌else◌, List, [], ◌∷◌, ◌++◌, filter, find, Option, Some, None, refl, sym, ap, ◌∙◌, string_bytes, nat_lt, arith}
+use Rattle.std.specs.List.{flat_map}
 use Rattle.std.specs.Ordering.{int_eq, is_eq}
 use Rattle.std.specs.declared.cmp.Ordering.TheVariants.{Less, Equal, Greater}
 use Rattle.std.proofs.lemmas.Bool.Decides.{nat_tests}
@@ -14,7 +14,7 @@ use Rattle.c25_dis.specs.Index.{IsIndexOf, is_at, is_there}
 use Rattle.c25_dis.specs.Sections.{counts_from, label_line, stands_at}
 use Rattle.c25_dis.specs.View.{label_by, label_in, mark_place, offset_place, relocation_place, symbol_place}
 use Rattle.c25_dis.specs.declared.index.Placed.{Placed}
-use Rattle.c25_dis.proofs.Found.{item_of, items_found, find_alike, stands}
+use Rattle.c25_dis.proofs.Found.{item_of, items_found, find_alike}
 use Rattle.c25_dis.proofs.Ordered.{filter_alike}
 
 offset_test : (place : ℕ) (z : ℤ) → is_there place (offset_place z) ≡ int_eq z (pos place)

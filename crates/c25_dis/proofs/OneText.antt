@@ -11,7 +11,7 @@ use Rattle.c25_meaning_instructions.proofs.Readings.{one_reading}
 use Rattle.c25_meaning_objects.specs.Module.{Contents, SectionData, words_at}
 use Rattle.c25_meaning_objects.specs.declared.object.ModuleMark.{ModuleMark}
 use Rattle.c25_dis.specs.Lines.{IsCode, ReadAs, line_text}
-use Rattle.c25_dis.specs.Sections.{AreTexts, IsLineAt, IsModuleText, IsPlace, IsReadBy, IsSection, IsSectionAt, IsSectionBy, IsWordAt, heading, is_second, labels_at, mark_at, notes_by, second_at}
+use Rattle.c25_dis.specs.Sections.{AreTexts, IsLineAt, IsModuleText, IsPlace, IsReadBy, IsSectionAt, IsSectionBy, IsWordAt, heading, is_second, labels_at, mark_at, notes_by, second_at}
 use Rattle.c25_dis.specs.Words.{AreWords, IsAddressText, IsTaken, IsWordLine, IsWordsText, gap_text, is_before, word_at}
 
 -- ---- one reading

@@ -1,10 +1,9 @@
 -- Where the items of a module stand, and the indexes of a section.
-use Rattle.std.specs.Prelude.{◌≡◌, ℕ, ℤ, pos, negsuc, ◌==◌, if◌then◌else◌, List, [], Option, Some, None}
+use Rattle.std.specs.Prelude.{ℕ, ℤ, pos, negsuc, ◌==◌, if◌then◌else◌, List, [], Option, Some, None}
 use Rattle.std.specs.List.{slice_get}
 use Rattle.std.specs.String.{string_bytes}
 use Rattle.c25_meaning_objects.specs.declared.object.ModuleMark.{ModuleMark}
 use Rattle.c25_meaning_objects.specs.declared.object.Relocation.{Relocation}
-use Rattle.c25_obj.specs.View.{symbol_data}
 use Rattle.c25_obj.specs.declared.parts.Symbol.{Symbol}
 use Rattle.c25_dis.specs.Index.{IsIndexOf}
 use Rattle.c25_dis.specs.Sections.{counts_from, label_line}
