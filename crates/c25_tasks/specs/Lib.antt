@@ -7,4 +7,5 @@ pub mod Building
 pub mod Linking
 pub mod Running
 pub mod Debugging
+pub mod Explaining
 pub mod Program

@@ -10,9 +10,9 @@ use Rattle.clap.specs.Faults.{check_fault, defaults_fault, entered_fault, fault_
 use Rattle.clap.specs.Takes.{is_given}
 use Rattle.clap.specs.Values.{is_request}
 use Rattle.clap.specs.declared.error.kind.ErrorKind.TheVariants as kind
-use Rattle.c25_words.specs.Complete.{IsComplete, IsFoundComplete}
+use Rattle.c25_words.specs.Complete.{IsComplete, IsFoundComplete, IsNumberText}
 use Rattle.c25_words.specs.Program.{program}
-use Rattle.c25_words.proofs.Rows.{AreFine, IsSound, given_there, steps_fine, steps_parser, takes_or_asks, use_fine}
+use Rattle.c25_words.proofs.Rows.{AreFine, IsSound, given_there, number_fine, one_there, parser_to, takes_or_asks, use_fine}
 use Rattle.c25_words.proofs.Walks.{level_keeps, none_of_both}
 
 -- what holds of each holds of the one that is found
@@ -50,23 +50,23 @@ check_passes true e =
     let none : length (kind.MissingRequiredArgument ∷ []) ≡ 0 = ap length e in
     absurd (omega arith)
 
-abbrev EachSound : Shape → Type 0
-EachSound s = AllByRecursion IsSound s.rules
+abbrev EachSound : Text → ℕ → Shape → Type 0
+EachSound named high s = AllByRecursion (IsSound named high) s.rules
 
-fine_rows : (s : Shape) → EachSound s → list_all (λ a. is_empty a.defaults) s.rules ≡ true → (words : List Text) → level_fault s [] nothing_held words false [] ≡ []
-    → AreFine (rows_after s.rules [] words) × (check_fault s (rows_after s.rules [] words) false ≡ [])
-fine_rows s sound none words e =
-    level_keeps s AreFine (λ p a is values rows e fine. use_fine s.args_override_self a (found_each IsSound p s.rules a sound is) values rows e fine) words none e tt
+fine_rows : (named : Text) (high : ℕ) (s : Shape) → EachSound named high s → list_all (λ a. is_empty a.defaults) s.rules ≡ true → (words : List Text) → level_fault s [] nothing_held words false [] ≡ []
+    → AreFine named high (rows_after s.rules [] words) × (check_fault s (rows_after s.rules [] words) false ≡ [])
+fine_rows named high s sound none words e =
+    level_keeps s (AreFine named high) (λ p a is values rows e fine. use_fine named high s.args_override_self a (found_each (IsSound named high) p s.rules a sound is) values rows e fine) words none e tt
 
--- an option or operand, and the request for help
-taking : (a : Rule) → takes_or_asks (action_of a) ≡ true → nat_lt 0 (unwrap_or_range a.range).start_inclusive ≡ true → bytes_eq a.id (codes "steps") ≡ false → IsSound a
-taking a takes least other = record { action = takes; least = inr least; steps = λ is. absurd (true≢false (sym is ∙ other)) }
+-- an option or operand that is no number, and the request for help
+taking : {named : Text} {high : ℕ} (a : Rule) → takes_or_asks (action_of a) ≡ true → nat_lt 0 (unwrap_or_range a.range).start_inclusive ≡ true → bytes_eq a.id named ≡ false → IsSound named high a
+taking a takes least other = record { action = takes; least = inr least; numbers = λ is. absurd (true≢false (sym is ∙ other)) }
 
-asking : (a : Rule) → takes_or_asks (action_of a) ≡ true → is_request (action_of a) ≡ true → bytes_eq a.id (codes "steps") ≡ false → IsSound a
-asking a takes asks other = record { action = takes; least = inl asks; steps = λ is. absurd (true≢false (sym is ∙ other)) }
+asking : {named : Text} {high : ℕ} (a : Rule) → takes_or_asks (action_of a) ≡ true → is_request (action_of a) ≡ true → bytes_eq a.id named ≡ false → IsSound named high a
+asking a takes asks other = record { action = takes; least = inl asks; numbers = λ is. absurd (true≢false (sym is ∙ other)) }
 
-numbered : (a : Rule) → takes_or_asks (action_of a) ≡ true → nat_lt 0 (unwrap_or_range a.range).start_inclusive ≡ true → a.parser ≡ Some steps_parser → IsSound a
-numbered a takes least parser = record { action = takes; least = inr least; steps = λ is. parser }
+numbered : {named : Text} {high : ℕ} (a : Rule) → takes_or_asks (action_of a) ≡ true → nat_lt 0 (unwrap_or_range a.range).start_inclusive ≡ true → a.parser ≡ Some (parser_to high) → IsSound named high a
+numbered a takes least parser = record { action = takes; least = inr least; numbers = λ is. parser }
 
 -- ---- the subcommands
 
@@ -78,49 +78,52 @@ sub k = slice_index_or (built program).subs k help_shape
 
 asm_each : IsEach (sub 0)
 asm_each words e =
-    let kept = fine_rows (sub 0) (taking _ refl refl refl, (taking _ refl refl refl, (taking _ refl refl refl, (asking _ refl refl refl, tt)))) refl words e in
+    let kept = fine_rows (codes "steps") 4294967295 (sub 0) (taking _ refl refl refl, (taking _ refl refl refl, (taking _ refl refl refl, (asking _ refl refl refl, tt)))) refl words e in
     let rows = rows_after (sub 0).rules [] words in
     let found = none_missing rows (sub 0).rules (check_passes _ kept.1) in
     record {
       named = refl;
-      asm = λ is. (given_there (codes "source") rows kept.0 (found.0 refl), given_there (codes "obj") rows kept.0 (found.1.0 refl));
+      asm = λ is. (given_there (codes "steps") 4294967295 (codes "source") rows kept.0 (found.0 refl), given_there (codes "steps") 4294967295 (codes "obj") rows kept.0 (found.1.0 refl));
       link = λ is. absurd (true≢false (sym is));
       build = λ is. absurd (true≢false (sym is));
       run = λ is. absurd (true≢false (sym is));
       debug = λ is. absurd (true≢false (sym is));
+      explain = λ is. absurd (true≢false (sym is));
     }
 
 link_each : IsEach (sub 1)
 link_each words e =
-    let kept = fine_rows (sub 1) (taking _ refl refl refl, (taking _ refl refl refl, (taking _ refl refl refl, (asking _ refl refl refl, tt)))) refl words e in
+    let kept = fine_rows (codes "steps") 4294967295 (sub 1) (taking _ refl refl refl, (taking _ refl refl refl, (taking _ refl refl refl, (asking _ refl refl refl, tt)))) refl words e in
     let rows = rows_after (sub 1).rules [] words in
     let found = none_missing rows (sub 1).rules (check_passes _ kept.1) in
     record {
       named = refl;
       asm = λ is. absurd (true≢false (sym is));
-      link = λ is. (given_there (codes "command") rows kept.0 (found.0 refl), given_there (codes "object") rows kept.0 (found.1.0 refl), given_there (codes "out") rows kept.0 (found.1.1.0 refl));
+      link = λ is. (given_there (codes "steps") 4294967295 (codes "command") rows kept.0 (found.0 refl), given_there (codes "steps") 4294967295 (codes "object") rows kept.0 (found.1.0 refl), given_there (codes "steps") 4294967295 (codes "out") rows kept.0 (found.1.1.0 refl));
       build = λ is. absurd (true≢false (sym is));
       run = λ is. absurd (true≢false (sym is));
       debug = λ is. absurd (true≢false (sym is));
+      explain = λ is. absurd (true≢false (sym is));
     }
 
 build_each : IsEach (sub 2)
 build_each words e =
-    let kept = fine_rows (sub 2) (taking _ refl refl refl, (taking _ refl refl refl, (taking _ refl refl refl, (asking _ refl refl refl, tt)))) refl words e in
+    let kept = fine_rows (codes "steps") 4294967295 (sub 2) (taking _ refl refl refl, (taking _ refl refl refl, (taking _ refl refl refl, (asking _ refl refl refl, tt)))) refl words e in
     let rows = rows_after (sub 2).rules [] words in
     let found = none_missing rows (sub 2).rules (check_passes _ kept.1) in
     record {
       named = refl;
       asm = λ is. absurd (true≢false (sym is));
       link = λ is. absurd (true≢false (sym is));
-      build = λ is. (given_there (codes "source") rows kept.0 (found.0 refl), given_there (codes "out") rows kept.0 (found.1.0 refl));
+      build = λ is. (given_there (codes "steps") 4294967295 (codes "source") rows kept.0 (found.0 refl), given_there (codes "steps") 4294967295 (codes "out") rows kept.0 (found.1.0 refl));
       run = λ is. absurd (true≢false (sym is));
       debug = λ is. absurd (true≢false (sym is));
+      explain = λ is. absurd (true≢false (sym is));
     }
 
 run_each : IsEach (sub 3)
 run_each words e =
-    let kept = fine_rows (sub 3) (taking _ refl refl refl, (numbered _ refl refl refl, (taking _ refl refl refl, (taking _ refl refl refl, (taking _ refl refl refl, (asking _ refl refl refl, tt)))))) refl words e in
+    let kept = fine_rows (codes "steps") 4294967295 (sub 3) (taking _ refl refl refl, (numbered _ refl refl refl, (taking _ refl refl refl, (taking _ refl refl refl, (taking _ refl refl refl, (asking _ refl refl refl, tt)))))) refl words e in
     let rows = rows_after (sub 3).rules [] words in
     let found = none_missing rows (sub 3).rules (check_passes _ kept.1) in
     record {
@@ -128,13 +131,14 @@ run_each words e =
       asm = λ is. absurd (true≢false (sym is));
       link = λ is. absurd (true≢false (sym is));
       build = λ is. absurd (true≢false (sym is));
-      run = λ is. (given_there (codes "source") rows kept.0 (found.0 refl), steps_fine rows kept.0);
+      run = λ is. (given_there (codes "steps") 4294967295 (codes "source") rows kept.0 (found.0 refl), number_fine (codes "steps") 4294967295 32 (omega arith) rows kept.0);
       debug = λ is. absurd (true≢false (sym is));
+      explain = λ is. absurd (true≢false (sym is));
     }
 
 debug_each : IsEach (sub 4)
 debug_each words e =
-    let kept = fine_rows (sub 4) (taking _ refl refl refl, (taking _ refl refl refl, (taking _ refl refl refl, (taking _ refl refl refl, (taking _ refl refl refl, (asking _ refl refl refl, tt)))))) refl words e in
+    let kept = fine_rows (codes "steps") 4294967295 (sub 4) (taking _ refl refl refl, (taking _ refl refl refl, (taking _ refl refl refl, (taking _ refl refl refl, (taking _ refl refl refl, (asking _ refl refl refl, tt)))))) refl words e in
     let rows = rows_after (sub 4).rules [] words in
     let found = none_missing rows (sub 4).rules (check_passes _ kept.1) in
     record {
@@ -143,7 +147,24 @@ debug_each words e =
       link = λ is. absurd (true≢false (sym is));
       build = λ is. absurd (true≢false (sym is));
       run = λ is. absurd (true≢false (sym is));
-      debug = λ is. (given_there (codes "source") rows kept.0 (found.0 refl), given_there (codes "script") rows kept.0 (found.1.0 refl));
+      debug = λ is. (given_there (codes "steps") 4294967295 (codes "source") rows kept.0 (found.0 refl), given_there (codes "steps") 4294967295 (codes "script") rows kept.0 (found.1.0 refl));
+      explain = λ is. absurd (true≢false (sym is));
+    }
+
+explain_each : IsEach (sub 5)
+explain_each words e =
+    let kept = fine_rows (codes "number") 255 (sub 5) (numbered _ refl refl refl, (asking _ refl refl refl, tt)) refl words e in
+    let rows = rows_after (sub 5).rules [] words in
+    let found = none_missing rows (sub 5).rules (check_passes _ kept.1) in
+    record {
+      named = refl;
+      asm = λ is. absurd (true≢false (sym is));
+      link = λ is. absurd (true≢false (sym is));
+      build = λ is. absurd (true≢false (sym is));
+      run = λ is. absurd (true≢false (sym is));
+      debug = λ is. absurd (true≢false (sym is));
+      explain = λ is. one_there (IsNumberText 8) (codes "number") rows (given_there (codes "number") 255 (codes "number") rows kept.0 (found.0 refl))
+          (number_fine (codes "number") 255 8 (omega arith) rows kept.0);
     }
 
 -- ---- the program
@@ -163,7 +184,7 @@ entered_complete (Some p) e has = go (find (λ s. answers_to p.0 (label_of s)) (
         → is_some (option_map (λ s. rows_at s p.1) o) ≡ true → IsFoundComplete (option_map (λ s. rows_at s p.1) o)
     go None is e has = absurd (true≢false (sym has))
     go (Some s) is e has =
-        found_each IsEach (λ s. answers_to p.0 (label_of s)) (built program).subs s (asm_each, (link_each, (build_each, (run_each, (debug_each, tt))))) is p.1 e
+        found_each IsEach (λ s. answers_to p.0 (label_of s)) (built program).subs s (asm_each, (link_each, (build_each, (run_each, (debug_each, (explain_each, tt)))))) is p.1 e
 
 pub complete : (words : List Text) → fault_of program words ≡ [] → IsFoundComplete (subcommand_of program words)
 complete words e =

@@ -1,4 +1,4 @@
-pub mod StepsText
+pub mod NumberText
 pub mod Rows
 pub mod Walks
 pub mod Complete

@@ -1,5 +1,5 @@
 -- The matches of a subcommand have what must be there.
-use Rattle.std.specs.Prelude.{◌≡◌, ◌<◌, ◌^◌, ◌||◌, List, Option, Some, None, IfSome, codes, is_some, true}
+use Rattle.std.specs.Prelude.{◌≡◌, ℕ, ◌<◌, ◌^◌, ◌||◌, List, Option, Some, None, IfSome, IsSomeAnd, codes, is_some, true}
 use Rattle.std.specs.Str.{bytes_eq}
 use Rattle.std.specs.Str.Parse.{IsNumeral, digits_value, without_leading_plus}
 use Rattle.clap.specs.Words.{Row, Text, first_of, found_of, one_of, rows_of}
@@ -13,18 +13,19 @@ rows_in matches = rows_of (found_of matches)
 abbrev pub IsThere : List Row → Text → Type 0
 IsThere rows id = is_some (first_of id rows) ≡ true
 
--- a decimal number below 2^32, which a plus may begin
-abbrev pub IsStepsText : Text → Type 0
-IsStepsText text = IsNumeral 10 (without_leading_plus text) × (digits_value 10 (without_leading_plus text) < 2 ^ 32)
+-- a decimal number of so many bits, which a plus may begin
+abbrev pub IsNumberText : ℕ → Text → Type 0
+IsNumberText bits text = IsNumeral 10 (without_leading_plus text) × (digits_value 10 (without_leading_plus text) < 2 ^ bits)
 
 -- the name is that of a subcommand, and these matches have a value for each of its arguments that must be there
 pub record IsComplete (name : Text) (rows : List Row) : Type 0 where
-  pub named : (bytes_eq name (codes "asm") || (bytes_eq name (codes "link") || (bytes_eq name (codes "build") || (bytes_eq name (codes "run") || bytes_eq name (codes "debug"))))) ≡ true
+  pub named : (bytes_eq name (codes "asm") || (bytes_eq name (codes "link") || (bytes_eq name (codes "build") || (bytes_eq name (codes "run") || (bytes_eq name (codes "debug") || bytes_eq name (codes "explain")))))) ≡ true
   pub asm : bytes_eq name (codes "asm") ≡ true → IsThere rows (codes "source") × IsThere rows (codes "obj")
   pub link : bytes_eq name (codes "link") ≡ true → IsThere rows (codes "command") × IsThere rows (codes "object") × IsThere rows (codes "out")
   pub build : bytes_eq name (codes "build") ≡ true → IsThere rows (codes "source") × IsThere rows (codes "out")
-  pub run : bytes_eq name (codes "run") ≡ true → IsThere rows (codes "source") × IfSome (one_of (codes "steps") rows) IsStepsText
+  pub run : bytes_eq name (codes "run") ≡ true → IsThere rows (codes "source") × IfSome (one_of (codes "steps") rows) (IsNumberText 32)
   pub debug : bytes_eq name (codes "debug") ≡ true → IsThere rows (codes "source") × IsThere rows (codes "script")
+  pub explain : bytes_eq name (codes "explain") ≡ true → IsSomeAnd (one_of (codes "number") rows) (IsNumberText 8)
 
 -- the same of what `clap` finds
 abbrev pub IsFoundComplete : Option (Text × List Row) → Type 0

@@ -27,6 +27,10 @@ steps_rule = record (option_rule (codes "steps")) { parser = Some (parser.Signed
 abbrev pub operand_rule : Text → Rule
 operand_rule name = record (new_rule name) { required = true; value_names = 1 }
 
+-- one operand, which must be there and is a number from 0 to 255
+abbrev pub number_rule : Rule
+number_rule = record (operand_rule (codes "number")) { parser = Some (parser.Signed (pos 0) (pos 255)) }
+
 -- one operand or more
 abbrev pub operands_rule : Text → Rule
 operands_rule name = record (operand_rule name) { range = Some (record { start_inclusive = 1; end_inclusive = usize_max }) }
@@ -63,6 +67,10 @@ run_shape = with_run_files (shape_with (codes "run") (operands_rule (codes "sour
 abbrev pub debug_shape : Shape
 debug_shape = with_run_files (shape_with (codes "debug") (operands_rule (codes "source") ∷ needed_rule (codes "script") ∷ []))
 
+-- explain NUMBER
+abbrev pub explain_shape : Shape
+explain_shape = shape_with (codes "explain") (number_rule ∷ [])
+
 -- the program before it has its subcommands: it has a version, one of them must be there, and `help` is none
 abbrev pub bare_program : App
 bare_program = record {
@@ -74,7 +82,7 @@ bare_program = record {
 abbrev pub program : App
 program = record {
   top = record bare_program.top { is_leaf = false };
-  subs = asm_shape ∷ link_shape ∷ build_shape ∷ run_shape ∷ debug_shape ∷ [];
+  subs = asm_shape ∷ link_shape ∷ build_shape ∷ run_shape ∷ debug_shape ∷ explain_shape ∷ [];
 }
 
 -- the command is a subcommand of this shape

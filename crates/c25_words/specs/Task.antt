@@ -1,5 +1,5 @@
 -- What the words ask for, by the matches that `clap` defines.
-use Rattle.std.specs.Prelude.{◌≡◌, ℕ, List, [], Option, Some, None, Result, Ok, Err, codes, map, option_map}
+use Rattle.std.specs.Prelude.{◌≡◌, ℕ, List, [], Option, Some, None, Result, Ok, Err, codes, map, option_map, IsSomeAnd}
 use Rattle.std.specs.Str.Parse.{IsNumeral, digits_value, without_leading_plus}
 use Rattle.std.specs.Borrow.{Bor}
 use Rattle.clap.specs.Words.{Row, Text, all_of, first_of, kind_of, one_of, subcommand_of}
@@ -12,7 +12,7 @@ use Rattle.c25_meaning_common.specs.declared.failure.Failure.TheVariants.{NoMemo
 use Rattle.c25_words.specs.Program.{program}
 use Rattle.c25_words.specs.declared.task.RunFiles.{RunFiles}
 use Rattle.c25_words.specs.declared.task.Task.{Task}
-use Rattle.c25_words.specs.declared.task.Task.TheVariants.{RunStandardInput, Assemble, Link, Build, Run, Debug}
+use Rattle.c25_words.specs.declared.task.Task.TheVariants.{RunStandardInput, Assemble, Link, Build, Run, Debug, Explain}
 
 -- the texts of borrowed words
 abbrev pub texts_of : List (Bor Text) → List Text
@@ -22,10 +22,18 @@ texts_of = map (λ s. s.now)
 abbrev pub text_of : Option (Bor Text) → Option Text
 text_of = option_map (λ s. s.now)
 
+-- the number that a text gives, in decimal, behind a plus that may begin it
+abbrev pub Gives : Text → ℕ → Type 0
+Gives text n = IsNumeral 10 (without_leading_plus text) × (n ≡ digits_value 10 (without_leading_plus text))
+
 -- the number of steps that the text of `--steps` gives (`one_of` takes a minus off, so `-0` is 0), which is 1,000 where there is none
 abbrev pub IsSteps : Option Text → ℕ → Type 0
 IsSteps None n = n ≡ 1000
-IsSteps (Some text) n = IsNumeral 10 (without_leading_plus text) × (n ≡ digits_value 10 (without_leading_plus text))
+IsSteps (Some text) n = Gives text n
+
+-- the number that the text of an operand gives, which is there (`-0` is 0 here too)
+abbrev pub IsNumber : Option Text → ℕ → Type 0
+IsNumber text n = IsSomeAnd text (λ t. Gives t n)
 
 -- the files of a run are the values of its options
 pub record AreRunFiles (rows : List Row) (files : RunFiles) : Type 0 where
@@ -61,6 +69,7 @@ Asks name rows (Debug sources script files) =
     × (all_of (codes "source") rows ≡ Some (texts_of sources.items))
     × (first_of (codes "script") rows ≡ Some script.now)
     × AreRunFiles rows files
+Asks name rows (Explain number) = (name ≡ codes "explain") × IsNumber (one_of (codes "number") rows) number
 
 -- the same of what `clap` finds
 abbrev pub IsAskedBy : Option (Text × List Row) → Task → Type 0

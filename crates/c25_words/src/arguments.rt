@@ -2,7 +2,7 @@
 
 ghost use Rattle.std.specs.Prelude.{◌≡◌, codes, false};
 ghost use Rattle.clap.specs.Words.{rule_of};
-ghost use Rattle.c25_words.specs.Program.{needed_rule, operand_rule, operands_rule, option_rule, output_rule, steps_rule};
+ghost use Rattle.c25_words.specs.Program.{needed_rule, number_rule, operand_rule, operands_rule, option_rule, output_rule, steps_rule};
 
 use clap::{Arg, value_parser};
 use std::alloc::Global;
@@ -73,6 +73,14 @@ pub(crate) fn operand<'a>(alloc: Global, name: &'a str, value: &'a str, help: &'
         .value_name(value)
         .help(help)
         .required(true)
+}
+
+/// `NUMBER`, from 0 to 255, which must be there.
+pub(crate) fn number<'a>(alloc: Global, help: &'a str) -> Arg<'a>
+    ensures rule { rule_of result ≡ number_rule }
+    ensures local { result.global ≡ false }
+{
+    operand(alloc, "number", "NUMBER", help).value_parser(value_parser!(u8))
 }
 
 /// One operand or more.

@@ -4,15 +4,17 @@ ghost use Rattle.std.specs.Prelude.{◌≡◌, IfOk, false};
 ghost use Rattle.clap.specs.Simple.{new_shape};
 ghost use Rattle.clap.specs.Words.{app_of, shape_of};
 ghost use Rattle.clap.specs.declared.builder.command.Command.TheViews.{out-Command as fields_of};
-ghost use Rattle.c25_words.specs.Program.{IsSubcommand, asm_shape, bare_program, build_shape, debug_shape, link_shape, program, run_shape, with_run_files};
+ghost use Rattle.c25_words.specs.Program.{IsSubcommand, asm_shape, bare_program, build_shape, debug_shape, explain_shape, link_shape, program, run_shape, with_run_files};
 
-use crate::arguments::{base_name, command_file, needed, operand, operands, option, output, steps};
+use crate::arguments::{
+    base_name, command_file, needed, number, operand, operands, option, output, steps,
+};
 use clap::Command;
 use std::alloc::{AllocError, Global};
 
 /// What `--version` prints behind the program's name. It rises with each change of what the program
 /// reads, writes or answers.
-const VERSION: &str = "1.3.0";
+const VERSION: &str = "1.4.0";
 
 /// What help says of the program behind its subcommands.
 const MORE: &str =
@@ -20,7 +22,7 @@ const MORE: &str =
 
 Status: 0 done; 1 refused, with one line on standard error: FILE:LINE: NUMBER NAME; 2 the words are no task,
 or ask for help or the version; 3 the code was left.
-Faults by their numbers, with examples: docs/FAULTS.md. Everything else: docs/MANUAL.md.";
+A fault by its number, with an example: c25 explain NUMBER; all of them: docs/FAULTS.md. Everything else: docs/MANUAL.md.";
 
 /// A subcommand without arguments; help shows the example.
 fn subcommand<'a>(alloc: Global, name: &'a str, about: &'a str, example: &'a str) -> Command<'a>
@@ -110,6 +112,18 @@ fn debug<'a>(alloc: Global) -> Result<Command<'a>, AllocError>
     with_run_files(alloc, command)
 }
 
+fn explain<'a>(alloc: Global) -> Result<Command<'a>, AllocError>
+    ensures { IfOk result (IsSubcommand explain_shape) }
+{
+    subcommand(
+        alloc,
+        "explain",
+        "Prints what a fault means, its smallest example and what to do",
+        "Example: c25 explain 53",
+    )
+    .arg(number(alloc, "The number of the fault, as its line has it"))
+}
+
 /// The program, which takes words by its subcommands alone.
 fn bare_program<'a>(alloc: Global) -> Command<'a>
     ensures { app_of result ≡ bare_program }
@@ -131,5 +145,6 @@ pub(crate) fn program<'a>(alloc: Global) -> Result<Command<'a>, AllocError>
         .subcommand(link(alloc)?)?
         .subcommand(build(alloc)?)?
         .subcommand(run(alloc)?)?
-        .subcommand(debug(alloc)?)
+        .subcommand(debug(alloc)?)?
+        .subcommand(explain(alloc)?)
 }

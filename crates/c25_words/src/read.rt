@@ -1,14 +1,14 @@
 //! The task of the program's words.
 
-ghost use Rattle.std.specs.Prelude.{◌≡◌, ◌<◌, ◌≤◌, IfErr, IfOk, IfSome, Ok, codes, length, map, string_bytes, true};
+ghost use Rattle.std.specs.Prelude.{◌≡◌, ◌<◌, ◌≤◌, IfErr, IfOk, IfSome, IsSomeAnd, Ok, codes, length, map, string_bytes, true};
 ghost use Rattle.clap.specs.Words.{one_of, subcommand_rows_of, takes};
-ghost use Rattle.c25_words.specs.Complete.{IsComplete, IsFoundComplete, IsStepsText, IsThere, rows_in};
+ghost use Rattle.c25_words.specs.Complete.{IsComplete, IsFoundComplete, IsNumberText, IsThere, rows_in};
 ghost use Rattle.c25_words.specs.Program.{program};
 ghost use Rattle.c25_words.specs.declared.task.Task.TheVariants.{RunStandardInput};
 ghost use Rattle.c25_words.specs.Task.{Asks, IsAskedBy, IsWantOfMemory, Reads};
 
 use crate::fault::WordsFault;
-use crate::matched::{all, needed, optional, run_files, steps};
+use crate::matched::{all, needed, number, optional, run_files, steps};
 use crate::program::program;
 use crate::task::Task;
 use c25_meaning_common::failure::Failure;
@@ -54,7 +54,7 @@ fn build<'a>(alloc: Global, matches: &ArgMatches<'a>) -> Result<Task<'a>, NoMemo
 
 /// The task of `run`.
 fn run<'a>(alloc: Global, matches: &ArgMatches<'a>) -> Result<Task<'a>, NoMemory>
-    requires { IsThere (rows_in matches.now) (codes "source") × IfSome (one_of (codes "steps") (rows_in matches.now)) IsStepsText }
+    requires { IsThere (rows_in matches.now) (codes "source") × IfSome (one_of (codes "steps") (rows_in matches.now)) (IsNumberText 32) }
     ensures { IfOk result (Asks (codes "run") (rows_in matches.now)) }
 {
     Ok(Task::Run {
@@ -76,6 +76,16 @@ fn debug<'a>(alloc: Global, matches: &ArgMatches<'a>) -> Result<Task<'a>, NoMemo
     })
 }
 
+/// The task of `explain`.
+fn explain<'a>(matches: &ArgMatches<'a>) -> Task<'a>
+    requires { IsSomeAnd (one_of (codes "number") (rows_in matches.now)) (IsNumberText 8) }
+    ensures { Asks (codes "explain") (rows_in matches.now) result }
+{
+    Task::Explain {
+        number: number(matches),
+    }
+}
+
 /// The task of a subcommand.
 fn task_of<'a>(alloc: Global, name: &str, matches: &ArgMatches<'a>) -> Result<Task<'a>, NoMemory>
     requires { IsComplete name.now (rows_in matches.now) }
@@ -87,6 +97,7 @@ fn task_of<'a>(alloc: Global, name: &str, matches: &ArgMatches<'a>) -> Result<Ta
         "build" => build(alloc, matches),
         "run" => run(alloc, matches),
         "debug" => debug(alloc, matches),
+        "explain" => Ok(explain(matches)),
         _ => unreachable!(),
     }
 }
@@ -115,7 +126,7 @@ fn read_some<'a>(alloc: Global, words: &'a [String]) -> Result<Task<'a>, WordsFa
 
 /// Reads the program's words, of which the first is its name. Memory aside, it refuses words that no
 /// row of `Task` takes (an unknown subcommand or option, one given twice, an operand or option that
-/// is missing or too many, a number of steps that is none), and a request for help.
+/// is missing or too many, a number of steps or of a fault that is none), and a request for help.
 pub fn read_words<'a>(alloc: Global, words: &'a [String]) -> Result<Task<'a>, WordsFault>
     ensures none { length words.now < 2 → result ≡ Ok RunStandardInput }
     ensures some { 2 ≤ length words.now → Reads (map string_bytes words.now) result }

@@ -53,4 +53,8 @@ pub enum Task<'a> {
         script: &'a str,
         files: RunFiles<'a>,
     },
+    /// `explain NUMBER`: prints what the fault of this number means.
+    Explain {
+        number: u8,
+    },
 }

@@ -2,7 +2,7 @@ use Rattle.std.proofs.Common.{◌∙◌, codes}
 use Rattle.clap.proofs.WalkLemmas.{one_text-rows}
 use Rattle.std.specs.Str.Parse.{ParsesUnsigned, ExplainsUnsignedError, HasUnsignedDigitsIfOk}
 use Rattle.clap.specs.Words.{found_of}
-use Rattle.c25_words.proofs.StepsText.{steps_read}
+use Rattle.c25_words.proofs.NumberText.{steps_read}
 use Rattle.c25_words.proofs.matched.steps.Goals as goal
 
 pub returns : goal.returns

@@ -1,0 +1,26 @@
+-- The lines of faults end with their headings.
+use Rattle.std.proofs.Common.{◌++◌, codes, decimal, refl}
+use Rattle.std.specs.Prelude.{String}
+use Rattle.std.specs.String.{string_bytes}
+use Rattle.std.specs.declared.alloc.Global.{Global}
+use Rattle.c25_chain.specs.Refusal.{Fault}
+use Rattle.c25_chain.specs.declared.fault.Refusal.{Refusal}
+use Rattle.c25_chain.specs.declared.fault.Refusal.TheVariants as refusal
+use Rattle.c25_meaning_common.specs.declared.failure.Failure.TheVariants as failure
+use Rattle.c25_explain.specs.Lines.{EndsWithHeading}
+
+of_refusal_ends : (r : Refusal (String Global)) → EndsWithHeading (failure.Fault r)
+of_refusal_ends (refusal.Source file line kind) = (string_bytes file ++ codes ":" ++ decimal line, refl)
+of_refusal_ends (refusal.NoFile file line name) = (string_bytes file ++ codes ":" ++ decimal line, refl)
+of_refusal_ends (refusal.Object file fault) = (string_bytes file, refl)
+of_refusal_ends (refusal.Command faulty) = (codes "command:" ++ decimal faulty.line, refl)
+of_refusal_ends (refusal.Link faulty) = (codes "link:" ++ string_bytes faulty.name, refl)
+of_refusal_ends (refusal.Hex fault) = (codes "hex:" ++ decimal fault.line, refl)
+of_refusal_ends (refusal.Schedule line) = (codes "schedule:" ++ decimal line, refl)
+of_refusal_ends (refusal.Samples line) = (codes "samples:" ++ decimal line, refl)
+of_refusal_ends (refusal.Script line) = (codes "script:" ++ decimal line, refl)
+of_refusal_ends (refusal.File fault) = (string_bytes fault.file, refl)
+
+pub ends : (fault : Fault) → EndsWithHeading fault
+ends (failure.NoMemory n) = (codes "memory", refl)
+ends (failure.Fault r) = of_refusal_ends r

@@ -1,0 +1,179 @@
+//! Macros, conditional lines, loops, copied files: explanations of faults, made of docs/FAULTS.md by docs/explanations.py --write.
+
+ghost use Rattle.c25_explain.specs.Texts.{IsTextOf};
+ghost use Rattle.c25_explain.specs.declared.fault.AnyFault.TheVariants.{Source};
+ghost use Rattle.c25_meaning_language.specs.declared.statement.FaultKind.TheVariants as fault;
+
+pub(crate) fn no_file() -> &'static str
+    ensures { IsTextOf (Source fault.NoFile) result.now }
+{
+    r#"30 NoFile
+
+A file that .copy or .include names is not among those that were given. The program reads it from
+the disk and never tells 30: where it cannot, it tells 8. Who calls run_chain gives all files, and
+is told 30 at the line that copies, or at line 0 where the source itself is missing.
+
+Given:
+
+    $ run_chain a.asm
+     .copy "b.inc"
+
+Told:
+
+    a.asm:1: 30 NoFile
+
+Do: add the file under exactly the name that the line has.
+"#
+}
+
+pub(crate) fn open_block() -> &'static str
+    ensures { IsTextOf (Source fault.OpenBlock) result.now }
+{
+    r#"31 OpenBlock
+
+An .if, .loop or .macro that is not closed in the file, macro body or loop body in which it began.
+The line is the last one of that file or body, not the one that opens the block.
+
+Given:
+
+     .if 1
+
+Told:
+
+    a.asm:1: 31 OpenBlock
+
+Do: look upwards from there for the block without its .endif, .endloop or .endm. A block cannot
+begin in one file or body and end in another.
+"#
+}
+
+pub(crate) fn stray_end() -> &'static str
+    ensures { IsTextOf (Source fault.StrayEnd) result.now }
+{
+    r#"32 StrayEnd
+
+An .endif, .else, .elseif, .endloop, .endm that no open block belongs to, an .else or .elseif behind
+the .else, a .mexit outside every macro, or a .break outside every loop.
+
+Given:
+
+     .endif
+
+Told:
+
+    a.asm:1: 32 StrayEnd
+
+Do: count the blocks above it. An .endif in a macro does not close an .if of its caller; a .macro
+inside a macro needs an .endm of its own.
+"#
+}
+
+pub(crate) fn depth() -> &'static str
+    ensures { IsTextOf (Source fault.Depth) result.now }
+{
+    r#"33 Depth
+
+A 33rd open block: macro calls, copied files, loops and .ifs count together.
+
+Given:
+
+    R .macro
+     R
+     .endm
+     R
+
+Told:
+
+    a.asm:2: 33 Depth
+
+Do: look for a macro that calls itself or a file that copies itself without an .if that ends it; use
+.loop for repeating.
+"#
+}
+
+pub(crate) fn lines() -> &'static str
+    ensures { IsTextOf (Source fault.Lines) result.now }
+{
+    r#"34 Lines
+
+A 200,001st line that is read for one source. Lines of macros and loops count each time, and so do
+lines that are skipped.
+
+Given:
+
+     .loop 200000
+    * a line
+     .endloop
+
+Told:
+
+    a.asm:2: 34 Lines
+
+Do: look for a loop without its .break; reserve memory with .space, which takes one line.
+"#
+}
+
+pub(crate) fn too_many_parameters() -> &'static str
+    ensures { IsTextOf (Source fault.TooManyParameters) result.now }
+{
+    r#"35 TooManyParameters
+
+A macro of more than 32 parameters.
+
+Given:
+
+    P .macro a,b,c,d,e,f,g,h,i,j,k,l,m,n,o,p,q,r,s,t,u,v,w,x,y,z,A,B,C,D,E,F,G
+     .endm
+
+Told:
+
+    a.asm:1: 35 TooManyParameters
+
+Do: give several values to the last parameter, which takes all that is left of the arguments, commas
+too.
+"#
+}
+
+pub(crate) fn redefined() -> &'static str
+    ensures { IsTextOf (Source fault.Redefined) result.now }
+{
+    r#"36 Redefined
+
+A macro with the name of a macro that is there already, or of a mnemonic in either case.
+
+Given:
+
+    NOP .macro
+     .endm
+
+Told:
+
+    a.asm:1: 36 Redefined
+
+Do: rename it; copy a file of macros once only; move a .macro out of a macro that is called more
+than once.
+"#
+}
+
+pub(crate) fn long_line() -> &'static str
+    ensures { IsTextOf (Source fault.LongLine) result.now }
+{
+    r#"38 LongLine
+
+A line that has more than 1,024 bytes once names are substituted, its comment too, or that takes
+more than 1,024 replacements.
+
+Given:
+
+     .asg 1,k
+     .loop 20
+     .asg k+k,k
+     .endloop
+
+Told:
+
+    a.asm:3: 38 LongLine
+
+Do: use .eval in place of .asg where a value and not a text is to be kept; part the line.
+"#
+}

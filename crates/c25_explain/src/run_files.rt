@@ -1,0 +1,76 @@
+//! Samples, schedule, script: explanations of faults, made of docs/FAULTS.md by docs/explanations.py --write.
+
+ghost use Rattle.c25_explain.specs.Texts.{IsTextOf};
+ghost use Rattle.c25_explain.specs.declared.fault.AnyFault.TheVariants.{Samples, Schedule, Script};
+
+pub(crate) fn bad_schedule() -> &'static str
+    ensures { IsTextOf Schedule result.now }
+{
+    r#"90 BadSchedule
+
+A line of the schedule that is not a step and an event, or whose step is before that of the line
+before. A step is a decimal number up to 4,294,967,295, counted from 0; the event is INT0, INT1,
+INT2, BIO0 or BIO1.
+
+Given:
+
+     NOP
+    --- schedule
+    5 INT0
+    4 INT1
+
+Told:
+
+    schedule:2: 90 BadSchedule
+
+Do: sort the lines by step. Several events may have one step.
+"#
+}
+
+pub(crate) fn bad_samples() -> &'static str
+    ensures { IsTextOf Samples result.now }
+{
+    r#"91 BadSamples
+
+A line of the samples that is not a port and a word. A port is a decimal number from 0 to 15; a word
+has exactly four hexadecimal digits, without h.
+
+Given:
+
+     NOP
+    --- samples
+    16 0000
+
+Told:
+
+    samples:1: 91 BadSamples
+
+Do: write a line for each word, 2 00FF; negative samples by two's complement, -1 as FFFF. Lines that
+a run printed are read as samples, its last line left out.
+"#
+}
+
+pub(crate) fn bad_command() -> &'static str
+    ensures { IsTextOf Script result.now }
+{
+    r#"95 BadCommand
+
+A line of a debugger's script that is no command. Nothing is answered then, not even the lines
+before it.
+
+Given:
+
+    $ c25 debug a.asm --script script
+     NOP
+    --- script
+    hop
+
+Told:
+
+    script:1: 95 BadCommand
+
+Do: use step n, run n, break a, clear a, regs, data a n, prog a n, stack, where, list n or symbols,
+with n decimal and a of one to four hexadecimal digits without h; data and prog may not go on past
+word FFFFh.
+"#
+}

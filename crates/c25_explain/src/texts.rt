@@ -1,0 +1,139 @@
+//! The texts of faults.
+
+ghost use Rattle.c25_explain.specs.Texts.{IsTextOf};
+ghost use Rattle.c25_explain.specs.declared.fault.AnyFault.TheVariants.{Source, Object, Command, Link, Hex, File};
+
+use crate::fault::AnyFault;
+use crate::{
+    command_file, expansion, files, linking, objects, run_files, source_lines, written_texts,
+};
+use c25_disk::fault::FileFaultKind;
+use c25_meaning_commands::command_fault::CommandFault;
+use c25_meaning_intel_hex::hex_fault::HexFault;
+use c25_meaning_language::statement::FaultKind;
+use c25_meaning_objects::object::ObjectFault;
+use c25_meaning_placing::link_fault::LinkFault;
+
+/// That of a fault of a line of a source.
+fn source_text(kind: FaultKind) -> &'static str
+    ensures { IsTextOf (Source kind) result.now }
+{
+    match kind {
+        FaultKind::BadLabel => source_lines::bad_label(),
+        FaultKind::BadConstant => source_lines::bad_constant(),
+        FaultKind::OpenQuote => source_lines::open_quote(),
+        FaultKind::StrayText => source_lines::stray_text(),
+        FaultKind::BadExpression => source_lines::bad_expression(),
+        FaultKind::TooDeep => source_lines::too_deep(),
+        FaultKind::Undefined => source_lines::undefined(),
+        FaultKind::NotAbsolute => source_lines::not_absolute(),
+        FaultKind::DivideByZero => source_lines::divide_by_zero(),
+        FaultKind::ValueRange => source_lines::value_range(),
+        FaultKind::Defined => source_lines::defined(),
+        FaultKind::NoFile => expansion::no_file(),
+        FaultKind::OpenBlock => expansion::open_block(),
+        FaultKind::StrayEnd => expansion::stray_end(),
+        FaultKind::Depth => expansion::depth(),
+        FaultKind::Lines => expansion::lines(),
+        FaultKind::TooManyParameters => expansion::too_many_parameters(),
+        FaultKind::Redefined => expansion::redefined(),
+        FaultKind::LongLine => expansion::long_line(),
+        FaultKind::UnknownMnemonic => source_lines::unknown_mnemonic(),
+        FaultKind::OperandCount => source_lines::operand_count(),
+        FaultKind::OperandForm => source_lines::operand_form(),
+        FaultKind::FieldRange => source_lines::field_range(),
+        FaultKind::TooLarge => source_lines::too_large(),
+        FaultKind::NotRelocatable => source_lines::not_relocatable(),
+        FaultKind::BadBlock => source_lines::bad_block(),
+    }
+}
+
+/// That of a fault of the bytes of an object.
+fn object_text(fault: ObjectFault) -> &'static str
+    ensures { IsTextOf (Object fault) result.now }
+{
+    match fault {
+        ObjectFault::BadMagic => objects::bad_magic(),
+        ObjectFault::BadVersion => objects::bad_version(),
+        ObjectFault::Short => objects::short(),
+        ObjectFault::BadTag => objects::bad_tag(),
+        ObjectFault::BadField => objects::bad_field(),
+        ObjectFault::Trailing => objects::trailing(),
+    }
+}
+
+/// That of a fault of a line of the command file.
+fn command_text(fault: CommandFault) -> &'static str
+    ensures { IsTextOf (Command fault) result.now }
+{
+    match fault {
+        CommandFault::Syntax => command_file::syntax(),
+        CommandFault::RangeOverlap => command_file::range_overlap(),
+        CommandFault::RangeSize => command_file::range_size(),
+        CommandFault::Twice => command_file::twice(),
+    }
+}
+
+/// That of a fault of linking.
+fn link_text(fault: LinkFault) -> &'static str
+    ensures { IsTextOf (Link fault) result.now }
+{
+    match fault {
+        LinkFault::Unresolved => linking::unresolved(),
+        LinkFault::DefinedTwice => linking::defined_twice(),
+        LinkFault::NoRange => linking::no_range(),
+        LinkFault::DoesNotFit => linking::does_not_fit(),
+        LinkFault::Overlap => linking::overlap(),
+        LinkFault::RelocRange => linking::reloc_range(),
+        LinkFault::NoEntry => linking::no_entry(),
+        LinkFault::BadRun => linking::bad_run(),
+    }
+}
+
+/// That of a fault of a line of a hex text.
+fn hex_text(fault: HexFault) -> &'static str
+    ensures { IsTextOf (Hex fault) result.now }
+{
+    match fault {
+        HexFault::BadStart => written_texts::bad_start(),
+        HexFault::BadDigit => written_texts::bad_digit(),
+        HexFault::BadCount => written_texts::bad_count(),
+        HexFault::BadSum => written_texts::bad_sum(),
+        HexFault::BadKind => written_texts::bad_kind(),
+        HexFault::OddWord => written_texts::odd_word(),
+        HexFault::Twice => written_texts::twice(),
+        HexFault::NoEnd => written_texts::no_end(),
+        HexFault::AfterEnd => written_texts::after_end(),
+        HexFault::AddressRange => written_texts::address_range(),
+    }
+}
+
+/// That of a fault of a file.
+fn file_text(kind: FileFaultKind) -> &'static str
+    ensures { IsTextOf (File kind) result.now }
+{
+    match kind {
+        FileFaultKind::CannotWrite => files::cannot_write(),
+        FileFaultKind::CannotRead => files::cannot_read(),
+        FileFaultKind::FileTwice => files::file_twice(),
+    }
+}
+
+/// That of a fault.
+pub(crate) fn text_of(fault: AnyFault) -> &'static str
+    ensures { IsTextOf fault result.now }
+{
+    match fault {
+        AnyFault::Memory => files::no_memory(),
+        AnyFault::Source(kind) => source_text(kind),
+        AnyFault::Object(fault) => object_text(fault),
+        AnyFault::Command(fault) => command_text(fault),
+        AnyFault::Link(fault) => link_text(fault),
+        AnyFault::Map => written_texts::bad_map(),
+        AnyFault::Hex(fault) => hex_text(fault),
+        AnyFault::Schedule => run_files::bad_schedule(),
+        AnyFault::Samples => run_files::bad_samples(),
+        AnyFault::Script => run_files::bad_command(),
+        AnyFault::File(kind) => file_text(kind),
+    }
+}

@@ -1,0 +1,39 @@
+//! The explanation of a fault.
+
+ghost use Rattle.std.specs.Prelude.{◌≡◌, IfOk, string_bytes};
+ghost use Rattle.c25_tasks.specs.Explaining.{Explained, unknown_line};
+ghost use Rattle.c25_tasks.specs.Tells.{IsLineOf};
+
+use c25_explain::explanation::explanation;
+use c25_meaning_common::no_memory::NoMemory;
+use c25_report::ending::Ending;
+use c25_report::printing::print_answers;
+use std::alloc::Global;
+use std::io::Write;
+
+/// The line of a number that no fault has.
+fn unknown_line(alloc: Global, number: u8) -> Result<String, NoMemory>
+    ensures { IfOk result (λ line. string_bytes line ≡ unknown_line number) }
+{
+    Ok(format!(in alloc; "explain: no fault has the number {number}")?)
+}
+
+/// Tells that no fault has a number, unless memory runs out.
+fn unknown(alloc: Global, number: u8) -> Ending
+    ensures { IsLineOf (unknown_line number) result }
+{
+    match unknown_line(alloc, number) {
+        Ok(line) => Ending::Faulty(line),
+        Err(error) => Ending::NoMemory(error),
+    }
+}
+
+/// Prints the explanation of the fault of this number, and tells where there is none.
+pub(crate) fn explain<O: Write>(alloc: Global, number: u8, out: &mut O) -> Ending
+    ensures { Explained number result (O.contents out.old, O.contents out.new) }
+{
+    match explanation(number) {
+        Some(text) => print_answers(text, out),
+        None => unknown(alloc, number),
+    }
+}

@@ -1,0 +1,132 @@
+#!/usr/bin/env python3
+"""The explanations of faults that `c25 explain` prints, made of docs/FAULTS.md, where their text stands.
+
+usage: python3 docs/explanations.py [--write | --check]     (from the top of the repository)
+
+It prints the explanation of each fault. --write puts them into crates/c25_explain/src, a file for each group of faults of the page;
+--check tells of each of these files that is another than would be written or is not there, and ends with status 1 where it tells one.
+
+An explanation is the fault's heading, as `53 FieldRange`, an empty line, and then what the section has:
+
+- paragraphs, in lines of at most 100 columns, without the marks of links, and without those of code that has a letter or a digit (of
+  signs alone, as `;`, they stay, since nothing else would part them from the sentence);
+- tables, a line for each row, indented by four blanks;
+- of the examples the first, which is the smallest: what is given and the line that is told, each indented by four blanks. The others,
+  and the blocks of lines that are told alike, stand on the page alone: a reader at a terminal wants one case that can be seen at once.
+"""
+import os
+import re
+import sys
+import textwrap
+
+PAGE, FOLDER = "docs/FAULTS.md", "crates/c25_explain/src"
+COLUMNS, INDENT = 100, "    "
+# Of each group of the page that has faults, its file, and the variant of `AnyFault` and the type that its faults have.
+GROUPS = {
+    "A line of a source": ("source_lines", "Source", "c25_meaning_language", "statement.FaultKind"),
+    "Macros, conditional lines, loops, copied files": ("expansion", "Source", "c25_meaning_language", "statement.FaultKind"),
+    "Command file": ("command_file", "Command", "c25_meaning_commands", "command_fault.CommandFault"),
+    "Linking": ("linking", "Link", "c25_meaning_placing", "link_fault.LinkFault"),
+    "Samples, schedule, script": ("run_files", None, None, None),
+    "Objects": ("objects", "Object", "c25_meaning_objects", "object.ObjectFault"),
+    "Maps and hex texts": ("written_texts", "Hex", "c25_meaning_intel_hex", "hex_fault.HexFault"),
+    "Files and memory": ("files", "File", "c25_disk", "fault.FileFaultKind"),
+}
+# The faults that are variants of `AnyFault` themselves.
+ALONE = {"NoMemory": "Memory", "BadMap": "Map", "BadSchedule": "Schedule", "BadSamples": "Samples", "BadCommand": "Script"}
+
+
+def text_of(path):
+    with open(path, encoding="utf-8") as file:
+        return file.read()
+
+
+def sections(text, mark):
+    """The headings of a level with what stands under each."""
+    for part in re.split(rf"(?m)^{mark} ", text)[1:]:
+        heading, _, body = part.partition("\n")
+        yield heading, body
+
+
+def plain(text):
+    """A text without the marks of links, and of code that has a letter or a digit."""
+    text = re.sub(r"\[([^]]*)\]\([^)]*\)", r"\1", text)
+    return re.sub(r"`([^`]*)`", lambda code: code[1] if re.search(r"[A-Za-z0-9]", code[1]) else code[0], text)
+
+
+def indented(lines):
+    return "\n".join((INDENT + line).rstrip() for line in lines)
+
+
+def table(lines):
+    """A table, without the line below its headings."""
+    rows = [[plain(cell).strip() for cell in line.strip().strip("|").split("|")] for line in lines if not line.startswith("|--")]
+    return "\n".join(textwrap.fill(" | ".join(row), COLUMNS, initial_indent=INDENT, subsequent_indent=2 * INDENT) for row in rows)
+
+
+def parts(body):
+    """What a section has in its order: its paragraphs, its tables and its first example."""
+    shown = set()
+    for fence, block, paragraph in re.findall(r"(?ms)^```(\w+)[^\n]*\n(.*?)^```$|((?:^(?!```)[^\n]+\n)+)", body):
+        if fence in ("given", "told") and fence not in shown:
+            shown.add(fence)
+            yield {"given": "Given:", "told": "Told:"}[fence]
+            yield indented(block.splitlines())
+        elif paragraph.startswith("|"):
+            yield table(paragraph.splitlines())
+        elif paragraph:
+            yield textwrap.fill(plain(" ".join(paragraph.split("\n"))), COLUMNS, break_long_words=False, break_on_hyphens=False)
+
+
+def explanations():
+    """Of each group that has faults, their headings and explanations."""
+    for title, body in sections(text_of(PAGE), "##"):
+        faults = {heading: "\n\n".join([heading, *parts(section)]) + "\n" for heading, section in sections(body, "###")}
+        if faults:
+            yield title, faults
+
+
+def function(heading, text, variant):
+    """The function of a fault, as `field_range` of `53 FieldRange`, which answers its explanation."""
+    name = heading.split()[1]
+    fault = ALONE.get(name) or f"({variant} fault.{name})"
+    if '"#' in text:
+        sys.exit(f'{PAGE}: {heading}: "# would end its text in the source')
+    snake = re.sub(r"(?<=[a-z])(?=[A-Z])", "_", name).lower()
+    return f"pub(crate) fn {snake}() -> &'static str\n    ensures {{ IsTextOf {fault} result.now }}\n{{\n    r#\"{text}\"#\n}}\n"
+
+
+def source(title, faults):
+    """The file of a group."""
+    _, variant, crate, kind = GROUPS[title]
+    alone = [ALONE[name] for name in (heading.split()[1] for heading in faults) if name in ALONE]
+    variants = ", ".join(sorted(alone + ([variant] if variant else [])))
+    head = [
+        f"//! {title}: explanations of faults, made of {PAGE} by docs/explanations.py --write.\n",
+        "ghost use Rattle.c25_explain.specs.Texts.{IsTextOf};",
+        f"ghost use Rattle.c25_explain.specs.declared.fault.AnyFault.TheVariants.{{{variants}}};",
+    ]
+    head += [f"ghost use Rattle.{crate}.specs.declared.{kind}.TheVariants as fault;"] if variant else []
+    return "\n".join(head + ["", *(function(heading, text, variant) for heading, text in faults.items())])
+
+
+def sources():
+    return {f"{FOLDER}/{GROUPS[title][0]}.rt": source(title, faults) for title, faults in explanations()}
+
+
+def main(words):
+    if "--write" in words:
+        for path, text in sources().items():
+            with open(path, "w", encoding="utf-8") as file:
+                file.write(text)
+        return 0
+    if "--check" in words:
+        wrong = [path for path, text in sources().items() if not os.path.isfile(path) or text_of(path) != text]
+        print("\n".join(f"{path} is another than python3 docs/explanations.py --write makes of {PAGE}" for path in wrong) or f"the explanations are those of {PAGE}")
+        return 1 if wrong else 0
+    print("\n".join(text for _, faults in explanations() for text in faults.values()), end="")
+    return 0
+
+
+if __name__ == "__main__":
+    sys.exit(main(sys.argv[1:]))
