@@ -1,0 +1,21 @@
+use Rattle.std.proofs.Common.{◌≡◌, List, Some, refl, sym, ap, map, length, ◌∙◌, string_bytes}
+use Rattle.std.specs.List.{slice_get}
+use Rattle.std.specs.Option.{option_map}
+use Rattle.std.proofs.lemmas.Option.{slice_get-map, slice_get_read}
+use Rattle.c25_obj.specs.View.{contents, section_data}
+use Rattle.c25_obj.specs.declared.parts.Section.{Section}
+use Rattle.c25_dis.specs.Sections.{IsSectionAt}
+use Rattle.c25_dis.proofs.Passed.{section_at, texts_more}
+use Rattle.c25_dis.proofs.module.disassemble_module.Goals as goal
+
+pub loop-number-preserved : goal.loop-number-preserved
+loop-number-preserved c =
+    let m = contents c.parts-parts.result.now in
+    let items = c.deref-section-items.result.now in
+    let number = c.loop-number.number in
+    let item = c.section-item.result in
+    let there : slice_get items number ≡ Some item = slice_get_read items (length items) number item refl c.loop-number-test.true c.section-item.is in
+    let found : slice_get m.sections number ≡ Some (section_data item) =
+    ap (λ (xs : List Section). slice_get (map section_data xs) number) (sym c.deref-section-items.ensures.value) ∙ slice_get-map section_data items number ∙ ap (option_map section_data) there in
+    let own = c.in_ok-push_section.ensures in
+    texts_more (IsSectionAt m) number (string_bytes c.loop-number.text) own.0 (string_bytes c.push_section.new.text) (section_at m number (section_data item) own.0 found own.1) own.2 c.loop-number.invariant

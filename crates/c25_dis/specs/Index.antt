@@ -1,0 +1,28 @@
+-- Items of a list by the places where they stand.
+use Rattle.std.specs.Prelude.{◌≡◌, ℕ, ◌+◌, ◌==◌, Bool, false, List, [], ◌∷◌, filter, Option, Some, None}
+use Rattle.std.specs.List.Sorted.{IsNonDecreasingBy}
+use Rattle.c25_dis.specs.declared.index.Placed.{Placed}
+
+-- whether an item of an index stands at a place
+abbrev pub is_at : ℕ → Placed → Bool
+is_at place x = x.place == place
+
+-- whether what stands at a place, or nowhere, stands at this one
+abbrev pub is_there : ℕ → Option ℕ → Bool
+is_there place None = false
+is_there place (Some other) = other == place
+
+-- an item with its number, if it has a place, before others
+abbrev pub placed_before : Option ℕ → ℕ → List Placed → List Placed
+placed_before None number rest = rest
+placed_before (Some place) number rest = record { place = place; number = number } ∷ rest
+
+-- the items of a list that have a place, counted from a number
+abbrev pub numbered : {A : Type 0} → (A → Option ℕ) → ℕ → List A → List Placed
+numbered place_of number [] = []
+numbered place_of number (x ∷ xs) = placed_before (place_of x) number (numbered place_of (number + 1) xs)
+
+-- they are in the order of their places, and those of one place in that of the list
+pub record IsIndexOf {A : Type 0} (place_of : A → Option ℕ) (items : List A) (index : List Placed) : Type 0 where
+  pub sorted : IsNonDecreasingBy (λ x. x.place) index
+  pub stable : (place : ℕ) → filter (is_at place) index ≡ filter (is_at place) (numbered place_of 0 items)
