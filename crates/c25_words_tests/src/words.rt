@@ -90,6 +90,7 @@ fn show(alloc: Global, task: &Task<'_>) -> Result<String, AllocError> {
             write!(out, " script={script}")?;
             push_files(&mut out, *files)?;
         }
+        Task::Explain { number } => write!(out, "explain {number}")?,
     }
     Ok(out)
 }
@@ -169,6 +170,9 @@ run a.asm steps=1000 samples=s | run a.asm --samples s
 run a.asm steps=1000 schedule=w | run a.asm --schedule w
 debug a.asm script=d | debug a.asm --script d
 debug a.asm b.asm script=d command=c samples=s schedule=w | debug a.asm --schedule w --samples s b.asm --script d --command c
+explain 53 | explain 53
+explain 0 | explain 0
+explain 255 | explain +0255
 run run asm help steps=1000 | run run asm help
 run -a --steps -- steps=1000 | run -- -a --steps --
 run a b steps=1000 | run a -- b
@@ -228,6 +232,11 @@ refused | debug --script d
 refused | debug a.asm --script
 refused | debug a.asm --script d --steps 5
 refused | debug a.asm --script d --script e
+refused | explain
+refused | explain 256
+refused | explain FieldRange
+refused | explain 53 54
+refused | explain --number 53
 refused | build a.asm
 refused | build --out b
 refused | build a.asm --out b --out b
