@@ -1,6 +1,6 @@
 //! Lines: an address, its words, and what they are.
 
-ghost use Rattle.std.specs.Prelude.{◌≡◌, ◌++◌, OnOk, codes, string_bytes};
+ghost use Rattle.std.specs.Prelude.{◌≡◌, ◌++◌, OnOk, string_bytes};
 ghost use Rattle.c25_meaning_common.specs.Digits.{four_digits};
 ghost use Rattle.c25_meaning_instructions.specs.Show.{long_text};
 ghost use Rattle.c25_dis.specs.Lines.{columns, data_text, code_text, further_text, line_text};
