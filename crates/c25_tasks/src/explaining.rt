@@ -1,5 +1,6 @@
 //! The explanation of a fault.
 
+ghost use Rattle.std.specs.Prelude.{◌≡◌, IfOk, string_bytes};
 ghost use Rattle.c25_tasks.specs.Explaining.{Explained, unknown_line};
 ghost use Rattle.c25_tasks.specs.Tells.{IsLineOf};
 
@@ -10,13 +11,20 @@ use c25_report::printing::print_answers;
 use std::alloc::Global;
 use std::io::Write;
 
-/// The line of a number that no fault has, unless memory runs out.
+/// The line of a number that no fault has.
+fn unknown_line(alloc: Global, number: u8) -> Result<String, NoMemory>
+    ensures { IfOk result (λ line. string_bytes line ≡ unknown_line number) }
+{
+    Ok(format!(in alloc; "explain: no fault has the number {number}")?)
+}
+
+/// Tells that no fault has a number, unless memory runs out.
 fn unknown(alloc: Global, number: u8) -> Ending
     ensures { IsLineOf (unknown_line number) result }
 {
-    match format!(in alloc; "explain: no fault has the number {number}") {
+    match unknown_line(alloc, number) {
         Ok(line) => Ending::Faulty(line),
-        Err(error) => Ending::NoMemory(NoMemory::from(error)),
+        Err(error) => Ending::NoMemory(error),
     }
 }
 
