@@ -1,5 +1,5 @@
 -- The text of a module: for each section a heading, and for each of its places the labels and the line of the word there (own).
-use Rattle.std.specs.Prelude.{◌≡◌, ℕ, zero, suc, ℤ, pos, negsuc, ◌+◌, Bool, true, false, ◌==◌, ◌&&◌, List, [], ◌++◌, length, filter, find, codes, Option, Some, None}
+use Rattle.std.specs.Prelude.{◌≡◌, ℕ, zero, suc, ℤ, pos, negsuc, ◌+◌, Bool, true, false, ◌==◌, ◌&&◌, List, [], ◌++◌, length, filter, find, codes, if◌then◌else◌, Option, Some, None}
 use Rattle.std.specs.Fmt.{decimal, signed_decimal}
 use Rattle.std.specs.List.{flat_map, slice_get}
 use Rattle.std.specs.Ordering.{int_eq}
@@ -27,9 +27,13 @@ counts_from section External = false
 abbrev pub stands_at : ℕ → ℕ → SymbolData → Bool
 stands_at section place y = counts_from section y.kind && int_eq y.value (pos place)
 
+-- a place in four digits; that behind the last of 65,536 words in five
+abbrev pub place_text : ℕ → List ℕ
+place_text place = if place == 65536 then codes "10000" else four_digits place
+
 -- the line of a symbol at its place
 abbrev pub label_line : ℕ → List ℕ → List ℕ
-label_line place name = four_digits place ++ codes " " ++ name ++ codes ":\n"
+label_line place name = place_text place ++ codes " " ++ name ++ codes ":\n"
 
 -- the lines of the symbols at a place
 abbrev pub labels_at : Contents → ℕ → ℕ → List ℕ

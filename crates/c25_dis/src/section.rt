@@ -2,7 +2,7 @@
 
 ghost use Rattle.std.specs.Prelude.{◌≡◌, ◌+◌, ◌^◌, ◌<◌, ◌++◌, ℕ, List, Some, OnOk, IfOk, filter, string_bytes, slice_get};
 ghost use Rattle.std.specs.List.{flat_map};
-ghost use Rattle.c25_dis.specs.Sections.{body_text, heading, is_long, is_second, label_line, labels_at, mark_at, note_at, notes_by, second_by, stands_at, AreTexts, IsLineAt, IsPlace, IsReadBy, IsSection};
+ghost use Rattle.c25_dis.specs.Sections.{body_text, heading, is_long, is_second, label_line, labels_at, mark_at, note_at, notes_by, place_text, second_by, stands_at, AreTexts, IsLineAt, IsPlace, IsReadBy, IsSection};
 ghost use Rattle.c25_dis.specs.Index.{IsIndexOf};
 ghost use Rattle.c25_dis.specs.View.{AreIndexed, label_by, symbol_place};
 ghost use Rattle.c25_meaning_objects.specs.Module.{body_size, body_words, words_at};
@@ -44,11 +44,22 @@ fn places_of(alloc: Global, parts: &Parts, section: usize) -> Result<Places<'_>,
     })
 }
 
+/// Appends a place in four digits, and that behind the last of 65,536 words in five.
+fn push_place_text(text: &mut String, place: usize) -> Result<(), NoMemory>
+    ensures { OnOk result (string_bytes text.new ≡ string_bytes text.old ++ place_text place) }
+{
+    if place == 65_536 {
+        Ok(text.push_str("10000")?)
+    } else {
+        push_address(text, place)
+    }
+}
+
 /// Appends the line of a symbol.
 fn push_label(text: &mut String, place: usize, name: &str) -> Result<(), NoMemory>
     ensures { OnOk result (string_bytes text.new ≡ string_bytes text.old ++ label_line place name.now) }
 {
-    push_address(text, place)?;
+    push_place_text(text, place)?;
     text.push_str(" ")?;
     text.push_str(name)?;
     Ok(text.push_str(":\n")?)
