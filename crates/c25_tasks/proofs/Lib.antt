@@ -5,3 +5,4 @@ pub mod Debugged
 pub mod Done
 pub mod Joined
 pub mod Words
+pub mod Disassembled

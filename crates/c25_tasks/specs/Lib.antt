@@ -8,4 +8,5 @@ pub mod Linking
 pub mod Running
 pub mod Debugging
 pub mod Explaining
+pub mod Disassembly
 pub mod Program

@@ -10,10 +10,11 @@ use Rattle.c25_report.specs.declared.ending.Ending.{Ending}
 use Rattle.c25_report.specs.declared.ending.Ending.TheVariants as ending
 use Rattle.c25_words.specs.Task.{Reads, text_of, texts_of}
 use Rattle.c25_words.specs.declared.task.Task.{Task}
-use Rattle.c25_words.specs.declared.task.Task.TheVariants.{RunStandardInput, Assemble, Link, Build, Run, Debug, Explain}
+use Rattle.c25_words.specs.declared.task.Task.TheVariants.{RunStandardInput, Assemble, Link, Build, Run, Debug, Explain, Disassemble}
 use Rattle.c25_tasks.specs.Assembly.{Assembles}
 use Rattle.c25_tasks.specs.Building.{BuildsFrom, WritesProgram}
 use Rattle.c25_tasks.specs.Debugging.{DebugsTold}
+use Rattle.c25_tasks.specs.Disassembly.{DisassemblesTold}
 use Rattle.c25_tasks.specs.Explaining.{Explained}
 use Rattle.c25_tasks.specs.Linking.{LinksFrom}
 use Rattle.c25_tasks.specs.Running.{Runs, RunsTold}
@@ -46,6 +47,7 @@ Does held input (Run sources steps files) e = RunsTold held (texts_of sources.it
 Does held input (Debug sources script files) e =
     DebugsTold held (texts_of sources.items) script.now files e.ending e.out × Stay e.written.0 e.written.1
 Does held input (Explain number) e = Explained number e.ending e.out × Stay e.written.0 e.written.1
+Does held input (Disassemble file) e = DisassemblesTold held file.now e.ending e.out × Stay e.written.0 e.written.1
 
 -- ---- words
 

@@ -52,7 +52,7 @@ abbrev pub Tells : Result Chain Fault → Ending → Printed → Type 0
 Tells (Ok chain) e out = IsPrinted (run_text chain) (ending_of chain.outcome) e out.0 out.1 ⊎ (IsShort e × Keeps out.0 out.1)
 Tells (Err fault) e out = IsEndingOf fault e × Keeps out.0 out.1
 
--- the same of the answers of a debugger
+-- the same of a text that was asked for: the answers of a debugger, or a disassembly
 abbrev pub TellsText : Result (String Global) Fault → Ending → Printed → Type 0
 TellsText (Ok text) e out = IsPrinted (string_bytes text) ending.Done e out.0 out.1
 TellsText (Err fault) e out = IsEndingOf fault e × Keeps out.0 out.1

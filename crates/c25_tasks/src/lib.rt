@@ -5,6 +5,7 @@ mod assembly;
 mod building;
 mod copies;
 mod debugging;
+mod disassembly;
 mod explaining;
 mod files;
 mod linking;

@@ -17,7 +17,7 @@ use c25_obj::Module;
 use c25_records::read_module;
 use std::alloc::Global;
 
-/// The bytes of an object file.
+/// The bytes of a file that is to be an object, with its name.
 #[derive(Drop)]
 pub(crate) struct Object<'a> {
     pub(crate) name: &'a str,
@@ -53,8 +53,8 @@ fn no_module(alloc: Global, name: &str, fault: ObjectFault) -> Fault
     }
 }
 
-/// The module of an object file.
-fn module_of(alloc: Global, object: &Object<'_>) -> Result<Module, Fault>
+/// The module of an object file. Bytes of none are refused (40 to 45).
+pub(crate) fn module_of(alloc: Global, object: &Object<'_>) -> Result<Module, Fault>
     ensures { MeetsBy refusal_of (λ m. m) (module_in (object.now.name.now, object.now.bytes.items)) result }
 {
     match read_module(alloc, object.bytes.as_slice()) {

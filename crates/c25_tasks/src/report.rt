@@ -33,7 +33,7 @@ pub(crate) fn ending_of_fault(alloc: Global, fault: &Fault) -> Ending
     }
 }
 
-/// Prints the answers of a debugger.
+/// Prints a text that was asked for, or tells why there is none.
 pub(crate) fn report_text<O: Write>(
     alloc: Global,
     answer: &Result<String, Fault>,

@@ -9,6 +9,7 @@ ghost use Rattle.c25_tasks.specs.Tells.{WritesTold};
 use crate::assembly::asm_outputs;
 use crate::building::built;
 use crate::debugging::debug_sources;
+use crate::disassembly::disassemble;
 use crate::explaining::explain;
 use crate::files::fault_of_file;
 use crate::linking::linked;
@@ -123,5 +124,6 @@ pub(crate) fn do_task<D: Disk, R: Read, O: Write>(
             files,
         } => debug_sources(alloc, sources, script, *files, disk, out),
         Task::Explain { number } => explain(alloc, *number, out),
+        Task::Disassemble { file } => disassemble(alloc, file, disk, out),
     }
 }

@@ -89,6 +89,7 @@ asm_each words e =
       run = λ is. absurd (true≢false (sym is));
       debug = λ is. absurd (true≢false (sym is));
       explain = λ is. absurd (true≢false (sym is));
+      dis = λ is. absurd (true≢false (sym is));
     }
 
 link_each : IsEach (sub 1)
@@ -104,6 +105,7 @@ link_each words e =
       run = λ is. absurd (true≢false (sym is));
       debug = λ is. absurd (true≢false (sym is));
       explain = λ is. absurd (true≢false (sym is));
+      dis = λ is. absurd (true≢false (sym is));
     }
 
 build_each : IsEach (sub 2)
@@ -119,6 +121,7 @@ build_each words e =
       run = λ is. absurd (true≢false (sym is));
       debug = λ is. absurd (true≢false (sym is));
       explain = λ is. absurd (true≢false (sym is));
+      dis = λ is. absurd (true≢false (sym is));
     }
 
 run_each : IsEach (sub 3)
@@ -134,6 +137,7 @@ run_each words e =
       run = λ is. (given_there (codes "steps") 4294967295 (codes "source") rows kept.0 (found.0 refl), number_fine (codes "steps") 4294967295 32 (omega arith) rows kept.0);
       debug = λ is. absurd (true≢false (sym is));
       explain = λ is. absurd (true≢false (sym is));
+      dis = λ is. absurd (true≢false (sym is));
     }
 
 debug_each : IsEach (sub 4)
@@ -149,6 +153,7 @@ debug_each words e =
       run = λ is. absurd (true≢false (sym is));
       debug = λ is. (given_there (codes "steps") 4294967295 (codes "source") rows kept.0 (found.0 refl), given_there (codes "steps") 4294967295 (codes "script") rows kept.0 (found.1.0 refl));
       explain = λ is. absurd (true≢false (sym is));
+      dis = λ is. absurd (true≢false (sym is));
     }
 
 explain_each : IsEach (sub 5)
@@ -165,6 +170,23 @@ explain_each words e =
       debug = λ is. absurd (true≢false (sym is));
       explain = λ is. one_there (IsNumberText 8) (codes "number") rows (given_there (codes "number") 255 (codes "number") rows kept.0 (found.0 refl))
           (number_fine (codes "number") 255 8 (omega arith) rows kept.0);
+      dis = λ is. absurd (true≢false (sym is));
+    }
+
+dis_each : IsEach (sub 6)
+dis_each words e =
+    let kept = fine_rows (codes "steps") 4294967295 (sub 6) (taking _ refl refl refl, (asking _ refl refl refl, tt)) refl words e in
+    let rows = rows_after (sub 6).rules [] words in
+    let found = none_missing rows (sub 6).rules (check_passes _ kept.1) in
+    record {
+      named = refl;
+      asm = λ is. absurd (true≢false (sym is));
+      link = λ is. absurd (true≢false (sym is));
+      build = λ is. absurd (true≢false (sym is));
+      run = λ is. absurd (true≢false (sym is));
+      debug = λ is. absurd (true≢false (sym is));
+      explain = λ is. absurd (true≢false (sym is));
+      dis = λ is. given_there (codes "steps") 4294967295 (codes "file") rows kept.0 (found.0 refl);
     }
 
 -- ---- the program
@@ -184,7 +206,7 @@ entered_complete (Some p) e has = go (find (λ s. answers_to p.0 (label_of s)) (
         → is_some (option_map (λ s. rows_at s p.1) o) ≡ true → IsFoundComplete (option_map (λ s. rows_at s p.1) o)
     go None is e has = absurd (true≢false (sym has))
     go (Some s) is e has =
-        found_each IsEach (λ s. answers_to p.0 (label_of s)) (built program).subs s (asm_each, (link_each, (build_each, (run_each, (debug_each, (explain_each, tt)))))) is p.1 e
+        found_each IsEach (λ s. answers_to p.0 (label_of s)) (built program).subs s (asm_each, (link_each, (build_each, (run_each, (debug_each, (explain_each, (dis_each, tt))))))) is p.1 e
 
 pub complete : (words : List Text) → fault_of program words ≡ [] → IsFoundComplete (subcommand_of program words)
 complete words e =

@@ -19,13 +19,14 @@ IsNumberText bits text = IsNumeral 10 (without_leading_plus text) × (digits_val
 
 -- the name is that of a subcommand, and these matches have a value for each of its arguments that must be there
 pub record IsComplete (name : Text) (rows : List Row) : Type 0 where
-  pub named : (bytes_eq name (codes "asm") || (bytes_eq name (codes "link") || (bytes_eq name (codes "build") || (bytes_eq name (codes "run") || (bytes_eq name (codes "debug") || bytes_eq name (codes "explain")))))) ≡ true
+  pub named : (bytes_eq name (codes "asm") || (bytes_eq name (codes "link") || (bytes_eq name (codes "build") || (bytes_eq name (codes "run") || (bytes_eq name (codes "debug") || (bytes_eq name (codes "explain") || bytes_eq name (codes "dis"))))))) ≡ true
   pub asm : bytes_eq name (codes "asm") ≡ true → IsThere rows (codes "source") × IsThere rows (codes "obj")
   pub link : bytes_eq name (codes "link") ≡ true → IsThere rows (codes "command") × IsThere rows (codes "object") × IsThere rows (codes "out")
   pub build : bytes_eq name (codes "build") ≡ true → IsThere rows (codes "source") × IsThere rows (codes "out")
   pub run : bytes_eq name (codes "run") ≡ true → IsThere rows (codes "source") × IfSome (one_of (codes "steps") rows) (IsNumberText 32)
   pub debug : bytes_eq name (codes "debug") ≡ true → IsThere rows (codes "source") × IsThere rows (codes "script")
   pub explain : bytes_eq name (codes "explain") ≡ true → IsSomeAnd (one_of (codes "number") rows) (IsNumberText 8)
+  pub dis : bytes_eq name (codes "dis") ≡ true → IsThere rows (codes "file")
 
 -- the same of what `clap` finds
 abbrev pub IsFoundComplete : Option (Text × List Row) → Type 0

@@ -71,6 +71,10 @@ debug_shape = with_run_files (shape_with (codes "debug") (operands_rule (codes "
 abbrev pub explain_shape : Shape
 explain_shape = shape_with (codes "explain") (number_rule ∷ [])
 
+-- dis FILE
+abbrev pub dis_shape : Shape
+dis_shape = shape_with (codes "dis") (operand_rule (codes "file") ∷ [])
+
 -- the program before it has its subcommands: it has a version, one of them must be there, and `help` is none
 abbrev pub bare_program : App
 bare_program = record {
@@ -82,7 +86,7 @@ bare_program = record {
 abbrev pub program : App
 program = record {
   top = record bare_program.top { is_leaf = false };
-  subs = asm_shape ∷ link_shape ∷ build_shape ∷ run_shape ∷ debug_shape ∷ explain_shape ∷ [];
+  subs = asm_shape ∷ link_shape ∷ build_shape ∷ run_shape ∷ debug_shape ∷ explain_shape ∷ dis_shape ∷ [];
 }
 
 -- the command is a subcommand of this shape

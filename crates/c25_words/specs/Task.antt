@@ -12,7 +12,7 @@ use Rattle.c25_meaning_common.specs.declared.failure.Failure.TheVariants.{NoMemo
 use Rattle.c25_words.specs.Program.{program}
 use Rattle.c25_words.specs.declared.task.RunFiles.{RunFiles}
 use Rattle.c25_words.specs.declared.task.Task.{Task}
-use Rattle.c25_words.specs.declared.task.Task.TheVariants.{RunStandardInput, Assemble, Link, Build, Run, Debug, Explain}
+use Rattle.c25_words.specs.declared.task.Task.TheVariants.{RunStandardInput, Assemble, Link, Build, Run, Debug, Explain, Disassemble}
 
 -- the texts of borrowed words
 abbrev pub texts_of : List (Bor Text) → List Text
@@ -70,6 +70,7 @@ Asks name rows (Debug sources script files) =
     × (first_of (codes "script") rows ≡ Some script.now)
     × AreRunFiles rows files
 Asks name rows (Explain number) = (name ≡ codes "explain") × IsNumber (one_of (codes "number") rows) number
+Asks name rows (Disassemble file) = (name ≡ codes "dis") × (first_of (codes "file") rows ≡ Some file.now)
 
 -- the same of what `clap` finds
 abbrev pub IsAskedBy : Option (Text × List Row) → Task → Type 0

@@ -4,7 +4,7 @@ ghost use Rattle.std.specs.Prelude.{◌≡◌, IfOk, false};
 ghost use Rattle.clap.specs.Simple.{new_shape};
 ghost use Rattle.clap.specs.Words.{app_of, shape_of};
 ghost use Rattle.clap.specs.declared.builder.command.Command.TheViews.{out-Command as fields_of};
-ghost use Rattle.c25_words.specs.Program.{IsSubcommand, asm_shape, bare_program, build_shape, debug_shape, explain_shape, link_shape, program, run_shape, with_run_files};
+ghost use Rattle.c25_words.specs.Program.{IsSubcommand, asm_shape, bare_program, build_shape, debug_shape, dis_shape, explain_shape, link_shape, program, run_shape, with_run_files};
 
 use crate::arguments::{
     base_name, command_file, needed, number, operand, operands, option, output, steps,
@@ -124,6 +124,23 @@ fn explain<'a>(alloc: Global) -> Result<Command<'a>, AllocError>
     .arg(number(alloc, "The number of the fault, as its line has it"))
 }
 
+fn dis<'a>(alloc: Global) -> Result<Command<'a>, AllocError>
+    ensures { IfOk result (IsSubcommand dis_shape) }
+{
+    subcommand(
+        alloc,
+        "dis",
+        "Prints an object or a hex text as instructions",
+        "Example: c25 dis fir.obj",
+    )
+    .arg(operand(
+        alloc,
+        "file",
+        "FILE",
+        "The object, or the hex text of program memory",
+    ))
+}
+
 /// The program, which takes words by its subcommands alone.
 fn bare_program<'a>(alloc: Global) -> Command<'a>
     ensures { app_of result ≡ bare_program }
@@ -146,5 +163,6 @@ pub(crate) fn program<'a>(alloc: Global) -> Result<Command<'a>, AllocError>
         .subcommand(build(alloc)?)?
         .subcommand(run(alloc)?)?
         .subcommand(debug(alloc)?)?
-        .subcommand(explain(alloc)?)
+        .subcommand(explain(alloc)?)?
+        .subcommand(dis(alloc)?)
 }

@@ -86,6 +86,16 @@ fn explain<'a>(matches: &ArgMatches<'a>) -> Task<'a>
     }
 }
 
+/// The task of `dis`.
+fn disassemble<'a>(matches: &ArgMatches<'a>) -> Task<'a>
+    requires { IsThere (rows_in matches.now) (codes "file") }
+    ensures { Asks (codes "dis") (rows_in matches.now) result }
+{
+    Task::Disassemble {
+        file: needed(matches, "file"),
+    }
+}
+
 /// The task of a subcommand.
 fn task_of<'a>(alloc: Global, name: &str, matches: &ArgMatches<'a>) -> Result<Task<'a>, NoMemory>
     requires { IsComplete name.now (rows_in matches.now) }
@@ -98,6 +108,7 @@ fn task_of<'a>(alloc: Global, name: &str, matches: &ArgMatches<'a>) -> Result<Ta
         "run" => run(alloc, matches),
         "debug" => debug(alloc, matches),
         "explain" => Ok(explain(matches)),
+        "dis" => Ok(disassemble(matches)),
         _ => unreachable!(),
     }
 }

@@ -57,4 +57,8 @@ pub enum Task<'a> {
     Explain {
         number: u8,
     },
+    /// `dis FILE`: prints an object, or the words of a hex text, as instructions.
+    Disassemble {
+        file: &'a str,
+    },
 }

@@ -91,6 +91,7 @@ fn show(alloc: Global, task: &Task<'_>) -> Result<String, AllocError> {
             push_files(&mut out, *files)?;
         }
         Task::Explain { number } => write!(out, "explain {number}")?,
+        Task::Disassemble { file } => write!(out, "dis {file}")?,
     }
     Ok(out)
 }
@@ -173,6 +174,8 @@ debug a.asm b.asm script=d command=c samples=s schedule=w | debug a.asm --schedu
 explain 53 | explain 53
 explain 0 | explain 0
 explain 255 | explain +0255
+dis a.obj | dis a.obj
+dis -a | dis -- -a
 run run asm help steps=1000 | run run asm help
 run -a --steps -- steps=1000 | run -- -a --steps --
 run a b steps=1000 | run a -- b
@@ -237,6 +240,9 @@ refused | explain 256
 refused | explain FieldRange
 refused | explain 53 54
 refused | explain --number 53
+refused | dis
+refused | dis a.obj b.obj
+refused | dis --file a.obj
 refused | build a.asm
 refused | build --out b
 refused | build a.asm --out b --out b
