@@ -1,6 +1,8 @@
 -- The first lines of the texts are the headings of their faults.
 use Rattle.std.proofs.Common.{◌≡◌, ℕ, List, refl, subst}
 use Rattle.std.specs.Fmt.{digits}
+use Rattle.c25_disk.specs.declared.fault.FileFault.{FileFault}
+use Rattle.c25_disk.specs.declared.fault.FileFault.TheVariants as file
 use Rattle.c25_meaning_commands.specs.declared.command_fault.CommandFault.{CommandFault}
 use Rattle.c25_meaning_commands.specs.declared.command_fault.CommandFault.TheVariants as command
 use Rattle.c25_meaning_intel_hex.specs.declared.hex_fault.HexFault.{HexFault}
@@ -85,6 +87,24 @@ hex_line hex.NoEnd = refl
 hex_line hex.AfterEnd = refl
 hex_line hex.AddressRange = refl
 
+file_line : (fault : FileFault) → first_line (File fault) ≡ heading (File fault)
+unfolding digits
+file_line file.CannotWrite = refl
+file_line file.CannotRead = refl
+file_line file.FileTwice = refl
+
+schedule_line : first_line Schedule ≡ heading Schedule
+unfolding digits
+schedule_line = refl
+
+samples_line : first_line Samples ≡ heading Samples
+unfolding digits
+samples_line = refl
+
+script_line : first_line Script ≡ heading Script
+unfolding digits
+script_line = refl
+
 line : (fault : AnyFault) → first_line fault ≡ heading fault
 line Memory = refl
 line (Source fault) = source_line fault
@@ -93,10 +113,10 @@ line (Command fault) = command_line fault
 line (Link fault) = link_line fault
 line Map = refl
 line (Hex fault) = hex_line fault
-line Schedule = refl
-line Samples = refl
-line Script = refl
-line (File fault) = refl
+line Schedule = schedule_line
+line Samples = samples_line
+line Script = script_line
+line (File fault) = file_line fault
 
 pub is_headed : (fault : AnyFault) (text : List ℕ) → IsTextOf fault text → IsHeaded (heading fault) text
 is_headed fault text is = subst (λ l. IsHeaded l text) (line fault) is.headed

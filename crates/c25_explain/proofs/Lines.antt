@@ -10,16 +10,16 @@ use Rattle.c25_meaning_common.specs.declared.failure.Failure.TheVariants as fail
 use Rattle.c25_explain.specs.Lines.{EndsWithHeading}
 
 of_refusal_ends : (r : Refusal (String Global)) → EndsWithHeading (failure.Fault r)
-of_refusal_ends (refusal.Source file line kind) = (string_bytes file ++ codes ":" ++ decimal line, refl)
+of_refusal_ends (refusal.Source placed) = (string_bytes placed.place.file ++ codes ":" ++ decimal placed.place.line, refl)
 of_refusal_ends (refusal.NoFile file line name) = (string_bytes file ++ codes ":" ++ decimal line, refl)
-of_refusal_ends (refusal.Object file fault) = (string_bytes file, refl)
-of_refusal_ends (refusal.Command faulty) = (codes "command:" ++ decimal faulty.line, refl)
-of_refusal_ends (refusal.Link faulty) = (codes "link:" ++ string_bytes faulty.name, refl)
-of_refusal_ends (refusal.Hex fault) = (codes "hex:" ++ decimal fault.line, refl)
+of_refusal_ends (refusal.Object placed) = (string_bytes placed.place, refl)
+of_refusal_ends (refusal.Command placed) = (codes "command:" ++ decimal placed.place, refl)
+of_refusal_ends (refusal.Link placed) = (codes "link:" ++ string_bytes placed.place, refl)
+of_refusal_ends (refusal.Hex placed) = (codes "hex:" ++ decimal placed.place, refl)
 of_refusal_ends (refusal.Schedule line) = (codes "schedule:" ++ decimal line, refl)
 of_refusal_ends (refusal.Samples line) = (codes "samples:" ++ decimal line, refl)
 of_refusal_ends (refusal.Script line) = (codes "script:" ++ decimal line, refl)
-of_refusal_ends (refusal.File fault) = (string_bytes fault.file, refl)
+of_refusal_ends (refusal.File placed) = (string_bytes placed.place, refl)
 
 pub ends : (fault : Fault) → EndsWithHeading fault
 ends (failure.NoMemory n) = (codes "memory", refl)

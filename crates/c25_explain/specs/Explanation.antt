@@ -1,19 +1,15 @@
 -- What an explanation of a fault begins with, and which numbers have one.
 use Rattle.std.specs.Prelude.{◌≡◌, ℕ, ◌+◌, List, ◌++◌, Option, Some, None, codes, length, take}
 use Rattle.std.specs.Borrow.{Bor}
-use Rattle.c25_chain.specs.FaultText.{command_number, command_text, hex_number, hex_text, link_number, link_text, object_number, object_text}
-use Rattle.c25_disk.specs.FaultNames as files
-use Rattle.c25_disk.specs.declared.fault.FileFaultKind.{FileFaultKind}
-use Rattle.c25_disk.specs.declared.fault.FileFaultKind.TheVariants.{CannotWrite, CannotRead, FileTwice}
+use Rattle.c25_disk.specs.FaultNames.{file_fault_number, file_fault_text}
+use Rattle.c25_meaning_commands.specs.Faults.{command_number, command_text}
+use Rattle.c25_meaning_common.specs.Faults.{numbered}
+use Rattle.c25_meaning_intel_hex.specs.Faults.{hex_number, hex_text}
+use Rattle.c25_meaning_objects.specs.Faults.{object_number, object_text}
+use Rattle.c25_meaning_placing.specs.Faults.{link_number, link_text}
 use Rattle.c25_meaning_language.specs.Faults.{fault_number, numbered_name}
 use Rattle.c25_explain.specs.declared.fault.AnyFault.{AnyFault}
 use Rattle.c25_explain.specs.declared.fault.AnyFault.TheVariants.{Memory, Source, Object, Command, Link, Map, Hex, Schedule, Samples, Script, File}
-
--- the number of a file's fault
-abbrev pub file_number : FileFaultKind → ℕ
-file_number CannotWrite = 7
-file_number CannotRead = 8
-file_number FileTwice = 37
 
 -- the number of a fault
 abbrev pub number_of : AnyFault → ℕ
@@ -27,7 +23,7 @@ number_of (Hex fault) = hex_number fault
 number_of Schedule = 90
 number_of Samples = 91
 number_of Script = 95
-number_of (File kind) = file_number kind
+number_of (File fault) = file_fault_number fault
 
 -- its number and its name, as a fault's line ends with them
 abbrev pub heading : AnyFault → List ℕ
@@ -38,10 +34,10 @@ heading (Command fault) = command_text fault
 heading (Link fault) = link_text fault
 heading Map = codes "77 BadMap"
 heading (Hex fault) = hex_text fault
-heading Schedule = codes "90 BadSchedule"
-heading Samples = codes "91 BadSamples"
-heading Script = codes "95 BadCommand"
-heading (File kind) = files.numbered_name kind
+heading Schedule = numbered 90 (codes "BadSchedule")
+heading Samples = numbered 91 (codes "BadSamples")
+heading Script = numbered 95 (codes "BadCommand")
+heading (File fault) = file_fault_text fault
 
 -- a text begins with this line
 abbrev pub IsHeaded : List ℕ → List ℕ → Type 0

@@ -13,16 +13,16 @@ use Rattle.c25_explain.specs.declared.fault.AnyFault.TheVariants.{Memory, Source
 
 -- a refusal without where it is told
 abbrev pub of_refusal : Refusal (String Global) → AnyFault
-of_refusal (refusal.Source file line kind) = Source kind
+of_refusal (refusal.Source placed) = Source placed.fault
 of_refusal (refusal.NoFile file line name) = Source NoFile
-of_refusal (refusal.Object file fault) = Object fault
-of_refusal (refusal.Command faulty) = Command faulty.fault
-of_refusal (refusal.Link faulty) = Link faulty.fault
+of_refusal (refusal.Object placed) = Object placed.fault
+of_refusal (refusal.Command placed) = Command placed.fault
+of_refusal (refusal.Link placed) = Link placed.fault
 of_refusal (refusal.Hex placed) = Hex placed.fault
 of_refusal (refusal.Schedule line) = Schedule
 of_refusal (refusal.Samples line) = Samples
 of_refusal (refusal.Script line) = Script
-of_refusal (refusal.File fault) = File fault.kind
+of_refusal (refusal.File placed) = File placed.fault
 
 -- a fault without where it is told
 abbrev pub of_fault : Fault → AnyFault

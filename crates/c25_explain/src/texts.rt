@@ -7,7 +7,7 @@ use crate::fault::AnyFault;
 use crate::{
     command_file, expansion, files, linking, objects, run_files, source_lines, written_texts,
 };
-use c25_disk::fault::FileFaultKind;
+use c25_disk::fault::FileFault;
 use c25_meaning_commands::command_fault::CommandFault;
 use c25_meaning_intel_hex::hex_fault::HexFault;
 use c25_meaning_language::statement::FaultKind;
@@ -109,13 +109,13 @@ fn hex_text(fault: HexFault) -> &'static str
 }
 
 /// That of a fault of a file.
-fn file_text(kind: FileFaultKind) -> &'static str
+fn file_text(kind: FileFault) -> &'static str
     ensures { IsTextOf (File kind) result.now }
 {
     match kind {
-        FileFaultKind::CannotWrite => files::cannot_write(),
-        FileFaultKind::CannotRead => files::cannot_read(),
-        FileFaultKind::FileTwice => files::file_twice(),
+        FileFault::CannotWrite => files::cannot_write(),
+        FileFault::CannotRead => files::cannot_read(),
+        FileFault::FileTwice => files::file_twice(),
     }
 }
 

@@ -10,8 +10,9 @@ use Rattle.c25_chain.specs.declared.fault.Refusal.{Refusal}
 use Rattle.c25_chain.specs.declared.fault.Refusal.TheVariants.{File}
 use Rattle.c25_disk.specs.Held.{Stay}
 use Rattle.c25_disk.specs.Written.{IsUnwritten, contents_of}
+use Rattle.c25_meaning_common.specs.declared.placed.Placed.{Placed}
 use Rattle.c25_disk.specs.declared.fault.FileFault.{FileFault}
-use Rattle.c25_disk.specs.declared.fault.FileFaultKind.TheVariants.{CannotWrite}
+use Rattle.c25_disk.specs.declared.fault.FileFault.TheVariants.{CannotWrite}
 use Rattle.c25_disk.specs.declared.writing.Output.{Output}
 use Rattle.c25_meaning_common.specs.declared.failure.Failure.{Failure}
 use Rattle.c25_meaning_common.specs.declared.failure.Failure.TheVariants as failure
@@ -30,10 +31,10 @@ keeps (Some xs) = refl
 
 -- ---- a file that cannot be written
 
-same_line : (f : FileFault (String Global)) (name : List ℕ) → string_bytes f.file ≡ name → f.kind ≡ CannotWrite → at_file (string_bytes f.file) f.kind ≡ at_file name CannotWrite
-same_line f name named kind = ap (λ k. at_file (string_bytes f.file) k) kind ∙ ap (λ (n : List ℕ). at_file n CannotWrite) named
+same_line : (f : Placed (String Global) FileFault) (name : List ℕ) → string_bytes f.place ≡ name → f.fault ≡ CannotWrite → at_file (string_bytes f.place) f.fault ≡ at_file name CannotWrite
+same_line f name named kind = ap (λ k. at_file (string_bytes f.place) k) kind ∙ ap (λ (n : List ℕ). at_file n CannotWrite) named
 
-unwritten : (old new : Option Files) (outputs : List Output) (refusal : Failure (FileFault (String Global))) (fault : Fault) (e : Ending) → IsUnwritten old new outputs refusal → IsToldOfFile refusal fault → IsEndingOf fault e → IsUnwrittenAmong (map contents_of outputs) e (old, new)
+unwritten : (old new : Option Files) (outputs : List Output) (refusal : Failure (Placed (String Global) FileFault)) (fault : Fault) (e : Ending) → IsUnwritten old new outputs refusal → IsToldOfFile refusal fault → IsEndingOf fault e → IsUnwrittenAmong (map contents_of outputs) e (old, new)
 unwritten old new outputs (failure.NoMemory n) (failure.NoMemory m) e (file, ends, is) told comes = (file, ends, inr (m, comes))
 unwritten old new outputs (failure.NoMemory n) (failure.Fault r) e is told comes = absurd told
 unwritten old new outputs (failure.Fault f) (failure.NoMemory m) e is told comes = absurd told
@@ -42,7 +43,7 @@ unwritten old new outputs (failure.Fault f) (failure.Fault r) e (file, ends, is)
     let of_file = subst (λ (g : Refusal (String Global)). HasFault (fault_text (failure.Fault g)) e) told line in
     (file, ends, inl (subst (λ (text : List ℕ). HasFault text e) (same_line f file.0 is.0 is.1) of_file))
 
-pub told_unwritten : (told : Result (Vec Output Global) Fault) (outputs : Vec Output Global) (shown : List Output) (refusal : Failure (FileFault (String Global))) (fault : Fault) (e : Ending) (written : Wrote) → told ≡ Ok outputs → shown ≡ outputs.items → IsUnwritten written.0 written.1 shown refusal → IsToldOfFile refusal fault → IsEndingOf fault e → WritesTold told e written
+pub told_unwritten : (told : Result (Vec Output Global) Fault) (outputs : Vec Output Global) (shown : List Output) (refusal : Failure (Placed (String Global) FileFault)) (fault : Fault) (e : Ending) (written : Wrote) → told ≡ Ok outputs → shown ≡ outputs.items → IsUnwritten written.0 written.1 shown refusal → IsToldOfFile refusal fault → IsEndingOf fault e → WritesTold told e written
 told_unwritten told outputs shown refusal fault e written is same among as_fault comes =
     let of_outputs = subst (λ (os : List Output). IsUnwrittenAmong (map contents_of os) e written) same (unwritten written.0 written.1 shown refusal fault e among as_fault comes) in
     subst (λ (t : Result (Vec Output Global) Fault). WritesTold t e written) (sym is) (inr of_outputs)

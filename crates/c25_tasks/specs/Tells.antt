@@ -9,7 +9,7 @@ use Rattle.c25_chain.specs.Refusal.{Fault}
 use Rattle.c25_chain.specs.declared.chain.Chain.{Chain}
 use Rattle.c25_disk.specs.Held.{Adds, Stay}
 use Rattle.c25_disk.specs.Written.{EndsBefore, contents_of}
-use Rattle.c25_disk.specs.declared.fault.FileFaultKind.TheVariants.{CannotWrite}
+use Rattle.c25_disk.specs.declared.fault.FileFault.TheVariants.{CannotWrite}
 use Rattle.c25_disk.specs.declared.writing.Output.{Output}
 use Rattle.c25_meaning_common.specs.declared.failure.Failure.TheVariants as failure
 use Rattle.c25_meaning_common.specs.declared.no_memory.NoMemory.{NoMemory}
