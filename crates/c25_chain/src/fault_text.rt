@@ -81,6 +81,45 @@ fn at_hex_line(alloc: Global, line: usize, fault: HexFault) -> Result<String, No
     at_line(alloc, "hex", line, fault.number(), fault.name())
 }
 
+/// What is wrong with a line of the schedule.
+fn at_schedule_line(alloc: Global, line: usize) -> Result<String, NoMemory>
+    ensures { IfOk result (λ text. string_bytes text ≡ placed_text (codes "schedule") line (numbered 90 (codes "BadSchedule"))) }
+{
+    at_line(
+        alloc,
+        "schedule",
+        line,
+        BadSchedule.number(),
+        BadSchedule.name(),
+    )
+}
+
+/// What is wrong with a line of the samples.
+fn at_samples_line(alloc: Global, line: usize) -> Result<String, NoMemory>
+    ensures { IfOk result (λ text. string_bytes text ≡ placed_text (codes "samples") line (numbered 91 (codes "BadSamples"))) }
+{
+    at_line(
+        alloc,
+        "samples",
+        line,
+        BadSamples.number(),
+        BadSamples.name(),
+    )
+}
+
+/// What is wrong with a line of a debugger's script.
+fn at_script_line(alloc: Global, line: usize) -> Result<String, NoMemory>
+    ensures { IfOk result (λ text. string_bytes text ≡ placed_text (codes "script") line (numbered 95 (codes "BadCommand"))) }
+{
+    at_line(
+        alloc,
+        "script",
+        line,
+        BadCommand.number(),
+        BadCommand.name(),
+    )
+}
+
 /// What is wrong with a file.
 fn at_file(alloc: Global, name: &str, fault: FileFault) -> Result<String, NoMemory>
     ensures { IfOk result (λ text. string_bytes text ≡ at_file name.now fault) }
@@ -107,33 +146,9 @@ fn write_refusal(alloc: Global, refusal: &Refusal<String>) -> Result<String, NoM
         Refusal::Command(Placed { place, fault }) => at_command_line(alloc, *place, *fault),
         Refusal::Link(Placed { place, fault }) => at_link(alloc, place.as_str(), *fault),
         Refusal::Hex(Placed { place, fault }) => at_hex_line(alloc, *place, *fault),
-        Refusal::Schedule { line } => {
-            at_line(
-                alloc,
-                "schedule",
-                *line,
-                BadSchedule.number(),
-                BadSchedule.name(),
-            )
-        }
-        Refusal::Samples { line } => {
-            at_line(
-                alloc,
-                "samples",
-                *line,
-                BadSamples.number(),
-                BadSamples.name(),
-            )
-        }
-        Refusal::Script { line } => {
-            at_line(
-                alloc,
-                "script",
-                *line,
-                BadCommand.number(),
-                BadCommand.name(),
-            )
-        }
+        Refusal::Schedule { line } => at_schedule_line(alloc, *line),
+        Refusal::Samples { line } => at_samples_line(alloc, *line),
+        Refusal::Script { line } => at_script_line(alloc, *line),
         Refusal::File(Placed { place, fault }) => at_file(alloc, place.as_str(), *fault),
     }
 }

@@ -6,7 +6,6 @@ mod expansion;
 pub mod explanation;
 pub mod fault;
 mod files;
-pub mod laws;
 mod linking;
 mod numbers;
 mod objects;

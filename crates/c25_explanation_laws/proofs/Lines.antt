@@ -7,7 +7,7 @@ use Rattle.c25_chain.specs.Refusal.{Fault}
 use Rattle.c25_chain.specs.declared.fault.Refusal.{Refusal}
 use Rattle.c25_chain.specs.declared.fault.Refusal.TheVariants as refusal
 use Rattle.c25_meaning_common.specs.declared.failure.Failure.TheVariants as failure
-use Rattle.c25_explain.specs.Lines.{EndsWithHeading}
+use Rattle.c25_explanation_laws.specs.Lines.{EndsWithHeading}
 
 of_refusal_ends : (r : Refusal (String Global)) → EndsWithHeading (failure.Fault r)
 of_refusal_ends (refusal.Source placed) = (string_bytes placed.place.file ++ codes ":" ++ decimal placed.place.line, refl)
