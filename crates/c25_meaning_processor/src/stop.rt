@@ -17,12 +17,13 @@ pub enum Stop {
 }
 
 impl Stop {
-    ghost use Rattle.std.specs.Prelude.{◌≡◌};
+    ghost use Rattle.std.specs.Prelude.{◌≡◌, ◌≤◌, length};
     ghost use Rattle.c25_meaning_processor.specs.RunText.{stop_name};
 
     /// The name that it is told by.
     pub fn name(&self) -> &'static str
-        ensures { result.now ≡ stop_name self.now }
+        ensures name { result.now ≡ stop_name self.now }
+        ensures short { length result.now ≤ 9 }
     {
         match self {
             Stop::OutOfCode => "OutOfCode",
