@@ -117,6 +117,7 @@ pub(crate) fn do_task<D: Disk, R: Read, O: Write>(
             sources,
             steps,
             files,
+            regs: _,
         } => run_sources(alloc, sources, *steps, *files, disk, out),
         Task::Debug {
             sources,

@@ -3,9 +3,14 @@ use Rattle.std.specs.Prelude.{◌≡◌, true, false, pos, List, [], ◌∷◌, 
 use Rattle.clap.specs.Lexer.{usize_max}
 use Rattle.clap.specs.Words.{App, Rule, Shape, Text, new_rule, shape_of}
 use Rattle.clap.specs.Simple.{new_shape}
+use Rattle.clap.specs.declared.builder.action.ArgAction.TheVariants.{SetTrue}
 use Rattle.clap.specs.declared.builder.command.Command.{Command}
 use Rattle.clap.specs.declared.builder.command.Command.TheViews.{out-Command}
 use Rattle.clap.specs.declared.builder.value_parser.ValueParser.TheVariants as parser
+
+-- `--name`, which is given or not
+abbrev pub flag_rule : Text → Rule
+flag_rule name = record (new_rule name) { long = Some name; action = Some SetTrue }
 
 -- `--name VALUE`
 abbrev pub option_rule : Text → Rule
@@ -59,9 +64,9 @@ link_shape = shape_with (codes "link") (operand_rule (codes "command") ∷ opera
 abbrev pub build_shape : Shape
 build_shape = shape_with (codes "build") (operands_rule (codes "source") ∷ output_rule (codes "out") ∷ option_rule (codes "command") ∷ [])
 
--- run SOURCE.. [--steps N] [--command F] [--samples F] [--schedule F]
+-- run SOURCE.. [--steps N] [--regs] [--command F] [--samples F] [--schedule F]
 abbrev pub run_shape : Shape
-run_shape = with_run_files (shape_with (codes "run") (operands_rule (codes "source") ∷ steps_rule ∷ []))
+run_shape = with_run_files (shape_with (codes "run") (operands_rule (codes "source") ∷ steps_rule ∷ flag_rule (codes "regs") ∷ []))
 
 -- debug SOURCE.. --script F [--command F] [--samples F] [--schedule F]
 abbrev pub debug_shape : Shape

@@ -1,5 +1,6 @@
 -- What the words ask for, by the matches that `clap` defines.
-use Rattle.std.specs.Prelude.{◌≡◌, ℕ, List, [], Option, Some, None, Result, Ok, Err, codes, map, option_map, IsSomeAnd}
+use Rattle.std.specs.Prelude.{◌≡◌, ℕ, Bool, false, List, [], Option, Some, None, Result, Ok, Err, codes, map, option_map, IsSomeAnd}
+use Rattle.std.specs.Str.{bytes_eq}
 use Rattle.std.specs.Str.Parse.{IsNumeral, digits_value, without_leading_plus}
 use Rattle.std.specs.Borrow.{Bor}
 use Rattle.clap.specs.Words.{Row, Text, all_of, first_of, kind_of, one_of, subcommand_of}
@@ -35,6 +36,11 @@ IsSteps (Some text) n = Gives text n
 abbrev pub IsNumber : Option Text → ℕ → Type 0
 IsNumber text n = IsSomeAnd text (λ t. Gives t n)
 
+-- whether a flag was given: the text that is found for it is `true` where it was, and else `false`
+abbrev pub IsFlag : Option Text → Bool → Type 0
+IsFlag None given = given ≡ false
+IsFlag (Some text) given = given ≡ bytes_eq text (codes "true")
+
 -- the files of a run are the values of its options
 pub record AreRunFiles (rows : List Row) (files : RunFiles) : Type 0 where
   pub command : text_of files.command ≡ first_of (codes "command") rows
@@ -59,11 +65,12 @@ Asks name rows (Build sources base command) =
     × (all_of (codes "source") rows ≡ Some (texts_of sources.items))
     × (first_of (codes "out") rows ≡ Some base.now)
     × (first_of (codes "command") rows ≡ text_of command)
-Asks name rows (Run sources steps files) =
+Asks name rows (Run sources steps files regs) =
     (name ≡ codes "run")
     × (all_of (codes "source") rows ≡ Some (texts_of sources.items))
     × IsSteps (one_of (codes "steps") rows) steps
     × AreRunFiles rows files
+    × IsFlag (one_of (codes "regs") rows) regs
 Asks name rows (Debug sources script files) =
     (name ≡ codes "debug")
     × (all_of (codes "source") rows ≡ Some (texts_of sources.items))

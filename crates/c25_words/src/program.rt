@@ -7,14 +7,14 @@ ghost use Rattle.clap.specs.declared.builder.command.Command.TheViews.{out-Comma
 ghost use Rattle.c25_words.specs.Program.{IsSubcommand, asm_shape, bare_program, build_shape, debug_shape, dis_shape, explain_shape, link_shape, program, run_shape, with_run_files};
 
 use crate::arguments::{
-    base_name, command_file, needed, number, operand, operands, option, output, steps,
+    base_name, command_file, flag, needed, number, operand, operands, option, output, steps,
 };
 use clap::Command;
 use std::alloc::{AllocError, Global};
 
 /// What `--version` prints behind the program's name. It rises with each change of what the program
 /// reads, writes or answers.
-const VERSION: &str = "1.4.0";
+const VERSION: &str = "1.5.0";
 
 /// What help says of the program behind its subcommands.
 const MORE: &str =
@@ -91,10 +91,15 @@ fn run<'a>(alloc: Global) -> Result<Command<'a>, AllocError>
         alloc,
         "run",
         "Assembles, links and runs sources: prints their outputs and how the run ended",
-        "Example: c25 run fir.asm --steps 100000 --samples in.txt > out.txt",
+        "Example: c25 run fir.asm --steps 100000 --samples in.txt --regs > out.txt",
     )
     .arg(operands(alloc, "source", "SOURCE", "The sources, in their order"))?
-    .arg(steps(alloc))?;
+    .arg(steps(alloc))?
+    .arg(flag(
+        alloc,
+        "regs",
+        "Prints the registers at the end of the run too",
+    ))?;
     with_run_files(alloc, command)
 }
 

@@ -39,12 +39,13 @@ pub enum Task<'a> {
         base: &'a str,
         command: Option<&'a str>,
     },
-    /// `run SOURCE.. [--steps N] [--command FILE] [--samples FILE] [--schedule FILE]`: prints the
-    /// outputs and how the run ended.
+    /// `run SOURCE.. [--steps N] [--regs] [--command FILE] [--samples FILE] [--schedule FILE]`: prints
+    /// the outputs and how the run ended.
     Run {
         sources: Vec<&'a str>,
         steps: u32,
         files: RunFiles<'a>,
+        regs: bool,
     },
     /// `debug SOURCE.. --script FILE [--command FILE] [--samples FILE] [--schedule FILE]`: prints
     /// the answers to a debugger's script.

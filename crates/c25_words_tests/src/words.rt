@@ -25,6 +25,15 @@ fn push_words(out: &mut String, words: &[&str]) -> Result<(), AllocError> {
     Ok(())
 }
 
+/// Adds a flag that was given.
+fn push_flag(out: &mut String, name: &str, given: bool) -> Result<(), AllocError> {
+    if given {
+        write!(out, " {name}")
+    } else {
+        Ok(())
+    }
+}
+
 /// Adds an option that was given.
 fn push_option(out: &mut String, name: &str, value: Option<&str>) -> Result<(), AllocError> {
     match value {
@@ -74,11 +83,13 @@ fn show(alloc: Global, task: &Task<'_>) -> Result<String, AllocError> {
             sources,
             steps,
             files,
+            regs,
         } => {
             write!(out, "run")?;
             push_words(&mut out, sources)?;
             write!(out, " steps={steps}")?;
             push_files(&mut out, *files)?;
+            push_flag(&mut out, "regs", *regs)?;
         }
         Task::Debug {
             sources,
@@ -136,6 +147,12 @@ fn subcommands_take_their_words(rt: HostRuntime) -> Result<(), Fail> {
 #[test]
 fn numbers_of_steps_are_read(rt: HostRuntime) -> Result<(), Fail> {
     assert_eq!(rt; differing(rt.alloc(), STEPS)?.as_str(), "");
+    Ok(())
+}
+
+#[test]
+fn flags_and_values_are_told_apart(rt: HostRuntime) -> Result<(), Fail> {
+    assert_eq!(rt; differing(rt.alloc(), REGS)?.as_str(), "");
     Ok(())
 }
 
@@ -224,6 +241,30 @@ refused | run a --steps 5.0
 refused | run a --steps
 refused | run a --steps 5 --steps 5
 refused | run a --steps=5 --steps 6
+";
+
+const REGS: &str = "\
+run a steps=1000 regs | run a --regs
+run a steps=1000 regs | run --regs a
+run a b steps=5 command=c samples=s schedule=w regs | run a --regs b --steps 5 --command c --samples s --schedule w
+run --regs steps=1000 | run -- --regs
+run a --regs steps=1000 regs | run --regs -- a --regs
+run a regs steps=1000 | run a regs
+run a steps=1000 command=--regs | run a --command=--regs
+refused | run --regs
+refused | run a --regs --regs
+refused | run a --regs=true
+refused | run a --regs=false
+refused | run a --regs=
+refused | run a --reg
+refused | run a --Regs
+refused | run a -regs
+refused | run a --no-regs
+refused | run a --steps --regs
+refused | debug a --script d --regs
+refused | build a --out b --regs
+refused | asm a --obj b --regs
+refused | --regs run a
 ";
 
 const REFUSED: &str = "\

@@ -12,7 +12,7 @@ returns-in-Build g c =
 
 pub returns-in-Run : goal.returns-in-Run
 returns-in-Run g c =
-    does_run (g.D.Disk.bytes_of c.args.disk.now) _ c.args.task.now c.in-Run.sources c.in-Run.steps c.in-Run.files c.deref-in-Run.result.now _ c.in-Run.is c.deref-in-Run.ensures.value c.run_sources.ensures (stays _)
+    does_run (g.D.Disk.bytes_of c.args.disk.now) _ c.args.task.now c.in-Run.sources c.in-Run.steps c.in-Run.files c.in-Run.regs c.deref-in-Run.result.now _ c.in-Run.is c.deref-in-Run.ensures.value c.run_sources.ensures (stays _)
 
 pub returns-in-Debug : goal.returns-in-Debug
 returns-in-Debug g c =
