@@ -109,6 +109,7 @@ pub(crate) fn do_task<D: Disk, R: Read, O: Write>(
             sources,
             base,
             command,
+            symbols: _,
         } => {
             let told = built(alloc, disk, sources, *command);
             write_program(alloc, base, told, disk)

@@ -60,9 +60,9 @@ asm_shape = shape_with (codes "asm") (operand_rule (codes "source") ∷ output_r
 abbrev pub link_shape : Shape
 link_shape = shape_with (codes "link") (operand_rule (codes "command") ∷ operands_rule (codes "object") ∷ output_rule (codes "out") ∷ [])
 
--- build SOURCE.. --out B [--command F]
+-- build SOURCE.. --out B [--command F] [--symbols F]
 abbrev pub build_shape : Shape
-build_shape = shape_with (codes "build") (operands_rule (codes "source") ∷ output_rule (codes "out") ∷ option_rule (codes "command") ∷ [])
+build_shape = shape_with (codes "build") (operands_rule (codes "source") ∷ output_rule (codes "out") ∷ option_rule (codes "command") ∷ option_rule (codes "symbols") ∷ [])
 
 -- run SOURCE.. [--steps N] [--regs] [--command F] [--samples F] [--schedule F]
 abbrev pub run_shape : Shape

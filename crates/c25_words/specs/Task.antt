@@ -60,11 +60,12 @@ Asks name rows (Link command objects base) =
     × (first_of (codes "command") rows ≡ Some command.now)
     × (all_of (codes "object") rows ≡ Some (texts_of objects.items))
     × (first_of (codes "out") rows ≡ Some base.now)
-Asks name rows (Build sources base command) =
+Asks name rows (Build sources base command symbols) =
     (name ≡ codes "build")
     × (all_of (codes "source") rows ≡ Some (texts_of sources.items))
     × (first_of (codes "out") rows ≡ Some base.now)
     × (first_of (codes "command") rows ≡ text_of command)
+    × (first_of (codes "symbols") rows ≡ text_of symbols)
 Asks name rows (Run sources steps files regs) =
     (name ≡ codes "run")
     × (all_of (codes "source") rows ≡ Some (texts_of sources.items))

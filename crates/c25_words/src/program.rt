@@ -66,11 +66,16 @@ fn build<'a>(alloc: Global) -> Result<Command<'a>, AllocError>
         alloc,
         "build",
         "Assembles and links sources: writes what link does, and a listing BASE.N.lst of each",
-        "Example: c25 build main.asm fir.asm -o fir --command fir.cmd",
+        "Example: c25 build main.asm fir.asm -o fir --command fir.cmd --symbols fir.sym",
     )
     .arg(operands(alloc, "source", "SOURCE", "The sources, in their order"))?
     .arg(base_name(alloc, "How the names of the written files begin"))?
-    .arg(command_file(alloc))
+    .arg(command_file(alloc))?
+    .arg(option(
+        alloc,
+        "symbols",
+        "The file for the names of the program and their addresses",
+    ))
 }
 
 /// The files that a run reads beside its sources.

@@ -49,6 +49,7 @@ fn build<'a>(alloc: Global, matches: &ArgMatches<'a>) -> Result<Task<'a>, NoMemo
         sources: all(alloc, matches, "source")?,
         base: needed(matches, "out"),
         command: optional(matches, "command"),
+        symbols: optional(matches, "symbols"),
     })
 }
 

@@ -32,12 +32,13 @@ pub enum Task<'a> {
         objects: Vec<&'a str>,
         base: &'a str,
     },
-    /// `build SOURCE.. --out BASE [--command FILE]`: writes what `link` does, and `BASE.1.lst`,
-    /// `BASE.2.lst`, .., a listing for each source.
+    /// `build SOURCE.. --out BASE [--command FILE] [--symbols FILE]`: writes what `link` does, and
+    /// `BASE.1.lst`, `BASE.2.lst`, .., a listing for each source.
     Build {
         sources: Vec<&'a str>,
         base: &'a str,
         command: Option<&'a str>,
+        symbols: Option<&'a str>,
     },
     /// `run SOURCE.. [--steps N] [--regs] [--command FILE] [--samples FILE] [--schedule FILE]`: prints
     /// the outputs and how the run ended.

@@ -73,11 +73,13 @@ fn show(alloc: Global, task: &Task<'_>) -> Result<String, AllocError> {
             sources,
             base,
             command,
+            symbols,
         } => {
             write!(out, "build")?;
             push_words(&mut out, sources)?;
             write!(out, " base={base}")?;
             push_option(&mut out, "command", *command)?;
+            push_option(&mut out, "symbols", *symbols)?;
         }
         Task::Run {
             sources,
@@ -153,6 +155,7 @@ fn numbers_of_steps_are_read(rt: HostRuntime) -> Result<(), Fail> {
 #[test]
 fn flags_and_values_are_told_apart(rt: HostRuntime) -> Result<(), Fail> {
     assert_eq!(rt; differing(rt.alloc(), REGS)?.as_str(), "");
+    assert_eq!(rt; differing(rt.alloc(), SYMBOLS)?.as_str(), "");
     Ok(())
 }
 
@@ -265,6 +268,27 @@ refused | debug a --script d --regs
 refused | build a --out b --regs
 refused | asm a --obj b --regs
 refused | --regs run a
+";
+
+const SYMBOLS: &str = "\
+build a base=b symbols=s | build a --out b --symbols s
+build a base=b symbols=s | build --symbols=s --out=b a
+build a c base=b command=d symbols=s | build a --symbols s c --command d -o b
+build a base=b symbols=-s | build a --out b --symbols=-s
+build a base=b symbols= | build a --out b --symbols=
+build --symbols s base=b | build --out b -- --symbols s
+refused | build a --out b --symbols
+refused | build a --symbols --out b
+refused | build a --out b --symbols -s
+refused | build a --out b --symbols s --symbols s
+refused | build a --out b --symbols=s --symbols t
+refused | build a --out b --symbol s
+refused | build a --symbols s
+refused | build --symbols s --out b
+refused | link c a --out b --symbols s
+refused | asm a --obj b --symbols s
+refused | run a --symbols s
+refused | debug a --script d --symbols s
 ";
 
 const REFUSED: &str = "\
