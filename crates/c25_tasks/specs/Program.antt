@@ -47,7 +47,7 @@ Does held input (Run sources steps files regs) e = RunsTold held (texts_of sourc
 Does held input (Debug sources script files) e =
     DebugsTold held (texts_of sources.items) script.now files e.ending e.out × Stay e.written.0 e.written.1
 Does held input (Explain number) e = Explained number e.ending e.out × Stay e.written.0 e.written.1
-Does held input (Disassemble file) e = DisassemblesTold held file.now e.ending e.out × Stay e.written.0 e.written.1
+Does held input (Disassemble file from) e = DisassemblesTold held file.now e.ending e.out × Stay e.written.0 e.written.1
 
 -- ---- words
 

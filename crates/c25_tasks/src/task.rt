@@ -126,6 +126,6 @@ pub(crate) fn do_task<D: Disk, R: Read, O: Write>(
             files,
         } => debug_sources(alloc, sources, script, *files, disk, out),
         Task::Explain { number } => explain(alloc, *number, out),
-        Task::Disassemble { file } => disassemble(alloc, file, disk, out),
+        Task::Disassemble { file, from: _ } => disassemble(alloc, file, disk, out),
     }
 }

@@ -76,9 +76,9 @@ debug_shape = with_run_files (shape_with (codes "debug") (operands_rule (codes "
 abbrev pub explain_shape : Shape
 explain_shape = shape_with (codes "explain") (number_rule ∷ [])
 
--- dis FILE
+-- dis FILE [--from ADDRESS]
 abbrev pub dis_shape : Shape
-dis_shape = shape_with (codes "dis") (operand_rule (codes "file") ∷ [])
+dis_shape = shape_with (codes "dis") (operand_rule (codes "file") ∷ option_rule (codes "from") ∷ [])
 
 -- the program before it has its subcommands: it has a version, one of them must be there, and `help` is none
 abbrev pub bare_program : App

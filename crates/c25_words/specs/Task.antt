@@ -78,7 +78,8 @@ Asks name rows (Debug sources script files) =
     × (first_of (codes "script") rows ≡ Some script.now)
     × AreRunFiles rows files
 Asks name rows (Explain number) = (name ≡ codes "explain") × IsNumber (one_of (codes "number") rows) number
-Asks name rows (Disassemble file) = (name ≡ codes "dis") × (first_of (codes "file") rows ≡ Some file.now)
+Asks name rows (Disassemble file from) =
+    (name ≡ codes "dis") × (first_of (codes "file") rows ≡ Some file.now) × (first_of (codes "from") rows ≡ text_of from)
 
 -- the same of what `clap` finds
 abbrev pub IsAskedBy : Option (Text × List Row) → Task → Type 0

@@ -75,6 +75,14 @@ pub(crate) fn steps<'a>(alloc: Global) -> Arg<'a>
         .value_parser(value_parser!(u32))
 }
 
+/// `--from ADDRESS`.
+pub(crate) fn first_address<'a>(alloc: Global, help: &'a str) -> Arg<'a>
+    ensures rule { rule_of result ≡ option_rule (codes "from") }
+    ensures local { result.global ≡ false }
+{
+    option(alloc, "from", help).value_name("ADDRESS")
+}
+
 /// One operand, which must be there.
 pub(crate) fn operand<'a>(alloc: Global, name: &'a str, value: &'a str, help: &'a str) -> Arg<'a>
     ensures rule { rule_of result ≡ operand_rule name.entry.now }

@@ -7,7 +7,8 @@ ghost use Rattle.clap.specs.declared.builder.command.Command.TheViews.{out-Comma
 ghost use Rattle.c25_words.specs.Program.{IsSubcommand, asm_shape, bare_program, build_shape, debug_shape, dis_shape, explain_shape, link_shape, program, run_shape, with_run_files};
 
 use crate::arguments::{
-    base_name, command_file, flag, needed, number, operand, operands, option, output, steps,
+    base_name, command_file, first_address, flag, needed, number, operand, operands, option,
+    output, steps,
 };
 use clap::Command;
 use std::alloc::{AllocError, Global};
@@ -141,13 +142,17 @@ fn dis<'a>(alloc: Global) -> Result<Command<'a>, AllocError>
         alloc,
         "dis",
         "Prints an object or a hex text as instructions",
-        "Example: c25 dis fir.obj",
+        "Example: c25 dis fir.p0.hex --from 0400",
     )
     .arg(operand(
         alloc,
         "file",
         "FILE",
         "The object, or the hex text of program memory",
+    ))?
+    .arg(first_address(
+        alloc,
+        "Where printing begins in a hex text, one to four hexadecimal digits",
     ))
 }
 

@@ -95,6 +95,7 @@ fn disassemble<'a>(matches: &ArgMatches<'a>) -> Task<'a>
 {
     Task::Disassemble {
         file: needed(matches, "file"),
+        from: optional(matches, "from"),
     }
 }
 

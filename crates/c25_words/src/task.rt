@@ -59,8 +59,9 @@ pub enum Task<'a> {
     Explain {
         number: u8,
     },
-    /// `dis FILE`: prints an object, or the words of a hex text, as instructions.
+    /// `dis FILE [--from ADDRESS]`: prints an object, or the words of a hex text, as instructions.
     Disassemble {
         file: &'a str,
+        from: Option<&'a str>,
     },
 }

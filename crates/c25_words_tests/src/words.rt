@@ -104,7 +104,10 @@ fn show(alloc: Global, task: &Task<'_>) -> Result<String, AllocError> {
             push_files(&mut out, *files)?;
         }
         Task::Explain { number } => write!(out, "explain {number}")?,
-        Task::Disassemble { file } => write!(out, "dis {file}")?,
+        Task::Disassemble { file, from } => {
+            write!(out, "dis {file}")?;
+            push_option(&mut out, "from", *from)?;
+        }
     }
     Ok(out)
 }
@@ -156,6 +159,7 @@ fn numbers_of_steps_are_read(rt: HostRuntime) -> Result<(), Fail> {
 fn flags_and_values_are_told_apart(rt: HostRuntime) -> Result<(), Fail> {
     assert_eq!(rt; differing(rt.alloc(), REGS)?.as_str(), "");
     assert_eq!(rt; differing(rt.alloc(), SYMBOLS)?.as_str(), "");
+    assert_eq!(rt; differing(rt.alloc(), FROM)?.as_str(), "");
     Ok(())
 }
 
@@ -289,6 +293,26 @@ refused | link c a --out b --symbols s
 refused | asm a --obj b --symbols s
 refused | run a --symbols s
 refused | debug a --script d --symbols s
+";
+
+const FROM: &str = "\
+dis a from=0400 | dis a --from 0400
+dis a from=0400 | dis --from=0400 a
+dis a from=zz | dis a --from zz
+dis a from=-1 | dis a --from=-1
+dis a from= | dis a --from=
+dis a from=0 | dis --from 0 -- a
+dis --from | dis -- --from
+refused | dis a --from
+refused | dis --from 0400
+refused | dis a --from -1
+refused | dis a --from 0 --from 0
+refused | dis a --from=0 --from 1
+refused | dis a --from 0 1
+refused | dis a --From 0
+refused | dis a -f 0
+refused | run a --from 0
+refused | explain 53 --from 0
 ";
 
 const REFUSED: &str = "\
