@@ -91,10 +91,7 @@ pub(crate) fn do_task<D: Disk, R: Read, O: Write>(
     ensures { Does (D.bytes_of disk.old) (R.remaining input.old) task.now (effect_of result (O.contents out.old, O.contents out.new) (D.written disk.old, D.written disk.new)) }
 {
     match task {
-        Task::RunStandardInput => {
-            let ending = run_standard_input(alloc, disk, input, out);
-            Report::without_note(alloc, ending)
-        }
+        Task::RunStandardInput => run_standard_input(alloc, disk, input, out),
         Task::Assemble {
             source,
             object,
@@ -125,10 +122,8 @@ pub(crate) fn do_task<D: Disk, R: Read, O: Write>(
             sources,
             steps,
             files,
-        } => {
-            let ending = run_sources(alloc, sources, *steps, *files, disk, out);
-            Report::without_note(alloc, ending)
-        }
+            regs,
+        } => run_sources(alloc, sources, *steps, *regs, *files, disk, out),
         Task::Debug {
             sources,
             script,
