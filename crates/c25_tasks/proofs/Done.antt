@@ -41,8 +41,8 @@ does_link held input task command objects base names told e is same comes writes
     let of_objects = subst (λ (ns : List (Bor (List ℕ))). LinksFrom held command.now (texts_of ns) told) same comes in
     subst (λ (t : Task). Does held input t e) (sym is) ((told, of_objects, writes), only)
 
-pub does_build : (held : Held) (input : Option (List ℕ)) (task : Task) (sources : Vec (Bor (List ℕ)) Global) (base : Bor (List ℕ)) (command : Option (Bor (List ℕ))) (names : List (Bor (List ℕ))) (told : Result Built Fault) (e : Effect) → task ≡ Build sources base command → names ≡ sources.items → BuildsFrom held (texts_of names) (text_of command) told → WritesProgram base.now told e.ending e.written → OnlyWrites e → Does held input task e
-does_build held input task sources base command names told e is same comes writes only =
+pub does_build : (held : Held) (input : Option (List ℕ)) (task : Task) (sources : Vec (Bor (List ℕ)) Global) (base : Bor (List ℕ)) (command symbols : Option (Bor (List ℕ))) (names : List (Bor (List ℕ))) (told : Result Built Fault) (e : Effect) → task ≡ Build sources base command symbols → names ≡ sources.items → BuildsFrom held (texts_of names) (text_of command) told → WritesProgram base.now told e.ending e.written → OnlyWrites e → Does held input task e
+does_build held input task sources base command symbols names told e is same comes writes only =
     let of_sources = subst (λ (ns : List (Bor (List ℕ))). BuildsFrom held (texts_of ns) (text_of command) told) same comes in
     subst (λ (t : Task). Does held input t e) (sym is) ((told, of_sources, writes), only)
 

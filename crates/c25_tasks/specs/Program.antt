@@ -57,13 +57,13 @@ Does held input RunStandardInput e = Runs held input e.ending e.note e.out × St
 Does held input (Assemble source object listing) e =
     Assembles held source.now object.now (text_of listing) e.ending e.written × OnlyWrites e
 Does held input (Link command objects base) e = WritesBuilt (LinksFrom held command.now (texts_of objects.items)) base.now e × OnlyWrites e
-Does held input (Build sources base command) e = WritesBuilt (BuildsFrom held (texts_of sources.items) (text_of command)) base.now e × OnlyWrites e
+Does held input (Build sources base command symbols) e = WritesBuilt (BuildsFrom held (texts_of sources.items) (text_of command)) base.now e × OnlyWrites e
 Does held input (Run sources steps files regs) e =
     RunsTold held (texts_of sources.items) steps regs files e.ending e.note e.out × Stay e.written.0 e.written.1
 Does held input (Debug sources script files) e =
     DebugsTold held (texts_of sources.items) script.now files e.ending e.out × OnlyPrints e
 Does held input (Explain number) e = Explained number e.ending e.out × OnlyPrints e
-Does held input (Disassemble file) e = DisassemblesTold held file.now e.ending e.out × OnlyPrints e
+Does held input (Disassemble file from) e = DisassemblesTold held file.now e.ending e.out × OnlyPrints e
 
 -- ---- words
 

@@ -113,6 +113,7 @@ pub(crate) fn do_task<D: Disk, R: Read, O: Write>(
             sources,
             base,
             command,
+            symbols: _,
         } => {
             let told = built(alloc, disk, sources, *command);
             let ending = write_program(alloc, base, told, disk);
@@ -136,7 +137,7 @@ pub(crate) fn do_task<D: Disk, R: Read, O: Write>(
             let ending = explain(alloc, *number, out);
             Report::without_note(alloc, ending)
         }
-        Task::Disassemble { file } => {
+        Task::Disassemble { file, from: _ } => {
             let ending = disassemble(alloc, file, disk, out);
             Report::without_note(alloc, ending)
         }
