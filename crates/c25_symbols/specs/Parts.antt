@@ -1,8 +1,8 @@
 -- Where the parts of modules begin, by the low 32 bits of their addresses, as the code has it.
-use Rattle.std.specs.Prelude.{◌≡◌, ℕ, ◌+◌, ◌%◌, ◌^◌, List, unwrap_or}
+use Rattle.std.specs.Prelude.{◌≡◌, ℕ, ◌+◌, ◌%◌, ◌^◌, List, Option, option_map, unwrap_or}
 use Rattle.std.specs.List.{sum_by}
 use Rattle.c25_meaning_objects.specs.Module.{SectionData}
-use Rattle.c25_meaning_placing.specs.Place.{Place, base_of, run_base_of, size_for}
+use Rattle.c25_meaning_placing.specs.Place.{Place, base_of, place_named, run_base, run_base_of, size_for}
 use Rattle.c25_symbols.specs.View.{named}
 use Rattle.c25_symbols.specs.declared.parts.NextParts.{NextParts}
 use Rattle.c25_symbols.specs.declared.parts.PartBase.{PartBase}
@@ -19,6 +19,14 @@ pub record BeginsAt (p : PartBase) (base run : ℕ) : Type 0 where
 -- the part of a section where none has begun
 abbrev pub at_zero : PartBase
 at_zero = record { base = 0; run = 0 }
+
+-- where the first part of a section begins
+abbrev pub first_part : Place → PartBase
+first_part p = record { base = p.base; run = run_base p }
+
+-- the same of the section of a name
+abbrev pub first_of : List Place → List ℕ → Option PartBase
+first_of places name = option_map first_part (place_named name places)
 
 -- where the next part of a section begins
 abbrev pub next_of : NextParts → List ℕ → PartBase

@@ -23,17 +23,22 @@ kind_text (InSection index) = codes "IN"
 kind_text (Loaded index) = codes "LOAD"
 kind_text External = codes "REF"
 
+-- what it is, its section, and the source of its module
+unfoldable pub place_words : Listed → List ℕ
+place_words y = kind_text y.kind ++ codes " " ++ y.section ++ codes " " ++ y.source
+
 -- the line of a symbol
 unfoldable pub symbol_line : Listed → List ℕ
-symbol_line y =
-    map_line (codes "SYMBOL " ++ value_digits y.value ++ codes " " ++ kind_text y.kind ++ codes " " ++ y.section ++ codes " " ++ y.source ++ codes " " ++ y.name)
+symbol_line y = map_line (codes "SYMBOL " ++ value_digits y.value ++ codes " " ++ place_words y ++ codes " " ++ y.name)
 
--- the line of a range: its page, the address of its first word, how many words it has, how many of them are used, how many are free,
--- and its name
+-- so many words, how many of them are used, and how many are free
+unfoldable pub word_counts : ℕ → ℕ → List ℕ
+word_counts size used = five_digits size ++ codes " " ++ five_digits used ++ codes " " ++ five_digits (size - used)
+
+-- the line of a range: its page, the address of its first word, its words, and its name
 unfoldable pub range_line : List Place → RangeData → List ℕ
 range_line places r =
-    map_line (codes "RANGE " ++ decimal r.page ++ codes " " ++ four_digits r.origin ++ codes " " ++ five_digits r.size ++ codes " "
-    ++ five_digits (used_in places r) ++ codes " " ++ five_digits (r.size - used_in places r) ++ codes " " ++ r.name)
+    map_line (codes "RANGE " ++ decimal r.page ++ codes " " ++ four_digits r.origin ++ codes " " ++ word_counts r.size (used_in places r) ++ codes " " ++ r.name)
 
 -- the text of modules whose sources have these names, whose sections stand at these places, in these ranges
 abbrev pub symbols_text : List Contents → List (List ℕ) → List Place → List RangeData → List ℕ

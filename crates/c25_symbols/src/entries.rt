@@ -38,6 +38,13 @@ fn moved(base: u32, offset: i32) -> u32
     base.wrapping_add_signed(offset)
 }
 
+/// The low 32 bits of a number.
+fn low_number(value: i32) -> u32
+    ensures { result ≡ cut value 32 }
+{
+    value.cast_unsigned()
+}
+
 /// Where the part begins that a module has of its section of a number.
 fn part_of(next: &NextParts<'_>, owner: &Parts, index: u16) -> PartBase
     ensures { (modules : List Contents) (places : List place.Place) (number : ℕ) → KnowsNext next.now places (all_sections (take number modules))
@@ -55,7 +62,7 @@ fn low_value(next: &NextParts<'_>, owner: &Parts, kind: SymbolKind, value: i32) 
         → result ≡ cut (kind_value modules places number (contents owner.now) kind value) 32 }
 {
     match kind {
-        SymbolKind::Absolute => moved(0, value),
+        SymbolKind::Absolute => low_number(value),
         SymbolKind::InSection(index) => moved(part_of(next, owner, index).run, value),
         SymbolKind::Loaded(index) => moved(part_of(next, owner, index).base, value),
         SymbolKind::External => 0,
@@ -94,6 +101,13 @@ fn source_of(sources: &[String], number: usize) -> &str
     }
 }
 
+/// Whether a symbol of this kind is defined in its module.
+fn is_defined(kind: SymbolKind) -> bool
+    ensures { result ≡ is_defined kind }
+{
+    kind != SymbolKind::External
+}
+
 /// A symbol of a module.
 fn entry_of<'a>(
     next: &NextParts<'_>,
@@ -126,7 +140,7 @@ fn push_symbols<'a>(
         → OnOk result (entries_view entries.new.items ≡ entries_view entries.old.items ++ module_symbols modules sources places number (contents owner.entry.now)) }
 {
     for symbol in &owner.symbols {
-        if symbol.kind != SymbolKind::External {
+        if is_defined(symbol.kind) {
             entries.push(entry_of(next, owner, source, symbol))?;
         }
     }

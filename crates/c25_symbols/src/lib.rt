@@ -3,6 +3,7 @@
 
 mod digits;
 mod entries;
+pub mod laws;
 mod order;
 mod parts;
 mod ranges;

@@ -1,11 +1,12 @@
 //! Where the parts of modules begin, one behind another.
 
-ghost use Rattle.std.specs.Prelude.{◌≡◌, ◌++◌, ◌∷◌, [], List, IfOk, OnOk, ◌%◌, ◌^◌};
+ghost use Rattle.std.specs.Prelude.{◌≡◌, ◌++◌, ◌∷◌, [], ℕ, List, IfOk, OnOk};
+ghost use Rattle.std.specs.Option.{option_or};
 ghost use Rattle.c25_meaning_objects.specs.Module.{SectionData, body_size};
 ghost use Rattle.c25_meaning_placing.specs.Place as place;
 ghost use Rattle.c25_obj.specs.View.{body_data, section_data, sections_data};
-ghost use Rattle.c25_symbols.specs.Parts.{AreAlike, KnowsNext, next_of};
-ghost use Rattle.c25_symbols.specs.View.{places_view};
+ghost use Rattle.c25_symbols.specs.Parts.{AreAlike, KnowsNext, first_of, first_part, next_of};
+ghost use Rattle.c25_symbols.specs.View.{named, place_of, places_view};
 
 use c25_map::OutputSection;
 use c25_obj::{Body, Section};
@@ -38,6 +39,33 @@ fn low_size(body: &Body) -> u32
     }
 }
 
+/// Where the first part of a section begins.
+fn first_part(section: &OutputSection) -> PartBase
+    ensures { result ≡ first_part (place_of section.now) }
+{
+    PartBase {
+        base: section.base,
+        run: section.run.unwrap_or(section.base),
+    }
+}
+
+/// Keeps where the first part of a section begins, unless that is known of another of its name.
+fn keep_first<'a>(
+    section: &'a OutputSection,
+    found: &mut HashMap<&'a str, PartBase>,
+) -> Result<(), AllocError>
+    ensures { (name : List ℕ) → OnOk result (named found.new name ≡ option_or (named found.old name) (first_of (place_of section.now ∷ []) name)) }
+{
+    let name = section.name.as_str();
+    match found.get(name).copied() {
+        Some(_) => Ok(()),
+        None => {
+            found.insert(name, first_part(section))?;
+            Ok(())
+        }
+    }
+}
+
 impl<'a> NextParts<'a> {
     /// Before all parts.
     pub(crate) fn new(alloc: Global, sections: &'a [OutputSection]) -> Result<Self, AllocError>
@@ -45,14 +73,7 @@ impl<'a> NextParts<'a> {
     {
         let mut found = HashMap::new(alloc);
         for section in sections {
-            let name = section.name.as_str();
-            if found.get(name).is_none() {
-                let part = PartBase {
-                    base: section.base,
-                    run: section.run.unwrap_or(section.base),
-                };
-                found.insert(name, part)?;
-            }
+            keep_first(section, &mut found)?;
         }
         Ok(NextParts { found })
     }

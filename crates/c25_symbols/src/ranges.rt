@@ -1,12 +1,12 @@
 //! The ranges of memory and their words.
 
-ghost use Rattle.std.specs.Prelude.{◌≡◌, ◌++◌, List, OnOk, All, string_bytes};
+ghost use Rattle.std.specs.Prelude.{◌≡◌, ◌≤◌, ◌++◌, List, OnOk, All, string_bytes};
 ghost use Rattle.std.specs.List.{flat_map};
 ghost use Rattle.c25_cmd.specs.View.{command_data, ranges_of};
 ghost use Rattle.c25_meaning_commands.specs.Command.{IsCommand, IsRange};
 ghost use Rattle.c25_meaning_placing.specs.GoodMap.{ranges_for};
 ghost use Rattle.c25_meaning_placing.specs.Place as place;
-ghost use Rattle.c25_symbols.specs.Text.{range_line};
+ghost use Rattle.c25_symbols.specs.Text.{range_line, word_counts};
 ghost use Rattle.c25_symbols.specs.View.{AreSized, KnowsUsed, range_view};
 
 use crate::digits::{push_five, push_four};
@@ -23,6 +23,20 @@ struct Range<'a> {
     size: u32,
 }
 
+/// Appends how many words there are, how many of them are used, and how many are free.
+#[tactic(auto, unfolding(crate::specs::Text::word_counts))]
+fn push_counts(out: &mut String, size: u32, used: u32) -> Result<(), NoMemory>
+    requires { used ≤ size }
+    ensures { OnOk result (string_bytes out.new ≡ string_bytes out.old ++ word_counts size used) }
+{
+    push_five(out, size)?;
+    out.push_str(" ")?;
+    push_five(out, used)?;
+    out.push_str(" ")?;
+    push_five(out, size - used)?;
+    Ok(())
+}
+
 /// Appends the line of a range.
 #[tactic(auto, unfolding(crate::specs::Text::range_line))]
 fn push_range(out: &mut String, used: &UsedWords, range: &Range<'_>) -> Result<(), NoMemory>
@@ -35,11 +49,7 @@ fn push_range(out: &mut String, used: &UsedWords, range: &Range<'_>) -> Result<(
     write!(out, "RANGE {page} ")?;
     push_four(out, range.origin as u16)?;
     out.push_str(" ")?;
-    push_five(out, range.size)?;
-    out.push_str(" ")?;
-    push_five(out, count)?;
-    out.push_str(" ")?;
-    push_five(out, range.size - count)?;
+    push_counts(out, range.size, count)?;
     out.push_str(" ")?;
     out.push_str(range.name)?;
     Ok(out.push_str("\n")?)

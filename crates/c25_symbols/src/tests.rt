@@ -70,7 +70,10 @@ fn second(alloc: Global) -> Result<Module, AllocError> {
 fn symbols_and_ranges_of_two_modules(rt: HostRuntime) -> Result<(), Fail> {
     let alloc = rt.alloc();
     let modules = vec![in alloc; first(alloc)?, second(alloc)?]?;
-    let sources = vec![in alloc; String::from_str(alloc, "main.asm")?, String::from_str(alloc, "b c.asm")?]?;
+    let sources = vec![in alloc;
+        String::from_str(alloc, "main.asm")?,
+        String::from_str(alloc, "b c.asm")?,
+    ]?;
     let map = read_map(
         alloc,
         "C25 MAP 1\nSECTION 0 0000 00007 .text\nSECTION 0 0010 00003 fast\nRUN FF00\nSECTION 1 0300 00004 .bss\nEND\n",

@@ -47,11 +47,7 @@ fn mark_section(words: &mut [bool], page: u8, section: &OutputSection)
 }
 
 /// The words of a page that sections have.
-fn page_words(
-    alloc: Global,
-    page: u8,
-    sections: &[OutputSection],
-) -> Result<Vec<bool>, AllocError>
+fn page_words(alloc: Global, page: u8, sections: &[OutputSection]) -> Result<Vec<bool>, AllocError>
     ensures { IfOk result (λ v. KnowsPage v.items page (places_view sections.now)) }
 {
     let mut words = free_words(alloc, PAGE_WORDS)?;

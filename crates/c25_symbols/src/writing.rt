@@ -7,7 +7,7 @@ ghost use Rattle.c25_map.specs.View.{map_data};
 ghost use Rattle.c25_meaning_commands.specs.Command.{IsCommand};
 ghost use Rattle.c25_meaning_placing.specs.GoodMap.{ranges_for};
 ghost use Rattle.c25_symbols.specs.Symbols.{symbols_by_name};
-ghost use Rattle.c25_symbols.specs.Text.{kind_text, symbol_line, symbols_text};
+ghost use Rattle.c25_symbols.specs.Text.{kind_text, place_words, symbol_line, symbols_text};
 ghost use Rattle.c25_symbols.specs.View.{entries_view, entry_view, places_of, places_view};
 
 use crate::digits::push_value;
@@ -34,6 +34,18 @@ fn kind_text(kind: SymbolKind) -> &'static str
     }
 }
 
+/// Appends what a symbol's value is, and where.
+#[tactic(auto, unfolding(crate::specs::Text::place_words))]
+fn push_place(out: &mut String, entry: &Entry<'_>) -> Result<(), NoMemory>
+    ensures { OnOk result (string_bytes out.new ≡ string_bytes out.old ++ place_words (entry_view entry.now)) }
+{
+    out.push_str(kind_text(entry.kind))?;
+    out.push_str(" ")?;
+    out.push_str(entry.section)?;
+    out.push_str(" ")?;
+    Ok(out.push_str(entry.source)?)
+}
+
 /// Appends the line of a symbol.
 #[tactic(auto, unfolding(crate::specs::Text::symbol_line))]
 fn push_symbol(out: &mut String, entry: &Entry<'_>) -> Result<(), NoMemory>
@@ -42,11 +54,7 @@ fn push_symbol(out: &mut String, entry: &Entry<'_>) -> Result<(), NoMemory>
     out.push_str("SYMBOL ")?;
     push_value(out, entry.value)?;
     out.push_str(" ")?;
-    out.push_str(kind_text(entry.kind))?;
-    out.push_str(" ")?;
-    out.push_str(entry.section)?;
-    out.push_str(" ")?;
-    out.push_str(entry.source)?;
+    push_place(out, entry)?;
     out.push_str(" ")?;
     out.push_str(entry.name)?;
     Ok(out.push_str("\n")?)
@@ -93,17 +101,17 @@ pub fn write_symbols(
     alloc: Global,
     modules: &[Module],
     sources: &[String],
-    map: &Map,
+    described: &Map,
     command: &Command,
 ) -> Result<String, NoMemory>
     requires { IsCommand (command_data command.now) }
     ensures { IfOk result (λ text. string_bytes text
-        ≡ symbols_text modules.now (map string_bytes sources.now) (places_of (map_data map.now)) (ranges_for (command_data command.now))) }
+        ≡ symbols_text modules.now (map string_bytes sources.now) (places_of (map_data described.now)) (ranges_for (command_data command.now))) }
 {
-    let used = UsedWords::new(alloc, &map.sections)?;
+    let used = UsedWords::new(alloc, &described.sections)?;
     let mut out = String::new(alloc);
     out.push_str("C25 SYMBOLS 1\n")?;
-    push_symbols(alloc, &mut out, modules, sources, &map.sections)?;
+    push_symbols(alloc, &mut out, modules, sources, &described.sections)?;
     push_ranges(&mut out, &used, command)?;
     out.push_str("END\n")?;
     Ok(out)
