@@ -1,5 +1,5 @@
 -- What is done for a task, and what a fault comes to.
-use Rattle.std.proofs.Common.{◌≡◌, sym, subst, ℕ, List, Bor, Option}
+use Rattle.std.proofs.Common.{◌≡◌, sym, subst, ℕ, Bool, List, Bor, Option}
 use Rattle.std.specs.Io.KnownBytes.{Keeps}
 use Rattle.std.specs.Prelude.{Result, String, Vec}
 use Rattle.std.specs.declared.alloc.Global.{Global}
@@ -29,13 +29,13 @@ does_link held input task command objects base names told e is same comes writes
     let of_objects = subst (λ (ns : List (Bor (List ℕ))). LinksFrom held command.now (texts_of ns) told) same comes in
     subst (λ (t : Task). Does held input t e) (sym is) ((told, of_objects, writes), keeps)
 
-pub does_build : (held : Held) (input : Option (List ℕ)) (task : Task) (sources : Vec (Bor (List ℕ)) Global) (base : Bor (List ℕ)) (command : Option (Bor (List ℕ))) (names : List (Bor (List ℕ))) (told : Result Built Fault) (e : Effect) → task ≡ Build sources base command → names ≡ sources.items → BuildsFrom held (texts_of names) (text_of command) told → WritesProgram base.now told e.ending e.written → Keeps e.out.0 e.out.1 → Does held input task e
-does_build held input task sources base command names told e is same comes writes keeps =
+pub does_build : (held : Held) (input : Option (List ℕ)) (task : Task) (sources : Vec (Bor (List ℕ)) Global) (base : Bor (List ℕ)) (command symbols : Option (Bor (List ℕ))) (names : List (Bor (List ℕ))) (told : Result Built Fault) (e : Effect) → task ≡ Build sources base command symbols → names ≡ sources.items → BuildsFrom held (texts_of names) (text_of command) told → WritesProgram base.now told e.ending e.written → Keeps e.out.0 e.out.1 → Does held input task e
+does_build held input task sources base command symbols names told e is same comes writes keeps =
     let of_sources = subst (λ (ns : List (Bor (List ℕ))). BuildsFrom held (texts_of ns) (text_of command) told) same comes in
     subst (λ (t : Task). Does held input t e) (sym is) ((told, of_sources, writes), keeps)
 
-pub does_run : (held : Held) (input : Option (List ℕ)) (task : Task) (sources : Vec (Bor (List ℕ)) Global) (steps : ℕ) (files : RunFiles) (names : List (Bor (List ℕ))) (e : Effect) → task ≡ Run sources steps files → names ≡ sources.items → RunsTold held (texts_of names) steps files e.ending e.out → Stay e.written.0 e.written.1 → Does held input task e
-does_run held input task sources steps files names e is same told stay =
+pub does_run : (held : Held) (input : Option (List ℕ)) (task : Task) (sources : Vec (Bor (List ℕ)) Global) (steps : ℕ) (files : RunFiles) (regs : Bool) (names : List (Bor (List ℕ))) (e : Effect) → task ≡ Run sources steps files regs → names ≡ sources.items → RunsTold held (texts_of names) steps files e.ending e.out → Stay e.written.0 e.written.1 → Does held input task e
+does_run held input task sources steps files regs names e is same told stay =
     let of_sources = subst (λ (ns : List (Bor (List ℕ))). RunsTold held (texts_of ns) steps files e.ending e.out) same told in
     subst (λ (t : Task). Does held input t e) (sym is) (of_sources, stay)
 

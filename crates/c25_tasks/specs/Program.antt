@@ -42,12 +42,12 @@ Does held input RunStandardInput e = Runs held input e.ending e.out × Stay e.wr
 Does held input (Assemble source object listing) e =
     Assembles held source.now object.now (text_of listing) e.ending e.written × Keeps e.out.0 e.out.1
 Does held input (Link command objects base) e = WritesBuilt (LinksFrom held command.now (texts_of objects.items)) base.now e × Keeps e.out.0 e.out.1
-Does held input (Build sources base command) e = WritesBuilt (BuildsFrom held (texts_of sources.items) (text_of command)) base.now e × Keeps e.out.0 e.out.1
-Does held input (Run sources steps files) e = RunsTold held (texts_of sources.items) steps files e.ending e.out × Stay e.written.0 e.written.1
+Does held input (Build sources base command symbols) e = WritesBuilt (BuildsFrom held (texts_of sources.items) (text_of command)) base.now e × Keeps e.out.0 e.out.1
+Does held input (Run sources steps files regs) e = RunsTold held (texts_of sources.items) steps files e.ending e.out × Stay e.written.0 e.written.1
 Does held input (Debug sources script files) e =
     DebugsTold held (texts_of sources.items) script.now files e.ending e.out × Stay e.written.0 e.written.1
 Does held input (Explain number) e = Explained number e.ending e.out × Stay e.written.0 e.written.1
-Does held input (Disassemble file) e = DisassemblesTold held file.now e.ending e.out × Stay e.written.0 e.written.1
+Does held input (Disassemble file from) e = DisassemblesTold held file.now e.ending e.out × Stay e.written.0 e.written.1
 
 -- ---- words
 

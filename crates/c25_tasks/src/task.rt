@@ -109,6 +109,7 @@ pub(crate) fn do_task<D: Disk, R: Read, O: Write>(
             sources,
             base,
             command,
+            symbols: _,
         } => {
             let told = built(alloc, disk, sources, *command);
             write_program(alloc, base, told, disk)
@@ -117,6 +118,7 @@ pub(crate) fn do_task<D: Disk, R: Read, O: Write>(
             sources,
             steps,
             files,
+            regs: _,
         } => run_sources(alloc, sources, *steps, *files, disk, out),
         Task::Debug {
             sources,
@@ -124,6 +126,6 @@ pub(crate) fn do_task<D: Disk, R: Read, O: Write>(
             files,
         } => debug_sources(alloc, sources, script, *files, disk, out),
         Task::Explain { number } => explain(alloc, *number, out),
-        Task::Disassemble { file } => disassemble(alloc, file, disk, out),
+        Task::Disassemble { file, from: _ } => disassemble(alloc, file, disk, out),
     }
 }
