@@ -12,12 +12,13 @@ use Rattle.c25_words.specs.Task.{Reads, text_of, texts_of}
 use Rattle.c25_words.specs.declared.task.Task.{Task}
 use Rattle.c25_words.specs.declared.task.Task.TheVariants.{RunStandardInput, Assemble, Link, Build, Run, Debug, Explain, Disassemble}
 use Rattle.c25_tasks.specs.Assembly.{Assembles}
-use Rattle.c25_tasks.specs.Building.{BuildsFrom, WritesProgram}
+use Rattle.c25_tasks.specs.Building.{WritesProgram}
 use Rattle.c25_tasks.specs.Debugging.{DebugsTold}
 use Rattle.c25_tasks.specs.Disassembly.{DisassemblesTold}
 use Rattle.c25_tasks.specs.Explaining.{Explained}
 use Rattle.c25_tasks.specs.Linking.{LinksFrom}
 use Rattle.c25_tasks.specs.Running.{Runs, RunsTold}
+use Rattle.c25_tasks.specs.Symbols.{BuildsToDisk}
 use Rattle.c25_tasks.specs.Tells.{IsShort, Printed, Wrote}
 
 -- what the program comes to, what it prints to standard output, and what it writes
@@ -42,7 +43,8 @@ Does held input RunStandardInput e = Runs held input e.ending e.out × Stay e.wr
 Does held input (Assemble source object listing) e =
     Assembles held source.now object.now (text_of listing) e.ending e.written × Keeps e.out.0 e.out.1
 Does held input (Link command objects base) e = WritesBuilt (LinksFrom held command.now (texts_of objects.items)) base.now e × Keeps e.out.0 e.out.1
-Does held input (Build sources base command symbols) e = WritesBuilt (BuildsFrom held (texts_of sources.items) (text_of command)) base.now e × Keeps e.out.0 e.out.1
+Does held input (Build sources base command symbols) e =
+    BuildsToDisk held (texts_of sources.items) (text_of command) base.now (text_of symbols) e.ending e.written × Keeps e.out.0 e.out.1
 Does held input (Run sources steps files regs) e = RunsTold held (texts_of sources.items) steps files e.ending e.out × Stay e.written.0 e.written.1
 Does held input (Debug sources script files) e =
     DebugsTold held (texts_of sources.items) script.now files e.ending e.out × Stay e.written.0 e.written.1
