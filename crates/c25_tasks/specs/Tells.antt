@@ -1,12 +1,12 @@
 -- What the program prints and writes of answers, and what it comes to.
-use Rattle.std.specs.Prelude.{◌≡◌, ◌⊎◌, ℕ, List, map, Option, Result, Ok, Err, String, Vec}
+use Rattle.std.specs.Prelude.{◌≡◌, ◌⊎◌, ℕ, List, [], map, Option, Result, Ok, Err, String, Vec}
 use Rattle.std.specs.Io.KnownBytes.{Keeps}
 use Rattle.std.specs.String.{string_bytes}
 use Rattle.std.specs.declared.alloc.Global.{Global}
 use Rattle.c25_chain.specs.FaultText.{at_file, fault_text}
 use Rattle.c25_chain.specs.OutcomeText.{run_text}
 use Rattle.c25_chain.specs.Refusal.{Fault}
-use Rattle.c25_chain.specs.declared.chain.Chain.{Chain}
+use Rattle.c25_debug_chain.specs.declared.inspection.NotedRun.{NotedRun}
 use Rattle.c25_disk.specs.Held.{Adds, Stay}
 use Rattle.c25_disk.specs.Written.{EndsBefore, contents_of}
 use Rattle.c25_disk.specs.declared.fault.FileFaultKind.TheVariants.{CannotWrite}
@@ -47,12 +47,17 @@ IsEndingOf (failure.Fault f) e = IsLineOf (fault_text (failure.Fault f)) e
 
 -- ---- answers
 
--- what a run comes to: its text goes to standard output, unless memory runs out; of a fault nothing goes there
-abbrev pub Tells : Result Chain Fault → Ending → Printed → Type 0
-Tells (Ok chain) e out = IsPrinted (run_text chain) (ending_of chain.outcome) e out.0 out.1 ⊎ (IsShort e × Keeps out.0 out.1)
-Tells (Err fault) e out = IsEndingOf fault e × Keeps out.0 out.1
+-- nothing goes to standard output, and no note is told
+abbrev pub IsUntold : (note : List ℕ) → Printed → Type 0
+IsUntold note out = Keeps out.0 out.1 × (note ≡ [])
 
--- the same of a text that was asked for: the answers of a debugger, or a disassembly
+-- what a run comes to: its text goes to standard output, and its note is told, unless memory runs out; of a fault neither
+abbrev pub TellsRun : Result NotedRun Fault → Ending → (note : List ℕ) → Printed → Type 0
+TellsRun (Ok noted) e note out =
+    (IsPrinted (run_text noted.chain) (ending_of (noted.chain).outcome) e out.0 out.1 × (note ≡ string_bytes noted.note)) ⊎ (IsShort e × IsUntold note out)
+TellsRun (Err fault) e note out = IsEndingOf fault e × IsUntold note out
+
+-- what comes of a text that was asked for: the answers of a debugger, or a disassembly; it goes to standard output, and of a fault nothing does
 abbrev pub TellsText : Result (String Global) Fault → Ending → Printed → Type 0
 TellsText (Ok text) e out = IsPrinted (string_bytes text) ending.Done e out.0 out.1
 TellsText (Err fault) e out = IsEndingOf fault e × Keeps out.0 out.1

@@ -1,13 +1,14 @@
 //! What answers and faults come to.
 
+ghost use Rattle.std.specs.Prelude.{string_bytes};
 ghost use Rattle.c25_chain.specs.FaultText.{fault_text};
-ghost use Rattle.c25_tasks.specs.Tells.{IsEndingOf, IsLineOf, Tells, TellsText};
+ghost use Rattle.c25_tasks.specs.Tells.{IsEndingOf, IsLineOf, TellsRun, TellsText};
 
-use c25_chain::chain::Chain;
 use c25_chain::fault::Fault;
 use c25_chain::{write_fault, write_run};
+use c25_debug_chain::NotedRun;
 use c25_meaning_common::failure::Failure;
-use c25_report::ending::Ending;
+use c25_report::ending::{Ending, Report};
 use c25_report::printing::{print_answers, print_run};
 use std::alloc::Global;
 use std::io::Write;
@@ -47,15 +48,33 @@ pub(crate) fn report_text<O: Write>(
     }
 }
 
-/// Prints a run.
-pub(crate) fn report<O: Write>(alloc: Global, answer: &Result<Chain, Fault>, out: &mut O) -> Ending
-    ensures { Tells answer.now result (O.contents out.old, O.contents out.new) }
+/// Prints a run that came to its end, and hands its note on.
+fn report_noted<O: Write>(alloc: Global, noted: NotedRun, out: &mut O) -> Report
+    ensures { TellsRun (Ok noted) result.ending (string_bytes result.note) (O.contents out.old, O.contents out.new) }
+{
+    let NotedRun { chain, note } = noted;
+    match write_run(alloc, &chain) {
+        Ok(text) => {
+            let ending = print_run(text.as_str(), chain.outcome, out);
+            Report { ending, note }
+        }
+        Err(error) => Report::without_note(alloc, Ending::NoMemory(error)),
+    }
+}
+
+/// Prints a run and hands its note on, or tells why there is none.
+pub(crate) fn report_run<O: Write>(
+    alloc: Global,
+    answer: Result<NotedRun, Fault>,
+    out: &mut O,
+) -> Report
+    ensures { TellsRun answer result.ending (string_bytes result.note) (O.contents out.old, O.contents out.new) }
 {
     match answer {
-        Ok(chain) => match write_run(alloc, chain) {
-            Ok(text) => print_run(text.as_str(), chain.outcome, out),
-            Err(error) => Ending::NoMemory(error),
-        },
-        Err(fault) => ending_of_fault(alloc, fault),
+        Ok(noted) => report_noted(alloc, noted, out),
+        Err(fault) => {
+            let ending = ending_of_fault(alloc, &fault);
+            Report::without_note(alloc, ending)
+        }
     }
 }

@@ -3,7 +3,7 @@
 ghost use Rattle.c25_words.specs.Task.{text_of};
 ghost use Rattle.c25_tasks.specs.Assembly.{Assembles};
 ghost use Rattle.c25_tasks.specs.Building.{WritesProgram};
-ghost use Rattle.c25_tasks.specs.Program.{Does};
+ghost use Rattle.c25_tasks.specs.Program.{Does, effect_of};
 ghost use Rattle.c25_tasks.specs.Tells.{WritesTold};
 
 use crate::assembly::asm_outputs;
@@ -21,7 +21,7 @@ use c25_chain::built::Built;
 use c25_chain::fault::Fault;
 use c25_disk::disk::Disk;
 use c25_disk::{Output, write_outputs};
-use c25_report::ending::Ending;
+use c25_report::ending::{Ending, Report};
 use c25_report::texts::file_names;
 use c25_words::task::Task;
 use std::alloc::Global;
@@ -87,8 +87,8 @@ pub(crate) fn do_task<D: Disk, R: Read, O: Write>(
     disk: &mut D,
     input: &mut R,
     out: &mut O,
-) -> Ending
-    ensures { Does (D.bytes_of disk.old) (R.remaining input.old) task.now (record { ending = result; out = (O.contents out.old, O.contents out.new); written = (D.written disk.old, D.written disk.new) }) }
+) -> Report
+    ensures { Does (D.bytes_of disk.old) (R.remaining input.old) task.now (effect_of result (O.contents out.old, O.contents out.new) (D.written disk.old, D.written disk.new)) }
 {
     match task {
         Task::RunStandardInput => run_standard_input(alloc, disk, input, out),
@@ -96,34 +96,50 @@ pub(crate) fn do_task<D: Disk, R: Read, O: Write>(
             source,
             object,
             listing,
-        } => assemble_to_disk(alloc, source, object, *listing, disk),
+        } => {
+            let ending = assemble_to_disk(alloc, source, object, *listing, disk);
+            Report::without_note(alloc, ending)
+        }
         Task::Link {
             command,
             objects,
             base,
         } => {
             let told = linked(alloc, disk, command, objects);
-            write_program(alloc, base, told, disk)
+            let ending = write_program(alloc, base, told, disk);
+            Report::without_note(alloc, ending)
         }
         Task::Build {
             sources,
             base,
             command,
+            symbols: _,
         } => {
             let told = built(alloc, disk, sources, *command);
-            write_program(alloc, base, told, disk)
+            let ending = write_program(alloc, base, told, disk);
+            Report::without_note(alloc, ending)
         }
         Task::Run {
             sources,
             steps,
             files,
-        } => run_sources(alloc, sources, *steps, *files, disk, out),
+            regs,
+        } => run_sources(alloc, sources, *steps, *regs, *files, disk, out),
         Task::Debug {
             sources,
             script,
             files,
-        } => debug_sources(alloc, sources, script, *files, disk, out),
-        Task::Explain { number } => explain(alloc, *number, out),
-        Task::Disassemble { file } => disassemble(alloc, file, disk, out),
+        } => {
+            let ending = debug_sources(alloc, sources, script, *files, disk, out);
+            Report::without_note(alloc, ending)
+        }
+        Task::Explain { number } => {
+            let ending = explain(alloc, *number, out);
+            Report::without_note(alloc, ending)
+        }
+        Task::Disassemble { file, from: _ } => {
+            let ending = disassemble(alloc, file, disk, out);
+            Report::without_note(alloc, ending)
+        }
     }
 }

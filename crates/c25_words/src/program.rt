@@ -7,14 +7,15 @@ ghost use Rattle.clap.specs.declared.builder.command.Command.TheViews.{out-Comma
 ghost use Rattle.c25_words.specs.Program.{IsSubcommand, asm_shape, bare_program, build_shape, debug_shape, dis_shape, explain_shape, link_shape, program, run_shape, with_run_files};
 
 use crate::arguments::{
-    base_name, command_file, needed, number, operand, operands, option, output, steps,
+    base_name, command_file, first_address, flag, needed, number, operand, operands, option,
+    output, steps,
 };
 use clap::Command;
 use std::alloc::{AllocError, Global};
 
 /// What `--version` prints behind the program's name. It rises with each change of what the program
 /// reads, writes or answers.
-const VERSION: &str = "1.4.0";
+const VERSION: &str = "1.5.0";
 
 /// What help says of the program behind its subcommands.
 const MORE: &str =
@@ -66,11 +67,16 @@ fn build<'a>(alloc: Global) -> Result<Command<'a>, AllocError>
         alloc,
         "build",
         "Assembles and links sources: writes what link does, and a listing BASE.N.lst of each",
-        "Example: c25 build main.asm fir.asm -o fir --command fir.cmd",
+        "Example: c25 build main.asm fir.asm -o fir --command fir.cmd --symbols fir.sym",
     )
     .arg(operands(alloc, "source", "SOURCE", "The sources, in their order"))?
     .arg(base_name(alloc, "How the names of the written files begin"))?
-    .arg(command_file(alloc))
+    .arg(command_file(alloc))?
+    .arg(option(
+        alloc,
+        "symbols",
+        "The file for the names of the program and their addresses",
+    ))
 }
 
 /// The files that a run reads beside its sources.
@@ -91,10 +97,15 @@ fn run<'a>(alloc: Global) -> Result<Command<'a>, AllocError>
         alloc,
         "run",
         "Assembles, links and runs sources: prints their outputs and how the run ended",
-        "Example: c25 run fir.asm --steps 100000 --samples in.txt > out.txt",
+        "Example: c25 run fir.asm --steps 100000 --samples in.txt --regs > out.txt",
     )
     .arg(operands(alloc, "source", "SOURCE", "The sources, in their order"))?
-    .arg(steps(alloc))?;
+    .arg(steps(alloc))?
+    .arg(flag(
+        alloc,
+        "regs",
+        "Prints the registers at the end of the run too",
+    ))?;
     with_run_files(alloc, command)
 }
 
@@ -131,13 +142,17 @@ fn dis<'a>(alloc: Global) -> Result<Command<'a>, AllocError>
         alloc,
         "dis",
         "Prints an object or a hex text as instructions",
-        "Example: c25 dis fir.obj",
+        "Example: c25 dis fir.p0.hex --from 0400",
     )
     .arg(operand(
         alloc,
         "file",
         "FILE",
         "The object, or the hex text of program memory",
+    ))?
+    .arg(first_address(
+        alloc,
+        "Where printing begins in a hex text, one to four hexadecimal digits",
     ))
 }
 

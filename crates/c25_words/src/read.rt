@@ -2,13 +2,13 @@
 
 ghost use Rattle.std.specs.Prelude.{◌≡◌, ◌<◌, ◌≤◌, IfErr, IfOk, IfSome, IsSomeAnd, Ok, codes, length, map, string_bytes, true};
 ghost use Rattle.clap.specs.Words.{one_of, subcommand_rows_of, takes};
-ghost use Rattle.c25_words.specs.Complete.{IsComplete, IsFoundComplete, IsNumberText, IsThere, rows_in};
+ghost use Rattle.c25_words.specs.Complete.{IsComplete, IsFlagText, IsFoundComplete, IsNumberText, IsThere, rows_in};
 ghost use Rattle.c25_words.specs.Program.{program};
 ghost use Rattle.c25_words.specs.declared.task.Task.TheVariants.{RunStandardInput};
 ghost use Rattle.c25_words.specs.Task.{Asks, IsAskedBy, IsWantOfMemory, Reads};
 
 use crate::fault::WordsFault;
-use crate::matched::{all, needed, number, optional, run_files, steps};
+use crate::matched::{all, flag, needed, number, optional, run_files, steps};
 use crate::program::program;
 use crate::task::Task;
 use c25_meaning_common::failure::Failure;
@@ -49,18 +49,20 @@ fn build<'a>(alloc: Global, matches: &ArgMatches<'a>) -> Result<Task<'a>, NoMemo
         sources: all(alloc, matches, "source")?,
         base: needed(matches, "out"),
         command: optional(matches, "command"),
+        symbols: optional(matches, "symbols"),
     })
 }
 
 /// The task of `run`.
 fn run<'a>(alloc: Global, matches: &ArgMatches<'a>) -> Result<Task<'a>, NoMemory>
-    requires { IsThere (rows_in matches.now) (codes "source") × IfSome (one_of (codes "steps") (rows_in matches.now)) (IsNumberText 32) }
+    requires { IsThere (rows_in matches.now) (codes "source") × IfSome (one_of (codes "steps") (rows_in matches.now)) (IsNumberText 32) × IfSome (one_of (codes "regs") (rows_in matches.now)) IsFlagText }
     ensures { IfOk result (Asks (codes "run") (rows_in matches.now)) }
 {
     Ok(Task::Run {
         sources: all(alloc, matches, "source")?,
         steps: steps(matches),
         files: run_files(matches),
+        regs: flag(matches, "regs"),
     })
 }
 
@@ -93,6 +95,7 @@ fn disassemble<'a>(matches: &ArgMatches<'a>) -> Task<'a>
 {
     Task::Disassemble {
         file: needed(matches, "file"),
+        from: optional(matches, "from"),
     }
 }
 

@@ -32,19 +32,21 @@ pub enum Task<'a> {
         objects: Vec<&'a str>,
         base: &'a str,
     },
-    /// `build SOURCE.. --out BASE [--command FILE]`: writes what `link` does, and `BASE.1.lst`,
-    /// `BASE.2.lst`, .., a listing for each source.
+    /// `build SOURCE.. --out BASE [--command FILE] [--symbols FILE]`: writes what `link` does, and
+    /// `BASE.1.lst`, `BASE.2.lst`, .., a listing for each source.
     Build {
         sources: Vec<&'a str>,
         base: &'a str,
         command: Option<&'a str>,
+        symbols: Option<&'a str>,
     },
-    /// `run SOURCE.. [--steps N] [--command FILE] [--samples FILE] [--schedule FILE]`: prints the
-    /// outputs and how the run ended.
+    /// `run SOURCE.. [--steps N] [--regs] [--command FILE] [--samples FILE] [--schedule FILE]`: prints
+    /// the outputs and how the run ended.
     Run {
         sources: Vec<&'a str>,
         steps: u32,
         files: RunFiles<'a>,
+        regs: bool,
     },
     /// `debug SOURCE.. --script FILE [--command FILE] [--samples FILE] [--schedule FILE]`: prints
     /// the answers to a debugger's script.
@@ -57,8 +59,9 @@ pub enum Task<'a> {
     Explain {
         number: u8,
     },
-    /// `dis FILE`: prints an object, or the words of a hex text, as instructions.
+    /// `dis FILE [--from ADDRESS]`: prints an object, or the words of a hex text, as instructions.
     Disassemble {
         file: &'a str,
+        from: Option<&'a str>,
     },
 }

@@ -25,6 +25,15 @@ fn push_words(out: &mut String, words: &[&str]) -> Result<(), AllocError> {
     Ok(())
 }
 
+/// Adds a flag that was given.
+fn push_flag(out: &mut String, name: &str, given: bool) -> Result<(), AllocError> {
+    if given {
+        write!(out, " {name}")
+    } else {
+        Ok(())
+    }
+}
+
 /// Adds an option that was given.
 fn push_option(out: &mut String, name: &str, value: Option<&str>) -> Result<(), AllocError> {
     match value {
@@ -64,21 +73,25 @@ fn show(alloc: Global, task: &Task<'_>) -> Result<String, AllocError> {
             sources,
             base,
             command,
+            symbols,
         } => {
             write!(out, "build")?;
             push_words(&mut out, sources)?;
             write!(out, " base={base}")?;
             push_option(&mut out, "command", *command)?;
+            push_option(&mut out, "symbols", *symbols)?;
         }
         Task::Run {
             sources,
             steps,
             files,
+            regs,
         } => {
             write!(out, "run")?;
             push_words(&mut out, sources)?;
             write!(out, " steps={steps}")?;
             push_files(&mut out, *files)?;
+            push_flag(&mut out, "regs", *regs)?;
         }
         Task::Debug {
             sources,
@@ -91,7 +104,10 @@ fn show(alloc: Global, task: &Task<'_>) -> Result<String, AllocError> {
             push_files(&mut out, *files)?;
         }
         Task::Explain { number } => write!(out, "explain {number}")?,
-        Task::Disassemble { file } => write!(out, "dis {file}")?,
+        Task::Disassemble { file, from } => {
+            write!(out, "dis {file}")?;
+            push_option(&mut out, "from", *from)?;
+        }
     }
     Ok(out)
 }
@@ -136,6 +152,14 @@ fn subcommands_take_their_words(rt: HostRuntime) -> Result<(), Fail> {
 #[test]
 fn numbers_of_steps_are_read(rt: HostRuntime) -> Result<(), Fail> {
     assert_eq!(rt; differing(rt.alloc(), STEPS)?.as_str(), "");
+    Ok(())
+}
+
+#[test]
+fn flags_and_values_are_told_apart(rt: HostRuntime) -> Result<(), Fail> {
+    assert_eq!(rt; differing(rt.alloc(), REGS)?.as_str(), "");
+    assert_eq!(rt; differing(rt.alloc(), SYMBOLS)?.as_str(), "");
+    assert_eq!(rt; differing(rt.alloc(), FROM)?.as_str(), "");
     Ok(())
 }
 
@@ -224,6 +248,71 @@ refused | run a --steps 5.0
 refused | run a --steps
 refused | run a --steps 5 --steps 5
 refused | run a --steps=5 --steps 6
+";
+
+const REGS: &str = "\
+run a steps=1000 regs | run a --regs
+run a steps=1000 regs | run --regs a
+run a b steps=5 command=c samples=s schedule=w regs | run a --regs b --steps 5 --command c --samples s --schedule w
+run --regs steps=1000 | run -- --regs
+run a --regs steps=1000 regs | run --regs -- a --regs
+run a regs steps=1000 | run a regs
+run a steps=1000 command=--regs | run a --command=--regs
+refused | run --regs
+refused | run a --regs --regs
+refused | run a --regs=true
+refused | run a --regs=false
+refused | run a --regs=
+refused | run a --reg
+refused | run a --Regs
+refused | run a -regs
+refused | run a --no-regs
+refused | run a --steps --regs
+refused | debug a --script d --regs
+refused | build a --out b --regs
+refused | asm a --obj b --regs
+refused | --regs run a
+";
+
+const SYMBOLS: &str = "\
+build a base=b symbols=s | build a --out b --symbols s
+build a base=b symbols=s | build --symbols=s --out=b a
+build a c base=b command=d symbols=s | build a --symbols s c --command d -o b
+build a base=b symbols=-s | build a --out b --symbols=-s
+build a base=b symbols= | build a --out b --symbols=
+build --symbols s base=b | build --out b -- --symbols s
+refused | build a --out b --symbols
+refused | build a --symbols --out b
+refused | build a --out b --symbols -s
+refused | build a --out b --symbols s --symbols s
+refused | build a --out b --symbols=s --symbols t
+refused | build a --out b --symbol s
+refused | build a --symbols s
+refused | build --symbols s --out b
+refused | link c a --out b --symbols s
+refused | asm a --obj b --symbols s
+refused | run a --symbols s
+refused | debug a --script d --symbols s
+";
+
+const FROM: &str = "\
+dis a from=0400 | dis a --from 0400
+dis a from=0400 | dis --from=0400 a
+dis a from=zz | dis a --from zz
+dis a from=-1 | dis a --from=-1
+dis a from= | dis a --from=
+dis a from=0 | dis --from 0 -- a
+dis --from | dis -- --from
+refused | dis a --from
+refused | dis --from 0400
+refused | dis a --from -1
+refused | dis a --from 0 --from 0
+refused | dis a --from=0 --from 1
+refused | dis a --from 0 1
+refused | dis a --From 0
+refused | dis a -f 0
+refused | run a --from 0
+refused | explain 53 --from 0
 ";
 
 const REFUSED: &str = "\

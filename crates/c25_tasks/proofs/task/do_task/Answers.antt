@@ -8,11 +8,11 @@ returns-in-Link g c =
 
 pub returns-in-Build : goal.returns-in-Build
 returns-in-Build g c =
-    does_build (g.D.Disk.bytes_of c.args.disk.now) _ c.args.task.now c.in-Build.sources c.in-Build.base c.in-Build.command c.deref-in-Build.result.now c.built-told.result _ c.in-Build.is c.deref-in-Build.ensures.value c.built-told.ensures c.write_program-in-Build.ensures (keeps _)
+    does_build (g.D.Disk.bytes_of c.args.disk.now) _ c.args.task.now c.in-Build.sources c.in-Build.base c.in-Build.command c.in-Build.symbols c.deref-in-Build.result.now c.built-told.result _ c.in-Build.is c.deref-in-Build.ensures.value c.built-told.ensures c.write_program-in-Build.ensures (keeps _)
 
 pub returns-in-Run : goal.returns-in-Run
 returns-in-Run g c =
-    does_run (g.D.Disk.bytes_of c.args.disk.now) _ c.args.task.now c.in-Run.sources c.in-Run.steps c.in-Run.files c.deref-in-Run.result.now _ c.in-Run.is c.deref-in-Run.ensures.value c.run_sources.ensures (stays _)
+    does_run (g.D.Disk.bytes_of c.args.disk.now) _ c.args.task.now c.in-Run.sources c.in-Run.steps c.in-Run.files c.in-Run.regs c.deref-in-Run.result.now _ c.in-Run.is c.deref-in-Run.ensures.value c.run_sources.ensures (stays _)
 
 pub returns-in-Debug : goal.returns-in-Debug
 returns-in-Debug g c =
