@@ -1,3 +1,4 @@
+pub mod Symbols
 pub mod Tells
 pub mod Files
 pub mod View

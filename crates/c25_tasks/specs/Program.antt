@@ -14,12 +14,13 @@ use Rattle.c25_words.specs.Task.{Reads, text_of, texts_of}
 use Rattle.c25_words.specs.declared.task.Task.{Task}
 use Rattle.c25_words.specs.declared.task.Task.TheVariants.{RunStandardInput, Assemble, Link, Build, Run, Debug, Explain, Disassemble}
 use Rattle.c25_tasks.specs.Assembly.{Assembles}
-use Rattle.c25_tasks.specs.Building.{BuildsFrom, WritesProgram}
+use Rattle.c25_tasks.specs.Building.{WritesProgram}
 use Rattle.c25_tasks.specs.Debugging.{DebugsTold}
 use Rattle.c25_tasks.specs.Disassembly.{DisassemblesTold}
 use Rattle.c25_tasks.specs.Explaining.{Explained}
 use Rattle.c25_tasks.specs.Linking.{LinksFrom}
 use Rattle.c25_tasks.specs.Running.{Runs, RunsTold}
+use Rattle.c25_tasks.specs.Symbols.{BuildsToDisk}
 use Rattle.c25_tasks.specs.Tells.{IsShort, Printed, Wrote}
 
 -- what the program comes to, the note that it tells behind that, what it prints to standard output, and what it writes
@@ -57,7 +58,8 @@ Does held input RunStandardInput e = Runs held input e.ending e.note e.out × St
 Does held input (Assemble source object listing) e =
     Assembles held source.now object.now (text_of listing) e.ending e.written × OnlyWrites e
 Does held input (Link command objects base) e = WritesBuilt (LinksFrom held command.now (texts_of objects.items)) base.now e × OnlyWrites e
-Does held input (Build sources base command symbols) e = WritesBuilt (BuildsFrom held (texts_of sources.items) (text_of command)) base.now e × OnlyWrites e
+Does held input (Build sources base command symbols) e =
+    BuildsToDisk held (texts_of sources.items) (text_of command) base.now (text_of symbols) e.ending e.written × OnlyWrites e
 Does held input (Run sources steps files regs) e =
     RunsTold held (texts_of sources.items) steps regs files e.ending e.note e.out × Stay e.written.0 e.written.1
 Does held input (Debug sources script files) e =

@@ -15,6 +15,7 @@ mod report;
 mod running;
 mod sources;
 mod standard_input;
+mod symbols;
 mod task;
 mod texts;
 

@@ -1,9 +1,10 @@
 //! The tasks of the program.
 
-ghost use Rattle.c25_words.specs.Task.{text_of};
+ghost use Rattle.c25_words.specs.Task.{text_of, texts_of};
 ghost use Rattle.c25_tasks.specs.Assembly.{Assembles};
 ghost use Rattle.c25_tasks.specs.Building.{WritesProgram};
 ghost use Rattle.c25_tasks.specs.Program.{Does, effect_of};
+ghost use Rattle.c25_tasks.specs.Symbols.{BuildsToDisk, WritesWithSymbols};
 ghost use Rattle.c25_tasks.specs.Tells.{WritesTold};
 
 use crate::assembly::asm_outputs;
@@ -16,7 +17,8 @@ use crate::linking::linked;
 use crate::report::ending_of_fault;
 use crate::running::run_sources;
 use crate::standard_input::run_standard_input;
-use crate::texts::outputs_of;
+use crate::symbols::{BuiltWithSymbols, built_with_symbols};
+use crate::texts::{outputs_of, outputs_with_symbols};
 use c25_chain::built::Built;
 use c25_chain::fault::Fault;
 use c25_disk::disk::Disk;
@@ -79,6 +81,55 @@ fn write_program<D: Disk>(
     write_told(alloc, &told, disk)
 }
 
+/// Writes the files of a program behind a base name, and one of its symbols.
+#[tactic(auto, using(crate::proofs::Quiet::stays))]
+fn write_with_symbols<D: Disk>(
+    alloc: Global,
+    base: &str,
+    file: &str,
+    told: Result<BuiltWithSymbols, Fault>,
+    disk: &mut D,
+) -> Ending
+    ensures { WritesWithSymbols base.now file.now told result (D.written disk.old, D.written disk.new) }
+{
+    let told = match told {
+        Ok(told) => told,
+        Err(fault) => return ending_of_fault(alloc, &fault),
+    };
+    let names = match file_names(alloc, base, told.built.listings.len()) {
+        Ok(names) => names,
+        Err(error) => return ending_of_fault(alloc, &Fault::from(error)),
+    };
+    let told = match outputs_with_symbols(alloc, &names, file, told) {
+        Ok(outputs) => Ok(outputs),
+        Err(error) => Err(Fault::from(error)),
+    };
+    write_told(alloc, &told, disk)
+}
+
+/// Builds sources, and writes the files of their program, and one of its symbols where it is named.
+fn build_to_disk<D: Disk>(
+    alloc: Global,
+    sources: &[&str],
+    base: &str,
+    command: Option<&str>,
+    symbols: Option<&str>,
+    disk: &mut D,
+) -> Ending
+    ensures { BuildsToDisk (D.bytes_of disk.old) (texts_of sources.now) (text_of command.entry) base.now (text_of symbols.entry) result (D.written disk.old, D.written disk.new) }
+{
+    match symbols {
+        None => {
+            let told = built(alloc, disk, sources, command);
+            write_program(alloc, base, told, disk)
+        }
+        Some(file) => {
+            let told = built_with_symbols(alloc, disk, sources, command);
+            write_with_symbols(alloc, base, file, told, disk)
+        }
+    }
+}
+
 /// Does what the words ask for.
 #[tactic(auto, using(crate::proofs::Quiet::stays, crate::proofs::Quiet::keeps))]
 pub(crate) fn do_task<D: Disk, R: Read, O: Write>(
@@ -113,10 +164,9 @@ pub(crate) fn do_task<D: Disk, R: Read, O: Write>(
             sources,
             base,
             command,
-            symbols: _,
+            symbols,
         } => {
-            let told = built(alloc, disk, sources, *command);
-            let ending = write_program(alloc, base, told, disk);
+            let ending = build_to_disk(alloc, sources, base, *command, *symbols, disk);
             Report::without_note(alloc, ending)
         }
         Task::Run {
