@@ -13,7 +13,6 @@ pub mod note;
 mod numbers;
 mod objects;
 pub mod parts;
-mod refusals;
 mod run_files;
 mod source_lines;
 #[cfg(test)]

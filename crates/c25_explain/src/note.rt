@@ -3,13 +3,11 @@
 ghost use Rattle.std.specs.Option.{option_map};
 ghost use Rattle.std.specs.Prelude.{◌≡◌, ◌++◌, IfOk, codes, string_bytes};
 ghost use Rattle.c25_meaning_common.specs.Faults.{placed_text};
-ghost use Rattle.c25_explain.specs.Lines.{of_refusal};
 ghost use Rattle.c25_explain.specs.Note.{IsNoteOf, example_line, lesson, line_of, note_with, shown_text};
 
+use crate::fault::AnyFault;
 use crate::parts::Explanation;
-use crate::refusals::of_refusal;
 use crate::texts::explanation_of;
-use c25_chain::fault::Refusal;
 use c25_lines::{Rows, count_lines};
 use c25_meaning_common::no_memory::NoMemory;
 use std::alloc::Global;
@@ -76,16 +74,16 @@ fn note_with(alloc: Global, shown: &str, lesson: &str, example: &str) -> Result<
     Ok(format!(in alloc; "{shown}\n{lesson}\n{example}\n")?)
 }
 
-/// The note of a refusal, in whole lines: the line of a file where it is told, if that is known, what
-/// the fault means, what to do, and where its example is.
+/// The note of a fault, in whole lines: the line of a file where it is told, if that is known, what the
+/// fault means, what to do, and where its example is.
 pub fn explained(
     alloc: Global,
-    refusal: &Refusal<String>,
+    fault: AnyFault,
     line: Option<ShownLine<'_>>,
 ) -> Result<String, NoMemory>
-    ensures { IfOk result (λ note. IsNoteOf (of_refusal refusal.now) line.entry (string_bytes note)) }
+    ensures { IfOk result (λ note. IsNoteOf fault line.entry (string_bytes note)) }
 {
-    let explanation = explanation_of(of_refusal(refusal));
+    let explanation = explanation_of(fault);
     let shown = shown_line(alloc, line)?;
     let lesson = lesson(alloc, &explanation)?;
     let example = example_line(alloc, explanation.number)?;
