@@ -8,7 +8,7 @@ returns-in-Link g c =
 
 pub returns-in-Build : goal.returns-in-Build
 returns-in-Build g c =
-    does_build (g.D.Disk.bytes_of c.args.disk.now) _ c.args.task.now c.in-Build.sources c.in-Build.base c.in-Build.command c.in-Build.symbols c.deref-in-Build.result.now c.built-told.result _ c.in-Build.is c.deref-in-Build.ensures.value c.built-told.ensures c.write_program-in-Build.ensures (keeps _)
+    does_build (g.D.Disk.bytes_of c.args.disk.now) _ c.args.task.now c.in-Build.sources c.in-Build.base c.in-Build.command c.in-Build.symbols c.deref-in-Build.result.now _ c.in-Build.is c.deref-in-Build.ensures.value c.build_to_disk.ensures (keeps _)
 
 pub returns-in-Run : goal.returns-in-Run
 returns-in-Run g c =
