@@ -14,11 +14,12 @@ use Rattle.c25_words.specs.Task.{text_of, texts_of}
 use Rattle.c25_words.specs.declared.task.RunFiles.{RunFiles}
 use Rattle.c25_words.specs.declared.task.Task.{Task}
 use Rattle.c25_words.specs.declared.task.Task.TheVariants.{Link, Build, Run, Debug}
-use Rattle.c25_tasks.specs.Building.{BuildsFrom, WritesProgram}
+use Rattle.c25_tasks.specs.Building.{WritesProgram}
 use Rattle.c25_tasks.specs.Debugging.{DebugsTold}
 use Rattle.c25_tasks.specs.Linking.{LinksFrom}
 use Rattle.c25_tasks.specs.Program.{Does, Effect, OnlyPrints, OnlyWrites, effect_of}
 use Rattle.c25_tasks.specs.Running.{RunsTold}
+use Rattle.c25_tasks.specs.Symbols.{BuildsToDisk}
 use Rattle.c25_tasks.specs.Tells.{IsEndingOf, IsLineOf, Printed, Wrote}
 
 pub ends_of : (fault : Fault) (f : Refusal (String Global)) (e : Ending) → fault ≡ failure.Fault f → IsLineOf (fault_text fault) e → IsEndingOf fault e
@@ -41,10 +42,10 @@ does_link held input task command objects base names told e is same comes writes
     let of_objects = subst (λ (ns : List (Bor (List ℕ))). LinksFrom held command.now (texts_of ns) told) same comes in
     subst (λ (t : Task). Does held input t e) (sym is) ((told, of_objects, writes), only)
 
-pub does_build : (held : Held) (input : Option (List ℕ)) (task : Task) (sources : Vec (Bor (List ℕ)) Global) (base : Bor (List ℕ)) (command symbols : Option (Bor (List ℕ))) (names : List (Bor (List ℕ))) (told : Result Built Fault) (e : Effect) → task ≡ Build sources base command symbols → names ≡ sources.items → BuildsFrom held (texts_of names) (text_of command) told → WritesProgram base.now told e.ending e.written → OnlyWrites e → Does held input task e
-does_build held input task sources base command symbols names told e is same comes writes only =
-    let of_sources = subst (λ (ns : List (Bor (List ℕ))). BuildsFrom held (texts_of ns) (text_of command) told) same comes in
-    subst (λ (t : Task). Does held input t e) (sym is) ((told, of_sources, writes), only)
+pub does_build : (held : Held) (input : Option (List ℕ)) (task : Task) (sources : Vec (Bor (List ℕ)) Global) (base : Bor (List ℕ)) (command symbols : Option (Bor (List ℕ))) (names : List (Bor (List ℕ))) (e : Effect) → task ≡ Build sources base command symbols → names ≡ sources.items → BuildsToDisk held (texts_of names) (text_of command) base.now (text_of symbols) e.ending e.written → OnlyWrites e → Does held input task e
+does_build held input task sources base command symbols names e is same told only =
+    let of_sources = subst (λ (ns : List (Bor (List ℕ))). BuildsToDisk held (texts_of ns) (text_of command) base.now (text_of symbols) e.ending e.written) same told in
+    subst (λ (t : Task). Does held input t e) (sym is) (of_sources, only)
 
 pub does_run : (held : Held) (input : Option (List ℕ)) (task : Task) (sources : Vec (Bor (List ℕ)) Global) (steps : ℕ) (files : RunFiles) (regs : Bool) (names : List (Bor (List ℕ))) (e : Effect) → task ≡ Run sources steps files regs → names ≡ sources.items → RunsTold held (texts_of names) steps regs files e.ending e.note e.out → Stay e.written.0 e.written.1 → Does held input task e
 does_run held input task sources steps files regs names e is same told stay =

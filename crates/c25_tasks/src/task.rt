@@ -100,11 +100,10 @@ fn write_with_symbols<D: Disk>(
         Ok(names) => names,
         Err(error) => return ending_of_fault(alloc, &Fault::from(error)),
     };
-    let told = match outputs_with_symbols(alloc, &names, file, told) {
-        Ok(outputs) => Ok(outputs),
-        Err(error) => Err(Fault::from(error)),
-    };
-    write_told(alloc, &told, disk)
+    match outputs_with_symbols(alloc, &names, file, told) {
+        Ok(outputs) => write_told(alloc, &Ok(outputs), disk),
+        Err(error) => ending_of_fault(alloc, &Fault::from(error)),
+    }
 }
 
 /// Builds sources, and writes the files of their program, and one of its symbols where it is named.

@@ -16,8 +16,8 @@ returns-in-Link g c =
 
 pub returns-in-Build : goal.returns-in-Build
 returns-in-Build g c =
-    reported (g.D.Disk.bytes_of c.args.disk.now) _ c.args.task.now c.write_program-ending-in-Build.result c.without_note-in-Build.result _ _ c.without_note-in-Build.ensures.ending c.without_note-in-Build.ensures.note
-    (does_build _ _ c.args.task.now c.in-Build.sources c.in-Build.base c.in-Build.command c.in-Build.symbols c.deref-in-Build.result.now c.built-told.result _ c.in-Build.is c.deref-in-Build.ensures.value c.built-told.ensures c.write_program-ending-in-Build.ensures (keeps _, refl))
+    reported (g.D.Disk.bytes_of c.args.disk.now) _ c.args.task.now c.build_to_disk-ending-in-Build.result c.without_note-in-Build.result _ _ c.without_note-in-Build.ensures.ending c.without_note-in-Build.ensures.note
+    (does_build _ _ c.args.task.now c.in-Build.sources c.in-Build.base c.in-Build.command c.in-Build.symbols c.deref-in-Build.result.now _ c.in-Build.is c.deref-in-Build.ensures.value c.build_to_disk-ending-in-Build.ensures (keeps _, refl))
 
 pub returns-in-Run : goal.returns-in-Run
 returns-in-Run g c =
