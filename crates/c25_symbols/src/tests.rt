@@ -4,7 +4,7 @@ use crate::write_symbols;
 use c25_cmd::read_command;
 use c25_map::read_map;
 use c25_meaning_objects::object::{Scope, SymbolKind, Version};
-use c25_obj::{Body, Module, Parts, Section, Symbol, module};
+use c25_obj::{Body, Parts, Section, Symbol, module, spells};
 use std::alloc::{AllocError, Global};
 use std::test::Fail;
 
@@ -24,8 +24,8 @@ fn words(alloc: Global, name: &str, count: usize) -> Result<Section, AllocError>
     })
 }
 
-fn parts(alloc: Global, sections: Vec<Section>, symbols: Vec<Symbol>) -> Module {
-    module(Parts {
+fn parts(alloc: Global, sections: Vec<Section>, symbols: Vec<Symbol>) -> Parts {
+    Parts {
         sections,
         marks: Vec::new(alloc),
         symbols,
@@ -34,10 +34,10 @@ fn parts(alloc: Global, sections: Vec<Section>, symbols: Vec<Symbol>) -> Module 
         files: Vec::new(alloc),
         lines: Vec::new(alloc),
         blocks: Vec::new(alloc),
-    })
+    }
 }
 
-fn first(alloc: Global) -> Result<Module, AllocError> {
+fn first(alloc: Global) -> Result<Parts, AllocError> {
     let sections = vec![in alloc; words(alloc, ".text", 5)?, words(alloc, "fast", 3)?]?;
     let mut far = symbol(alloc, SymbolKind::External, 0, "FAR")?;
     far.scope = Scope::Global;
@@ -53,7 +53,7 @@ fn first(alloc: Global) -> Result<Module, AllocError> {
     Ok(parts(alloc, sections, symbols))
 }
 
-fn second(alloc: Global) -> Result<Module, AllocError> {
+fn second(alloc: Global) -> Result<Parts, AllocError> {
     let bss = Section {
         name: String::from_str(alloc, ".bss")?,
         body: Body::Uninitialised(4),
@@ -69,7 +69,11 @@ fn second(alloc: Global) -> Result<Module, AllocError> {
 #[test]
 fn symbols_and_ranges_of_two_modules(rt: HostRuntime) -> Result<(), Fail> {
     let alloc = rt.alloc();
-    let modules = vec![in alloc; first(alloc)?, second(alloc)?]?;
+    let first = first(alloc)?;
+    assert!(rt; spells(&first));
+    let second = second(alloc)?;
+    assert!(rt; spells(&second));
+    let modules = vec![in alloc; module(first), module(second)]?;
     let sources = vec![in alloc;
         String::from_str(alloc, "main.asm")?,
         String::from_str(alloc, "b c.asm")?,
