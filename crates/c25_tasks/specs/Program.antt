@@ -39,12 +39,12 @@ WritesBuilt comes base e = (told : Result Built Fault) × comes told × WritesPr
 -- what the program does for a task, with what is known of standard input and of the files on the disk
 abbrev pub Does : Held → Option (List ℕ) → Task → Effect → Type 0
 Does held input RunStandardInput e = Runs held input e.ending e.out × Stay e.written.0 e.written.1
-Does held input (Assemble source object listing) e =
+Does held input (Assemble source object listing explain) e =
     Assembles held source.now object.now (text_of listing) e.ending e.written × Keeps e.out.0 e.out.1
-Does held input (Link command objects base) e = WritesBuilt (LinksFrom held command.now (texts_of objects.items)) base.now e × Keeps e.out.0 e.out.1
-Does held input (Build sources base command symbols) e = WritesBuilt (BuildsFrom held (texts_of sources.items) (text_of command)) base.now e × Keeps e.out.0 e.out.1
-Does held input (Run sources steps files regs) e = RunsTold held (texts_of sources.items) steps files e.ending e.out × Stay e.written.0 e.written.1
-Does held input (Debug sources script files) e =
+Does held input (Link command objects base explain) e = WritesBuilt (LinksFrom held command.now (texts_of objects.items)) base.now e × Keeps e.out.0 e.out.1
+Does held input (Build sources base command symbols explain) e = WritesBuilt (BuildsFrom held (texts_of sources.items) (text_of command)) base.now e × Keeps e.out.0 e.out.1
+Does held input (Run sources steps files regs explain) e = RunsTold held (texts_of sources.items) steps files e.ending e.out × Stay e.written.0 e.written.1
+Does held input (Debug sources script files explain) e =
     DebugsTold held (texts_of sources.items) script.now files e.ending e.out × Stay e.written.0 e.written.1
 Does held input (Explain number) e = Explained number e.ending e.out × Stay e.written.0 e.written.1
 Does held input (Disassemble file from) e = DisassemblesTold held file.now e.ending e.out × Stay e.written.0 e.written.1

@@ -96,11 +96,13 @@ pub(crate) fn do_task<D: Disk, R: Read, O: Write>(
             source,
             object,
             listing,
+            explain: _,
         } => assemble_to_disk(alloc, source, object, *listing, disk),
         Task::Link {
             command,
             objects,
             base,
+            explain: _,
         } => {
             let told = linked(alloc, disk, command, objects);
             write_program(alloc, base, told, disk)
@@ -110,6 +112,7 @@ pub(crate) fn do_task<D: Disk, R: Read, O: Write>(
             base,
             command,
             symbols: _,
+            explain: _,
         } => {
             let told = built(alloc, disk, sources, *command);
             write_program(alloc, base, told, disk)
@@ -119,11 +122,13 @@ pub(crate) fn do_task<D: Disk, R: Read, O: Write>(
             steps,
             files,
             regs: _,
+            explain: _,
         } => run_sources(alloc, sources, *steps, *files, disk, out),
         Task::Debug {
             sources,
             script,
             files,
+            explain: _,
         } => debug_sources(alloc, sources, script, *files, disk, out),
         Task::Explain { number } => explain(alloc, *number, out),
         Task::Disassemble { file, from: _ } => disassemble(alloc, file, disk, out),
