@@ -74,8 +74,7 @@ all_sound parser (a ∷ rules) test own =
     let first = both (is_sound parser a) (list_all (is_sound parser) rules) test in
     let action = both (takes_or_asks (action_of a)) _ first.0 in
     let least = both (is_without a) _ action.1 in
-    let case = both (not a.ignore_case) _ least.1 in
-    (
+    let case = both (not a.ignore_case) _ least.1 in (
       record {
         action = action.0;
         least = least.0;
