@@ -91,11 +91,10 @@ answered g n b d c samples entries is e h run texts listings done =
       built = subst (λ (ls : Vec (String Global) Global). IsBuilt g.files g.sources g.command image (texts_of c) (map string_bytes ls.items)) (sym listings)
           (subst (λ (t : Texts). IsBuilt g.files g.sources g.command image t (map string_bytes b.listings.items)) (sym texts) built);
       read = both_read g samples entries e h;
-      run =
-          (
-            run.0,
-            subst (λ (w : finite.FinMap nat_cmp ℕ). RunsWords image.program w image.marks image.run_marks samples entries n run.0) is.linked.words1
+      run = (
+        run.0,
+        subst (λ (w : finite.FinMap nat_cmp ℕ). RunsWords image.program w image.marks image.run_marks samples entries n run.0) is.linked.words1
             (subst (λ (w : finite.FinMap nat_cmp ℕ). RunsWords w b.linked.page1.words image.marks image.run_marks samples entries n run.0) is.linked.words0 run.1),
-            subst (EndsAs n run.0) (sym done) run.2,
-          );
+        subst (EndsAs n run.0) (sym done) run.2,
+      );
     }

@@ -1,7 +1,5 @@
 -- A run, and what a debugger tells of its end.
-use Rattle.std.proofs.Common.{◌≡◌, ◌∷◌, ℕ, List, [], Result, Ok, Err, String, string_bytes, ap, refl, subst, sym}
-use Rattle.std.specs.FinMap as finite
-use Rattle.std.specs.Ordering.{nat_cmp}
+use Rattle.std.proofs.Common.{◌≡◌, ◌∷◌, ℕ, List, [], Result, Ok, Err, String, string_bytes, ap, subst, sym}
 use Rattle.std.specs.Result.{IsErrAnd}
 use Rattle.std.specs.declared.alloc.Global.{Global}
 use Rattle.c25_chain.proofs.Answered.{answered, samples_in, schedule_in}
@@ -9,12 +7,11 @@ use Rattle.c25_chain.specs.Built.{IsBuiltAs}
 use Rattle.c25_chain.specs.Chain.{Answers, Given, run_of, texts_of}
 use Rattle.c25_chain.specs.Linked as linked
 use Rattle.c25_chain.specs.Refusal.{Fault}
-use Rattle.c25_chain.specs.Run.{HasRunFrom, last_state, run_data}
+use Rattle.c25_chain.specs.Run.{HasRunFrom, run_data}
 use Rattle.c25_chain.specs.declared.built.Built.{Built}
 use Rattle.c25_chain.specs.declared.chain.Chain.{Chain}
 use Rattle.c25_chain.specs.declared.run.Done.{Done}
 use Rattle.c25_debug_chain.specs.Inspection.{HasEnd, Inspects, IsNoted, TellsWhere}
-use Rattle.c25_debug_chain.specs.declared.inspection.Inspected.{Inspected}
 use Rattle.c25_debug_chain.specs.declared.inspection.NotedRun.{NotedRun}
 use Rattle.c25_meaning_common.specs.Results.{IsNoMemory}
 use Rattle.c25_meaning_common.specs.declared.failure.Failure.TheVariants as failure
@@ -48,20 +45,18 @@ refused_growth g n (Err (failure.Fault r)) h = absurd h
 abbrev pub TellsFrom : List Entry → ImageData → Point → List ℕ → Type 0
 TellsFrom entries image p text = (q : Point) × AnswersAll WordStep (signals_of entries) image (cmd.Regs ∷ cmd.Where ∷ []) p text q
 
--- a board that ran under a schedule, with the answers of a session over it
-pub has_end : (image was : ImageData) (given ran now : List Entry) (n : ℕ) (s begun t : State) (d : Done) (note : String Global) (steps : ℕ) (breaks : List ℕ)
+-- a board that ran under a schedule, and the answers of a session over it
+pub has_end : (image was : ImageData) (given ran now : List Entry) (n : ℕ) (s begun t : State) (d : Done) (note : String Global) (p : Point)
     → ran ≡ given → begun ≡ s → HasRunFrom (signals_of ran) begun n d t
-    → now ≡ ran → was ≡ image → d.steps ≡ steps → breaks ≡ [] → TellsFrom now was (record { steps = steps; state = t; breaks = breaks }) (string_bytes note)
+    → now ≡ ran → was ≡ image → p ≡ record { steps = d.steps; state = t; breaks = [] } → TellsFrom now was p (string_bytes note)
     → HasEnd image given n s (record { done = d; note = note })
-has_end image was given ran now n s begun t d note steps breaks same begin run kept same_image counted none told =
-    let of_image = subst (λ (i : ImageData). TellsFrom now i (record { steps = steps; state = t; breaks = breaks }) (string_bytes note)) same_image told in
-    let under = subst (λ (es : List Entry). TellsFrom es image (record { steps = steps; state = t; breaks = breaks }) (string_bytes note)) same
-        (subst (λ (es : List Entry). TellsFrom es image (record { steps = steps; state = t; breaks = breaks }) (string_bytes note)) kept of_image) in
-    let unbroken = subst (λ (bs : List ℕ). TellsFrom given image (record { steps = steps; state = t; breaks = bs }) (string_bytes note)) none under in
+has_end image was given ran now n s begun t d note p same begin run kept same_image stands told =
+    let of_image = subst (λ (i : ImageData). TellsFrom now i p (string_bytes note)) same_image told in
+    let under = subst (λ (es : List Entry). TellsFrom es image p (string_bytes note)) same (subst (λ (es : List Entry). TellsFrom es image p (string_bytes note)) kept of_image) in
     record {
       end = t;
       run = subst (λ (x : State). HasRunFrom (signals_of given) x n d t) begin (subst (λ (es : List Entry). HasRunFrom (signals_of es) begun n d t) same run);
-      note = subst (λ (k : ℕ). TellsFrom given image (record { steps = k; state = t; breaks = [] }) (string_bytes note)) (sym counted) unbroken;
+      note = subst (λ (at : Point). TellsFrom given image at (string_bytes note)) stands under;
     }
 
 -- ---- the answer

@@ -1,5 +1,5 @@
 -- The answer of the chain with a note on its end: what a debugger answers to `regs` and `where` there.
-use Rattle.std.specs.Prelude.{◌≡◌, ℕ, List, [], ◌∷◌, Result, Ok, Err}
+use Rattle.std.specs.Prelude.{ℕ, List, [], ◌∷◌, Result, Ok, Err}
 use Rattle.std.specs.String.{string_bytes}
 use Rattle.c25_chain.specs.Chain.{Answers, Given, IsAnswer}
 use Rattle.c25_chain.specs.Refusal.{Fault}
