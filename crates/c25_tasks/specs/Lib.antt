@@ -6,6 +6,7 @@ pub mod Assembly
 pub mod Objects
 pub mod Building
 pub mod Linking
+pub mod Notes
 pub mod Running
 pub mod Debugging
 pub mod Explaining

@@ -12,6 +12,8 @@ use Rattle.c25_words.specs.Task.{text_of}
 use Rattle.c25_words.specs.declared.task.RunFiles.{RunFiles}
 use Rattle.c25_tasks.specs.Files.{AfterOptional, AfterSources, ComesTo, FailsWith, IsUnread}
 use Rattle.c25_tasks.specs.Tells.{Printed, TellsRun}
+use Rattle.c25_tasks.specs.declared.notes.Notes.{Notes}
+use Rattle.c25_tasks.specs.declared.notes.Notes.TheVariants.{Nothing}
 
 -- ---- sources on a disk
 
@@ -51,9 +53,9 @@ RunsFrom held names steps regs files answer =
     AfterOptional held (text_of files.schedule) (RunsOver held given names steps regs command samples)))) answer
 
 -- what is done with the sources of names
-abbrev pub RunsTold : Held → List (List ℕ) → ℕ → (regs : Bool) → RunFiles → Ending → (note : List ℕ) → Printed → Type 0
-RunsTold held names steps regs files e note out =
-    (answer : Result NotedRun Fault) × RunsFrom held names steps regs files answer × TellsRun answer e note out
+abbrev pub RunsTold : Held → Notes → List (List ℕ) → ℕ → (regs : Bool) → RunFiles → Ending → (note : List ℕ) → Printed → Type 0
+RunsTold held notes names steps regs files e note out =
+    (answer : Result NotedRun Fault) × RunsFrom held names steps regs files answer × TellsRun held notes answer e note out
 
 -- ---- standard input
 
@@ -71,4 +73,4 @@ RanInput held input answer = ((text : List ℕ) × IsAllOf input text × RanText
 
 -- what is done with standard input as the source
 abbrev pub Runs : Held → Option (List ℕ) → Ending → (note : List ℕ) → Printed → Type 0
-Runs held input e note out = (answer : Result NotedRun Fault) × RanInput held input answer × TellsRun answer e note out
+Runs held input e note out = (answer : Result NotedRun Fault) × RanInput held input answer × TellsRun held Nothing answer e note out

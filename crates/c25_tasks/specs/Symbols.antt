@@ -14,7 +14,8 @@ use Rattle.c25_report.specs.declared.ending.Ending.{Ending}
 use Rattle.c25_symbols.specs.Text.{symbols_text}
 use Rattle.c25_tasks.specs.Building.{BuildsFrom, WritesProgram, texts_in}
 use Rattle.c25_tasks.specs.Files.{AfterOptional, AfterSources, ComesTo}
-use Rattle.c25_tasks.specs.Tells.{IsEndingOf, IsShort, Wrote, Writes}
+use Rattle.c25_tasks.specs.Tells.{IsReportOf, IsShortOf, Wrote, Writes}
+use Rattle.c25_tasks.specs.declared.notes.Notes.{Notes}
 use Rattle.c25_tasks.specs.declared.symbols.BuiltWithSymbols.{BuiltWithSymbols}
 
 -- ---- programs
@@ -43,13 +44,14 @@ BuildsWithSymbolsFrom held names command answer = AfterSources held names (λ gi
 
 -- the files of the program, and behind them that of its symbols, unless memory runs out before; where there is nothing, nothing is
 -- written
-abbrev pub WritesWithSymbols : List ℕ → List ℕ → Result BuiltWithSymbols Fault → Ending → Wrote → Type 0
-WritesWithSymbols base file (Ok b) e written =
-    Writes (files_of base (texts_in b.built) ++ (file, string_bytes b.symbols) ∷ []) e written ⊎ (IsShort e × Stay written.0 written.1)
-WritesWithSymbols base file (Err fault) e written = IsEndingOf fault e × Stay written.0 written.1
+abbrev pub WritesWithSymbols : Held → Notes → List ℕ → List ℕ → Result BuiltWithSymbols Fault → Ending → (note : List ℕ) → Wrote → Type 0
+WritesWithSymbols held notes base file (Ok b) e note written =
+    Writes held notes (files_of base (texts_in b.built) ++ (file, string_bytes b.symbols) ∷ []) e note written ⊎ IsShortOf e note written
+WritesWithSymbols held notes base file (Err fault) e note written = IsReportOf held notes fault e note × Stay written.0 written.1
 
 -- what is done for sources, of whose symbols a file is written where one is named
-abbrev pub BuildsToDisk : Held → List (List ℕ) → Option (List ℕ) → List ℕ → Option (List ℕ) → Ending → Wrote → Type 0
-BuildsToDisk held names command base None e written = (told : Result Built Fault) × BuildsFrom held names command told × WritesProgram base told e written
-BuildsToDisk held names command base (Some file) e written =
-    (told : Result BuiltWithSymbols Fault) × BuildsWithSymbolsFrom held names command told × WritesWithSymbols base file told e written
+abbrev pub BuildsToDisk : Held → Notes → List (List ℕ) → Option (List ℕ) → List ℕ → Option (List ℕ) → Ending → (note : List ℕ) → Wrote → Type 0
+BuildsToDisk held notes names command base None e note written =
+    (told : Result Built Fault) × BuildsFrom held names command told × WritesProgram held notes base told e note written
+BuildsToDisk held notes names command base (Some file) e note written =
+    (told : Result BuiltWithSymbols Fault) × BuildsWithSymbolsFrom held names command told × WritesWithSymbols held notes base file told e note written

@@ -3,8 +3,8 @@
 ghost use Rattle.std.specs.Prelude.{◌≡◌};
 ghost use Rattle.c25_explain.specs.Lines.{of_refusal};
 
-use crate::fault::AnyFault;
 use c25_chain::fault::Refusal;
+use c25_explain::fault::AnyFault;
 use c25_meaning_language::statement::FaultKind;
 
 /// A refusal without where it is told.

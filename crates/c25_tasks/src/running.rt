@@ -6,6 +6,7 @@ ghost use Rattle.c25_tasks.specs.Running.{RunsFrom, RunsTold};
 
 use crate::copies::{Run, run_over};
 use crate::files::{names_of, read_optional};
+use crate::notes::Notes;
 use crate::report::report_run;
 use crate::sources::sources_of;
 use c25_chain::fault::Fault;
@@ -44,18 +45,20 @@ fn answer<D: Disk>(
     run_over(alloc, disk, files, &work)
 }
 
-/// Runs sources, prints the run, and notes the registers at its end where they are asked for.
+/// Runs sources, prints the run, and notes the registers at its end or what is noted of a fault, where
+/// they are asked for.
 pub(crate) fn run_sources<D: Disk, O: Write>(
     alloc: Global,
     sources: &[&str],
     steps: u32,
     regs: bool,
     beside: RunFiles<'_>,
+    notes: Notes<'_>,
     disk: &D,
     out: &mut O,
 ) -> Report
-    ensures { RunsTold (D.bytes_of disk.now) (texts_of sources.now) steps regs beside.entry result.ending (string_bytes result.note) (O.contents out.old, O.contents out.new) }
+    ensures { RunsTold (D.bytes_of disk.now) notes.entry (texts_of sources.now) steps regs beside.entry result.ending (string_bytes result.note) (O.contents out.old, O.contents out.new) }
 {
     let told = answer(alloc, disk, sources, steps, regs, beside);
-    report_run(alloc, told, out)
+    report_run(alloc, disk, told, notes, out)
 }

@@ -6,6 +6,7 @@ ghost use Rattle.c25_tasks.specs.Running.{RanInput, RanText, Runs};
 
 use crate::copies::{Run, run_over};
 use crate::files::names_of;
+use crate::notes::Notes;
 use crate::report::report_run;
 use c25_chain::fault::{Fault, Refusal};
 use c25_debug_chain::NotedRun;
@@ -69,5 +70,5 @@ pub(crate) fn run_standard_input<D: Disk, R: Read, O: Write>(
     ensures { Runs (D.bytes_of disk.now) (R.remaining input.old) result.ending (string_bytes result.note) (O.contents out.old, O.contents out.new) }
 {
     let told = answer(alloc, disk, input);
-    report_run(alloc, told, out)
+    report_run(alloc, disk, told, Notes::Nothing, out)
 }

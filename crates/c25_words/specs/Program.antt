@@ -48,29 +48,33 @@ shape_with name rules = record (new_shape name) { rules = rules }
 abbrev pub added : Shape → Rule → Shape
 added shape rule = record shape { rules = shape.rules ++ rule ∷ [] }
 
+-- .. [--explain]
+abbrev pub with_explain : Shape → Shape
+with_explain shape = added shape (flag_rule (codes "explain"))
+
 -- .. [--command F] [--samples F] [--schedule F]
 abbrev pub with_run_files : Shape → Shape
 with_run_files shape = added (added (added shape (option_rule (codes "command"))) (option_rule (codes "samples"))) (option_rule (codes "schedule"))
 
--- asm SOURCE --obj F [--list F]; here and below `-o` stands for `--obj` and for `--out` as well
+-- asm SOURCE --obj F [--list F] [--explain]; here and below `-o` stands for `--obj` and for `--out` as well
 abbrev pub asm_shape : Shape
-asm_shape = shape_with (codes "asm") (operand_rule (codes "source") ∷ output_rule (codes "obj") ∷ option_rule (codes "list") ∷ [])
+asm_shape = with_explain (shape_with (codes "asm") (operand_rule (codes "source") ∷ output_rule (codes "obj") ∷ option_rule (codes "list") ∷ []))
 
--- link COMMAND OBJECT.. --out B
+-- link COMMAND OBJECT.. --out B [--explain]
 abbrev pub link_shape : Shape
-link_shape = shape_with (codes "link") (operand_rule (codes "command") ∷ operands_rule (codes "object") ∷ output_rule (codes "out") ∷ [])
+link_shape = with_explain (shape_with (codes "link") (operand_rule (codes "command") ∷ operands_rule (codes "object") ∷ output_rule (codes "out") ∷ []))
 
--- build SOURCE.. --out B [--command F] [--symbols F]
+-- build SOURCE.. --out B [--command F] [--symbols F] [--explain]
 abbrev pub build_shape : Shape
-build_shape = shape_with (codes "build") (operands_rule (codes "source") ∷ output_rule (codes "out") ∷ option_rule (codes "command") ∷ option_rule (codes "symbols") ∷ [])
+build_shape = with_explain (shape_with (codes "build") (operands_rule (codes "source") ∷ output_rule (codes "out") ∷ option_rule (codes "command") ∷ option_rule (codes "symbols") ∷ []))
 
--- run SOURCE.. [--steps N] [--regs] [--command F] [--samples F] [--schedule F]
+-- run SOURCE.. [--steps N] [--regs] [--command F] [--samples F] [--schedule F] [--explain]
 abbrev pub run_shape : Shape
-run_shape = with_run_files (shape_with (codes "run") (operands_rule (codes "source") ∷ steps_rule ∷ flag_rule (codes "regs") ∷ []))
+run_shape = with_explain (with_run_files (shape_with (codes "run") (operands_rule (codes "source") ∷ steps_rule ∷ flag_rule (codes "regs") ∷ [])))
 
--- debug SOURCE.. --script F [--command F] [--samples F] [--schedule F]
+-- debug SOURCE.. --script F [--command F] [--samples F] [--schedule F] [--explain]
 abbrev pub debug_shape : Shape
-debug_shape = with_run_files (shape_with (codes "debug") (operands_rule (codes "source") ∷ needed_rule (codes "script") ∷ []))
+debug_shape = with_explain (with_run_files (shape_with (codes "debug") (operands_rule (codes "source") ∷ needed_rule (codes "script") ∷ [])))
 
 -- explain NUMBER
 abbrev pub explain_shape : Shape

@@ -50,33 +50,38 @@ pub record AreRunFiles (rows : List Row) (files : RunFiles) : Type 0 where
 -- the task is what a subcommand of this name with these matches asks for
 abbrev pub Asks : Text → List Row → Task → Type 0
 Asks name rows RunStandardInput = ⊥
-Asks name rows (Assemble source object listing) =
+Asks name rows (Assemble source object listing explain) =
     (name ≡ codes "asm")
     × (first_of (codes "source") rows ≡ Some source.now)
     × (first_of (codes "obj") rows ≡ Some object.now)
     × (first_of (codes "list") rows ≡ text_of listing)
-Asks name rows (Link command objects base) =
+    × IsFlag (one_of (codes "explain") rows) explain
+Asks name rows (Link command objects base explain) =
     (name ≡ codes "link")
     × (first_of (codes "command") rows ≡ Some command.now)
     × (all_of (codes "object") rows ≡ Some (texts_of objects.items))
     × (first_of (codes "out") rows ≡ Some base.now)
-Asks name rows (Build sources base command symbols) =
+    × IsFlag (one_of (codes "explain") rows) explain
+Asks name rows (Build sources base command symbols explain) =
     (name ≡ codes "build")
     × (all_of (codes "source") rows ≡ Some (texts_of sources.items))
     × (first_of (codes "out") rows ≡ Some base.now)
     × (first_of (codes "command") rows ≡ text_of command)
     × (first_of (codes "symbols") rows ≡ text_of symbols)
-Asks name rows (Run sources steps files regs) =
+    × IsFlag (one_of (codes "explain") rows) explain
+Asks name rows (Run sources steps files regs explain) =
     (name ≡ codes "run")
     × (all_of (codes "source") rows ≡ Some (texts_of sources.items))
     × IsSteps (one_of (codes "steps") rows) steps
     × AreRunFiles rows files
     × IsFlag (one_of (codes "regs") rows) regs
-Asks name rows (Debug sources script files) =
+    × IsFlag (one_of (codes "explain") rows) explain
+Asks name rows (Debug sources script files explain) =
     (name ≡ codes "debug")
     × (all_of (codes "source") rows ≡ Some (texts_of sources.items))
     × (first_of (codes "script") rows ≡ Some script.now)
     × AreRunFiles rows files
+    × IsFlag (one_of (codes "explain") rows) explain
 Asks name rows (Explain number) = (name ≡ codes "explain") × IsNumber (one_of (codes "number") rows) number
 Asks name rows (Disassemble file from) =
     (name ≡ codes "dis") × (first_of (codes "file") rows ≡ Some file.now) × (first_of (codes "from") rows ≡ text_of from)

@@ -2,7 +2,7 @@
 
 ghost use Rattle.std.specs.Prelude.{◌≡◌, IfOk, IfSome, IsSomeAnd, Some, codes};
 ghost use Rattle.clap.specs.Words.{all_of, first_of, one_of};
-ghost use Rattle.c25_words.specs.Complete.{IsFlagText, IsNumberText, IsThere, rows_in};
+ghost use Rattle.c25_words.specs.Complete.{IsFlagIn, IsNumberText, IsThere, rows_in};
 ghost use Rattle.c25_words.specs.Task.{AreRunFiles, IsFlag, IsNumber, IsSteps, text_of, texts_of};
 
 use crate::task::{DEFAULT_STEPS, RunFiles};
@@ -54,7 +54,7 @@ pub(crate) fn all<'a>(
 
 /// Whether a flag was given.
 pub(crate) fn flag(matches: &ArgMatches<'_>, id: &str) -> bool
-    requires { IfSome (one_of id.now (rows_in matches.now)) IsFlagText }
+    requires { IsFlagIn (rows_in matches.now) id.now }
     ensures { IsFlag (one_of id.now (rows_in matches.now)) result }
 {
     matches.get_flag(id)

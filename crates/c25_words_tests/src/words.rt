@@ -56,52 +56,62 @@ fn show(alloc: Global, task: &Task<'_>) -> Result<String, AllocError> {
             source,
             object,
             listing,
+            explain,
         } => {
             write!(out, "asm {source} object={object}")?;
             push_option(&mut out, "listing", *listing)?;
+            push_flag(&mut out, "explain", *explain)?;
         }
         Task::Link {
             command,
             objects,
             base,
+            explain,
         } => {
             write!(out, "link {command} :")?;
             push_words(&mut out, objects)?;
             write!(out, " base={base}")?;
+            push_flag(&mut out, "explain", *explain)?;
         }
         Task::Build {
             sources,
             base,
             command,
             symbols,
+            explain,
         } => {
             write!(out, "build")?;
             push_words(&mut out, sources)?;
             write!(out, " base={base}")?;
             push_option(&mut out, "command", *command)?;
             push_option(&mut out, "symbols", *symbols)?;
+            push_flag(&mut out, "explain", *explain)?;
         }
         Task::Run {
             sources,
             steps,
             files,
             regs,
+            explain,
         } => {
             write!(out, "run")?;
             push_words(&mut out, sources)?;
             write!(out, " steps={steps}")?;
             push_files(&mut out, *files)?;
             push_flag(&mut out, "regs", *regs)?;
+            push_flag(&mut out, "explain", *explain)?;
         }
         Task::Debug {
             sources,
             script,
             files,
+            explain,
         } => {
             write!(out, "debug")?;
             push_words(&mut out, sources)?;
             write!(out, " script={script}")?;
             push_files(&mut out, *files)?;
+            push_flag(&mut out, "explain", *explain)?;
         }
         Task::Explain { number } => write!(out, "explain {number}")?,
         Task::Disassemble { file, from } => {
@@ -160,6 +170,7 @@ fn flags_and_values_are_told_apart(rt: HostRuntime) -> Result<(), Fail> {
     assert_eq!(rt; differing(rt.alloc(), REGS)?.as_str(), "");
     assert_eq!(rt; differing(rt.alloc(), SYMBOLS)?.as_str(), "");
     assert_eq!(rt; differing(rt.alloc(), FROM)?.as_str(), "");
+    assert_eq!(rt; differing(rt.alloc(), EXPLAIN)?.as_str(), "");
     Ok(())
 }
 
@@ -313,6 +324,35 @@ refused | dis a --From 0
 refused | dis a -f 0
 refused | run a --from 0
 refused | explain 53 --from 0
+";
+
+const EXPLAIN: &str = "\
+asm a object=o explain | asm a -o o --explain
+asm a object=o listing=l explain | asm --explain a --list l --obj o
+link c : a b base=d explain | link c a --explain b --out d
+link c : a --explain base=d | link --out d -- c a --explain
+build a base=b explain | build --explain a --out b
+build a base=b command=c symbols=s explain | build a --out b --command c --explain --symbols s
+run a steps=1000 explain | run a --explain
+run a steps=1000 regs explain | run --explain a --regs
+run a steps=1000 command=--explain | run a --command=--explain
+debug a script=d explain | debug a --script d --explain
+debug a script=d command=c samples=s schedule=w explain | debug a --explain --script d --command c --samples s --schedule w
+refused | asm a -o o --explain --explain
+refused | link c a -o d --explain --explain
+refused | build a -o b --explain --explain
+refused | run a --explain --explain
+refused | debug a --script d --explain --explain
+refused | asm a -o o --explain=true
+refused | run a --explain=
+refused | run a --explain=53
+refused | run --explain
+refused | debug a --script --explain
+refused | run a --Explain
+refused | run a --expl
+refused | dis a --explain
+refused | explain 53 --explain
+refused | --explain run a
 ";
 
 const REFUSED: &str = "\
