@@ -47,12 +47,12 @@ named_file (f ∷ fs) name text h = of (bytes_eq name f.0) refl h (named_file fs
 -- ---- lines that read back
 
 -- a line makes words, as many as it takes, and expansion leaves it alone
-record IsRead (text ws : List ℕ) : Type 0 where
+pub record IsRead (text ws : List ℕ) : Type 0 where
   pub makes : Makes text ws
   pub sized : target_size makes.target (length makes.puts.trees) ≡ length ws
   pub quiet : IsQuiet text
 
-is_read : (p : Printed) → IsInRange p → IsRead (line_of p) (words_in p)
+pub is_read : (p : Printed) → IsInRange p → IsRead (line_of p) (words_in p)
 is_read (Code i) h =
     let back = read_back i h in
     record {

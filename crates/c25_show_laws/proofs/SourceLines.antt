@@ -51,7 +51,7 @@ some_parts (b ∷ text) = of (some_parts text) (b == 10) where
 stripped : (line : List ℕ) → list_all is_quiet line ≡ true → strip_carriage_return line ≡ line
 stripped line h = rw (never_return line (length line - 1) h) refl
 
-first_line : (line rest : List ℕ) → list_all is_quiet line ≡ true → lines (line ++ 10 ∷ rest) ≡ line ∷ lines rest
+pub first_line : (line rest : List ℕ) → list_all is_quiet line ≡ true → lines (line ++ 10 ∷ rest) ≡ line ∷ lines rest
 first_line line rest h =
     let more = some_parts rest in
     ap lines_of_parts (line_split line rest h) ∙ ap (λ ps. lines_of_parts (line ∷ ps)) more.2 ∙ ap (λ l. l ∷ lines_of_parts (more.0 ∷ more.1)) (stripped line h)
