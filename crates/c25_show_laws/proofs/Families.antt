@@ -1,6 +1,7 @@
 -- Each family: what is printed of an instruction says it.
-use Rattle.std.proofs.Common.{◌≡◌, ℕ, suc, ◌-◌, ◌<◌, ◌≤◌, ℤ, pos, negsuc, ◌≤ℤ◌, List, [], ◌∷◌, ◌++◌, Option, Some, None, codes, refl, sym, ap, ◌∙◌, arith}
+use Rattle.std.proofs.Common.{◌≡◌, ℕ, suc, ◌-◌, ◌<◌, ◌^◌, ◌≤◌, ℤ, pos, negsuc, ◌≤ℤ◌, List, [], ◌∷◌, ◌++◌, Option, Some, None, Ok, codes, refl, sym, ap, ◌∙◌, arith}
 use Rattle.std.specs.Fmt.{decimal}
+use Rattle.std.specs.Int.{w16, cast_signed}
 use Rattle.std.proofs.lemmas.Int.{ints}
 use mathlib.Core.List.{append-nil, append_assoc}
 use Rattle.c25_meaning_instructions.specs.Show.{show, long_text, place_text, change_text, next_text, tail_text}
@@ -28,7 +29,7 @@ use Rattle.c25_meaning_instructions.specs.declared.mnemonic.LongMemName.{LongMem
 use Rattle.c25_meaning_instructions.specs.declared.mnemonic.JumpName.{JumpName}
 use Rattle.c25_meaning_instructions.specs.declared.mnemonic.PlainName.{PlainName}
 use Rattle.c25_meaning_instructions.specs.declared.mnemonic.PlainName.TheVariants as plain
-use Rattle.c25_meaning_language.specs.Forms.{expressions}
+use Rattle.c25_meaning_language.specs.Forms.{short_count, expressions}
 use Rattle.c25_meaning_language.specs.Statement.{form_field, insn_of, number_in}
 use Rattle.c25_meaning_language.specs.Tree.{Single, Unary, Name}
 use Rattle.c25_meaning_language.specs.declared.expression.UnaryOperator.TheVariants as unary
@@ -39,7 +40,7 @@ use Rattle.c25_meaning_assembly.specs.declared.assembly.Target.TheVariants.{Inst
 use Rattle.c25_show_laws.proofs.Mnemonics.{mem_mnemonic, shifted_mnemonic, ar_mem_mnemonic, port_mnemonic, bit_mnemonic, short_mnemonic, long_mnemonic, long_mem_mnemonic, jump_mnemonic, plain_mnemonic}
 use Rattle.c25_show_laws.proofs.Names.{register_name, port_name}
 use Rattle.c25_show_laws.proofs.Numerals.{word_constant, decimal_constant}
-use Rattle.c25_show_laws.proofs.Operations.{AreOperands, front_trees, back_trees, next_trees, mem_operands, shifted_operands, ar_mem_operands, port_operands, bit_operands, long_mem_operands, jump_operands, lark_operands, adrk_operands, sbrk_operands, lack_operands, rptk_operands, addk_operands, subk_operands, ldpk_operands, mpyk_operands, negative_operands, lrlk_operands, long_operands, norm_operands, number_operands}
+use Rattle.c25_show_laws.proofs.Operations.{AreOperands, front_trees, back_trees, next_trees, mem_operands, shifted_operands, ar_mem_operands, port_operands, bit_operands, long_mem_operands, jump_operands, lark_operands, short_operands, negative_operands, lrlk_operands, long_operands, norm_operands, number_operands}
 use Rattle.c25_show_laws.proofs.ReadBack.{ReadsBack, read_as, four, six, first_text, word_number, decimal_number, register_number, port_number, front_numbers, back_numbers, next_numbers, alone, following, around}
 use Rattle.c25_show_laws.proofs.Tokens.{AreLexed}
 use Rattle.c25_show_laws.proofs.Values.{constant_tree, negative_number, page9, word16, number, signed13, negative13, low_signed, high_signed, no_numbers, one_number, two_numbers}
@@ -166,61 +167,14 @@ not_negative n h = omega (arith, ints, h)
 alone_lexed : (n : ℕ) → n < 65536 → AreLexed (constant (decimal n) ∷ [])
 alone_lexed n h = constant_lexed n (decimal n) [] (decimal_constant n (omega arith)) refl tt
 
-adrk : (register n : ℕ) → register ≡ 0 → n ≤ 255 → ReadsBack (insn.Short short.Adrk register (pos n))
-adrk register n none h =
-    read_as (family.Short short.Adrk) (constant (decimal n) ∷ []) (form.Short short.Adrk) (constant_tree (decimal n) ∷ []) (n ∷ []) (insn.Short short.Adrk register (pos n))
-    (short_mnemonic short.Adrk) (omega arith) (alone_lexed n (omega arith)) (ap (λ (t : List ℕ). (short_row short.Adrk).name ++ (32 ∷ t)) (sym (append-nil (decimal n)))) (adrk_operands (decimal n))
-    (one_number (Instruction (form.Short short.Adrk)) (constant_tree (decimal n)) (pos n) n (decimal_number n (omega arith)) (number 256 n (omega arith) (omega arith)))
-    (ap (λ z. insn.Short short.Adrk 0 z) (low_signed n (omega arith)) ∙ ap (λ r. insn.Short short.Adrk r (pos n)) (sym none))
-
-sbrk : (register n : ℕ) → register ≡ 0 → n ≤ 255 → ReadsBack (insn.Short short.Sbrk register (pos n))
-sbrk register n none h =
-    read_as (family.Short short.Sbrk) (constant (decimal n) ∷ []) (form.Short short.Sbrk) (constant_tree (decimal n) ∷ []) (n ∷ []) (insn.Short short.Sbrk register (pos n))
-    (short_mnemonic short.Sbrk) (omega arith) (alone_lexed n (omega arith)) (ap (λ (t : List ℕ). (short_row short.Sbrk).name ++ (32 ∷ t)) (sym (append-nil (decimal n)))) (sbrk_operands (decimal n))
-    (one_number (Instruction (form.Short short.Sbrk)) (constant_tree (decimal n)) (pos n) n (decimal_number n (omega arith)) (number 256 n (omega arith) (omega arith)))
-    (ap (λ z. insn.Short short.Sbrk 0 z) (low_signed n (omega arith)) ∙ ap (λ r. insn.Short short.Sbrk r (pos n)) (sym none))
-
-lack : (register n : ℕ) → register ≡ 0 → n ≤ 255 → ReadsBack (insn.Short short.Lack register (pos n))
-lack register n none h =
-    read_as (family.Short short.Lack) (constant (decimal n) ∷ []) (form.Short short.Lack) (constant_tree (decimal n) ∷ []) (n ∷ []) (insn.Short short.Lack register (pos n))
-    (short_mnemonic short.Lack) (omega arith) (alone_lexed n (omega arith)) (ap (λ (t : List ℕ). (short_row short.Lack).name ++ (32 ∷ t)) (sym (append-nil (decimal n)))) (lack_operands (decimal n))
-    (one_number (Instruction (form.Short short.Lack)) (constant_tree (decimal n)) (pos n) n (decimal_number n (omega arith)) (number 256 n (omega arith) (omega arith)))
-    (ap (λ z. insn.Short short.Lack 0 z) (low_signed n (omega arith)) ∙ ap (λ r. insn.Short short.Lack r (pos n)) (sym none))
-
-rptk : (register n : ℕ) → register ≡ 0 → n ≤ 255 → ReadsBack (insn.Short short.Rptk register (pos n))
-rptk register n none h =
-    read_as (family.Short short.Rptk) (constant (decimal n) ∷ []) (form.Short short.Rptk) (constant_tree (decimal n) ∷ []) (n ∷ []) (insn.Short short.Rptk register (pos n))
-    (short_mnemonic short.Rptk) (omega arith) (alone_lexed n (omega arith)) (ap (λ (t : List ℕ). (short_row short.Rptk).name ++ (32 ∷ t)) (sym (append-nil (decimal n)))) (rptk_operands (decimal n))
-    (one_number (Instruction (form.Short short.Rptk)) (constant_tree (decimal n)) (pos n) n (decimal_number n (omega arith)) (number 256 n (omega arith) (omega arith)))
-    (ap (λ z. insn.Short short.Rptk 0 z) (low_signed n (omega arith)) ∙ ap (λ r. insn.Short short.Rptk r (pos n)) (sym none))
-
-addk : (register n : ℕ) → register ≡ 0 → n ≤ 255 → ReadsBack (insn.Short short.Addk register (pos n))
-addk register n none h =
-    read_as (family.Short short.Addk) (constant (decimal n) ∷ []) (form.Short short.Addk) (constant_tree (decimal n) ∷ []) (n ∷ []) (insn.Short short.Addk register (pos n))
-    (short_mnemonic short.Addk) (omega arith) (alone_lexed n (omega arith)) (ap (λ (t : List ℕ). (short_row short.Addk).name ++ (32 ∷ t)) (sym (append-nil (decimal n)))) (addk_operands (decimal n))
-    (one_number (Instruction (form.Short short.Addk)) (constant_tree (decimal n)) (pos n) n (decimal_number n (omega arith)) (number 256 n (omega arith) (omega arith)))
-    (ap (λ z. insn.Short short.Addk 0 z) (low_signed n (omega arith)) ∙ ap (λ r. insn.Short short.Addk r (pos n)) (sym none))
-
-subk : (register n : ℕ) → register ≡ 0 → n ≤ 255 → ReadsBack (insn.Short short.Subk register (pos n))
-subk register n none h =
-    read_as (family.Short short.Subk) (constant (decimal n) ∷ []) (form.Short short.Subk) (constant_tree (decimal n) ∷ []) (n ∷ []) (insn.Short short.Subk register (pos n))
-    (short_mnemonic short.Subk) (omega arith) (alone_lexed n (omega arith)) (ap (λ (t : List ℕ). (short_row short.Subk).name ++ (32 ∷ t)) (sym (append-nil (decimal n)))) (subk_operands (decimal n))
-    (one_number (Instruction (form.Short short.Subk)) (constant_tree (decimal n)) (pos n) n (decimal_number n (omega arith)) (number 256 n (omega arith) (omega arith)))
-    (ap (λ z. insn.Short short.Subk 0 z) (low_signed n (omega arith)) ∙ ap (λ r. insn.Short short.Subk r (pos n)) (sym none))
-
-ldpk : (register n : ℕ) → register ≡ 0 → n ≤ 511 → ReadsBack (insn.Short short.Ldpk register (pos n))
-ldpk register n none h =
-    read_as (family.Short short.Ldpk) (constant (decimal n) ∷ []) (form.Short short.Ldpk) (constant_tree (decimal n) ∷ []) (n ∷ []) (insn.Short short.Ldpk register (pos n))
-    (short_mnemonic short.Ldpk) (omega arith) (alone_lexed n (omega arith)) (ap (λ (t : List ℕ). (short_row short.Ldpk).name ++ (32 ∷ t)) (sym (append-nil (decimal n)))) (ldpk_operands (decimal n))
-    (one_number (Instruction (form.Short short.Ldpk)) (constant_tree (decimal n)) (pos n) n (decimal_number n (omega arith)) (page9 n (omega arith)))
-    (ap (λ z. insn.Short short.Ldpk 0 z) (low_signed n (omega arith)) ∙ ap (λ r. insn.Short short.Ldpk r (pos n)) (sym none))
-
-mpyk : (register n : ℕ) → register ≡ 0 → n ≤ 4095 → ReadsBack (insn.Short short.Mpyk register (pos n))
-mpyk register n none h =
-    read_as (family.Short short.Mpyk) (constant (decimal n) ∷ []) (form.Short short.Mpyk) (constant_tree (decimal n) ∷ []) (n ∷ []) (insn.Short short.Mpyk register (pos n))
-    (short_mnemonic short.Mpyk) (omega arith) (alone_lexed n (omega arith)) (ap (λ (t : List ℕ). (short_row short.Mpyk).name ++ (32 ∷ t)) (sym (append-nil (decimal n)))) (mpyk_operands (decimal n))
-    (one_number (Instruction (form.Short short.Mpyk)) (constant_tree (decimal n)) (pos n) n (decimal_number n (omega arith)) (signed13 n h))
-    (ap (λ z. insn.Short short.Mpyk 0 z) (low_signed n (omega arith)) ∙ ap (λ r. insn.Short short.Mpyk r (pos n)) (sym none))
+-- a number that is not negative, alone
+positive : (m : ShortName) (register n : ℕ) → short_count m ≡ 1 → register ≡ 0 → n < 2 ^ 15 → number_in (form_field (form.Short m) 0) (pos n) ≡ Ok n
+    → show (insn.Short m register (pos n)) ≡ (short_row m).name ++ (32 ∷ (decimal n ++ [])) → insn_of (form.Short m) (n ∷ []) ≡ insn.Short m 0 (cast_signed w16 n) → ReadsBack (insn.Short m register (pos n))
+positive m register n one none h field shown same =
+    read_as (family.Short m) (constant (decimal n) ∷ []) (form.Short m) (constant_tree (decimal n) ∷ []) (n ∷ []) (insn.Short m register (pos n))
+    (short_mnemonic m) (omega arith) (alone_lexed n (omega arith)) shown (short_operands m (decimal n) one)
+    (one_number (Instruction (form.Short m)) (constant_tree (decimal n)) (pos n) n (decimal_number n (omega arith)) field)
+    (same ∙ ap (λ z. insn.Short m 0 z) (low_signed n h) ∙ ap (λ r. insn.Short m r (pos n)) (sym none))
 
 negative : (register n : ℕ) → register ≡ 0 → n ≤ 4095 → ReadsBack (insn.Short short.Mpyk register (negsuc n))
 negative register n none h =
@@ -245,22 +199,17 @@ lark register n small h =
 pub short_number : (m : ShortName) (register : ℕ) (z : ℤ) → ShortInRange m register z → ReadsBack (insn.Short m register z)
 short_number short.Lark register (pos n) h = lark register n h.0 (up_to n 255 h.2)
 short_number short.Lark register (negsuc n) h = absurd (not_negative n h.1)
-short_number short.Adrk register (pos n) h = adrk register n h.0 (up_to n 255 h.2)
-short_number short.Adrk register (negsuc n) h = absurd (not_negative n h.1)
-short_number short.Sbrk register (pos n) h = sbrk register n h.0 (up_to n 255 h.2)
-short_number short.Sbrk register (negsuc n) h = absurd (not_negative n h.1)
-short_number short.Lack register (pos n) h = lack register n h.0 (up_to n 255 h.2)
-short_number short.Lack register (negsuc n) h = absurd (not_negative n h.1)
-short_number short.Rptk register (pos n) h = rptk register n h.0 (up_to n 255 h.2)
-short_number short.Rptk register (negsuc n) h = absurd (not_negative n h.1)
-short_number short.Addk register (pos n) h = addk register n h.0 (up_to n 255 h.2)
-short_number short.Addk register (negsuc n) h = absurd (not_negative n h.1)
-short_number short.Subk register (pos n) h = subk register n h.0 (up_to n 255 h.2)
-short_number short.Subk register (negsuc n) h = absurd (not_negative n h.1)
-short_number short.Ldpk register (pos n) h = ldpk register n h.0 (up_to n 511 h.2)
-short_number short.Ldpk register (negsuc n) h = absurd (not_negative n h.1)
-short_number short.Mpyk register (pos n) h = mpyk register n h.0 (up_to n 4095 h.2)
+short_number short.Mpyk register (pos n) h =
+    let low = up_to n 4095 h.2 in
+    positive short.Mpyk register n refl h.0 (omega arith) (signed13 n low) (ap (λ (t : List ℕ). (short_row short.Mpyk).name ++ (32 ∷ t)) (sym (append-nil (decimal n)))) refl
 short_number short.Mpyk register (negsuc n) h = negative register n h.0 (down_to n 4095 h.1)
+short_number short.Ldpk register (pos n) h =
+    let low = up_to n 511 h.2 in
+    positive short.Ldpk register n refl h.0 (omega arith) (page9 n (omega arith)) (ap (λ (t : List ℕ). (short_row short.Ldpk).name ++ (32 ∷ t)) (sym (append-nil (decimal n)))) refl
+short_number m register (pos n) h =
+    let low = up_to n 255 h.2 in
+    positive m register n refl h.0 (omega arith) (number 256 n (omega arith) (omega arith)) (ap (λ (t : List ℕ). (short_row m).name ++ (32 ∷ t)) (sym (append-nil (decimal n)))) refl
+short_number m register (negsuc n) h = absurd (not_negative n h.1)
 
 -- ---- long numbers
 
@@ -278,58 +227,13 @@ lrlk word register small h =
 
 pub long_number : (m : LongName) (word high : ℕ) → word < 65536 → high < high_limit m → ReadsBack (insn.Long m word high)
 long_number long.Lrlk word high small h = lrlk word high small h
-long_number long.Lalk word high small h =
-    read_as (family.Long long.Lalk) (constant (long_text word) ∷ comma ∷ constant (decimal high) ∷ []) (form.Long long.Lalk) (constant_tree (long_text word) ∷ constant_tree (decimal high) ∷ []) (word ∷ high ∷ [])
-    (insn.Long long.Lalk word high)
-    (long_mnemonic long.Lalk) (omega arith) (constant_lexed word (long_text word) (comma ∷ constant (decimal high) ∷ []) (word_constant word small) refl (comma_lexed (constant (decimal high) ∷ []) (alone_lexed high (omega arith))))
-    (ap (λ (t : List ℕ). (long_row long.Lalk).name ++ (codes " " ++ (long_text word ++ (44 ∷ t)))) (sym (append-nil (decimal high))))
-    (long_operands long.Lalk (long_text word) (decimal high))
-    (two_numbers (Instruction (form.Long long.Lalk)) (constant_tree (long_text word)) (constant_tree (decimal high)) (pos word) (pos high) word high
-    (word_number word small) (word16 word small) (decimal_number high (omega arith)) (number 16 high h (omega arith)))
-    refl
-long_number long.Adlk word high small h =
-    read_as (family.Long long.Adlk) (constant (long_text word) ∷ comma ∷ constant (decimal high) ∷ []) (form.Long long.Adlk) (constant_tree (long_text word) ∷ constant_tree (decimal high) ∷ []) (word ∷ high ∷ [])
-    (insn.Long long.Adlk word high)
-    (long_mnemonic long.Adlk) (omega arith) (constant_lexed word (long_text word) (comma ∷ constant (decimal high) ∷ []) (word_constant word small) refl (comma_lexed (constant (decimal high) ∷ []) (alone_lexed high (omega arith))))
-    (ap (λ (t : List ℕ). (long_row long.Adlk).name ++ (codes " " ++ (long_text word ++ (44 ∷ t)))) (sym (append-nil (decimal high))))
-    (long_operands long.Adlk (long_text word) (decimal high))
-    (two_numbers (Instruction (form.Long long.Adlk)) (constant_tree (long_text word)) (constant_tree (decimal high)) (pos word) (pos high) word high
-    (word_number word small) (word16 word small) (decimal_number high (omega arith)) (number 16 high h (omega arith)))
-    refl
-long_number long.Sblk word high small h =
-    read_as (family.Long long.Sblk) (constant (long_text word) ∷ comma ∷ constant (decimal high) ∷ []) (form.Long long.Sblk) (constant_tree (long_text word) ∷ constant_tree (decimal high) ∷ []) (word ∷ high ∷ [])
-    (insn.Long long.Sblk word high)
-    (long_mnemonic long.Sblk) (omega arith) (constant_lexed word (long_text word) (comma ∷ constant (decimal high) ∷ []) (word_constant word small) refl (comma_lexed (constant (decimal high) ∷ []) (alone_lexed high (omega arith))))
-    (ap (λ (t : List ℕ). (long_row long.Sblk).name ++ (codes " " ++ (long_text word ++ (44 ∷ t)))) (sym (append-nil (decimal high))))
-    (long_operands long.Sblk (long_text word) (decimal high))
-    (two_numbers (Instruction (form.Long long.Sblk)) (constant_tree (long_text word)) (constant_tree (decimal high)) (pos word) (pos high) word high
-    (word_number word small) (word16 word small) (decimal_number high (omega arith)) (number 16 high h (omega arith)))
-    refl
-long_number long.Andk word high small h =
-    read_as (family.Long long.Andk) (constant (long_text word) ∷ comma ∷ constant (decimal high) ∷ []) (form.Long long.Andk) (constant_tree (long_text word) ∷ constant_tree (decimal high) ∷ []) (word ∷ high ∷ [])
-    (insn.Long long.Andk word high)
-    (long_mnemonic long.Andk) (omega arith) (constant_lexed word (long_text word) (comma ∷ constant (decimal high) ∷ []) (word_constant word small) refl (comma_lexed (constant (decimal high) ∷ []) (alone_lexed high (omega arith))))
-    (ap (λ (t : List ℕ). (long_row long.Andk).name ++ (codes " " ++ (long_text word ++ (44 ∷ t)))) (sym (append-nil (decimal high))))
-    (long_operands long.Andk (long_text word) (decimal high))
-    (two_numbers (Instruction (form.Long long.Andk)) (constant_tree (long_text word)) (constant_tree (decimal high)) (pos word) (pos high) word high
-    (word_number word small) (word16 word small) (decimal_number high (omega arith)) (number 16 high h (omega arith)))
-    refl
-long_number long.Ork word high small h =
-    read_as (family.Long long.Ork) (constant (long_text word) ∷ comma ∷ constant (decimal high) ∷ []) (form.Long long.Ork) (constant_tree (long_text word) ∷ constant_tree (decimal high) ∷ []) (word ∷ high ∷ [])
-    (insn.Long long.Ork word high)
-    (long_mnemonic long.Ork) (omega arith) (constant_lexed word (long_text word) (comma ∷ constant (decimal high) ∷ []) (word_constant word small) refl (comma_lexed (constant (decimal high) ∷ []) (alone_lexed high (omega arith))))
-    (ap (λ (t : List ℕ). (long_row long.Ork).name ++ (codes " " ++ (long_text word ++ (44 ∷ t)))) (sym (append-nil (decimal high))))
-    (long_operands long.Ork (long_text word) (decimal high))
-    (two_numbers (Instruction (form.Long long.Ork)) (constant_tree (long_text word)) (constant_tree (decimal high)) (pos word) (pos high) word high
-    (word_number word small) (word16 word small) (decimal_number high (omega arith)) (number 16 high h (omega arith)))
-    refl
-long_number long.Xork word high small h =
-    read_as (family.Long long.Xork) (constant (long_text word) ∷ comma ∷ constant (decimal high) ∷ []) (form.Long long.Xork) (constant_tree (long_text word) ∷ constant_tree (decimal high) ∷ []) (word ∷ high ∷ [])
-    (insn.Long long.Xork word high)
-    (long_mnemonic long.Xork) (omega arith) (constant_lexed word (long_text word) (comma ∷ constant (decimal high) ∷ []) (word_constant word small) refl (comma_lexed (constant (decimal high) ∷ []) (alone_lexed high (omega arith))))
-    (ap (λ (t : List ℕ). (long_row long.Xork).name ++ (codes " " ++ (long_text word ++ (44 ∷ t)))) (sym (append-nil (decimal high))))
-    (long_operands long.Xork (long_text word) (decimal high))
-    (two_numbers (Instruction (form.Long long.Xork)) (constant_tree (long_text word)) (constant_tree (decimal high)) (pos word) (pos high) word high
+long_number m word high small h =
+    read_as (family.Long m) (constant (long_text word) ∷ comma ∷ constant (decimal high) ∷ []) (form.Long m) (constant_tree (long_text word) ∷ constant_tree (decimal high) ∷ []) (word ∷ high ∷ [])
+    (insn.Long m word high)
+    (long_mnemonic m) (omega arith) (constant_lexed word (long_text word) (comma ∷ constant (decimal high) ∷ []) (word_constant word small) refl (comma_lexed (constant (decimal high) ∷ []) (alone_lexed high (omega arith))))
+    (ap (λ (t : List ℕ). (long_row m).name ++ (codes " " ++ (long_text word ++ (44 ∷ t)))) (sym (append-nil (decimal high))))
+    (long_operands m (long_text word) (decimal high))
+    (two_numbers (Instruction (form.Long m)) (constant_tree (long_text word)) (constant_tree (decimal high)) (pos word) (pos high) word high
     (word_number word small) (word16 word small) (decimal_number high (omega arith)) (number 16 high h (omega arith)))
     refl
 

@@ -1,7 +1,7 @@
 -- What the operands of each family are read as, whatever their texts are.
-use Rattle.std.proofs.Common.{◌≡◌, ℕ, List, [], ◌∷◌, Option, Some, None, Ok, refl}
+use Rattle.std.proofs.Common.{◌≡◌, ℕ, arith, List, [], ◌∷◌, Option, Some, None, Ok, refl}
 use Rattle.c25_meaning_language.specs.Operands.{operands_of}
-use Rattle.c25_meaning_language.specs.Forms.{memory, expressions, jumping, norm}
+use Rattle.c25_meaning_language.specs.Forms.{short_count, memory, expressions, jumping, norm}
 use Rattle.c25_meaning_language.specs.Tree.{Tree, Single, Unary, Name}
 use Rattle.c25_meaning_language.specs.declared.expression.UnaryOperator.TheVariants as unary
 use Rattle.c25_meaning_language.specs.declared.statement.AddrForm.{AddrForm}
@@ -18,6 +18,7 @@ use Rattle.c25_meaning_instructions.specs.declared.mnemonic.ShiftedName.{Shifted
 use Rattle.c25_meaning_instructions.specs.declared.mnemonic.ArMemName.{ArMemName}
 use Rattle.c25_meaning_instructions.specs.declared.mnemonic.PortName.{PortName}
 use Rattle.c25_meaning_instructions.specs.declared.mnemonic.BitName.{BitName}
+use Rattle.c25_meaning_instructions.specs.declared.mnemonic.ShortName.{ShortName}
 use Rattle.c25_meaning_instructions.specs.declared.mnemonic.ShortName.TheVariants as short
 use Rattle.c25_meaning_instructions.specs.declared.mnemonic.LongName.{LongName}
 use Rattle.c25_meaning_instructions.specs.declared.mnemonic.LongName.TheVariants as long
@@ -105,37 +106,10 @@ pub lark_operands : (register text : List ℕ) → AreOperands (family.Short sho
 unfolding operation_of with_operand memory expressions jumping norm
 lark_operands register text at = refl
 
-pub adrk_operands : (text : List ℕ) → AreOperands (family.Short short.Adrk) (constant text ∷ []) (form.Short short.Adrk) (constant_tree text ∷ [])
-unfolding operation_of with_operand memory expressions jumping norm
-adrk_operands text at = refl
-
-pub sbrk_operands : (text : List ℕ) → AreOperands (family.Short short.Sbrk) (constant text ∷ []) (form.Short short.Sbrk) (constant_tree text ∷ [])
-unfolding operation_of with_operand memory expressions jumping norm
-sbrk_operands text at = refl
-
-pub lack_operands : (text : List ℕ) → AreOperands (family.Short short.Lack) (constant text ∷ []) (form.Short short.Lack) (constant_tree text ∷ [])
-unfolding operation_of with_operand memory expressions jumping norm
-lack_operands text at = refl
-
-pub rptk_operands : (text : List ℕ) → AreOperands (family.Short short.Rptk) (constant text ∷ []) (form.Short short.Rptk) (constant_tree text ∷ [])
-unfolding operation_of with_operand memory expressions jumping norm
-rptk_operands text at = refl
-
-pub addk_operands : (text : List ℕ) → AreOperands (family.Short short.Addk) (constant text ∷ []) (form.Short short.Addk) (constant_tree text ∷ [])
-unfolding operation_of with_operand memory expressions jumping norm
-addk_operands text at = refl
-
-pub subk_operands : (text : List ℕ) → AreOperands (family.Short short.Subk) (constant text ∷ []) (form.Short short.Subk) (constant_tree text ∷ [])
-unfolding operation_of with_operand memory expressions jumping norm
-subk_operands text at = refl
-
-pub ldpk_operands : (text : List ℕ) → AreOperands (family.Short short.Ldpk) (constant text ∷ []) (form.Short short.Ldpk) (constant_tree text ∷ [])
-unfolding operation_of with_operand memory expressions jumping norm
-ldpk_operands text at = refl
-
-pub mpyk_operands : (text : List ℕ) → AreOperands (family.Short short.Mpyk) (constant text ∷ []) (form.Short short.Mpyk) (constant_tree text ∷ [])
-unfolding operation_of with_operand memory expressions jumping norm
-mpyk_operands text at = refl
+pub short_operands : (m : ShortName) (text : List ℕ) → short_count m ≡ 1 → AreOperands (family.Short m) (constant text ∷ []) (form.Short m) (constant_tree text ∷ [])
+unfolding operation_of with_operand expressions
+short_operands short.Lark text one at = absurd (omega (arith, one))
+short_operands _ text one at = refl
 
 pub negative_operands : (text : List ℕ) → AreOperands (family.Short short.Mpyk) (minus ∷ constant text ∷ []) (form.Short short.Mpyk) (Unary unary.Minus (constant_tree text) ∷ [])
 unfolding operation_of with_operand memory expressions jumping norm

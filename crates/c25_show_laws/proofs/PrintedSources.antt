@@ -13,7 +13,7 @@ use Rattle.c25_meaning_language.proofs.Numbers.{size_of_form}
 use Rattle.c25_meaning_expansion.specs.Expansion.{Config, Read}
 use Rattle.c25_meaning_expansion.specs.ExpansionAnswers.{ExpandedLine, fault_by, given_by}
 use Rattle.c25_meaning_expansion.specs.ExpansionRules.{macro_of}
-use Rattle.c25_meaning_expansion.specs.ExpansionRuns.{start}
+use Rattle.c25_meaning_expansion.specs.ExpansionRuns.{start, start_of}
 use Rattle.c25_meaning_expansion.specs.Files.{Files, text_named, file_name}
 use Rattle.c25_meaning_expansion.specs.Rows.{Row, rows_from, file_number}
 use Rattle.c25_meaning_objects.specs.declared.object.ModuleMark.{ModuleMark}
@@ -165,24 +165,35 @@ few_lines : (ps : List Printed) → length ps ≤ length (flat_map words_in ps)
 few_lines [] = omega arith
 few_lines (p ∷ ps) = let sum = length-append (words_in p) (flat_map words_in ps) in let some = some_words p in let rest = few_lines ps in omega (arith, sum, some, rest)
 
+-- the first line of all
+from_start : (files : Files) (name : List ℕ) (ps : List Printed) → text_named files name ≡ Some (source_of ps) → AreQuiet ps
+    → start_of files name ≡ Some (behind_lines files (table (no_lines).progress) (file_number files name) (source_of ps) (rows_from (file_number files name) 1 (map line_of ps)) 200000)
+from_start files name ps h quiet =
+    ap (option_map (start (file_number files name))) h
+    ∙ ap (λ ls. Some (behind_lines files (table (no_lines).progress) (file_number files name) (source_of ps) (rows_from (file_number files name) 1 ls) 200000)) (source_lines ps quiet)
+
+-- the module of what lines have made
+completed_as : (a : Passed) (n : ℕ) (marks : List ModuleMark) (origins : List Origin) (items : List Item) (names : List (List ℕ)) (ws : List ℕ) → a.progress ≡ standing n marks origins items names → Emits items ws
+    → completed a ≡ Ok (record { contents = module_with (filled (text_section n marks origins) ws ∷ []) [] []; entries = a.entries })
+unfolding finished
+completed_as a n marks origins items names ws is emits =
+    ap (λ p. finished p >>= λ c. Ok (record { contents = c; entries = a.entries })) is
+    ∙ ap (λ r. (r >>= λ sections. Ok (module_with sections [] [])) >>= λ c. Ok (record { contents = c; entries = a.entries })) (emits (text_section n marks origins))
+
 -- its one section has the words of all lines, in their order
 pub source_words : (files : Files) (name : List ℕ) (ps : List Printed) → text_named files name ≡ Some (source_of ps) → is_file_name name ≡ true → All IsInRange ps → length (flat_map words_in ps) ≤ 65536
     → (a : Assembled) × (assembled files name ≡ Ok a) × IsTextOf (flat_map words_in ps) a.contents
-unfolding assembled finished
+unfolding assembled
 source_words files name ps h named in_range few =
-    let number = file_number files name in
     let good = ap is_file_name (named_file files name (source_of ps) h) ∙ named in
     let read = all_read ps in_range in
     let lines_few = few_lines ps in
-    let made : Made files number (source_of ps) good no_lines [] = record { marks = []; origins = []; items = []; names = []; used = inl refl; is = refl; emits = λ s. refl } in
-    let all = passed_all files number (source_of ps) good ps 1 200001 200000 [] no_lines read (omega (arith, lines_few, few)) (omega (arith, lines_few, few)) (omega arith) (omega (arith, lines_few, few)) (omega (arith, few)) made in
-    let m = all.2 in
-    let section = text_section (length (flat_map words_in ps)) m.marks m.origins in (
-      record { contents = module_with (filled section (flat_map words_in ps) ∷ []) [] []; entries = all.0.entries },
-      ap (λ o. passed_from files name (option_map (start number) o) >>= λ a. completed a) h
-          ∙ ap (λ ls. passed files 200001 (behind_lines files (table (no_lines).progress) number (source_of ps) (rows_from number 1 ls) 200000) no_lines >>= λ a. completed a) (source_lines ps (are_quiet ps read))
-          ∙ ap (λ r. r >>= λ a. completed a) all.1
-          ∙ ap (λ p. finished p >>= λ c. Ok (record { contents = c; entries = all.0.entries })) m.is
-          ∙ ap (λ r. (r >>= λ sections. Ok (module_with sections [] [])) >>= λ c. Ok (record { contents = c; entries = all.0.entries })) (m.emits section),
+    let made : Made files (file_number files name) (source_of ps) good no_lines [] = record { marks = []; origins = []; items = []; names = []; used = inl refl; is = refl; emits = λ s. refl } in
+    let all = passed_all files (file_number files name) (source_of ps) good ps 1 200001 200000 [] no_lines read (omega (arith, lines_few, few)) (omega (arith, lines_few, few)) (omega arith) (omega (arith, lines_few, few)) (omega (arith, few)) made in
+    let m = all.2 in (
+      record { contents = module_with (filled (text_section (length (flat_map words_in ps)) m.marks m.origins) (flat_map words_in ps) ∷ []) [] []; entries = all.0.entries },
+      ap (λ o. passed_from files name o >>= completed) (from_start files name ps h (are_quiet ps read))
+          ∙ ap (λ r. r >>= completed) all.1
+          ∙ completed_as all.0 (length (flat_map words_in ps)) m.marks m.origins m.items m.names (flat_map words_in ps) m.is m.emits,
       record { sections = refl; symbols = refl; relocations = refl },
     )
