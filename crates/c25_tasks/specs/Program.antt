@@ -70,7 +70,7 @@ Does held input (Run sources steps files regs explain) e =
 Does held input (Debug sources script files explain) e =
     DebugsTold held (notes_for explain files (Some script)) (texts_of sources.items) script.now files e.ending e.note e.out × Stay e.written.0 e.written.1
 Does held input (Explain number) e = Explained number e.ending e.out × OnlyPrints e
-Does held input (Disassemble file from) e = DisassemblesTold held file.now e.ending e.out × OnlyPrints e
+Does held input (Disassemble file from) e = DisassemblesTold held file.now (text_of from) e.ending e.out × OnlyPrints e
 
 -- ---- words
 

@@ -217,8 +217,8 @@ pub(crate) fn do_task<D: Disk, R: Read, O: Write>(
             let ending = explain_number(alloc, *number, out);
             Report::without_note(alloc, ending)
         }
-        Task::Disassemble { file, from: _ } => {
-            let ending = disassemble(alloc, file, disk, out);
+        Task::Disassemble { file, from } => {
+            let ending = disassemble(alloc, file, *from, disk, out);
             Report::without_note(alloc, ending)
         }
     }
