@@ -1,4 +1,3 @@
-use Rattle.std.proofs.Common.{refl}
 use Rattle.std.specs.Prelude.{Err}
 use Rattle.c25_tasks.proofs.Quiet.{keeps, stays}
 use Rattle.c25_tasks.proofs.Words.{are_read}

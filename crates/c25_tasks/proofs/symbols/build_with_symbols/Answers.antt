@@ -1,4 +1,4 @@
-use Rattle.std.proofs.Common.{◌≡◌, sym, ap, ◌∙◌, List, map, string_bytes}
+use Rattle.std.proofs.Common.{◌≡◌, ap, ◌∙◌, List, map, string_bytes}
 use Rattle.c25_chain.specs.Linked.{places_of}
 use Rattle.c25_meaning_objects.specs.Module.{Contents}
 use Rattle.c25_meaning_placing.specs.GoodMap.{ranges_for}
