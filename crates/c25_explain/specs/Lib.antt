@@ -1,3 +1,3 @@
 pub mod Explanation
 pub mod Lines
-pub mod Texts
+pub mod Note
