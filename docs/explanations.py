@@ -6,13 +6,17 @@ usage: python3 docs/explanations.py [--write | --check]     (from the top of the
 It prints the explanation of each fault. --write puts them into crates/c25_explain/src, a file for each group of faults of the page;
 --check tells of each of these files that is another than would be written or is not there, and ends with status 1 where it tells one.
 
-An explanation is the fault's heading, as `53 FieldRange`, an empty line, and then what the section has:
+An explanation is the fault's heading, as `53 FieldRange`, and what the section has, in three parts:
 
-- paragraphs, in lines of at most 100 columns, without the marks of links, and without those of code that has a letter or a digit (of
-  signs alone, as `;`, they stay, since nothing else would part them from the sentence);
-- tables, a line for each row, indented by four blanks;
-- of the examples the first, which is the smallest: what is given and the line that is told, each indented by four blanks. The others,
-  and the blocks of lines that are told alike, stand on the page alone: a reader at a terminal wants one case that can be seen at once.
+- the meaning: what stands before the first example, or before the advice where there is no example;
+- the example: of the examples the first, which is the smallest: what is given and the line that is told, each indented by four blanks.
+  The others, and the blocks of lines that are told alike, stand on the page alone: a reader at a terminal wants one case that can be
+  seen at once;
+- the advice: what stands behind the examples, of which the last paragraph begins with `Do:`.
+
+Of them all there are paragraphs, in lines of at most 100 columns, without the marks of links, and without those of code that has a
+letter or a digit (of signs alone, as `;`, they stay, since nothing else would part them from the sentence), and tables, a line for each
+row, indented by four blanks. Paragraphs, tables and parts have an empty line between them.
 """
 import os
 import re
@@ -64,36 +68,56 @@ def table(lines):
     return "\n".join(textwrap.fill(" | ".join(row), COLUMNS, initial_indent=INDENT, subsequent_indent=2 * INDENT) for row in rows)
 
 
+def paragraph_text(paragraph):
+    """A paragraph or a table."""
+    if paragraph.startswith("|"):
+        return table(paragraph.splitlines())
+    return textwrap.fill(plain(" ".join(paragraph.split("\n"))), COLUMNS, break_long_words=False, break_on_hyphens=False)
+
+
 def parts(body):
-    """What a section has in its order: its paragraphs, its tables and its first example."""
-    shown = set()
+    """The meaning, the example and the advice of a section; an example may be empty."""
+    meaning, example, advice = [], [], []
     for fence, block, paragraph in re.findall(r"(?ms)^```(\w+)[^\n]*\n(.*?)^```$|((?:^(?!```)[^\n]+\n)+)", body):
-        if fence in ("given", "told") and fence not in shown:
-            shown.add(fence)
-            yield {"given": "Given:", "told": "Told:"}[fence]
-            yield indented(block.splitlines())
-        elif paragraph.startswith("|"):
-            yield table(paragraph.splitlines())
+        label = {"given": "Given:", "told": "Told:"}.get(fence)
+        if label and label not in example:
+            example += [label, indented(block.splitlines())]
         elif paragraph:
-            yield textwrap.fill(plain(" ".join(paragraph.split("\n"))), COLUMNS, break_long_words=False, break_on_hyphens=False)
+            behind = example or advice or paragraph.startswith("Do:")
+            (advice if behind else meaning).append(paragraph_text(paragraph))
+    return ["\n\n".join(part) + "\n" if part else "" for part in (meaning, example, advice)]
 
 
 def explanations():
-    """Of each group that has faults, their headings and explanations."""
+    """Of each group that has faults, their headings and the parts of their explanations."""
     for title, body in sections(text_of(PAGE), "##"):
-        faults = {heading: "\n\n".join([heading, *parts(section)]) + "\n" for heading, section in sections(body, "###")}
+        faults = {heading: parts(section) for heading, section in sections(body, "###")}
         if faults:
             yield title, faults
 
 
-def function(heading, text, variant):
-    """The function of a fault, as `field_range` of `53 FieldRange`, which answers its explanation."""
-    name = heading.split()[1]
-    fault = ALONE.get(name) or f"({variant} fault.{name})"
+def whole(heading, parts_of_it):
+    """What `c25 explain` prints."""
+    return "\n".join([heading + "\n", *(part for part in parts_of_it if part)])
+
+
+def literal(text):
+    """A text as it stands in a source."""
     if '"#' in text:
-        sys.exit(f'{PAGE}: {heading}: "# would end its text in the source')
+        sys.exit(f'{PAGE}: "# would end a text in the source: {text}')
+    return f'r#"{text}"#'
+
+
+def function(heading, parts_of_it, variant):
+    """The function of a fault, as `field_range` of `53 FieldRange`, which answers its explanation."""
+    number, name = heading.split()
+    fault = ALONE.get(name) or f"({variant} fault.{name})"
     snake = re.sub(r"(?<=[a-z])(?=[A-Z])", "_", name).lower()
-    return f"pub(crate) fn {snake}() -> &'static str\n    ensures {{ IsTextOf {fault} result.now }}\n{{\n    r#\"{text}\"#\n}}\n"
+    meaning, example, advice = parts_of_it
+    example = f"Some(\n            {literal(example)},\n        )" if example else "None"
+    fields = [f"number: {number}", f'name: "{name}"', f"meaning: {literal(meaning)}", f"example: {example}", f"advice: {literal(advice)}"]
+    body = "".join(f"        {field},\n" for field in fields)
+    return f"pub(crate) fn {snake}() -> Explanation\n    ensures {{ IsExplanationOf {fault} result }}\n{{\n    Explanation {{\n{body}    }}\n}}\n"
 
 
 def source(title, faults):
@@ -103,10 +127,11 @@ def source(title, faults):
     variants = ", ".join(sorted(alone + ([variant] if variant else [])))
     head = [
         f"//! {title}: explanations of faults, made of {PAGE} by docs/explanations.py --write.\n",
-        "ghost use Rattle.c25_explain.specs.Texts.{IsTextOf};",
+        "ghost use Rattle.c25_explain.specs.Explanation.{IsExplanationOf};",
         f"ghost use Rattle.c25_explain.specs.declared.fault.AnyFault.TheVariants.{{{variants}}};",
     ]
     head += [f"ghost use Rattle.{crate}.specs.declared.{kind}.TheVariants as fault;"] if variant else []
+    head += ["\nuse crate::parts::Explanation;"]
     return "\n".join(head + ["", *(function(heading, text, variant) for heading, text in faults.items())])
 
 
@@ -124,7 +149,7 @@ def main(words):
         wrong = [path for path, text in sources().items() if not os.path.isfile(path) or text_of(path) != text]
         print("\n".join(f"{path} is another than python3 docs/explanations.py --write makes of {PAGE}" for path in wrong) or f"the explanations are those of {PAGE}")
         return 1 if wrong else 0
-    print("\n".join(text for _, faults in explanations() for text in faults.values()), end="")
+    print("\n".join(whole(heading, text) for _, faults in explanations() for heading, text in faults.items()), end="")
     return 0
 
 

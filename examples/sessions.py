@@ -15,8 +15,10 @@ folder its commands with what a terminal shows behind them, of packed cases thei
   command of the page writes it; of a block `listing` its source is assembled; each line of a block `faults` is a source,
   and its comment is the fault that must be told of it.
 - `faults.cases` has the examples of docs/FAULTS.md that words of the program reach: the form of its blocks is told there.
+  `explained.cases` has those of them that take `--explain`, with the note of each fault, made of the same page.
   `pages/faults` has the others of them: calls of a library on a file, which a session has too.
-- `cases/NAME` stands as it is, with its files, its `session` and its `output.txt`: what a terminal shows of it.
+- `cases/NAME` stands as it is, with its files, its `session` and its `output.txt`: what a terminal shows of it, where a line
+  `{NUMBER}` stands for what `--explain` tells of the fault of that number behind the line that it shows.
 - `cases/*.cases` and `random/*.cases` stand as they are.
 
 The program itself is not run here: `rt ci` runs it.
@@ -30,6 +32,9 @@ import sys
 import tempfile
 
 TOP = os.path.dirname(os.path.dirname(os.path.abspath(__file__)))
+sys.path.insert(0, os.path.join(TOP, "docs"))
+import explanations  # noqa: E402
+
 CRATE = os.path.join(TOP, "crates", "c25_examples")
 DATA = os.path.join(CRATE, "data")
 PROGRAMS = ["fir", "biquad", "tone", "ring", "modem", "pi", "decimal", "fft", "lms", "mulaw", "float", "divide", "roots"]
@@ -44,6 +49,8 @@ RECORDED = {"mulaw": ["samples.wav"], "fir": ["samples.csv", "--column", "2", "-
 LIBRARY = ("read_hex", "read_map", "run_chain", "line_of")
 # Commands that show something and are none of the program's: what they show is not looked at.
 OTHERS = ("ls", "od ", "cmp ")
+# The subcommands that explain a fault where they are asked to.
+EXPLAINING = ("asm", "link", "build", "run", "debug")
 
 
 def lines_of(path):
@@ -154,6 +161,20 @@ def program(name, data):
     return "programs/" + name, ["$ " + command] + lines_of(os.path.join(source, "output.txt"))
 
 
+def notes():
+    """Of each number of a fault what is told of it behind the line that is shown: what it means, what to do, where its example is."""
+    return {heading.split()[0]: "\n%s\n%s\nExample: c25 explain %s\n" % (meaning, advice, heading.split()[0])
+            for _, faults in explanations.explanations() for heading, (meaning, _, advice) in faults.items()}
+
+
+def with_notes(lines):
+    """Lines in which a line `{NUMBER}` stands for the note of a fault."""
+    told = notes()
+    for line in lines:
+        number = re.fullmatch(r"\{(\d+)\}", line)
+        yield from told[number[1]].splitlines() if number else [line]
+
+
 def case_folders():
     """The folders of cases, which stand."""
     for name in sorted(os.listdir(os.path.join(DATA, "cases"))):
@@ -162,7 +183,7 @@ def case_folders():
             told = lines_of(os.path.join(folder, "output.txt"))
             if [line[2:] for line in told if line.startswith("$ ")] != lines_of(os.path.join(folder, "session")):
                 sys.exit("cases/%s: output.txt has other commands than session" % name)
-            yield "cases/" + name, told
+            yield "cases/" + name, list(with_notes(told))
 
 
 def packed_number(path):
@@ -199,16 +220,33 @@ def file_bytes(name, lines):
     return bytes.fromhex("".join(lines)) if name.endswith(".obj") else "".join(line + "\n" for line in lines).encode()
 
 
-def packed_case(name, files, command, told):
+def words_of(files, command):
+    """The words of an example behind the program's name."""
+    if command is not None:
+        return command.split()[1:]
+    beside = [option for option in ("command", "samples", "schedule") if option in files]
+    words = ["run"] + sorted(name for name in files if name.endswith(".asm"))
+    return words + [word for option in beside for word in ("--" + option, option)]
+
+
+def is_run(told):
+    """Whether this is told of a run, and not of a fault."""
+    return told.startswith(("left ", "ran "))
+
+
+def note_of(files, told):
+    """What `--explain` tells of an example's fault: the line where it is, if it is told of one that is there, and what it means."""
+    place, fault = told.rsplit(": ", 1)
+    file, _, number = place.rpartition(":")
+    lines = files.get(file, [])
+    shown = "%s: %s\n" % (place, lines[int(number) - 1]) if number.isdigit() and 0 < int(number) <= len(lines) else ""
+    return shown + notes()[fault.split()[0]]
+
+
+def packed_case(name, files, words, told, note=""):
     """An example as a packed case: the fault's line goes to standard error, that of a run to standard output."""
-    if command is None:
-        beside = [option for option in ("command", "samples", "schedule") if option in files]
-        words = ["run"] + sorted(name for name in files if name.endswith(".asm"))
-        words += [word for option in beside for word in ("--" + option, option)]
-    else:
-        words = command.split()[1:]
-    runs = told.startswith(("left ", "ran "))
-    line = told.encode() + b"\n"
+    runs = is_run(told)
+    line = told.encode() + b"\n" + note.encode()
     out = b"case %s\n" % name.encode() + b"".join(b"word %s\n" % word.encode() for word in words)
     for file in sorted(files):
         held = file_bytes(file, files[file])
@@ -258,17 +296,31 @@ def library_faults(data):
     return "pages/faults", folder.printed
 
 
-def faults(data):
-    """The examples that words of the program reach, packed, named by their lines and numbered."""
-    out, seen = b"", {}
+def program_faults():
+    """The examples that words of the program reach: names of cases, their lines numbered, files, words and lines."""
+    seen = {}
     for files, command, told in fault_examples():
-        if is_library(command):
-            continue
-        seen[told] = seen.get(told, 0) + 1
-        out += packed_case("%s, %d" % (told, seen[told]), files, command, told)
-    with open(os.path.join(data, "faults.cases"), "wb") as file:
-        file.write(out)
-    return packed(data, "faults.cases")
+        if not is_library(command):
+            seen[told] = seen.get(told, 0) + 1
+            yield "%s, %d" % (told, seen[told]), files, words_of(files, command), told
+
+
+def write_packed(data, name, cases):
+    """A file of packed cases."""
+    with open(os.path.join(data, name), "wb") as file:
+        file.write(b"".join(packed_case(*case) for case in cases))
+    return packed(data, name)
+
+
+def faults(data):
+    return write_packed(data, "faults.cases", program_faults())
+
+
+def explained(data):
+    """The same of faults that are explained."""
+    return write_packed(data, "explained.cases", (
+        (name, files, words + ["--explain"], told, note_of(files, told))
+        for name, files, words, told in program_faults() if words[0] in EXPLAINING and not is_run(told)))
 
 
 def recorded():
@@ -294,7 +346,7 @@ def differing(made, standing):
 def make(made):
     """Makes the folders and files below the first of each pair, which stand below the second: the pairs."""
     told = [program(name, made) for name in PROGRAMS] + [page(path, made) for path in PAGES]
-    told += [library_faults(made), faults(made)]
+    told += [library_faults(made), faults(made), explained(made)]
     told += case_folders()
     told += [packed(DATA, "%s/%s" % (kind, name)) for kind in ("cases", "random")
              for name in sorted(os.listdir(os.path.join(DATA, kind))) if name.endswith(".cases")]
@@ -303,7 +355,7 @@ def make(made):
         with open(os.path.join(made, name), "w", encoding="utf-8") as file:
             file.write("".join(line + "\n" for line in lines))
     return [(os.path.join(made, name), os.path.join(at, name))
-            for at, name in ((CRATE, "args"), (CRATE, "stdout"), (DATA, "faults.cases"), (DATA, "programs"), (DATA, "pages"))]
+            for at, name in ((CRATE, "args"), (CRATE, "stdout"), (DATA, "faults.cases"), (DATA, "explained.cases"), (DATA, "programs"), (DATA, "pages"))]
 
 
 def check(pairs):

@@ -17,7 +17,7 @@ use Rattle.c25_chain.specs.Chain.{Answers, Given, Inputs, IsAnswer, inputs_in, r
 use Rattle.c25_chain.specs.Linked as linked
 use Rattle.c25_chain.specs.Linked.{Texts}
 use Rattle.c25_chain.specs.Refusal.{Fault, refusal_of}
-use Rattle.c25_chain.specs.Run.{HasRun, IsRunOf, RunData, run_data}
+use Rattle.c25_chain.specs.Run.{EndsAs, HasRun, RunsWords, run_data}
 use Rattle.c25_chain.specs.declared.built.Built.{Built}
 use Rattle.c25_chain.specs.declared.chain.Chain.{Chain}
 use Rattle.c25_chain.specs.declared.fault.Refusal.{Refusal}
@@ -78,7 +78,7 @@ both_read g samples entries e h =
     ap (λ (x : Result (List Sample) (Refusal (List ℕ))). x >>= with_samples g) e
     ∙ ap (λ (x : Result (List Entry) (Refusal (List ℕ))). x >>= with_entries samples) h
 
-pub answered : (g : Given) (n : ℕ) (b : Built) (d : Done) (c : Chain) (samples : List Sample) (entries : List Entry) → IsBuiltAs g.files g.sources g.command b
+unfoldable pub answered : (g : Given) (n : ℕ) (b : Built) (d : Done) (c : Chain) (samples : List Sample) (entries : List Entry) → IsBuiltAs g.files g.sources g.command b
     → samples_in g ≡ Ok samples → schedule_in g ≡ Ok entries
     → HasRun b.linked.page0.words b.linked.page1.words b.linked.image.marks b.linked.image.run_marks samples entries n d
     → texts_of c ≡ linked.texts_of b.linked → c.listings ≡ b.listings → run_of c ≡ run_data d → IsAnswer g n c
@@ -91,7 +91,10 @@ answered g n b d c samples entries is e h run texts listings done =
       built = subst (λ (ls : Vec (String Global) Global). IsBuilt g.files g.sources g.command image (texts_of c) (map string_bytes ls.items)) (sym listings)
           (subst (λ (t : Texts). IsBuilt g.files g.sources g.command image t (map string_bytes b.listings.items)) (sym texts) built);
       read = both_read g samples entries e h;
-      run = subst (λ (r : RunData). IsRunOf image.program image.store image.marks image.run_marks samples entries n r) (sym done)
-          (subst (λ (w : finite.FinMap nat_cmp ℕ). IsRunOf image.program w image.marks image.run_marks samples entries n (run_data d)) is.linked.words1
-          (subst (λ (w : finite.FinMap nat_cmp ℕ). IsRunOf w b.linked.page1.words image.marks image.run_marks samples entries n (run_data d)) is.linked.words0 run));
+      run = (
+        run.0,
+        subst (λ (w : finite.FinMap nat_cmp ℕ). RunsWords image.program w image.marks image.run_marks samples entries n run.0) is.linked.words1
+            (subst (λ (w : finite.FinMap nat_cmp ℕ). RunsWords w b.linked.page1.words image.marks image.run_marks samples entries n run.0) is.linked.words0 run.1),
+        subst (EndsAs n run.0) (sym done) run.2,
+      );
     }

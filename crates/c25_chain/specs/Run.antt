@@ -5,7 +5,7 @@ use Rattle.std.specs.Ordering.{nat_cmp}
 use Rattle.c25_board.specs.declared.board.Outcome.{Outcome}
 use Rattle.c25_board.specs.declared.board.Outcome.TheVariants as outcome
 use Rattle.c25_meaning_processor.specs.FirstState.{first_of_pages}
-use Rattle.c25_meaning_processor.specs.Run.{Ending, Ran, Left, Runs}
+use Rattle.c25_meaning_processor.specs.Run.{Ending, Ran, Left, Runs, Signals}
 use Rattle.c25_meaning_stimulus.specs.Samples.{samples_at}
 use Rattle.c25_meaning_stimulus.specs.Signals.{signals_of}
 use Rattle.c25_meaning_processor.specs.State.{State}
@@ -46,6 +46,11 @@ RunsWords page0 page1 marks run_marks samples entries n e = Runs WordStep (signa
 abbrev pub IsRunOf : (page0 page1 : finite.FinMap nat_cmp ℕ) → List Mark → List RunMark → List Sample → List Entry → ℕ → RunData → Type 0
 IsRunOf page0 page1 marks run_marks samples entries n d = (e : Ending) × RunsWords page0 page1 marks run_marks samples entries n e × EndsAs n e d
 
+-- the state in which a run ended
+abbrev pub last_state : Ending → State
+last_state (Ran t) = t
+last_state (Left j stop t) = t
+
 -- what the code has of a run
 abbrev pub run_data : Done → RunData
 run_data d = record { outputs = d.outputs.items; regs = d.regs; memory = d.memory.items; outcome = d.outcome; steps = d.steps }
@@ -53,3 +58,10 @@ run_data d = record { outputs = d.outputs.items; regs = d.regs; memory = d.memor
 -- and it is that run
 abbrev pub HasRun : (page0 page1 : finite.FinMap nat_cmp ℕ) → List Mark → List RunMark → List Sample → List Entry → ℕ → Done → Type 0
 HasRun page0 page1 marks run_marks samples entries n d = IsRunOf page0 page1 marks run_marks samples entries n (run_data d)
+
+-- what was done is a run of n steps from a state on, and this is the state in which it ended
+pub record HasRunFrom (signals : Signals) (s : State) (n : ℕ) (d : Done) (t : State) : Type 0 where
+  pub end : Ending
+  pub run : Runs WordStep signals 0 n s end
+  pub ends : EndsAs n end (run_data d)
+  pub last : last_state end ≡ t

@@ -77,7 +77,7 @@ pub fn schedule_in(alloc: Global, text: &str) -> Result<Schedule, Fault>
 }
 
 /// What the chain answers of a program and its run.
-fn chain_of(built: Built, done: Done) -> Chain
+pub fn chain_of(built: Built, done: Done) -> Chain
     ensures texts { texts_of result ≡ linked.texts_of built.linked }
     ensures listings { result.listings ≡ built.listings }
     ensures run { run_of result ≡ run_data done }

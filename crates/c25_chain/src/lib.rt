@@ -14,10 +14,10 @@ mod run;
 pub mod sources;
 
 pub use built::build;
-pub use chain::run_chain;
+pub use chain::{chain_of, run_chain};
 pub use fault_text::write_fault;
 pub use linked::link_modules;
 pub use modules::assemble_all;
 pub use output::write_run;
-pub use run::board_of;
+pub use run::{Done, board_of, run_board};
 pub use sources::assemble_source;

@@ -1,11 +1,11 @@
 //! A run of a linked program.
 
 ghost use Rattle.std.specs.Prelude.{◌≡◌, IfOk, true};
-ghost use Rattle.c25_board.specs.Board.{entries, state, steps};
+ghost use Rattle.c25_board.specs.Board.{entries, signals, state, steps};
 ghost use Rattle.c25_meaning_image.specs.Marks.{fit_from, run_fit};
 ghost use Rattle.c25_meaning_processor.specs.FirstState.{first_of_pages};
 ghost use Rattle.c25_meaning_stimulus.specs.Samples.{samples_at};
-ghost use Rattle.c25_chain.specs.Run.{HasRun};
+ghost use Rattle.c25_chain.specs.Run.{HasRun, HasRunFrom};
 
 use crate::linked::Linked;
 use c25_board::board::{Board, Outcome};
@@ -18,12 +18,15 @@ use std::alloc::Global;
 
 /// What a run did, and what it left.
 #[derive(Drop)]
-pub(crate) struct Done {
-    pub(crate) outputs: Vec<(u16, u16)>,
-    pub(crate) regs: Regs,
-    pub(crate) memory: Vec<u16>,
-    pub(crate) outcome: Outcome,
-    pub(crate) steps: u32,
+pub struct Done {
+    /// The outputs in order: each a port and a word.
+    pub outputs: Vec<(u16, u16)>,
+    pub regs: Regs,
+    /// The words of data memory.
+    pub memory: Vec<u16>,
+    pub outcome: Outcome,
+    /// How many steps were done.
+    pub steps: u32,
 }
 
 /// The board of a linked program after a reset, with an empty list for its outputs.
@@ -50,6 +53,31 @@ pub fn board_of(
     Ok(board)
 }
 
+/// Runs n steps of a board that has done none, and tells what they did. An output that its list has
+/// refused is `NoMemory`.
+pub fn run_board(
+    alloc: Global,
+    board: &mut Board<Samples, ListSink>,
+    n: u32,
+) -> Result<Done, NoMemory>
+    requires { steps board.old ≡ 0 }
+    ensures run { IfOk result (λ done. HasRunFrom (signals board.old) (state board.old) n done (state board.new)) }
+    ensures count { IfOk result (λ done. done.steps ≡ steps board.new) }
+    ensures schedule { entries board.new ≡ entries board.old }
+{
+    let outcome = board.run(n);
+    if let Some(refused) = board.sink().refused() {
+        return Err(refused);
+    }
+    Ok(Done {
+        outputs: board.sink().words().to_vec(alloc)?,
+        regs: board.regs(),
+        memory: board.data().to_vec(alloc)?,
+        outcome,
+        steps: board.steps(),
+    })
+}
+
 /// Runs n steps of a program, from a reset on.
 pub(crate) fn run_linked(
     alloc: Global,
@@ -63,15 +91,5 @@ pub(crate) fn run_linked(
     ensures { IfOk result (λ done. HasRun linked.now.page0.words linked.now.page1.words linked.now.image.marks linked.now.image.run_marks samples schedule n done) }
 {
     let mut board = board_of(alloc, linked, samples, schedule)?;
-    let outcome = board.run(n);
-    if let Some(refused) = board.sink().refused() {
-        return Err(refused);
-    }
-    Ok(Done {
-        outputs: board.sink().words().to_vec(alloc)?,
-        regs: board.regs(),
-        memory: board.data().to_vec(alloc)?,
-        outcome,
-        steps: board.steps(),
-    })
+    run_board(alloc, &mut board, n)
 }

@@ -1,1 +1,1 @@
-pub mod Headings
+pub mod Notes

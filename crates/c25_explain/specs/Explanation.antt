@@ -1,15 +1,18 @@
--- What an explanation of a fault begins with, and which numbers have one.
-use Rattle.std.specs.Prelude.{◌≡◌, ℕ, ◌+◌, List, ◌++◌, Option, Some, None, codes, length, take}
+-- What an explanation is of, what it says as a whole, and which numbers have one.
+use Rattle.std.specs.Prelude.{◌≡◌, ℕ, List, ◌++◌, Option, Some, None, codes}
 use Rattle.std.specs.Borrow.{Bor}
-use Rattle.c25_disk.specs.FaultNames.{file_fault_number, file_fault_text}
-use Rattle.c25_meaning_commands.specs.Faults.{command_number, command_text}
+use Rattle.c25_disk.specs.FaultNames.{file_fault_name, file_fault_number}
+use Rattle.c25_meaning_commands.specs.Faults.{command_name, command_number}
 use Rattle.c25_meaning_common.specs.Faults.{numbered}
-use Rattle.c25_meaning_intel_hex.specs.Faults.{hex_number, hex_text}
-use Rattle.c25_meaning_objects.specs.Faults.{object_number, object_text}
-use Rattle.c25_meaning_placing.specs.Faults.{link_number, link_text}
-use Rattle.c25_meaning_language.specs.Faults.{fault_number, numbered_name}
+use Rattle.c25_meaning_intel_hex.specs.Faults.{hex_name, hex_number}
+use Rattle.c25_meaning_language.specs.Faults.{fault_name, fault_number}
+use Rattle.c25_meaning_objects.specs.Faults.{object_name, object_number}
+use Rattle.c25_meaning_placing.specs.Faults.{link_name, link_number}
 use Rattle.c25_explain.specs.declared.fault.AnyFault.{AnyFault}
 use Rattle.c25_explain.specs.declared.fault.AnyFault.TheVariants.{Memory, Source, Object, Command, Link, Map, Hex, Schedule, Samples, Script, File}
+use Rattle.c25_explain.specs.declared.parts.Explanation.{Explanation}
+
+-- ---- faults
 
 -- the number of a fault
 abbrev pub number_of : AnyFault → ℕ
@@ -25,30 +28,48 @@ number_of Samples = 91
 number_of Script = 95
 number_of (File fault) = file_fault_number fault
 
+-- the name of a fault
+abbrev pub name_of : AnyFault → List ℕ
+name_of Memory = codes "NoMemory"
+name_of (Source kind) = fault_name kind
+name_of (Object fault) = object_name fault
+name_of (Command fault) = command_name fault
+name_of (Link fault) = link_name fault
+name_of Map = codes "BadMap"
+name_of (Hex fault) = hex_name fault
+name_of Schedule = codes "BadSchedule"
+name_of Samples = codes "BadSamples"
+name_of Script = codes "BadCommand"
+name_of (File fault) = file_fault_name fault
+
 -- its number and its name, as a fault's line ends with them
 abbrev pub heading : AnyFault → List ℕ
-heading Memory = codes "9 NoMemory"
-heading (Source kind) = numbered_name kind
-heading (Object fault) = object_text fault
-heading (Command fault) = command_text fault
-heading (Link fault) = link_text fault
-heading Map = codes "77 BadMap"
-heading (Hex fault) = hex_text fault
-heading Schedule = numbered 90 (codes "BadSchedule")
-heading Samples = numbered 91 (codes "BadSamples")
-heading Script = numbered 95 (codes "BadCommand")
-heading (File fault) = file_fault_text fault
-
--- a text begins with this line
-abbrev pub IsHeaded : List ℕ → List ℕ → Type 0
-IsHeaded line text = take (length line + 1) text ≡ line ++ codes "\n"
+heading fault = numbered (number_of fault) (name_of fault)
 
 -- the fault of a number; there is none where no fault has it
 abbrev pub IsFaultOf : ℕ → Option AnyFault → Type 0
 IsFaultOf number None = (fault : AnyFault) → number_of fault ≡ number → ⊥
 IsFaultOf number (Some fault) = number_of fault ≡ number
 
--- what is answered to a number: a text that begins with the number and the name of its fault, or nothing where no fault has it
-abbrev pub Explains : ℕ → Option (Bor (List ℕ)) → Type 0
+-- ---- explanations
+
+-- an explanation has the number and the name of this fault
+pub record IsExplanationOf (fault : AnyFault) (explanation : Explanation) : Type 0 where
+  pub number : explanation.number ≡ number_of fault
+  pub name : explanation.name.now ≡ name_of fault
+
+-- what is answered to a number: the explanation of its fault, or nothing where no fault has it
+abbrev pub Explains : ℕ → Option Explanation → Type 0
 Explains number None = IsFaultOf number None
-Explains number (Some text) = (fault : AnyFault) × IsFaultOf number (Some fault) × IsHeaded (heading fault) text.now
+Explains number (Some explanation) = (fault : AnyFault) × IsFaultOf number (Some fault) × IsExplanationOf fault explanation
+
+-- ---- texts
+
+-- number and name, meaning, example if there is one, and advice, with an empty line between them
+abbrev pub text_with : Option (Bor (List ℕ)) → Explanation → List ℕ
+text_with None e = numbered e.number e.name.now ++ codes "\n\n" ++ e.meaning.now ++ codes "\n" ++ e.advice.now
+text_with (Some example) e = numbered e.number e.name.now ++ codes "\n\n" ++ e.meaning.now ++ codes "\n" ++ example.now ++ codes "\n" ++ e.advice.now
+
+-- all of an explanation
+abbrev pub whole_text : Explanation → List ℕ
+whole_text e = text_with e.example e

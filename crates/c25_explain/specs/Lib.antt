@@ -1,2 +1,2 @@
 pub mod Explanation
-pub mod Texts
+pub mod Note

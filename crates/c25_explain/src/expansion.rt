@@ -1,19 +1,23 @@
 //! Macros, conditional lines, loops, copied files: explanations of faults, made of docs/FAULTS.md by docs/explanations.py --write.
 
-ghost use Rattle.c25_explain.specs.Texts.{IsTextOf};
+ghost use Rattle.c25_explain.specs.Explanation.{IsExplanationOf};
 ghost use Rattle.c25_explain.specs.declared.fault.AnyFault.TheVariants.{Source};
 ghost use Rattle.c25_meaning_language.specs.declared.statement.FaultKind.TheVariants as fault;
 
-pub(crate) fn no_file() -> &'static str
-    ensures { IsTextOf (Source fault.NoFile) result.now }
-{
-    r#"30 NoFile
+use crate::parts::Explanation;
 
-A file that .copy or .include names is not among those that were given. The program reads it from
+pub(crate) fn no_file() -> Explanation
+    ensures { IsExplanationOf (Source fault.NoFile) result }
+{
+    Explanation {
+        number: 30,
+        name: "NoFile",
+        meaning: r#"A file that .copy or .include names is not among those that were given. The program reads it from
 the disk and never tells 30: where it cannot, it tells 8. Who calls run_chain gives all files, and
 is told 30 at the line that copies, or at line 0 where the source itself is missing.
-
-Given:
+"#,
+        example: Some(
+            r#"Given:
 
     $ run_chain a.asm
      .copy "b.inc"
@@ -21,61 +25,73 @@ Given:
 Told:
 
     a.asm:1: 30 NoFile
-
-Do: add the file under exactly the name that the line has.
-"#
+"#,
+        ),
+        advice: r#"Do: add the file under exactly the name that the line has.
+"#,
+    }
 }
 
-pub(crate) fn open_block() -> &'static str
-    ensures { IsTextOf (Source fault.OpenBlock) result.now }
+pub(crate) fn open_block() -> Explanation
+    ensures { IsExplanationOf (Source fault.OpenBlock) result }
 {
-    r#"31 OpenBlock
-
-An .if, .loop or .macro that is not closed in the file, macro body or loop body in which it began.
+    Explanation {
+        number: 31,
+        name: "OpenBlock",
+        meaning: r#"An .if, .loop or .macro that is not closed in the file, macro body or loop body in which it began.
 The line is the last one of that file or body, not the one that opens the block.
-
-Given:
+"#,
+        example: Some(
+            r#"Given:
 
      .if 1
 
 Told:
 
     a.asm:1: 31 OpenBlock
-
-Do: look upwards from there for the block without its .endif, .endloop or .endm. A block cannot
+"#,
+        ),
+        advice: r#"Do: look upwards from there for the block without its .endif, .endloop or .endm. A block cannot
 begin in one file or body and end in another.
-"#
+"#,
+    }
 }
 
-pub(crate) fn stray_end() -> &'static str
-    ensures { IsTextOf (Source fault.StrayEnd) result.now }
+pub(crate) fn stray_end() -> Explanation
+    ensures { IsExplanationOf (Source fault.StrayEnd) result }
 {
-    r#"32 StrayEnd
-
-An .endif, .else, .elseif, .endloop, .endm that no open block belongs to, an .else or .elseif behind
+    Explanation {
+        number: 32,
+        name: "StrayEnd",
+        meaning: r#"An .endif, .else, .elseif, .endloop, .endm that no open block belongs to, an .else or .elseif behind
 the .else, a .mexit outside every macro, or a .break outside every loop.
-
-Given:
+"#,
+        example: Some(
+            r#"Given:
 
      .endif
 
 Told:
 
     a.asm:1: 32 StrayEnd
-
-Do: count the blocks above it. An .endif in a macro does not close an .if of its caller; a .macro
+"#,
+        ),
+        advice: r#"Do: count the blocks above it. An .endif in a macro does not close an .if of its caller; a .macro
 inside a macro needs an .endm of its own.
-"#
+"#,
+    }
 }
 
-pub(crate) fn depth() -> &'static str
-    ensures { IsTextOf (Source fault.Depth) result.now }
+pub(crate) fn depth() -> Explanation
+    ensures { IsExplanationOf (Source fault.Depth) result }
 {
-    r#"33 Depth
-
-A 33rd open block: macro calls, copied files, loops and .ifs count together.
-
-Given:
+    Explanation {
+        number: 33,
+        name: "Depth",
+        meaning: r#"A 33rd open block: macro calls, copied files, loops and .ifs count together.
+"#,
+        example: Some(
+            r#"Given:
 
     R .macro
      R
@@ -85,21 +101,25 @@ Given:
 Told:
 
     a.asm:2: 33 Depth
-
-Do: look for a macro that calls itself or a file that copies itself without an .if that ends it; use
+"#,
+        ),
+        advice: r#"Do: look for a macro that calls itself or a file that copies itself without an .if that ends it; use
 .loop for repeating.
-"#
+"#,
+    }
 }
 
-pub(crate) fn lines() -> &'static str
-    ensures { IsTextOf (Source fault.Lines) result.now }
+pub(crate) fn lines() -> Explanation
+    ensures { IsExplanationOf (Source fault.Lines) result }
 {
-    r#"34 Lines
-
-A 200,001st line that is read for one source. Lines of macros and loops count each time, and so do
+    Explanation {
+        number: 34,
+        name: "Lines",
+        meaning: r#"A 200,001st line that is read for one source. Lines of macros and loops count each time, and so do
 lines that are skipped.
-
-Given:
+"#,
+        example: Some(
+            r#"Given:
 
      .loop 200000
     * a line
@@ -108,19 +128,23 @@ Given:
 Told:
 
     a.asm:2: 34 Lines
-
-Do: look for a loop without its .break; reserve memory with .space, which takes one line.
-"#
+"#,
+        ),
+        advice: r#"Do: look for a loop without its .break; reserve memory with .space, which takes one line.
+"#,
+    }
 }
 
-pub(crate) fn too_many_parameters() -> &'static str
-    ensures { IsTextOf (Source fault.TooManyParameters) result.now }
+pub(crate) fn too_many_parameters() -> Explanation
+    ensures { IsExplanationOf (Source fault.TooManyParameters) result }
 {
-    r#"35 TooManyParameters
-
-A macro of more than 32 parameters.
-
-Given:
+    Explanation {
+        number: 35,
+        name: "TooManyParameters",
+        meaning: r#"A macro of more than 32 parameters.
+"#,
+        example: Some(
+            r#"Given:
 
     P .macro a,b,c,d,e,f,g,h,i,j,k,l,m,n,o,p,q,r,s,t,u,v,w,x,y,z,A,B,C,D,E,F,G
      .endm
@@ -128,20 +152,24 @@ Given:
 Told:
 
     a.asm:1: 35 TooManyParameters
-
-Do: give several values to the last parameter, which takes all that is left of the arguments, commas
+"#,
+        ),
+        advice: r#"Do: give several values to the last parameter, which takes all that is left of the arguments, commas
 too.
-"#
+"#,
+    }
 }
 
-pub(crate) fn redefined() -> &'static str
-    ensures { IsTextOf (Source fault.Redefined) result.now }
+pub(crate) fn redefined() -> Explanation
+    ensures { IsExplanationOf (Source fault.Redefined) result }
 {
-    r#"36 Redefined
-
-A macro with the name of a macro that is there already, or of a mnemonic in either case.
-
-Given:
+    Explanation {
+        number: 36,
+        name: "Redefined",
+        meaning: r#"A macro with the name of a macro that is there already, or of a mnemonic in either case.
+"#,
+        example: Some(
+            r#"Given:
 
     NOP .macro
      .endm
@@ -149,21 +177,25 @@ Given:
 Told:
 
     a.asm:1: 36 Redefined
-
-Do: rename it; copy a file of macros once only; move a .macro out of a macro that is called more
+"#,
+        ),
+        advice: r#"Do: rename it; copy a file of macros once only; move a .macro out of a macro that is called more
 than once.
-"#
+"#,
+    }
 }
 
-pub(crate) fn long_line() -> &'static str
-    ensures { IsTextOf (Source fault.LongLine) result.now }
+pub(crate) fn long_line() -> Explanation
+    ensures { IsExplanationOf (Source fault.LongLine) result }
 {
-    r#"38 LongLine
-
-A line that has more than 1,024 bytes once names are substituted, its comment too, or that takes
+    Explanation {
+        number: 38,
+        name: "LongLine",
+        meaning: r#"A line that has more than 1,024 bytes once names are substituted, its comment too, or that takes
 more than 1,024 replacements.
-
-Given:
+"#,
+        example: Some(
+            r#"Given:
 
      .asg 1,k
      .loop 20
@@ -173,7 +205,9 @@ Given:
 Told:
 
     a.asm:3: 38 LongLine
-
-Do: use .eval in place of .asg where a value and not a text is to be kept; part the line.
-"#
+"#,
+        ),
+        advice: r#"Do: use .eval in place of .asg where a value and not a text is to be kept; part the line.
+"#,
+    }
 }

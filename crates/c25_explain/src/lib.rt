@@ -1,4 +1,5 @@
-//! What each fault means: the texts that docs/FAULTS.md has, by the numbers of the faults.
+//! What each fault means: the texts that docs/FAULTS.md has, by the numbers of the faults, and the notes
+//! that are made of them.
 #![tactic(auto)]
 
 mod command_file;
@@ -7,8 +8,10 @@ pub mod explanation;
 pub mod fault;
 mod files;
 mod linking;
+pub mod note;
 mod numbers;
 mod objects;
+pub mod parts;
 mod run_files;
 mod source_lines;
 #[cfg(test)]

@@ -1,17 +1,21 @@
 //! Objects: explanations of faults, made of docs/FAULTS.md by docs/explanations.py --write.
 
-ghost use Rattle.c25_explain.specs.Texts.{IsTextOf};
+ghost use Rattle.c25_explain.specs.Explanation.{IsExplanationOf};
 ghost use Rattle.c25_explain.specs.declared.fault.AnyFault.TheVariants.{Object};
 ghost use Rattle.c25_meaning_objects.specs.declared.object.ObjectFault.TheVariants as fault;
 
-pub(crate) fn bad_magic() -> &'static str
-    ensures { IsTextOf (Object fault.BadMagic) result.now }
+use crate::parts::Explanation;
+
+pub(crate) fn bad_magic() -> Explanation
+    ensures { IsExplanationOf (Object fault.BadMagic) result }
 {
-    r#"40 BadMagic
-
-The file does not begin with C25O: it is no object of this assembler.
-
-Given:
+    Explanation {
+        number: 40,
+        name: "BadMagic",
+        meaning: r#"The file does not begin with C25O: it is no object of this assembler.
+"#,
+        example: Some(
+            r#"Given:
 
     $ c25 link command a.asm --out b
      NOP
@@ -20,20 +24,24 @@ Given:
 Told:
 
     a.asm: 40 BadMagic
-
-Do: name the object and not the source, and the command file first. Objects of TI's tools (COFF) are
+"#,
+        ),
+        advice: r#"Do: name the object and not the source, and the command file first. Objects of TI's tools (COFF) are
 not read: assemble their sources.
-"#
+"#,
+    }
 }
 
-pub(crate) fn bad_version() -> &'static str
-    ensures { IsTextOf (Object fault.BadVersion) result.now }
+pub(crate) fn bad_version() -> Explanation
+    ensures { IsExplanationOf (Object fault.BadVersion) result }
 {
-    r#"41 BadVersion
-
-The object has another version of the records than this program reads, or ends before it.
-
-Given:
+    Explanation {
+        number: 41,
+        name: "BadVersion",
+        meaning: r#"The object has another version of the records than this program reads, or ends before it.
+"#,
+        example: Some(
+            r#"Given:
 
     $ c25 link command a.obj --out b
     --- command
@@ -43,19 +51,23 @@ Given:
 Told:
 
     a.obj: 41 BadVersion
-
-Do: use asm and link of one release.
-"#
+"#,
+        ),
+        advice: r#"Do: use asm and link of one release.
+"#,
+    }
 }
 
-pub(crate) fn short() -> &'static str
-    ensures { IsTextOf (Object fault.Short) result.now }
+pub(crate) fn short() -> Explanation
+    ensures { IsExplanationOf (Object fault.Short) result }
 {
-    r#"42 Short
-
-The file ends before its last record does.
-
-Given:
+    Explanation {
+        number: 42,
+        name: "Short",
+        meaning: r#"The file ends before its last record does.
+"#,
+        example: Some(
+            r#"Given:
 
     $ c25 link command a.obj --out b
     --- command
@@ -65,19 +77,23 @@ Given:
 Told:
 
     a.obj: 42 Short
-
-Do: the file was cut off, as by a full disk; write or copy it again.
-"#
+"#,
+        ),
+        advice: r#"Do: the file was cut off, as by a full disk; write or copy it again.
+"#,
+    }
 }
 
-pub(crate) fn bad_tag() -> &'static str
-    ensures { IsTextOf (Object fault.BadTag) result.now }
+pub(crate) fn bad_tag() -> Explanation
+    ensures { IsExplanationOf (Object fault.BadTag) result }
 {
-    r#"43 BadTag
-
-A record has a tag that is unknown or that may not follow the records before it.
-
-Given:
+    Explanation {
+        number: 43,
+        name: "BadTag",
+        meaning: r#"A record has a tag that is unknown or that may not follow the records before it.
+"#,
+        example: Some(
+            r#"Given:
 
     $ c25 link command a.obj --out b
     --- command
@@ -87,21 +103,25 @@ Given:
 Told:
 
     a.obj: 43 BadTag
-
-Do: the file was changed, as by a transfer that turns line ends; copy it again as binary.
-"#
+"#,
+        ),
+        advice: r#"Do: the file was changed, as by a transfer that turns line ends; copy it again as binary.
+"#,
+    }
 }
 
-pub(crate) fn bad_field() -> &'static str
-    ensures { IsTextOf (Object fault.BadField) result.now }
+pub(crate) fn bad_field() -> Explanation
+    ensures { IsExplanationOf (Object fault.BadField) result }
 {
-    r#"44 BadField
-
-A record has not the form of its tag, or does not agree with those before it: a name that is none or
+    Explanation {
+        number: 44,
+        name: "BadField",
+        meaning: r#"A record has not the form of its tag, or does not agree with those before it: a name that is none or
 stands twice, a number of a section or symbol that is not there, a size or order that cannot be, a
 first section that is not .text.
-
-Given:
+"#,
+        example: Some(
+            r#"Given:
 
     $ c25 link command a.obj --out b
     --- command
@@ -111,19 +131,23 @@ Given:
 Told:
 
     a.obj: 44 BadField
-
-Do: as for 43.
-"#
+"#,
+        ),
+        advice: r#"Do: as for 43.
+"#,
+    }
 }
 
-pub(crate) fn trailing() -> &'static str
-    ensures { IsTextOf (Object fault.Trailing) result.now }
+pub(crate) fn trailing() -> Explanation
+    ensures { IsExplanationOf (Object fault.Trailing) result }
 {
-    r#"45 Trailing
-
-Something follows the last record.
-
-Given:
+    Explanation {
+        number: 45,
+        name: "Trailing",
+        meaning: r#"Something follows the last record.
+"#,
+        example: Some(
+            r#"Given:
 
     $ c25 link command a.obj --out b
     --- command
@@ -133,7 +157,9 @@ Given:
 Told:
 
     a.obj: 45 Trailing
-
-Do: the file was padded, or two were put together; give each object by a name of its own.
-"#
+"#,
+        ),
+        advice: r#"Do: the file was padded, or two were put together; give each object by a name of its own.
+"#,
+    }
 }

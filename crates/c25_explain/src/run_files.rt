@@ -1,18 +1,22 @@
 //! Samples, schedule, script: explanations of faults, made of docs/FAULTS.md by docs/explanations.py --write.
 
-ghost use Rattle.c25_explain.specs.Texts.{IsTextOf};
+ghost use Rattle.c25_explain.specs.Explanation.{IsExplanationOf};
 ghost use Rattle.c25_explain.specs.declared.fault.AnyFault.TheVariants.{Samples, Schedule, Script};
 
-pub(crate) fn bad_schedule() -> &'static str
-    ensures { IsTextOf Schedule result.now }
-{
-    r#"90 BadSchedule
+use crate::parts::Explanation;
 
-A line of the schedule that is not a step and an event, or whose step is before that of the line
+pub(crate) fn bad_schedule() -> Explanation
+    ensures { IsExplanationOf Schedule result }
+{
+    Explanation {
+        number: 90,
+        name: "BadSchedule",
+        meaning: r#"A line of the schedule that is not a step and an event, or whose step is before that of the line
 before. A step is a decimal number up to 4,294,967,295, counted from 0; the event is INT0, INT1,
 INT2, BIO0 or BIO1.
-
-Given:
+"#,
+        example: Some(
+            r#"Given:
 
      NOP
     --- schedule
@@ -22,20 +26,24 @@ Given:
 Told:
 
     schedule:2: 90 BadSchedule
-
-Do: sort the lines by step. Several events may have one step.
-"#
+"#,
+        ),
+        advice: r#"Do: sort the lines by step. Several events may have one step.
+"#,
+    }
 }
 
-pub(crate) fn bad_samples() -> &'static str
-    ensures { IsTextOf Samples result.now }
+pub(crate) fn bad_samples() -> Explanation
+    ensures { IsExplanationOf Samples result }
 {
-    r#"91 BadSamples
-
-A line of the samples that is not a port and a word. A port is a decimal number from 0 to 15; a word
+    Explanation {
+        number: 91,
+        name: "BadSamples",
+        meaning: r#"A line of the samples that is not a port and a word. A port is a decimal number from 0 to 15; a word
 has exactly four hexadecimal digits, without h.
-
-Given:
+"#,
+        example: Some(
+            r#"Given:
 
      NOP
     --- samples
@@ -44,21 +52,25 @@ Given:
 Told:
 
     samples:1: 91 BadSamples
-
-Do: write a line for each word, 2 00FF; negative samples by two's complement, -1 as FFFF. Lines that
+"#,
+        ),
+        advice: r#"Do: write a line for each word, 2 00FF; negative samples by two's complement, -1 as FFFF. Lines that
 a run printed are read as samples, its last line left out.
-"#
+"#,
+    }
 }
 
-pub(crate) fn bad_command() -> &'static str
-    ensures { IsTextOf Script result.now }
+pub(crate) fn bad_command() -> Explanation
+    ensures { IsExplanationOf Script result }
 {
-    r#"95 BadCommand
-
-A line of a debugger's script that is no command. Nothing is answered then, not even the lines
+    Explanation {
+        number: 95,
+        name: "BadCommand",
+        meaning: r#"A line of a debugger's script that is no command. Nothing is answered then, not even the lines
 before it.
-
-Given:
+"#,
+        example: Some(
+            r#"Given:
 
     $ c25 debug a.asm --script script
      NOP
@@ -68,9 +80,11 @@ Given:
 Told:
 
     script:1: 95 BadCommand
-
-Do: use step n, run n, break a, clear a, regs, data a n, prog a n, stack, where, list n or symbols,
+"#,
+        ),
+        advice: r#"Do: use step n, run n, break a, clear a, regs, data a n, prog a n, stack, where, list n or symbols,
 with n decimal and a of one to four hexadecimal digits without h; data and prog may not go on past
 word FFFFh.
-"#
+"#,
+    }
 }

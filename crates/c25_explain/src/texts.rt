@@ -1,9 +1,10 @@
-//! The texts of faults.
+//! The explanation of each fault.
 
-ghost use Rattle.c25_explain.specs.Texts.{IsTextOf};
+ghost use Rattle.c25_explain.specs.Explanation.{IsExplanationOf};
 ghost use Rattle.c25_explain.specs.declared.fault.AnyFault.TheVariants.{Source, Object, Command, Link, Hex, File};
 
 use crate::fault::AnyFault;
+use crate::parts::Explanation;
 use crate::{
     command_file, expansion, files, linking, objects, run_files, source_lines, written_texts,
 };
@@ -15,8 +16,8 @@ use c25_meaning_objects::object::ObjectFault;
 use c25_meaning_placing::link_fault::LinkFault;
 
 /// That of a fault of a line of a source.
-fn source_text(kind: FaultKind) -> &'static str
-    ensures { IsTextOf (Source kind) result.now }
+fn source_explanation(kind: FaultKind) -> Explanation
+    ensures { IsExplanationOf (Source kind) result }
 {
     match kind {
         FaultKind::BadLabel => source_lines::bad_label(),
@@ -49,8 +50,8 @@ fn source_text(kind: FaultKind) -> &'static str
 }
 
 /// That of a fault of the bytes of an object.
-fn object_text(fault: ObjectFault) -> &'static str
-    ensures { IsTextOf (Object fault) result.now }
+fn object_explanation(fault: ObjectFault) -> Explanation
+    ensures { IsExplanationOf (Object fault) result }
 {
     match fault {
         ObjectFault::BadMagic => objects::bad_magic(),
@@ -63,8 +64,8 @@ fn object_text(fault: ObjectFault) -> &'static str
 }
 
 /// That of a fault of a line of the command file.
-fn command_text(fault: CommandFault) -> &'static str
-    ensures { IsTextOf (Command fault) result.now }
+fn command_explanation(fault: CommandFault) -> Explanation
+    ensures { IsExplanationOf (Command fault) result }
 {
     match fault {
         CommandFault::Syntax => command_file::syntax(),
@@ -75,8 +76,8 @@ fn command_text(fault: CommandFault) -> &'static str
 }
 
 /// That of a fault of linking.
-fn link_text(fault: LinkFault) -> &'static str
-    ensures { IsTextOf (Link fault) result.now }
+fn link_explanation(fault: LinkFault) -> Explanation
+    ensures { IsExplanationOf (Link fault) result }
 {
     match fault {
         LinkFault::Unresolved => linking::unresolved(),
@@ -91,8 +92,8 @@ fn link_text(fault: LinkFault) -> &'static str
 }
 
 /// That of a fault of a line of a hex text.
-fn hex_text(fault: HexFault) -> &'static str
-    ensures { IsTextOf (Hex fault) result.now }
+fn hex_explanation(fault: HexFault) -> Explanation
+    ensures { IsExplanationOf (Hex fault) result }
 {
     match fault {
         HexFault::BadStart => written_texts::bad_start(),
@@ -109,8 +110,8 @@ fn hex_text(fault: HexFault) -> &'static str
 }
 
 /// That of a fault of a file.
-fn file_text(kind: FileFault) -> &'static str
-    ensures { IsTextOf (File kind) result.now }
+fn file_explanation(kind: FileFault) -> Explanation
+    ensures { IsExplanationOf (File kind) result }
 {
     match kind {
         FileFault::CannotWrite => files::cannot_write(),
@@ -120,20 +121,20 @@ fn file_text(kind: FileFault) -> &'static str
 }
 
 /// That of a fault.
-pub(crate) fn text_of(fault: AnyFault) -> &'static str
-    ensures { IsTextOf fault result.now }
+pub(crate) fn explanation_of(fault: AnyFault) -> Explanation
+    ensures { IsExplanationOf fault result }
 {
     match fault {
         AnyFault::Memory => files::no_memory(),
-        AnyFault::Source(kind) => source_text(kind),
-        AnyFault::Object(fault) => object_text(fault),
-        AnyFault::Command(fault) => command_text(fault),
-        AnyFault::Link(fault) => link_text(fault),
+        AnyFault::Source(kind) => source_explanation(kind),
+        AnyFault::Object(fault) => object_explanation(fault),
+        AnyFault::Command(fault) => command_explanation(fault),
+        AnyFault::Link(fault) => link_explanation(fault),
         AnyFault::Map => written_texts::bad_map(),
-        AnyFault::Hex(fault) => hex_text(fault),
+        AnyFault::Hex(fault) => hex_explanation(fault),
         AnyFault::Schedule => run_files::bad_schedule(),
         AnyFault::Samples => run_files::bad_samples(),
         AnyFault::Script => run_files::bad_command(),
-        AnyFault::File(kind) => file_text(kind),
+        AnyFault::File(kind) => file_explanation(kind),
     }
 }

@@ -1,19 +1,23 @@
 //! Maps and hex texts: explanations of faults, made of docs/FAULTS.md by docs/explanations.py --write.
 
-ghost use Rattle.c25_explain.specs.Texts.{IsTextOf};
+ghost use Rattle.c25_explain.specs.Explanation.{IsExplanationOf};
 ghost use Rattle.c25_explain.specs.declared.fault.AnyFault.TheVariants.{Hex, Map};
 ghost use Rattle.c25_meaning_intel_hex.specs.declared.hex_fault.HexFault.TheVariants as fault;
 
-pub(crate) fn bad_map() -> &'static str
-    ensures { IsTextOf Map result.now }
-{
-    r#"77 BadMap
+use crate::parts::Explanation;
 
-The text is not that of a map as write_map writes it: lines of another spelling or in another order,
+pub(crate) fn bad_map() -> Explanation
+    ensures { IsExplanationOf Map result }
+{
+    Explanation {
+        number: 77,
+        name: "BadMap",
+        meaning: r#"The text is not that of a map as write_map writes it: lines of another spelling or in another order,
 CR LF, lower-case digits, a blank more, no line feed at the end. It is told without a line, so by
 its name alone.
-
-Given:
+"#,
+        example: Some(
+            r#"Given:
 
     $ read_map
     --- map
@@ -24,19 +28,23 @@ Given:
 Told:
 
     BadMap
-
-Do: give the file that build or link wrote, unchanged.
-"#
+"#,
+        ),
+        advice: r#"Do: give the file that build or link wrote, unchanged.
+"#,
+    }
 }
 
-pub(crate) fn bad_start() -> &'static str
-    ensures { IsTextOf (Hex fault.BadStart) result.now }
+pub(crate) fn bad_start() -> Explanation
+    ensures { IsExplanationOf (Hex fault.BadStart) result }
 {
-    r#"80 BadStart
-
-A line that is not blank does not begin with `:` in column 1.
-
-Given:
+    Explanation {
+        number: 80,
+        name: "BadStart",
+        meaning: r#"A line that is not blank does not begin with `:` in column 1.
+"#,
+        example: Some(
+            r#"Given:
 
     $ read_hex
     --- hex
@@ -45,20 +53,24 @@ Given:
 Told:
 
     hex:1: 80 BadStart
-
-Do: take out comments and blanks before the `:`. Texts of other formats (S-records, Tektronix) are
+"#,
+        ),
+        advice: r#"Do: take out comments and blanks before the `:`. Texts of other formats (S-records, Tektronix) are
 not read.
-"#
+"#,
+    }
 }
 
-pub(crate) fn bad_digit() -> &'static str
-    ensures { IsTextOf (Hex fault.BadDigit) result.now }
+pub(crate) fn bad_digit() -> Explanation
+    ensures { IsExplanationOf (Hex fault.BadDigit) result }
 {
-    r#"81 BadDigit
-
-A character behind the `:` is no hexadecimal digit; a blank behind the digits is one too.
-
-Given:
+    Explanation {
+        number: 81,
+        name: "BadDigit",
+        meaning: r#"A character behind the `:` is no hexadecimal digit; a blank behind the digits is one too.
+"#,
+        example: Some(
+            r#"Given:
 
     $ read_hex
     --- hex
@@ -67,20 +79,24 @@ Given:
 Told:
 
     hex:1: 81 BadDigit
-
-Do: look for letters that look like digits, trailing blanks, and a CR without its LF.
-"#
+"#,
+        ),
+        advice: r#"Do: look for letters that look like digits, trailing blanks, and a CR without its LF.
+"#,
+    }
 }
 
-pub(crate) fn bad_count() -> &'static str
-    ensures { IsTextOf (Hex fault.BadCount) result.now }
+pub(crate) fn bad_count() -> Explanation
+    ensures { IsExplanationOf (Hex fault.BadCount) result }
 {
-    r#"82 BadCount
-
-The digits are odd in number, or the bytes are not as many as the first one says and five more, or
+    Explanation {
+        number: 82,
+        name: "BadCount",
+        meaning: r#"The digits are odd in number, or the bytes are not as many as the first one says and five more, or
 the kind asks for another count: 0 for 01, 2 for 02 and 04, 4 for 03 and 05.
-
-Given:
+"#,
+        example: Some(
+            r#"Given:
 
     $ read_hex
     --- hex
@@ -89,19 +105,23 @@ Given:
 Told:
 
     hex:1: 82 BadCount
-
-Do: the line was cut off or joined with another; write the text again.
-"#
+"#,
+        ),
+        advice: r#"Do: the line was cut off or joined with another; write the text again.
+"#,
+    }
 }
 
-pub(crate) fn bad_sum() -> &'static str
-    ensures { IsTextOf (Hex fault.BadSum) result.now }
+pub(crate) fn bad_sum() -> Explanation
+    ensures { IsExplanationOf (Hex fault.BadSum) result }
 {
-    r#"83 BadSum
-
-The bytes of the line do not add up to a multiple of 256.
-
-Given:
+    Explanation {
+        number: 83,
+        name: "BadSum",
+        meaning: r#"The bytes of the line do not add up to a multiple of 256.
+"#,
+        example: Some(
+            r#"Given:
 
     $ read_hex
     --- hex
@@ -110,20 +130,24 @@ Given:
 Told:
 
     hex:1: 83 BadSum
-
-Do: a byte was changed; write the text again. After a change by hand the last byte is the two's
+"#,
+        ),
+        advice: r#"Do: a byte was changed; write the text again. After a change by hand the last byte is the two's
 complement of the sum of all others.
-"#
+"#,
+    }
 }
 
-pub(crate) fn bad_kind() -> &'static str
-    ensures { IsTextOf (Hex fault.BadKind) result.now }
+pub(crate) fn bad_kind() -> Explanation
+    ensures { IsExplanationOf (Hex fault.BadKind) result }
 {
-    r#"84 BadKind
-
-The kind of the line is none of 00 to 05.
-
-Given:
+    Explanation {
+        number: 84,
+        name: "BadKind",
+        meaning: r#"The kind of the line is none of 00 to 05.
+"#,
+        example: Some(
+            r#"Given:
 
     $ read_hex
     --- hex
@@ -132,20 +156,24 @@ Given:
 Told:
 
     hex:1: 84 BadKind
-
-Do: have the other tool write plain Intel hex.
-"#
+"#,
+        ),
+        advice: r#"Do: have the other tool write plain Intel hex.
+"#,
+    }
 }
 
-pub(crate) fn odd_word() -> &'static str
-    ensures { IsTextOf (Hex fault.OddWord) result.now }
+pub(crate) fn odd_word() -> Explanation
+    ensures { IsExplanationOf (Hex fault.OddWord) result }
 {
-    r#"85 OddWord
-
-At the end line one byte of a word is given and the other is not. A word's byte address is twice its
+    Explanation {
+        number: 85,
+        name: "OddWord",
+        meaning: r#"At the end line one byte of a word is given and the other is not. A word's byte address is twice its
 address, the high byte first.
-
-Given:
+"#,
+        example: Some(
+            r#"Given:
 
     $ read_hex
     --- hex
@@ -155,20 +183,24 @@ Given:
 Told:
 
     hex:2: 85 OddWord
-
-Do: have both bytes of each word in one text. Texts with high and low bytes apart, as for two
+"#,
+        ),
+        advice: r#"Do: have both bytes of each word in one text. Texts with high and low bytes apart, as for two
 memories of 8 bits, are not read.
-"#
+"#,
+    }
 }
 
-pub(crate) fn twice() -> &'static str
-    ensures { IsTextOf (Hex fault.Twice) result.now }
+pub(crate) fn twice() -> Explanation
+    ensures { IsExplanationOf (Hex fault.Twice) result }
 {
-    r#"86 Twice
-
-A byte is given twice, also with the same value.
-
-Given:
+    Explanation {
+        number: 86,
+        name: "Twice",
+        meaning: r#"A byte is given twice, also with the same value.
+"#,
+        example: Some(
+            r#"Given:
 
     $ read_hex
     --- hex
@@ -178,19 +210,23 @@ Given:
 Told:
 
     hex:2: 86 Twice
-
-Do: read one text at a time; do not put two together.
-"#
+"#,
+        ),
+        advice: r#"Do: read one text at a time; do not put two together.
+"#,
+    }
 }
 
-pub(crate) fn no_end() -> &'static str
-    ensures { IsTextOf (Hex fault.NoEnd) result.now }
+pub(crate) fn no_end() -> Explanation
+    ensures { IsExplanationOf (Hex fault.NoEnd) result }
 {
-    r#"87 NoEnd
-
-The text ends without its end line. It is told at the last line, or at line 0 of an empty text.
-
-Given:
+    Explanation {
+        number: 87,
+        name: "NoEnd",
+        meaning: r#"The text ends without its end line. It is told at the last line, or at line 0 of an empty text.
+"#,
+        example: Some(
+            r#"Given:
 
     $ read_hex
     --- hex
@@ -199,19 +235,23 @@ Given:
 Told:
 
     hex:1: 87 NoEnd
-
-Do: the text was cut off; it ends with :00000001FF.
-"#
+"#,
+        ),
+        advice: r#"Do: the text was cut off; it ends with :00000001FF.
+"#,
+    }
 }
 
-pub(crate) fn after_end() -> &'static str
-    ensures { IsTextOf (Hex fault.AfterEnd) result.now }
+pub(crate) fn after_end() -> Explanation
+    ensures { IsExplanationOf (Hex fault.AfterEnd) result }
 {
-    r#"88 AfterEnd
-
-A line that is not blank follows the end line.
-
-Given:
+    Explanation {
+        number: 88,
+        name: "AfterEnd",
+        meaning: r#"A line that is not blank follows the end line.
+"#,
+        example: Some(
+            r#"Given:
 
     $ read_hex
     --- hex
@@ -221,19 +261,23 @@ Given:
 Told:
 
     hex:2: 88 AfterEnd
-
-Do: two texts were put together; the text of each page is one of its own.
-"#
+"#,
+        ),
+        advice: r#"Do: two texts were put together; the text of each page is one of its own.
+"#,
+    }
 }
 
-pub(crate) fn address_range() -> &'static str
-    ensures { IsTextOf (Hex fault.AddressRange) result.now }
+pub(crate) fn address_range() -> Explanation
+    ensures { IsExplanationOf (Hex fault.AddressRange) result }
 {
-    r#"89 AddressRange
-
-Bytes past the 65,536 of their base, or past byte address 1FFFFh, the last of 65,536 words.
-
-Given:
+    Explanation {
+        number: 89,
+        name: "AddressRange",
+        meaning: r#"Bytes past the 65,536 of their base, or past byte address 1FFFFh, the last of 65,536 words.
+"#,
+        example: Some(
+            r#"Given:
 
     $ read_hex
     --- hex
@@ -242,7 +286,9 @@ Given:
 Told:
 
     hex:1: 89 AddressRange
-
-Do: look whether the other tool counts in words where this format has bytes.
-"#
+"#,
+        ),
+        advice: r#"Do: look whether the other tool counts in words where this format has bytes.
+"#,
+    }
 }

@@ -1,18 +1,14 @@
-//! Tests of object records (`c25_obj`) and Intel hex texts (`c25_hex`), and of the words and marks that
-//! they are made of (`c25_meaning_image`).
+//! Tests of object records (`c25_obj`, `c25_records`) alone: modules of each kind of record as bytes and back, and lists
+//! that are no module's.
 #![tactic(auto)]
 
 #[cfg(test)]
-mod hex;
+mod altered;
 #[cfg(test)]
-mod marks;
+mod both_ways;
 #[cfg(test)]
-mod object_cases;
+mod first_version;
 #[cfg(test)]
-mod objects;
-#[cfg(test)]
-mod second_cases;
+mod items;
 #[cfg(test)]
 mod second_version;
-#[cfg(test)]
-mod words;

@@ -1,194 +1,145 @@
-//! Modules of version 2 as bytes and back, and bytes that are no module of it.
+//! Modules of version 2.
 
-use crate::objects::{answers, bytes_of, fault_of, mark, relocation, symbol, told};
-use crate::second_cases::{CASES, TURNED};
+use crate::altered::{spells_in, spells_with_block, spells_with_file, spells_with_line};
+use crate::both_ways::{is_written, read_back};
+use crate::items::{SymbolRow, block, files_of, line, mark, relocation, sections, symbols_of};
 use c25_meaning_common::relocation::RelocationKind;
 use c25_meaning_objects::object::{
-    Block, LineMark, ObjectFault, RelocationBase, Scope, SymbolKind, Version,
+    Block, LineMark, Relocation, RelocationBase, Scope, SymbolKind, Version,
 };
-use c25_obj::{Body, Parts, Section, module, spells, write_module};
-use c25_records::read_module;
+use c25_obj::{Parts, spells};
 use std::alloc::{AllocError, Global};
-use std::process::Abort;
 use std::test::Fail;
 
-#[test]
-fn objects_answer_as_another_reader_does(rt: HostRuntime) -> Result<(), Fail> {
-    for case in CASES.lines() {
-        answers(&rt, case)?;
-    }
-    Ok(())
+/// `NOP` in line 1 of `a.asm`, as another writer of the format spells it.
+const INSTRUCTION: &[u8] = b"C25O\x02\
+    \x01\0\0\0\x0D\x01\x05.text\0\0\0\x01U\0\
+    \x02\0\0\0\x05\0\0\0\0\x01\
+    \x05\0\0\0\x05a.asm\
+    \x06\0\0\0\x06\0\0\0\0\0\x01\
+    \xFF\0\0\0\0";
+
+/// A module with every kind of record, as another writer of the format spells it.
+const EVERY_KIND: &[u8] = b"C25O\x02\
+    \x01\0\0\0\x13\x01\x05.text\0\0\0\x04U\0\
+    \0\0\xC8\0\0\0\x01\0\0\0\x0A\0\x04.bss\0\0\x01,\
+    \x02\0\0\0\x05\0\0\0\0\x01\
+    \x02\0\0\0\x05\0\0\0\x02\x01\
+    \x03\0\0\0\x0D\0\0\0\0\xFF\xFF\xFF\xFB\x04ROOM\
+    \x03\0\0\0\x0B\x01\x01\0\0\0\0\0\x02\x02GO\
+    \x03\0\0\0\x0A\x03\x01\0\0\0\0\0\x02\x01L\
+    \x03\0\0\0\x0C\x02\x01\0\0\0\0\0\0\x03FAR\
+    \x04\0\0\0\x0C\0\0\0\x01\x01\x01\0\x03\xFF\xFF\xFF\xFF\
+    \x04\0\0\0\x0C\0\0\0\x02\x03\0\0\x01\0\0\0\x07\
+    \x04\0\0\0\x0C\0\0\0\x03\x01\x02\0\x01\0\0\0\x08\
+    \x05\0\0\0\x05a.asm\
+    \x05\0\0\0\x05b.inc\
+    \x06\0\0\0\x06\0\0\0\0\0\x01\
+    \x06\0\0\0\x06\0\x01\0\0\0\x07\
+    \x07\0\0\0\x05\0\x01\0\0\x80\
+    \x07\0\0\0\x05\0\x01\0\xC8d\
+    \xFF\0\0\0\0";
+
+const SYMBOLS: [SymbolRow; 4] = [
+    (SymbolKind::Absolute, Scope::Local, -5, "ROOM"),
+    (SymbolKind::InSection(0), Scope::Global, 2, "GO"),
+    (SymbolKind::Loaded(0), Scope::Global, 2, "L"),
+    (SymbolKind::External, Scope::Global, 0, "FAR"),
+];
+
+fn relocations() -> [Relocation; 3] {
+    [
+        relocation(1, RelocationKind::Word16, RelocationBase::External(3), -1),
+        relocation(2, RelocationKind::Page9, RelocationBase::Section(1), 7),
+        relocation(3, RelocationKind::Word16, RelocationBase::Loaded(1), 8),
+    ]
 }
 
-/// `NOP` in line 1 of `a.asm`, as another writer of the format spells it.
-const INSTRUCTION: &str = "4332354F02\
-    010000000D01052E74657874000000015500\
-    02000000050000000001\
-    0500000005612E61736D\
-    0600000006000000000001\
-    FF00000000";
+fn lines() -> [LineMark; 2] {
+    [line(0, 1), line(1, 7)]
+}
 
-fn line(file: u16, line: u32) -> LineMark {
-    LineMark { file, line }
+fn blocks() -> [Block; 2] {
+    [block(0, 128), block(200, 100)]
+}
+
+/// The lists of that module.
+fn every_kind(alloc: Global) -> Result<Parts, AllocError> {
+    Ok(Parts {
+        sections: sections(alloc, &[0x5500, 0, 0xc800, 0])?,
+        marks: vec![in alloc; mark(0, 1), mark(2, 1)]?,
+        symbols: symbols_of(alloc, &SYMBOLS)?,
+        relocations: relocations().to_vec(alloc)?,
+        version: Version::Two,
+        files: files_of(alloc, &["a.asm", "b.inc"])?,
+        lines: lines().to_vec(alloc)?,
+        blocks: blocks().to_vec(alloc)?,
+    })
+}
+
+/// Whether lists are of version 2, with one instruction in line 1 of `a.asm`.
+fn have_instruction(parts: &Parts) -> bool {
+    let [file] = parts.files.as_slice() else {
+        return false;
+    };
+    file.as_str() == "a.asm"
+        && parts.version == Version::Two
+        && parts.lines.as_slice() == [line(0, 1)].as_slice()
 }
 
 #[test]
 fn an_instruction_has_its_file_and_line(rt: HostRuntime) -> Result<(), Fail> {
-    let bytes = bytes_of(rt.alloc(), INSTRUCTION)?;
-    let object = read_module(rt.alloc(), &bytes)?;
-    let parts = object.parts();
-    assert_eq!(rt; parts.version, Version::Two);
-    assert_eq!(rt; parts.files.len(), 1);
-    assert_eq!(rt; parts.files[0].as_str(), "a.asm");
-    assert_eq!(rt; parts.lines.as_slice(), [line(0, 1)].as_slice());
-    assert!(rt; spells(parts));
-    let written = write_module(rt.alloc(), &object)?;
-    assert_eq!(rt; written.as_slice(), bytes.as_slice());
-    for length in 5..bytes.len() {
-        assert_eq!(rt; fault_of(&rt, &bytes[..length]), Some(ObjectFault::Short));
-    }
+    let object = read_back(&rt, INSTRUCTION)?;
+    assert!(rt; have_instruction(object.parts()));
     Ok(())
-}
-
-/// Reading the bytes with these bits of one of them turned answers what is wanted.
-fn answers_turned(
-    rt: &(impl Abort + AllocGlobal),
-    object: &[u8],
-    place: usize,
-    bits: u8,
-    wanted: &str,
-) -> Result<(), Fail> {
-    let mut bytes = object.to_vec(rt.alloc())?;
-    let byte = bytes.get_mut(place).ok_or("a byte")?;
-    *byte ^= bits;
-    let answer = told(rt.alloc(), &read_module(rt.alloc(), &bytes))?;
-    assert_eq!(rt; answer.as_str(), wanted, "byte {place}, bits {bits}");
-    Ok(())
-}
-
-#[test]
-fn a_byte_with_bits_turned_answers_as_another_reader_does(rt: HostRuntime) -> Result<(), Fail> {
-    let object = bytes_of(rt.alloc(), INSTRUCTION)?;
-    for (place, answers) in TURNED.lines().enumerate() {
-        let mut answers = answers.split(" ");
-        for bits in [1, 2, 128, 255] {
-            let wanted = answers.next().ok_or("an answer")?;
-            answers_turned(&rt, &object, place, bits, wanted)?;
-        }
-    }
-    Ok(())
-}
-
-/// A module with every kind of record, as another writer of the format spells it.
-const EVERY_KIND: &str = "4332354F02\
-    010000001301052E74657874000000045500\
-    0000C8000000010000000A00042E6273730000012C\
-    02000000050000000001\
-    02000000050000000201\
-    030000000D00000000FFFFFFFB04524F4F4D\
-    030000000B010100000000000202474F\
-    030000000A0301000000000002014C\
-    030000000C020100000000000003464152\
-    040000000C0000000101010003FFFFFFFF\
-    040000000C000000020300000100000007\
-    040000000C000000030102000100000008\
-    0500000005612E61736D\
-    0500000005622E696E63\
-    0600000006000000000001\
-    0600000006000100000007\
-    07000000050001000080\
-    0700000005000100C864\
-    FF00000000";
-
-fn block(offset: u16, size: u8) -> Block {
-    Block {
-        section: 1,
-        offset,
-        size,
-    }
-}
-
-fn sections(alloc: Global) -> Result<Vec<Section>, AllocError> {
-    let text = Section {
-        name: String::from_str(alloc, ".text")?,
-        body: Body::Initialised(vec![in alloc; 0x5500, 0, 0xc800, 0]?),
-    };
-    let bss = Section {
-        name: String::from_str(alloc, ".bss")?,
-        body: Body::Uninitialised(300),
-    };
-    Ok(vec![in alloc; text, bss]?)
-}
-
-fn every_kind(alloc: Global) -> Result<Parts, AllocError> {
-    let room = symbol(alloc, SymbolKind::Absolute, Scope::Local, -5, "ROOM")?;
-    let go = symbol(alloc, SymbolKind::InSection(0), Scope::Global, 2, "GO")?;
-    let loaded = symbol(alloc, SymbolKind::Loaded(0), Scope::Global, 2, "L")?;
-    let far = symbol(alloc, SymbolKind::External, Scope::Global, 0, "FAR")?;
-    let main = String::from_str(alloc, "a.asm")?;
-    let included = String::from_str(alloc, "b.inc")?;
-    Ok(Parts {
-        sections: sections(alloc)?,
-        marks: vec![in alloc; mark(0, 1), mark(2, 1)]?,
-        symbols: vec![in alloc; room, go, loaded, far]?,
-        relocations: vec![in alloc;
-            relocation(1, RelocationKind::Word16, RelocationBase::External(3), -1),
-            relocation(2, RelocationKind::Page9, RelocationBase::Section(1), 7),
-            relocation(3, RelocationKind::Word16, RelocationBase::Loaded(1), 8),
-        ]?,
-        version: Version::Two,
-        files: vec![in alloc; main, included]?,
-        lines: vec![in alloc; line(0, 1), line(1, 7)]?,
-        blocks: vec![in alloc; block(0, 128), block(200, 100)]?,
-    })
 }
 
 #[test]
 fn every_kind_of_record_is_written(rt: HostRuntime) -> Result<(), Fail> {
     let parts = every_kind(rt.alloc())?;
-    assert!(rt; spells(&parts));
-    let bytes = write_module(rt.alloc(), &module(parts))?;
-    assert_eq!(rt;
-        bytes.as_slice(),
-        bytes_of(rt.alloc(), EVERY_KIND)?.as_slice()
-    );
-    Ok(())
+    is_written(&rt, parts, EVERY_KIND)
+}
+
+/// Whether lists have a symbol by load address, and the files of that module.
+fn have_names(parts: &Parts) -> bool {
+    match (parts.symbols.as_slice(), parts.files.as_slice()) {
+        ([_, _, loaded, _], [_, included]) => {
+            loaded.kind == SymbolKind::Loaded(0) && included.as_str() == "b.inc"
+        }
+        _ => false,
+    }
+}
+
+/// Whether lists have the relocations, the lines and the blocks of that module.
+fn have_places(parts: &Parts) -> bool {
+    parts.relocations.as_slice() == relocations().as_slice()
+        && parts.lines.as_slice() == lines().as_slice()
+        && parts.blocks.as_slice() == blocks().as_slice()
 }
 
 #[test]
 fn every_kind_of_record_is_read(rt: HostRuntime) -> Result<(), Fail> {
-    let bytes = bytes_of(rt.alloc(), EVERY_KIND)?;
-    let object = read_module(rt.alloc(), &bytes)?;
-    let parts = object.parts();
-    assert_eq!(rt; parts.symbols.len(), 4);
-    assert!(rt; parts.symbols[2].kind == SymbolKind::Loaded(0));
-    assert_eq!(rt; parts.relocations.len(), 3);
-    assert_eq!(rt; parts.relocations[2].base, RelocationBase::Loaded(1));
-    assert_eq!(rt; parts.files.len(), 2);
-    assert_eq!(rt; parts.files[1].as_str(), "b.inc");
-    assert_eq!(rt; parts.lines.as_slice(), [line(0, 1), line(1, 7)].as_slice());
-    assert_eq!(rt;
-        parts.blocks.as_slice(),
-        [block(0, 128), block(200, 100)].as_slice()
-    );
+    let object = read_back(&rt, EVERY_KIND)?;
+    assert!(rt; have_names(object.parts()));
+    assert!(rt; have_places(object.parts()));
     Ok(())
 }
 
-/// Each list that is not a module's is told, and the others are the module's still.
+/// Whether lists are a module's as they are, in version 1, with a file that is not used, with a line of no mark, and with
+/// a block that overlaps another.
+fn answers(alloc: Global, mut parts: Parts) -> Result<[bool; 5], AllocError> {
+    let file = String::from_str(alloc, "c.inc")?;
+    let with_file = spells_with_file(&mut parts, file)?;
+    let with_line = spells_with_line(&mut parts, line(1, 8))?;
+    let with_block = spells_with_block(&mut parts, block(299, 1))?;
+    let in_first = spells_in(&mut parts, Version::One);
+    Ok([spells(&parts), in_first, with_file, with_line, with_block])
+}
+
 #[test]
 fn lists_of_no_module_spell_nothing(rt: HostRuntime) -> Result<(), Fail> {
-    let mut parts = every_kind(rt.alloc())?;
-    parts.version = Version::One;
-    assert!(rt; !spells(&parts));
-    parts.version = Version::Two;
-    assert!(rt; spells(&parts));
-    parts.files.push(String::from_str(rt.alloc(), "c.inc")?)?;
-    assert!(rt; !spells(&parts));
-    let _file = parts.files.pop();
-    parts.lines.push(line(1, 8))?;
-    assert!(rt; !spells(&parts));
-    let _line = parts.lines.pop();
-    parts.blocks.push(block(299, 1))?;
-    assert!(rt; !spells(&parts));
+    let parts = every_kind(rt.alloc())?;
+    let answers = answers(rt.alloc(), parts)?;
+    assert_eq!(rt; answers, [true, false, false, false, false]);
     Ok(())
 }

@@ -5,8 +5,9 @@ ghost use Rattle.c25_board.specs.Board.{steps};
 ghost use Rattle.c25_debug.specs.WithinMemory.{IsWithin};
 
 use anyhow::{Result, bail};
-use c25_board::board::Board;
+use c25_board::board::{Board, Outcome};
 use c25_board::fixed_sink::FixedSink;
+use c25_board::ports::Sink;
 use c25_board::samples::{Samples, read_samples};
 use c25_board::schedule::read_schedule;
 use c25_chain::build;
@@ -20,23 +21,39 @@ use std::alloc::Global;
 /// Steps 0 and 1 make the word; step 2 and every second one behind it put it out.
 const SOURCE: &str = " LACK 65\n SACL 60h\nS OUT 60h,PA1\n B S\n";
 
-/// The program of that source.
-fn image_of(alloc: Global) -> Result<Image> {
-    let mut files = Files::new(alloc);
-    files.add("puts.asm", SOURCE)?;
-    let mut sources = Vec::new(alloc);
-    sources.push(String::from_str(alloc, "puts.asm")?)?;
-    match build(alloc, &files, &sources, "") {
-        Ok(built) => Ok(built.linked.image),
-        Err(_) => bail!("the source is refused"),
+/// A sink of a fixed size, whatever size that is.
+trait Fixed: Sink {
+    /// How many words it takes.
+    const ROOM: usize;
+
+    /// An empty one.
+    fn empty() -> Self;
+
+    /// How many words stand in it.
+    fn count(&self) -> usize;
+
+    /// Forgets its words.
+    fn forget(&mut self);
+}
+
+impl<const CAP: usize> Fixed for FixedSink<CAP> {
+    const ROOM: usize = CAP;
+
+    fn empty() -> FixedSink<CAP> {
+        FixedSink::new()
+    }
+
+    fn count(&self) -> usize {
+        self.words().len()
+    }
+
+    fn forget(&mut self) {
+        self.clear();
     }
 }
 
-/// A board that runs a program, with room for CAP outputs.
-fn board_of<const CAP: usize>(
-    alloc: Global,
-    image: &Image,
-) -> Result<Board<Samples, FixedSink<CAP>>>
+/// A board that runs a program, with an empty sink.
+fn board_of<S: Fixed + Drop>(alloc: Global, image: &Image) -> Result<Board<Samples, S>>
     ensures { IfOk result (λ board. steps board ≡ 0) }
 {
     let samples = read_samples(alloc, "")?;
@@ -44,7 +61,6 @@ fn board_of<const CAP: usize>(
     if !marks_fit(image.marks()) {
         bail!("these are no places of instructions");
     }
-    let sink = FixedSink::<CAP>::new();
     Ok(Board::new(
         alloc,
         image.words(0),
@@ -53,37 +69,40 @@ fn board_of<const CAP: usize>(
         &[],
         schedule,
         samples,
-        sink,
+        S::empty(),
     )?)
 }
 
-/// Runs a new board into its full sink, and on once the sink is cleared.
-fn run_board<const CAP: usize, R: Print>(
+/// Prints how a run ended, and what the board has come to.
+fn tell<S: Fixed + Drop, R: Print>(
     rt: &R,
-    board: &mut Board<Samples, FixedSink<CAP>>,
-) -> Result<()>
+    run: &str,
+    outcome: Outcome,
+    board: &Board<Samples, S>,
+) -> Result<()> {
+    let words = board.sink().count();
+    println!(rt; "{run}: {outcome:?}, words {words}, PC {}", board.pc())?;
+    Ok(())
+}
+
+/// Runs a new board into its full sink, and on once the sink is cleared.
+fn run_board<S: Fixed + Drop, R: Print>(rt: &R, board: &mut Board<Samples, S>) -> Result<()>
     requires { steps board.old ≡ 0 }
 {
     let outcome = board.run(100);
-    let words = board.sink().words().len();
-    println!(rt; "run 100: {outcome:?}, words {words}, PC {}", board.pc())?;
-    board.sink_mut().clear();
+    tell(rt, "run 100", outcome, board)?;
+    board.sink_mut().forget();
     if board.steps() > 100 {
         bail!("a board has done more steps than it was asked for");
     }
     let outcome = board.run(1);
-    let words = board.sink().words().len();
-    println!(rt;
-        "cleared, run 1: {outcome:?}, words {words}, PC {}",
-        board.pc()
-    )?;
-    Ok(())
+    tell(rt, "cleared, run 1", outcome, board)
 }
 
 /// Prints what a session answers to a command, and whether that tells of a word that was refused.
-fn show<const CAP: usize, R: Print>(
+fn show<S: Fixed + Drop, R: Print>(
     rt: &R,
-    session: &mut Session<'_, Samples, FixedSink<CAP>>,
+    session: &mut Session<'_, Samples, S>,
     command: &Cmd,
 ) -> Result<()>
     requires { IsWithin command.now }
@@ -94,65 +113,61 @@ fn show<const CAP: usize, R: Print>(
 }
 
 /// Runs a session into its full sink, tries the word again, and looks at where it stands.
-fn debug_board<const CAP: usize, R: Print>(
+fn debug_board<S: Fixed + Drop, R: Print>(
     rt: &R,
-    session: &mut Session<'_, Samples, FixedSink<CAP>>,
+    session: &mut Session<'_, Samples, S>,
 ) -> Result<()> {
     show(rt, session, &Cmd::Step(100))?;
     show(rt, session, &Cmd::Run(1))?;
     show(rt, session, &Cmd::Where)?;
-    println!(rt; "words {}", session.board().sink().words().len())?;
+    println!(rt; "words {}", session.board().sink().count())?;
     Ok(())
 }
 
-/// A sink for so many words, under a board and under a session.
-macro_rules! run_sink {
-    ($rt:ident, $image:ident, $capacity:literal) => {
-        println!($rt; "== a sink for {} words", $capacity)?;
-        let mut board = board_of::<$capacity>($rt.alloc(), $image)?;
-        run_board($rt, &mut board)?;
-        let board = board_of::<$capacity>($rt.alloc(), $image)?;
-        let mut session = Session::new($rt.alloc(), board, $image);
-        debug_board($rt, &mut session)?;
-    };
+/// A sink under a board and under a session.
+fn run_sink<S: Fixed + Drop, R: Print + AllocGlobal>(rt: &R, image: &Image) -> Result<()> {
+    println!(rt; "== a sink for {} words", S::ROOM)?;
+    let mut board = board_of::<S>(rt.alloc(), image)?;
+    run_board(rt, &mut board)?;
+    let board = board_of::<S>(rt.alloc(), image)?;
+    let mut session = Session::new(rt.alloc(), board, image);
+    debug_board(rt, &mut session)
 }
 
-fn run_sinks_of_0_and_1<R: Print + AllocGlobal>(rt: &R, image: &Image) -> Result<()> {
-    run_sink!(rt, image, 0);
-    run_sink!(rt, image, 1);
-    Ok(())
+/// A sink of each size.
+fn run_sinks<R: Print + AllocGlobal>(rt: &R, image: &Image) -> Result<()> {
+    run_sink::<FixedSink<0>, R>(rt, image)?;
+    run_sink::<FixedSink<1>, R>(rt, image)?;
+    run_sink::<FixedSink<2>, R>(rt, image)?;
+    run_sink::<FixedSink<3>, R>(rt, image)?;
+    run_sink::<FixedSink<4>, R>(rt, image)?;
+    run_sink::<FixedSink<5>, R>(rt, image)?;
+    run_sink::<FixedSink<6>, R>(rt, image)?;
+    run_sink::<FixedSink<7>, R>(rt, image)?;
+    run_sink::<FixedSink<8>, R>(rt, image)?;
+    run_sink::<FixedSink<9>, R>(rt, image)
 }
 
-fn run_sinks_of_2_and_3<R: Print + AllocGlobal>(rt: &R, image: &Image) -> Result<()> {
-    run_sink!(rt, image, 2);
-    run_sink!(rt, image, 3);
-    Ok(())
+/// The text of that source, under its name.
+fn files_of(alloc: Global) -> Result<Files> {
+    let mut files = Files::new(alloc);
+    files.add("puts.asm", SOURCE)?;
+    Ok(files)
 }
 
-fn run_sinks_of_4_and_5<R: Print + AllocGlobal>(rt: &R, image: &Image) -> Result<()> {
-    run_sink!(rt, image, 4);
-    run_sink!(rt, image, 5);
-    Ok(())
-}
-
-fn run_sinks_of_6_and_7<R: Print + AllocGlobal>(rt: &R, image: &Image) -> Result<()> {
-    run_sink!(rt, image, 6);
-    run_sink!(rt, image, 7);
-    Ok(())
-}
-
-fn run_sinks_of_8_and_9<R: Print + AllocGlobal>(rt: &R, image: &Image) -> Result<()> {
-    run_sink!(rt, image, 8);
-    run_sink!(rt, image, 9);
-    Ok(())
+/// The name of that source.
+fn sources_of(alloc: Global) -> Result<Vec<String>> {
+    let mut sources = Vec::new(alloc);
+    sources.push(String::from_str(alloc, "puts.asm")?)?;
+    Ok(sources)
 }
 
 /// All of these sinks.
 pub(crate) fn run_all<R: Print + AllocGlobal>(rt: &R) -> Result<()> {
-    let image = image_of(rt.alloc())?;
-    run_sinks_of_0_and_1(rt, &image)?;
-    run_sinks_of_2_and_3(rt, &image)?;
-    run_sinks_of_4_and_5(rt, &image)?;
-    run_sinks_of_6_and_7(rt, &image)?;
-    run_sinks_of_8_and_9(rt, &image)
+    let files = files_of(rt.alloc())?;
+    let sources = sources_of(rt.alloc())?;
+    match build(rt.alloc(), &files, &sources, "") {
+        Ok(built) => run_sinks(rt, &built.linked.image),
+        Err(_) => bail!("the source is refused"),
+    }
 }

@@ -13,6 +13,7 @@ use Rattle.c25_meaning_common.specs.declared.failure.Failure.TheVariants as fail
 use Rattle.c25_words.specs.Task.{IsWantOfMemory}
 use Rattle.c25_report.specs.declared.ending.Ending.{Ending}
 use Rattle.c25_report.specs.declared.ending.Ending.TheVariants.{Done, Left, Sunk, Faulty, NoMemory, Unprinted, NoTask, NoText}
+use Rattle.c25_report.specs.declared.ending.Report.{Report}
 
 -- ---- statuses
 
@@ -69,3 +70,7 @@ IsTold (NoMemory n) old new = HasLine (codes "memory: 9 NoMemory") old new
 IsTold Unprinted old new = HasLine (codes "stdout: 7 CannotWrite") old new
 IsTold (NoTask fault) old new = IsToldOfWords fault old new
 IsTold NoText old new = HasLine (codes "c25: a word is not UTF-8") old new
+
+-- what is told of a report: of its ending, and the note behind that
+abbrev pub IsReported : Report → Option (List ℕ) → Option (List ℕ) → Type 0
+IsReported report old new = (told : Option (List ℕ)) × IsTold report.ending old told × Appends told new (string_bytes report.note)

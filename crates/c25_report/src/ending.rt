@@ -1,12 +1,13 @@
 //! What the program comes to: its status, and what is told of it on standard error.
 
-ghost use Rattle.std.specs.Prelude.{◌≡◌, OnOk};
+ghost use Rattle.std.specs.Prelude.{◌≡◌, [], OnOk, string_bytes};
 ghost use Rattle.std.specs.Process.{exit_status};
-ghost use Rattle.c25_report.specs.Ending.{IsTold, IsToldOfWords, status_of, words_status};
+ghost use Rattle.c25_report.specs.Ending.{IsReported, IsTold, IsToldOfWords, status_of, words_status};
 
 use crate::printing::print_line;
 use c25_meaning_common::no_memory::NoMemory;
 use c25_words::fault::{WordsFault, is_want_of_memory};
+use std::alloc::Global;
 use std::io;
 use std::io::Write;
 use std::process::ExitCode;
@@ -41,12 +42,31 @@ pub enum Ending {
     NoText,
 }
 
-/// What the program came to, and whether that could be told.
+/// What the program tells on standard error: what it comes to, and a note behind that.
+#[derive(Drop)]
+pub struct Report {
+    pub ending: Ending,
+    /// A text of whole lines, empty where none was asked for.
+    pub note: String,
+}
+
+/// What the program told, and whether it could.
 #[derive(Drop)]
 pub struct Ended {
-    pub ending: Ending,
-    /// Whether what is told of the ending stands on standard error, or why that cannot be written.
+    pub report: Report,
+    /// Whether the report stands on standard error, or why it cannot be written.
     pub told: io::Result<()>,
+}
+
+impl Report {
+    /// The report of an ending, without a note. It takes no memory.
+    pub fn without_note(alloc: Global, ending: Ending) -> Report
+        ensures ending { result.ending ≡ ending }
+        ensures note { string_bytes result.note ≡ [] }
+    {
+        let note = String::new(alloc);
+        Report { ending, note }
+    }
 }
 
 /// The status of words that are no task.
@@ -63,9 +83,9 @@ fn words_status(fault: &WordsFault) -> ExitCode
 impl Ended {
     /// The program's status.
     pub fn status(&self) -> ExitCode
-        ensures { exit_status result ≡ status_of self.now.ending }
+        ensures { exit_status result ≡ status_of self.now.report.ending }
     {
-        match &self.ending {
+        match &self.report.ending {
             Ending::Done => ExitCode::SUCCESS,
             Ending::Left => ExitCode::from(3),
             Ending::Sunk | Ending::Faulty(_) | Ending::NoMemory(_) | Ending::Unprinted => {
@@ -101,11 +121,19 @@ fn tell<E: Write>(ending: &Ending, err: &mut E) -> io::Result<()>
     }
 }
 
-/// Tells an ending on standard error: a fault's line, or why words are no task.
-pub fn finish<E: Write>(ending: Ending, err: &mut E) -> Ended
-    ensures ending { result.ending ≡ ending }
-    ensures told { OnOk result.told (IsTold ending (E.contents err.old) (E.contents err.new)) }
+/// Tells an ending, and a note behind it.
+fn tell_report<E: Write>(report: &Report, err: &mut E) -> io::Result<()>
+    ensures { OnOk result (IsReported report.now (E.contents err.old) (E.contents err.new)) }
 {
-    let told = tell(&ending, err);
-    Ended { ending, told }
+    tell(&report.ending, err)?;
+    err.write_all(report.note.as_bytes())
+}
+
+/// Tells a report on standard error: a fault's line, or why words are no task, and the note behind it.
+pub fn finish<E: Write>(report: Report, err: &mut E) -> Ended
+    ensures report { result.report ≡ report }
+    ensures told { OnOk result.told (IsReported report (E.contents err.old) (E.contents err.new)) }
+{
+    let told = tell_report(&report, err);
+    Ended { report, told }
 }

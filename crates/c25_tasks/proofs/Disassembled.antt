@@ -17,12 +17,12 @@ use Rattle.c25_tasks.specs.Disassembly.{IsGivenText, IsTextOf, given_by, given_i
 is_given : (name bytes : List ℕ) → is_utf8 bytes ≡ true → given_in (name, bytes) ≡ given_by bytes
 is_given name bytes e = rw e refl
 
-pub text_given : (name bytes shown text : List ℕ) (answer : Result (String Global) Fault) → shown ≡ bytes → text ≡ shown → IsUtf8 shown → IsTextOf IsGivenText (given_by text) answer
-    → IsTextOf IsGivenText (given_in (name, bytes)) answer
-text_given name bytes shown text answer is read utf8 given =
-    let of_bytes = subst (λ (t : List ℕ). IsTextOf IsGivenText (given_by t) answer) (read ∙ is) given in
+pub text_given : (start : ℕ) (name bytes shown text : List ℕ) (answer : Result (String Global) Fault) → shown ≡ bytes → text ≡ shown → IsUtf8 shown → IsTextOf (IsGivenText start) (given_by text) answer
+    → IsTextOf (IsGivenText start) (given_in (name, bytes)) answer
+text_given start name bytes shown text answer is read utf8 given =
+    let of_bytes = subst (λ (t : List ℕ). IsTextOf (IsGivenText start) (given_by t) answer) (read ∙ is) given in
     let as_given = is_given name bytes (is_utf8-from_IsUtf8 bytes (subst IsUtf8 is utf8)) in
-    subst (λ (r : Result (map.FinMap nat_cmp ℕ) (Refusal (List ℕ))). IsTextOf IsGivenText r answer) (sym as_given) of_bytes
+    subst (λ (r : Result (map.FinMap nat_cmp ℕ) (Refusal (List ℕ))). IsTextOf (IsGivenText start) r answer) (sym as_given) of_bytes
 
 not_text : (bytes : List ℕ) → (IsUtf8 bytes → ⊥) → is_utf8 bytes ≡ false
 not_text bytes none = by (is_utf8 bytes) refl

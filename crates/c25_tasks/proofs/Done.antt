@@ -1,7 +1,7 @@
 -- What is done for a task, and what a fault comes to.
-use Rattle.std.proofs.Common.{◌≡◌, sym, subst, ℕ, List, Bor, Option}
+use Rattle.std.proofs.Common.{◌≡◌, ◌∙◌, ap, inl, refl, sym, subst, ℕ, Bool, List, [], Bor, Option, string_bytes}
 use Rattle.std.specs.Io.KnownBytes.{Keeps}
-use Rattle.std.specs.Prelude.{Result, String, Vec}
+use Rattle.std.specs.Prelude.{Some, None, Result, String, Vec}
 use Rattle.std.specs.declared.alloc.Global.{Global}
 use Rattle.c25_chain.specs.FaultText.{fault_text}
 use Rattle.c25_chain.specs.Refusal.{Fault}
@@ -10,36 +10,74 @@ use Rattle.c25_chain.specs.declared.fault.Refusal.{Refusal}
 use Rattle.c25_disk.specs.Held.{Held, Stay}
 use Rattle.c25_meaning_common.specs.declared.failure.Failure.TheVariants as failure
 use Rattle.c25_report.specs.declared.ending.Ending.{Ending}
+use Rattle.c25_report.specs.declared.ending.Ending.TheVariants as ending
+use Rattle.c25_report.specs.declared.ending.Report.{Report}
 use Rattle.c25_words.specs.Task.{text_of, texts_of}
 use Rattle.c25_words.specs.declared.task.RunFiles.{RunFiles}
 use Rattle.c25_words.specs.declared.task.Task.{Task}
-use Rattle.c25_words.specs.declared.task.Task.TheVariants.{Link, Build, Run, Debug}
-use Rattle.c25_tasks.specs.Building.{BuildsFrom, WritesProgram}
+use Rattle.c25_words.specs.declared.task.Task.TheVariants.{Assemble, Link, Build, Run, Debug}
+use Rattle.c25_tasks.specs.Assembly.{Assembles}
+use Rattle.c25_tasks.specs.Building.{WritesProgram}
 use Rattle.c25_tasks.specs.Debugging.{DebugsTold}
 use Rattle.c25_tasks.specs.Linking.{LinksFrom}
-use Rattle.c25_tasks.specs.Program.{Does, Effect}
+use Rattle.c25_tasks.specs.Notes.{IsNoted, notes_for}
+use Rattle.c25_tasks.specs.Program.{Does, Effect, effect_of, notes_under}
 use Rattle.c25_tasks.specs.Running.{RunsTold}
-use Rattle.c25_tasks.specs.Tells.{IsEndingOf, IsLineOf}
+use Rattle.c25_tasks.specs.Symbols.{BuildsToDisk}
+use Rattle.c25_tasks.specs.Tells.{IsEndingOf, IsLineOf, IsReportOf, Printed, Wrote}
+use Rattle.c25_tasks.specs.declared.notes.Notes.{Notes}
 
 pub ends_of : (fault : Fault) (f : Refusal (String Global)) (e : Ending) → fault ≡ failure.Fault f → IsLineOf (fault_text fault) e → IsEndingOf fault e
 ends_of fault f e is line = subst (λ (x : Fault). IsEndingOf x e) (sym is) (subst (λ (x : Fault). IsLineOf (fault_text x) e) is line)
 
-pub does_link : (held : Held) (input : Option (List ℕ)) (task : Task) (command : Bor (List ℕ)) (objects : Vec (Bor (List ℕ)) Global) (base : Bor (List ℕ)) (names : List (Bor (List ℕ))) (told : Result Built Fault) (e : Effect) → task ≡ Link command objects base → names ≡ objects.items → LinksFrom held command.now (texts_of names) told → WritesProgram base.now told e.ending e.written → Keeps e.out.0 e.out.1 → Does held input task e
-does_link held input task command objects base names told e is same comes writes keeps =
+pub reports_line : (held : Held) (notes : Notes) (fault : Fault) (f : Refusal (String Global)) (line : String Global) (note : List ℕ)
+    → fault ≡ failure.Fault f → string_bytes line ≡ fault_text fault → IsNoted held notes f note → IsReportOf held notes fault (ending.Faulty line) note
+reports_line held notes fault f line note is text noted =
+    let of_f : string_bytes line ≡ fault_text (failure.Fault f) = text ∙ ap (λ (x : Fault). fault_text x) is in
+    subst (λ (x : Fault). IsReportOf held notes x (ending.Faulty line) note) (sym is) (inl ((line, refl, of_f), noted))
+
+-- ---- tasks
+
+-- what is done with an ending is done with the report of it that has no note
+pub reported : (held : Held) (input : Option (List ℕ)) (task : Task) (ending : Ending) (report : Report) (out : Printed) (written : Wrote)
+    → report.ending ≡ ending → string_bytes report.note ≡ [] → Does held input task (record { ending = ending; note = []; out = out; written = written }) → Does held input task (effect_of report out written)
+reported held input task ending report out written same none does =
+    subst (λ (e : Ending). Does held input task (record { ending = e; note = string_bytes report.note; out = out; written = written })) (sym same)
+    (subst (λ (note : List ℕ). Does held input task (record { ending = ending; note = note; out = out; written = written })) (sym none) does)
+
+pub does : (held : Held) (input : Option (List ℕ)) (task given : Task) (e : Effect) → task ≡ given → Does held input given e → Does held input task e
+does held input task given e is done = subst (λ (t : Task). Does held input t e) (sym is) done
+
+pub does_assemble : (held : Held) (input : Option (List ℕ)) (task : Task) (source object : Bor (List ℕ)) (listing : Option (Bor (List ℕ))) (explain : Bool) (notes : Notes) (e : Effect)
+    → task ≡ Assemble source object listing explain → notes ≡ notes_under explain None → Assembles held notes source.now object.now (text_of listing) e.ending e.note e.written → Keeps e.out.0 e.out.1 → Does held input task e
+does_assemble held input task source object listing explain notes e is asked writes keeps =
+    let noted = subst (λ (n : Notes). Assembles held n source.now object.now (text_of listing) e.ending e.note e.written) asked writes in
+    subst (λ (t : Task). Does held input t e) (sym is) (noted, keeps)
+
+pub does_link : (held : Held) (input : Option (List ℕ)) (task : Task) (command : Bor (List ℕ)) (objects : Vec (Bor (List ℕ)) Global) (base : Bor (List ℕ)) (explain : Bool) (notes : Notes) (names : List (Bor (List ℕ))) (told : Result Built Fault) (e : Effect)
+    → task ≡ Link command objects base explain → notes ≡ notes_under explain (Some command) → names ≡ objects.items → LinksFrom held command.now (texts_of names) told → WritesProgram held notes base.now told e.ending e.note e.written → Keeps e.out.0 e.out.1 → Does held input task e
+does_link held input task command objects base explain notes names told e is asked same comes writes keeps =
     let of_objects = subst (λ (ns : List (Bor (List ℕ))). LinksFrom held command.now (texts_of ns) told) same comes in
-    subst (λ (t : Task). Does held input t e) (sym is) ((told, of_objects, writes), keeps)
+    let noted = subst (λ (n : Notes). WritesProgram held n base.now told e.ending e.note e.written) asked writes in
+    subst (λ (t : Task). Does held input t e) (sym is) ((told, of_objects, noted), keeps)
 
-pub does_build : (held : Held) (input : Option (List ℕ)) (task : Task) (sources : Vec (Bor (List ℕ)) Global) (base : Bor (List ℕ)) (command : Option (Bor (List ℕ))) (names : List (Bor (List ℕ))) (told : Result Built Fault) (e : Effect) → task ≡ Build sources base command → names ≡ sources.items → BuildsFrom held (texts_of names) (text_of command) told → WritesProgram base.now told e.ending e.written → Keeps e.out.0 e.out.1 → Does held input task e
-does_build held input task sources base command names told e is same comes writes keeps =
-    let of_sources = subst (λ (ns : List (Bor (List ℕ))). BuildsFrom held (texts_of ns) (text_of command) told) same comes in
-    subst (λ (t : Task). Does held input t e) (sym is) ((told, of_sources, writes), keeps)
+pub does_build : (held : Held) (input : Option (List ℕ)) (task : Task) (sources : Vec (Bor (List ℕ)) Global) (base : Bor (List ℕ)) (command symbols : Option (Bor (List ℕ))) (explain : Bool) (notes : Notes) (names : List (Bor (List ℕ))) (e : Effect)
+    → task ≡ Build sources base command symbols explain → notes ≡ notes_under explain command → names ≡ sources.items → BuildsToDisk held notes (texts_of names) (text_of command) base.now (text_of symbols) e.ending e.note e.written → Keeps e.out.0 e.out.1 → Does held input task e
+does_build held input task sources base command symbols explain notes names e is asked same told keeps =
+    let of_sources = subst (λ (ns : List (Bor (List ℕ))). BuildsToDisk held notes (texts_of ns) (text_of command) base.now (text_of symbols) e.ending e.note e.written) same told in
+    let noted = subst (λ (n : Notes). BuildsToDisk held n (texts_of sources.items) (text_of command) base.now (text_of symbols) e.ending e.note e.written) asked of_sources in
+    subst (λ (t : Task). Does held input t e) (sym is) (noted, keeps)
 
-pub does_run : (held : Held) (input : Option (List ℕ)) (task : Task) (sources : Vec (Bor (List ℕ)) Global) (steps : ℕ) (files : RunFiles) (names : List (Bor (List ℕ))) (e : Effect) → task ≡ Run sources steps files → names ≡ sources.items → RunsTold held (texts_of names) steps files e.ending e.out → Stay e.written.0 e.written.1 → Does held input task e
-does_run held input task sources steps files names e is same told stay =
-    let of_sources = subst (λ (ns : List (Bor (List ℕ))). RunsTold held (texts_of ns) steps files e.ending e.out) same told in
-    subst (λ (t : Task). Does held input t e) (sym is) (of_sources, stay)
+pub does_run : (held : Held) (input : Option (List ℕ)) (task : Task) (sources : Vec (Bor (List ℕ)) Global) (steps : ℕ) (files : RunFiles) (regs explain : Bool) (notes : Notes) (names : List (Bor (List ℕ))) (e : Effect)
+    → task ≡ Run sources steps files regs explain → notes ≡ notes_for explain files None → names ≡ sources.items → RunsTold held notes (texts_of names) steps regs files e.ending e.note e.out → Stay e.written.0 e.written.1 → Does held input task e
+does_run held input task sources steps files regs explain notes names e is asked same told stay =
+    let of_sources = subst (λ (ns : List (Bor (List ℕ))). RunsTold held notes (texts_of ns) steps regs files e.ending e.note e.out) same told in
+    let noted = subst (λ (n : Notes). RunsTold held n (texts_of sources.items) steps regs files e.ending e.note e.out) asked of_sources in
+    subst (λ (t : Task). Does held input t e) (sym is) (noted, stay)
 
-pub does_debug : (held : Held) (input : Option (List ℕ)) (task : Task) (sources : Vec (Bor (List ℕ)) Global) (script : Bor (List ℕ)) (files : RunFiles) (names : List (Bor (List ℕ))) (e : Effect) → task ≡ Debug sources script files → names ≡ sources.items → DebugsTold held (texts_of names) script.now files e.ending e.out → Stay e.written.0 e.written.1 → Does held input task e
-does_debug held input task sources script files names e is same told stay =
-    let of_sources = subst (λ (ns : List (Bor (List ℕ))). DebugsTold held (texts_of ns) script.now files e.ending e.out) same told in
-    subst (λ (t : Task). Does held input t e) (sym is) (of_sources, stay)
+pub does_debug : (held : Held) (input : Option (List ℕ)) (task : Task) (sources : Vec (Bor (List ℕ)) Global) (script : Bor (List ℕ)) (files : RunFiles) (explain : Bool) (notes : Notes) (names : List (Bor (List ℕ))) (e : Effect)
+    → task ≡ Debug sources script files explain → notes ≡ notes_for explain files (Some script) → names ≡ sources.items → DebugsTold held notes (texts_of names) script.now files e.ending e.note e.out → Stay e.written.0 e.written.1 → Does held input task e
+does_debug held input task sources script files explain notes names e is asked same told stay =
+    let of_sources = subst (λ (ns : List (Bor (List ℕ))). DebugsTold held notes (texts_of ns) script.now files e.ending e.note e.out) same told in
+    let noted = subst (λ (n : Notes). DebugsTold held n (texts_of sources.items) script.now files e.ending e.note e.out) asked of_sources in
+    subst (λ (t : Task). Does held input t e) (sym is) (noted, stay)

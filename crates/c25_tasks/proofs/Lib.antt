@@ -6,3 +6,4 @@ pub mod Done
 pub mod Joined
 pub mod Words
 pub mod Disassembled
+pub mod WithSymbols

@@ -4,22 +4,25 @@ use Rattle.std.specs.Io.KnownBytes.{Keeps}
 use Rattle.std.specs.Prelude.{Ok, Result, String, Vec}
 use Rattle.std.specs.String.{string_bytes}
 use Rattle.std.specs.declared.alloc.Global.{Global}
-use Rattle.c25_chain.specs.FaultText.{at_file, fault_text}
-use Rattle.c25_chain.specs.Refusal.{Fault}
+use Rattle.c25_chain.specs.Refusal.{Fault, refusal_of}
 use Rattle.c25_chain.specs.declared.fault.Refusal.{Refusal}
 use Rattle.c25_chain.specs.declared.fault.Refusal.TheVariants.{File}
-use Rattle.c25_disk.specs.Held.{Stay}
+use Rattle.c25_disk.specs.Held.{Held, Stay}
 use Rattle.c25_disk.specs.Written.{IsUnwritten, contents_of}
 use Rattle.c25_meaning_common.specs.declared.placed.Placed.{Placed}
 use Rattle.c25_disk.specs.declared.fault.FileFault.{FileFault}
 use Rattle.c25_disk.specs.declared.fault.FileFault.TheVariants.{CannotWrite}
 use Rattle.c25_disk.specs.declared.writing.Output.{Output}
+use Rattle.c25_explain.specs.declared.note.ShownLine.{ShownLine}
 use Rattle.c25_meaning_common.specs.declared.failure.Failure.{Failure}
 use Rattle.c25_meaning_common.specs.declared.failure.Failure.TheVariants as failure
 use Rattle.c25_meaning_expansion.specs.Files.{Files}
 use Rattle.c25_report.specs.declared.ending.Ending.{Ending}
 use Rattle.c25_tasks.specs.Files.{IsToldOfFile}
-use Rattle.c25_tasks.specs.Tells.{HasFault, IsEndingOf, IsUnwrittenAmong, Wrote, WritesTold}
+use Rattle.c25_tasks.specs.Notes.{IsNoted, IsShown}
+use Rattle.c25_tasks.specs.Tells.{IsReportOf, IsUnwrittenAmong, Wrote, WritesTold}
+use Rattle.c25_tasks.specs.declared.notes.Notes.{Notes}
+use Rattle.c25_tasks.specs.declared.notes.Notes.TheVariants.{Nothing, Explanations}
 
 pub stays : (files : Option Files) → Stay files files
 stays None = tt
@@ -31,19 +34,43 @@ keeps (Some xs) = refl
 
 -- ---- a file that cannot be written
 
-same_line : (f : Placed (String Global) FileFault) (name : List ℕ) → string_bytes f.place ≡ name → f.fault ≡ CannotWrite → at_file (string_bytes f.place) f.fault ≡ at_file name CannotWrite
-same_line f name named kind = ap (λ k. at_file (string_bytes f.place) k) kind ∙ ap (λ (n : List ℕ). at_file n CannotWrite) named
+abbrev file_refusal : List ℕ → FileFault → Refusal (List ℕ)
+file_refusal name kind = File (record { place = name; fault = kind })
 
-unwritten : (old new : Option Files) (outputs : List Output) (refusal : Failure (Placed (String Global) FileFault)) (fault : Fault) (e : Ending) → IsUnwritten old new outputs refusal → IsToldOfFile refusal fault → IsEndingOf fault e → IsUnwrittenAmong (map contents_of outputs) e (old, new)
-unwritten old new outputs (failure.NoMemory n) (failure.NoMemory m) e (file, ends, is) told comes = (file, ends, inr (m, comes))
-unwritten old new outputs (failure.NoMemory n) (failure.Fault r) e is told comes = absurd told
-unwritten old new outputs (failure.Fault f) (failure.NoMemory m) e is told comes = absurd told
-unwritten old new outputs (failure.Fault f) (failure.Fault r) e (file, ends, is) told (inr short) = (file, ends, inr short)
-unwritten old new outputs (failure.Fault f) (failure.Fault r) e (file, ends, is) told (inl line) =
-    let of_file = subst (λ (g : Refusal (String Global)). HasFault (fault_text (failure.Fault g)) e) told line in
-    (file, ends, inl (subst (λ (text : List ℕ). HasFault text e) (same_line f file.0 is.0 is.1) of_file))
+same_refusal : (f : Placed (String Global) FileFault) (name : List ℕ) → string_bytes f.place ≡ name → f.fault ≡ CannotWrite → file_refusal (string_bytes f.place) f.fault ≡ file_refusal name CannotWrite
+same_refusal f name named kind = λ i. file_refusal (named i) (kind i)
 
-pub told_unwritten : (told : Result (Vec Output Global) Fault) (outputs : Vec Output Global) (shown : List Output) (refusal : Failure (Placed (String Global) FileFault)) (fault : Fault) (e : Ending) (written : Wrote) → told ≡ Ok outputs → shown ≡ outputs.items → IsUnwritten written.0 written.1 shown refusal → IsToldOfFile refusal fault → IsEndingOf fault e → WritesTold told e written
-told_unwritten told outputs shown refusal fault e written is same among as_fault comes =
-    let of_outputs = subst (λ (os : List Output). IsUnwrittenAmong (map contents_of os) e written) same (unwritten written.0 written.1 shown refusal fault e among as_fault comes) in
-    subst (λ (t : Result (Vec Output Global) Fault). WritesTold t e written) (sym is) (inr of_outputs)
+refused_so : (f : Placed (String Global) FileFault) (r : Refusal (String Global)) (name : List ℕ) → r ≡ File f → string_bytes f.place ≡ name → f.fault ≡ CannotWrite → refusal_of r ≡ file_refusal name CannotWrite
+refused_so f r name told named kind = ap refusal_of told ∙ same_refusal f name named kind
+
+-- what is shown of no place is so whatever the disk holds
+shown_nowhere : (held other : Held) (line : Option ShownLine) → IsShown held None line → IsShown other None line
+shown_nowhere held other None shown = tt
+shown_nowhere held other (Some line) shown = absurd shown
+
+noted_anew : (held other : Held) (notes : Notes) (f : Placed (String Global) FileFault) (note : List ℕ) → IsNoted held notes (File f) note → IsNoted other notes (File f) note
+noted_anew held other Nothing f note noted = noted
+noted_anew held other (Explanations files script) f note (inl (line, shown, is)) = inl (line, shown_nowhere held other line shown, is)
+noted_anew held other (Explanations files script) f note (inr none) = inr none
+
+of_refusal_anew : (held other : Held) (notes : Notes) (f : Placed (String Global) FileFault) (e : Ending) (note : List ℕ) → IsReportOf held notes (failure.Fault (File f)) e note → IsReportOf other notes (failure.Fault (File f)) e note
+of_refusal_anew held other notes f e note (inl (line, noted)) = inl (line, noted_anew held other notes f note noted)
+of_refusal_anew held other notes f e note (inr short) = inr short
+
+-- what is told of a file's fault is so whatever the disk holds
+reported_anew : (held other : Held) (notes : Notes) (f : Placed (String Global) FileFault) (r : Refusal (String Global)) (e : Ending) (note : List ℕ) → r ≡ File f → IsReportOf held notes (failure.Fault r) e note → IsReportOf other notes (failure.Fault r) e note
+reported_anew held other notes f r e note told is =
+    let Of : Held → Refusal (String Global) → Type 0 = λ h g. IsReportOf h notes (failure.Fault g) e note in
+    subst (λ (g : Refusal (String Global)). Of other g) (sym told) (of_refusal_anew held other notes f e note (subst (λ (g : Refusal (String Global)). Of held g) told is))
+
+unwritten : (held other : Held) (notes : Notes) (old new : Option Files) (outputs : List Output) (refusal : Failure (Placed (String Global) FileFault)) (fault : Fault) (e : Ending) (note : List ℕ) → IsUnwritten old new outputs refusal → IsToldOfFile refusal fault → IsReportOf held notes fault e note → IsUnwrittenAmong other notes (map contents_of outputs) e note (old, new)
+unwritten held other notes old new outputs (failure.NoMemory n) (failure.NoMemory m) e note (file, ends, is) told comes = (file, ends, (failure.NoMemory m, tt, comes))
+unwritten held other notes old new outputs (failure.NoMemory n) (failure.Fault r) e note is told comes = absurd told
+unwritten held other notes old new outputs (failure.Fault f) (failure.NoMemory m) e note is told comes = absurd told
+unwritten held other notes old new outputs (failure.Fault f) (failure.Fault r) e note (file, ends, is) told comes =
+    (file, ends, (failure.Fault r, refused_so f r file.0 told is.0 is.1, reported_anew held other notes f r e note told comes))
+
+pub told_unwritten : (held other : Held) (notes : Notes) (told : Result (Vec Output Global) Fault) (outputs : Vec Output Global) (shown : List Output) (refusal : Failure (Placed (String Global) FileFault)) (fault : Fault) (e : Ending) (note : List ℕ) (written : Wrote) → told ≡ Ok outputs → shown ≡ outputs.items → IsUnwritten written.0 written.1 shown refusal → IsToldOfFile refusal fault → IsReportOf held notes fault e note → WritesTold other notes told e note written
+told_unwritten held other notes told outputs shown refusal fault e note written is same among as_fault comes =
+    let of_outputs = subst (λ (os : List Output). IsUnwrittenAmong other notes (map contents_of os) e note written) same (unwritten held other notes written.0 written.1 shown refusal fault e note among as_fault comes) in
+    subst (λ (t : Result (Vec Output Global) Fault). WritesTold other notes t e note written) (sym is) (inr of_outputs)

@@ -15,6 +15,7 @@ use Rattle.c25_meaning_common.specs.Results.{MeetsBy, ◌>>=◌}
 use Rattle.c25_report.specs.declared.ending.Ending.{Ending}
 use Rattle.c25_tasks.specs.Files.{AfterSources, ComesTo}
 use Rattle.c25_tasks.specs.Tells.{Wrote, WritesTold}
+use Rattle.c25_tasks.specs.declared.notes.Notes.{Notes}
 
 -- files that are to be written
 abbrev pub output_files : Vec Output Global → Files
@@ -35,6 +36,6 @@ AsmOutputs held source object listing answer =
     AfterSources held (source ∷ []) (λ given. ComesTo held given (λ files result. MeetsBy refusal_of output_files (asm_written object listing files source) result)) answer
 
 -- a source's object, and its listing where one is asked for, are written, or why not
-abbrev pub Assembles : Held → (source object : List ℕ) → (listing : Option (List ℕ)) → Ending → Wrote → Type 0
-Assembles held source object listing e written =
-    (told : Result (Vec Output Global) Fault) × AsmOutputs held source object listing told × WritesTold told e written
+abbrev pub Assembles : Held → Notes → (source object : List ℕ) → (listing : Option (List ℕ)) → Ending → (note : List ℕ) → Wrote → Type 0
+Assembles held notes source object listing e note written =
+    (told : Result (Vec Output Global) Fault) × AsmOutputs held source object listing told × WritesTold held notes told e note written

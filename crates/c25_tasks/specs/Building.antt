@@ -1,5 +1,5 @@
 -- What is built of sources on a disk, and the files that are written of it.
-use Rattle.std.specs.Prelude.{◌≡◌, ◌⊎◌, ℕ, List, Option, Result, Ok, Err}
+use Rattle.std.specs.Prelude.{◌⊎◌, ℕ, List, Option, Result, Ok, Err}
 use Rattle.c25_chain.specs.Built.{Builds}
 use Rattle.c25_chain.specs.Refusal.{Fault}
 use Rattle.c25_chain.specs.declared.built.Built.{Built}
@@ -9,7 +9,8 @@ use Rattle.c25_report.specs.ProgramFiles.{files_of}
 use Rattle.c25_report.specs.declared.ending.Ending.{Ending}
 use Rattle.c25_report.specs.declared.texts.Texts.{Texts}
 use Rattle.c25_tasks.specs.Files.{AfterOptional, AfterSources, ComesTo}
-use Rattle.c25_tasks.specs.Tells.{IsEndingOf, IsShort, Wrote, Writes}
+use Rattle.c25_tasks.specs.Tells.{IsReportOf, IsShortOf, Wrote, Writes}
+use Rattle.c25_tasks.specs.declared.notes.Notes.{Notes}
 
 -- ---- programs
 
@@ -28,6 +29,6 @@ abbrev pub texts_in : Built → Texts
 texts_in built = record { page0 = built.linked.page0.text; page1 = built.linked.page1.text; map = built.linked.map; listings = built.listings }
 
 -- what is written of what was built, unless memory runs out before; where there is nothing, nothing is written
-abbrev pub WritesProgram : List ℕ → Result Built Fault → Ending → Wrote → Type 0
-WritesProgram base (Ok built) e written = Writes (files_of base (texts_in built)) e written ⊎ (IsShort e × Stay written.0 written.1)
-WritesProgram base (Err fault) e written = IsEndingOf fault e × Stay written.0 written.1
+abbrev pub WritesProgram : Held → Notes → List ℕ → Result Built Fault → Ending → (note : List ℕ) → Wrote → Type 0
+WritesProgram held notes base (Ok built) e note written = Writes held notes (files_of base (texts_in built)) e note written ⊎ IsShortOf e note written
+WritesProgram held notes base (Err fault) e note written = IsReportOf held notes fault e note × Stay written.0 written.1

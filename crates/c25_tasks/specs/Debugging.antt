@@ -10,7 +10,8 @@ use Rattle.c25_words.specs.Task.{text_of}
 use Rattle.c25_words.specs.declared.task.RunFiles.{RunFiles}
 use Rattle.c25_tasks.specs.Files.{AfterNamed, AfterOptional, AfterSources, ComesTo}
 use Rattle.c25_tasks.specs.Running.{given_with}
-use Rattle.c25_tasks.specs.Tells.{Printed, TellsText}
+use Rattle.c25_tasks.specs.Tells.{Printed, TellsAnswers}
+use Rattle.c25_tasks.specs.declared.notes.Notes.{Notes}
 
 -- the answers to the text of a script, over the sources of names among given files and those that they copy, under these texts beside
 -- them; or why there are none
@@ -28,6 +29,6 @@ DebugsFrom held names script files answer =
     AfterNamed held script (DebugsOver held given names command samples schedule))))) answer
 
 -- what is done with them
-abbrev pub DebugsTold : Held → List (List ℕ) → (script : List ℕ) → RunFiles → Ending → Printed → Type 0
-DebugsTold held names script files e out =
-    (answer : Result (String Global) Fault) × DebugsFrom held names script files answer × TellsText answer e out
+abbrev pub DebugsTold : Held → Notes → List (List ℕ) → (script : List ℕ) → RunFiles → Ending → (note : List ℕ) → Printed → Type 0
+DebugsTold held notes names script files e note out =
+    (answer : Result (String Global) Fault) × DebugsFrom held names script files answer × TellsAnswers held notes answer e note out

@@ -1,9 +1,9 @@
 -- What the program does of the number of a fault.
 use Rattle.std.specs.Prelude.{ℕ, List, ◌++◌, Option, Some, None, codes}
-use Rattle.std.specs.Borrow.{Bor}
 use Rattle.std.specs.Fmt.{decimal}
 use Rattle.std.specs.Io.KnownBytes.{Keeps}
-use Rattle.c25_explain.specs.Explanation.{Explains}
+use Rattle.c25_explain.specs.Explanation.{Explains, whole_text}
+use Rattle.c25_explain.specs.declared.parts.Explanation.{Explanation}
 use Rattle.c25_report.specs.Ending.{IsPrinted}
 use Rattle.c25_report.specs.declared.ending.Ending.{Ending}
 use Rattle.c25_report.specs.declared.ending.Ending.TheVariants as ending
@@ -13,11 +13,11 @@ use Rattle.c25_tasks.specs.Tells.{IsLineOf, Printed}
 abbrev pub unknown_line : ℕ → List ℕ
 unknown_line number = codes "explain: no fault has the number " ++ decimal number
 
--- what the answer to a number comes to: its text goes to standard output; where there is none that is told, unless memory runs out, and nothing goes there
-abbrev pub TellsAnswer : ℕ → Option (Bor (List ℕ)) → Ending → Printed → Type 0
-TellsAnswer number (Some text) e out = IsPrinted text.now ending.Done e out.0 out.1
+-- what the answer to a number comes to: all of it goes to standard output; where there is none that is told, unless memory runs out, and nothing goes there
+abbrev pub TellsAnswer : ℕ → Option Explanation → Ending → Printed → Type 0
+TellsAnswer number (Some explanation) e out = IsPrinted (whole_text explanation) ending.Done e out.0 out.1
 TellsAnswer number None e out = IsLineOf (unknown_line number) e × Keeps out.0 out.1
 
 -- the number is explained
 abbrev pub Explained : ℕ → Ending → Printed → Type 0
-Explained number e out = (answer : Option (Bor (List ℕ))) × Explains number answer × TellsAnswer number answer e out
+Explained number e out = (answer : Option Explanation) × Explains number answer × TellsAnswer number answer e out

@@ -1,3 +1,4 @@
+pub mod Symbols
 pub mod Tells
 pub mod Files
 pub mod View
@@ -5,6 +6,7 @@ pub mod Assembly
 pub mod Objects
 pub mod Building
 pub mod Linking
+pub mod Notes
 pub mod Running
 pub mod Debugging
 pub mod Explaining

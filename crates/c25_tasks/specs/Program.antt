@@ -1,6 +1,8 @@
 -- What the program reads, prints, writes and answers.
-use Rattle.std.specs.Prelude.{◌≡◌, ◌⊎◌, ℕ, ◌<◌, ◌≤◌, List, length, Option, Result, Ok, Err}
+use Rattle.std.specs.Prelude.{◌≡◌, ◌⊎◌, ℕ, ◌<◌, ◌≤◌, Bool, List, [], length, Option, Some, None, Result, Ok, Err}
+use Rattle.std.specs.Borrow.{Bor}
 use Rattle.std.specs.Io.KnownBytes.{Keeps}
+use Rattle.std.specs.String.{string_bytes}
 use Rattle.clap.specs.declared.error.Error.{Error}
 use Rattle.c25_chain.specs.Refusal.{Fault}
 use Rattle.c25_chain.specs.declared.built.Built.{Built}
@@ -8,46 +10,67 @@ use Rattle.c25_disk.specs.Held.{Held, Stay}
 use Rattle.c25_meaning_common.specs.declared.failure.Failure.{Failure}
 use Rattle.c25_report.specs.declared.ending.Ending.{Ending}
 use Rattle.c25_report.specs.declared.ending.Ending.TheVariants as ending
+use Rattle.c25_report.specs.declared.ending.Report.{Report}
 use Rattle.c25_words.specs.Task.{Reads, text_of, texts_of}
 use Rattle.c25_words.specs.declared.task.Task.{Task}
 use Rattle.c25_words.specs.declared.task.Task.TheVariants.{RunStandardInput, Assemble, Link, Build, Run, Debug, Explain, Disassemble}
 use Rattle.c25_tasks.specs.Assembly.{Assembles}
-use Rattle.c25_tasks.specs.Building.{BuildsFrom, WritesProgram}
+use Rattle.c25_tasks.specs.Building.{WritesProgram}
 use Rattle.c25_tasks.specs.Debugging.{DebugsTold}
 use Rattle.c25_tasks.specs.Disassembly.{DisassemblesTold}
 use Rattle.c25_tasks.specs.Explaining.{Explained}
 use Rattle.c25_tasks.specs.Linking.{LinksFrom}
+use Rattle.c25_tasks.specs.Notes.{notes_for}
 use Rattle.c25_tasks.specs.Running.{Runs, RunsTold}
+use Rattle.c25_tasks.specs.Symbols.{BuildsToDisk}
 use Rattle.c25_tasks.specs.Tells.{IsShort, Printed, Wrote}
+use Rattle.c25_tasks.specs.declared.notes.Notes.{Notes}
 
--- what the program comes to, what it prints to standard output, and what it writes
+-- what the program comes to, the note that it tells behind that, what it prints to standard output, and what it writes
 pub record Effect : Type 0 where
   pub ending : Ending
+  pub note : List ℕ
   pub out : Printed
   pub written : Wrote
 
+-- that of a report
+abbrev pub effect_of : Report → Printed → Wrote → Effect
+effect_of report out written = record { ending = report.ending; note = string_bytes report.note; out = out; written = written }
+
 -- ---- tasks
 
--- nothing is printed to standard output and nothing is written
+-- nothing is written, and no note is told
+abbrev pub OnlyPrints : Effect → Type 0
+OnlyPrints e = Stay e.written.0 e.written.1 × (e.note ≡ [])
+
+-- nothing is printed to standard output and nothing is written, and no note is told
 abbrev pub IsQuiet : Effect → Type 0
-IsQuiet e = Keeps e.out.0 e.out.1 × Stay e.written.0 e.written.1
+IsQuiet e = Keeps e.out.0 e.out.1 × Stay e.written.0 e.written.1 × (e.note ≡ [])
 
 -- the files of a program are written, or why there is none
-abbrev pub WritesBuilt : (Result Built Fault → Type 0) → List ℕ → Effect → Type 0
-WritesBuilt comes base e = (told : Result Built Fault) × comes told × WritesProgram base told e.ending e.written
+abbrev pub WritesBuilt : Held → Notes → (Result Built Fault → Type 0) → List ℕ → Effect → Type 0
+WritesBuilt held notes comes base e = (told : Result Built Fault) × comes told × WritesProgram held notes base told e.ending e.note e.written
+
+-- explanations where they are asked for; of a fault of the command file that is told by this name its line
+abbrev pub notes_under : Bool → (command : Option (Bor (List ℕ))) → Notes
+notes_under explain command = notes_for explain (record { command = command; samples = None; schedule = None }) None
 
 -- what the program does for a task, with what is known of standard input and of the files on the disk
 abbrev pub Does : Held → Option (List ℕ) → Task → Effect → Type 0
-Does held input RunStandardInput e = Runs held input e.ending e.out × Stay e.written.0 e.written.1
-Does held input (Assemble source object listing) e =
-    Assembles held source.now object.now (text_of listing) e.ending e.written × Keeps e.out.0 e.out.1
-Does held input (Link command objects base) e = WritesBuilt (LinksFrom held command.now (texts_of objects.items)) base.now e × Keeps e.out.0 e.out.1
-Does held input (Build sources base command) e = WritesBuilt (BuildsFrom held (texts_of sources.items) (text_of command)) base.now e × Keeps e.out.0 e.out.1
-Does held input (Run sources steps files) e = RunsTold held (texts_of sources.items) steps files e.ending e.out × Stay e.written.0 e.written.1
-Does held input (Debug sources script files) e =
-    DebugsTold held (texts_of sources.items) script.now files e.ending e.out × Stay e.written.0 e.written.1
-Does held input (Explain number) e = Explained number e.ending e.out × Stay e.written.0 e.written.1
-Does held input (Disassemble file) e = DisassemblesTold held file.now e.ending e.out × Stay e.written.0 e.written.1
+Does held input RunStandardInput e = Runs held input e.ending e.note e.out × Stay e.written.0 e.written.1
+Does held input (Assemble source object listing explain) e =
+    Assembles held (notes_under explain None) source.now object.now (text_of listing) e.ending e.note e.written × Keeps e.out.0 e.out.1
+Does held input (Link command objects base explain) e =
+    WritesBuilt held (notes_under explain (Some command)) (LinksFrom held command.now (texts_of objects.items)) base.now e × Keeps e.out.0 e.out.1
+Does held input (Build sources base command symbols explain) e =
+    BuildsToDisk held (notes_under explain command) (texts_of sources.items) (text_of command) base.now (text_of symbols) e.ending e.note e.written
+    × Keeps e.out.0 e.out.1
+Does held input (Run sources steps files regs explain) e =
+    RunsTold held (notes_for explain files None) (texts_of sources.items) steps regs files e.ending e.note e.out × Stay e.written.0 e.written.1
+Does held input (Debug sources script files explain) e =
+    DebugsTold held (notes_for explain files (Some script)) (texts_of sources.items) script.now files e.ending e.note e.out × Stay e.written.0 e.written.1
+Does held input (Explain number) e = Explained number e.ending e.out × OnlyPrints e
+Does held input (Disassemble file from) e = DisassemblesTold held file.now (text_of from) e.ending e.out × OnlyPrints e
 
 -- ---- words
 

@@ -1,13 +1,14 @@
 -- What the program prints and writes of answers, and what it comes to.
-use Rattle.std.specs.Prelude.{◌≡◌, ◌⊎◌, ℕ, List, map, Option, Result, Ok, Err, String, Vec}
+use Rattle.std.specs.Prelude.{◌≡◌, ◌⊎◌, ℕ, List, [], map, Option, Result, Ok, Err, String, Vec}
 use Rattle.std.specs.Io.KnownBytes.{Keeps}
 use Rattle.std.specs.String.{string_bytes}
 use Rattle.std.specs.declared.alloc.Global.{Global}
-use Rattle.c25_chain.specs.FaultText.{at_file, fault_text}
+use Rattle.c25_chain.specs.FaultText.{fault_text}
 use Rattle.c25_chain.specs.OutcomeText.{run_text}
-use Rattle.c25_chain.specs.Refusal.{Fault}
-use Rattle.c25_chain.specs.declared.chain.Chain.{Chain}
-use Rattle.c25_disk.specs.Held.{Adds, Stay}
+use Rattle.c25_chain.specs.Refusal.{Fault, IsRefusedAs}
+use Rattle.c25_chain.specs.declared.fault.Refusal.TheVariants.{File}
+use Rattle.c25_debug_chain.specs.declared.inspection.NotedRun.{NotedRun}
+use Rattle.c25_disk.specs.Held.{Adds, Held, Stay}
 use Rattle.c25_disk.specs.Written.{EndsBefore, contents_of}
 use Rattle.c25_disk.specs.declared.fault.FileFault.TheVariants.{CannotWrite}
 use Rattle.c25_disk.specs.declared.writing.Output.{Output}
@@ -17,6 +18,8 @@ use Rattle.c25_meaning_expansion.specs.Files.{Files}
 use Rattle.c25_report.specs.Ending.{IsPrinted, ending_of}
 use Rattle.c25_report.specs.declared.ending.Ending.{Ending}
 use Rattle.c25_report.specs.declared.ending.Ending.TheVariants as ending
+use Rattle.c25_tasks.specs.Notes.{IsNoted}
+use Rattle.c25_tasks.specs.declared.notes.Notes.{Notes}
 
 -- what was known before of what a writer holds, and what is then
 abbrev pub Printed : Type 0
@@ -45,14 +48,33 @@ abbrev pub IsEndingOf : Fault → Ending → Type 0
 IsEndingOf (failure.NoMemory n) e = e ≡ ending.NoMemory n
 IsEndingOf (failure.Fault f) e = IsLineOf (fault_text (failure.Fault f)) e
 
+-- what is told of a fault: want of memory is itself; of all else its line and what is noted of it, unless memory runs out for the line
+abbrev pub IsReportOf : Held → Notes → Fault → Ending → (note : List ℕ) → Type 0
+IsReportOf held notes (failure.NoMemory n) e note = (e ≡ ending.NoMemory n) × (note ≡ [])
+IsReportOf held notes (failure.Fault f) e note = (HasFault (fault_text (failure.Fault f)) e × IsNoted held notes f note) ⊎ (IsShort e × (note ≡ []))
+
 -- ---- answers
 
--- what a run comes to: its text goes to standard output, unless memory runs out; of a fault nothing goes there
-abbrev pub Tells : Result Chain Fault → Ending → Printed → Type 0
-Tells (Ok chain) e out = IsPrinted (run_text chain) (ending_of chain.outcome) e out.0 out.1 ⊎ (IsShort e × Keeps out.0 out.1)
-Tells (Err fault) e out = IsEndingOf fault e × Keeps out.0 out.1
+-- nothing goes to standard output, and no note is told
+abbrev pub IsUntold : (note : List ℕ) → Printed → Type 0
+IsUntold note out = Keeps out.0 out.1 × (note ≡ [])
 
--- the same of a text that was asked for: the answers of a debugger, or a disassembly
+-- what a run comes to that is not refused: its text goes to standard output, and its note is told, unless memory runs out
+abbrev pub TellsNoted : NotedRun → Ending → (note : List ℕ) → Printed → Type 0
+TellsNoted noted e note out =
+    (IsPrinted (run_text noted.chain) (ending_of (noted.chain).outcome) e out.0 out.1 × (note ≡ string_bytes noted.note)) ⊎ (IsShort e × IsUntold note out)
+
+-- what a run comes to; of a fault nothing goes to standard output
+abbrev pub TellsRun : Held → Notes → Result NotedRun Fault → Ending → (note : List ℕ) → Printed → Type 0
+TellsRun held notes (Ok noted) e note out = TellsNoted noted e note out
+TellsRun held notes (Err fault) e note out = IsReportOf held notes fault e note × Keeps out.0 out.1
+
+-- what the answers of a debugger come to: they go to standard output, and of a fault nothing does
+abbrev pub TellsAnswers : Held → Notes → Result (String Global) Fault → Ending → (note : List ℕ) → Printed → Type 0
+TellsAnswers held notes (Ok text) e note out = IsPrinted (string_bytes text) ending.Done e out.0 out.1 × (note ≡ [])
+TellsAnswers held notes (Err fault) e note out = IsReportOf held notes fault e note × Keeps out.0 out.1
+
+-- the same of a disassembly, without notes
 abbrev pub TellsText : Result (String Global) Fault → Ending → Printed → Type 0
 TellsText (Ok text) e out = IsPrinted (string_bytes text) ending.Done e out.0 out.1
 TellsText (Err fault) e out = IsEndingOf fault e × Keeps out.0 out.1
@@ -60,15 +82,21 @@ TellsText (Err fault) e out = IsEndingOf fault e × Keeps out.0 out.1
 -- ---- files
 
 -- the first of these files that cannot be written is told (7), unless memory runs out then; those before it were written, and no other
-abbrev pub IsUnwrittenAmong : Files → Ending → Wrote → Type 0
-IsUnwrittenAmong files e written =
-    (file : List ℕ × List ℕ) × EndsBefore written.0 written.1 files file × IsLineOf (at_file file.0 CannotWrite) e
+abbrev pub IsUnwrittenAmong : Held → Notes → Files → Ending → (note : List ℕ) → Wrote → Type 0
+IsUnwrittenAmong held notes files e note written =
+    (file : List ℕ × List ℕ) × EndsBefore written.0 written.1 files file
+    × ((fault : Fault) × IsRefusedAs (File (record { file = file.0; kind = CannotWrite })) fault × IsReportOf held notes fault e note)
 
 -- these files are written, or one cannot be
-abbrev pub Writes : Files → Ending → Wrote → Type 0
-Writes files e written = ((e ≡ ending.Done) × Adds written.0 written.1 files) ⊎ IsUnwrittenAmong files e written
+abbrev pub Writes : Held → Notes → Files → Ending → (note : List ℕ) → Wrote → Type 0
+Writes held notes files e note written =
+    ((e ≡ ending.Done) × (note ≡ []) × Adds written.0 written.1 files) ⊎ IsUnwrittenAmong held notes files e note written
 
 -- the same of files that all work came to; where there are none, nothing is written
-abbrev pub WritesTold : Result (Vec Output Global) Fault → Ending → Wrote → Type 0
-WritesTold (Ok outputs) e written = Writes (map contents_of outputs.items) e written
-WritesTold (Err fault) e written = IsEndingOf fault e × Stay written.0 written.1
+abbrev pub WritesTold : Held → Notes → Result (Vec Output Global) Fault → Ending → (note : List ℕ) → Wrote → Type 0
+WritesTold held notes (Ok outputs) e note written = Writes held notes (map contents_of outputs.items) e note written
+WritesTold held notes (Err fault) e note written = IsReportOf held notes fault e note × Stay written.0 written.1
+
+-- memory ran out, and nothing is written
+abbrev pub IsShortOf : Ending → (note : List ℕ) → Wrote → Type 0
+IsShortOf e note written = IsShort e × (note ≡ []) × Stay written.0 written.1

@@ -3,17 +3,16 @@
 ghost use Rattle.std.specs.Option.{option_map};
 ghost use Rattle.std.specs.Prelude.{◌≡◌, map, string_bytes};
 ghost use Rattle.c25_chain.specs.Built.{Builds};
-ghost use Rattle.c25_chain.specs.Chain.{Answers};
 ghost use Rattle.c25_debug_chain.specs.Debug.{Debugs};
 ghost use Rattle.c25_tasks.specs.Files.{ComesTo, missing_name};
+ghost use Rattle.c25_tasks.specs.Running.{AnswersWith};
 ghost use Rattle.c25_tasks.specs.View.{debugged_of, given_of};
 
 use crate::files::{fault_of_copies, missing_name};
 use c25_chain::built::Built;
-use c25_chain::chain::Chain;
 use c25_chain::fault::{Fault, Refusal};
 use c25_chain::{build, run_chain};
-use c25_debug_chain::debug_chain;
+use c25_debug_chain::{NotedRun, debug_chain, inspect_chain};
 use c25_disk::disk::Disk;
 use c25_disk::with_copies;
 use c25_disk::work::Work;
@@ -51,7 +50,8 @@ impl<'a> Work for Build<'a> {
     }
 }
 
-/// Sources that are to be run so many steps, and the texts beside them.
+/// Sources that are to be run so many steps, the texts beside them, and whether a note is to tell the
+/// registers at the end.
 #[derive(Clone, Copy)]
 pub(crate) struct Run<'a> {
     pub(crate) sources: &'a [String],
@@ -59,31 +59,46 @@ pub(crate) struct Run<'a> {
     pub(crate) samples: &'a str,
     pub(crate) schedule: &'a str,
     pub(crate) steps: u32,
+    pub(crate) regs: bool,
 }
 
 impl<'a> Work for Run<'a> {
-    ghost use Rattle.c25_chain.specs.Chain.{Answers};
     ghost use Rattle.c25_tasks.specs.Files.{missing_name};
+    ghost use Rattle.c25_tasks.specs.Running.{AnswersWith};
     ghost use Rattle.c25_tasks.specs.View.{given_of};
 
-    type Answer = Chain;
+    type Answer = NotedRun;
 
     type Fault = Refusal<String>;
 
-    ghost comes_to = { λ work files result. Answers (given_of files work) work.steps result };
+    ghost comes_to = { λ work files result. AnswersWith work.regs (given_of files work) work.steps result };
 
     ghost missing_of = { missing_name };
 
-    fn answer(&self, alloc: Global, files: &Files) -> Result<Chain, Fault> {
-        run_chain(
-            alloc,
-            files,
-            self.sources,
-            self.command,
-            self.samples,
-            self.schedule,
-            self.steps,
-        )
+    fn answer(&self, alloc: Global, files: &Files) -> Result<NotedRun, Fault> {
+        if self.regs {
+            inspect_chain(
+                alloc,
+                files,
+                self.sources,
+                self.command,
+                self.samples,
+                self.schedule,
+                self.steps,
+            )
+        } else {
+            let chain = run_chain(
+                alloc,
+                files,
+                self.sources,
+                self.command,
+                self.samples,
+                self.schedule,
+                self.steps,
+            )?;
+            let note = String::new(alloc);
+            Ok(NotedRun { chain, note })
+        }
     }
 
     fn missing(fault: &Refusal<String>) -> Option<&str>
@@ -156,11 +171,11 @@ pub(crate) fn run_over<D: Disk>(
     disk: &D,
     files: Files,
     work: &Run<'_>,
-) -> Result<Chain, Fault>
-    ensures { ComesTo (D.bytes_of disk.now) files (λ given result. Answers (given_of given work.now) work.now.steps result) result }
+) -> Result<NotedRun, Fault>
+    ensures { ComesTo (D.bytes_of disk.now) files (λ given result. AnswersWith work.now.regs (given_of given work.now) work.now.steps result) result }
 {
     match with_copies(alloc, disk, files, work) {
-        Ok(chain) => Ok(chain),
+        Ok(noted) => Ok(noted),
         Err(failure) => Err(fault_of_copies(failure)),
     }
 }

@@ -1,15 +1,17 @@
 //! The debugging of sources from a disk.
 
+ghost use Rattle.std.specs.Prelude.{string_bytes};
 ghost use Rattle.c25_words.specs.Task.{texts_of};
 ghost use Rattle.c25_tasks.specs.Debugging.{DebugsFrom, DebugsTold};
 
 use crate::copies::{Debug, debug_over};
 use crate::files::{names_of, read_named, read_optional};
-use crate::report::report_text;
+use crate::notes::Notes;
+use crate::report::report_answers;
 use crate::sources::sources_of;
 use c25_chain::fault::Fault;
 use c25_disk::disk::Disk;
-use c25_report::ending::Ending;
+use c25_report::ending::Report;
 use c25_words::task::RunFiles;
 use std::alloc::Global;
 use std::io::Write;
@@ -47,11 +49,12 @@ pub(crate) fn debug_sources<D: Disk, O: Write>(
     sources: &[&str],
     script: &str,
     beside: RunFiles<'_>,
+    notes: Notes<'_>,
     disk: &D,
     out: &mut O,
-) -> Ending
-    ensures { DebugsTold (D.bytes_of disk.now) (texts_of sources.now) script.now beside.entry result (O.contents out.old, O.contents out.new) }
+) -> Report
+    ensures { DebugsTold (D.bytes_of disk.now) notes.entry (texts_of sources.now) script.now beside.entry result.ending (string_bytes result.note) (O.contents out.old, O.contents out.new) }
 {
     let told = answer(alloc, disk, sources, script, beside);
-    report_text(alloc, &told, out)
+    report_answers(alloc, disk, &told, notes, out)
 }

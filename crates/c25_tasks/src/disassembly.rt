@@ -1,22 +1,25 @@
 //! The disassembly of objects and hex texts.
 
-ghost use Rattle.std.specs.Prelude.{◌≡◌};
+ghost use Rattle.std.specs.Prelude.{◌≡◌, Some, None, false};
 ghost use Rattle.c25_chain.specs.Refusal.{IsRefusedAs};
 ghost use Rattle.c25_chain.specs.declared.fault.Refusal.TheVariants as refusal;
 ghost use Rattle.c25_dis.specs.Sections.{IsModuleText};
 ghost use Rattle.c25_disk.specs.declared.fault.FileFault.TheVariants as kind;
-ghost use Rattle.c25_tasks.specs.Disassembly.{Disassembles, DisassemblesFrom, DisassemblesTold, IsGivenText, IsTextOf, given_by, given_in, is_hex};
+ghost use Rattle.c25_tasks.specs.Disassembly.{Disassembles, DisassemblesBy, DisassemblesFrom, DisassemblesNamed, DisassemblesTold, IsGivenText, IsTextOf, RefusesObject, address_of, given_by, given_in, is_hex, no_address_line, object_line};
 ghost use Rattle.c25_tasks.specs.Objects.{module_in};
+ghost use Rattle.c25_tasks.specs.Tells.{IsLineOf};
+ghost use Rattle.c25_words.specs.Task.{text_of};
 
 use crate::files::fault_of_file;
 use crate::objects::{Object, module_of};
-use crate::report::report_text;
+use crate::report::{ending_of_fault, report_text};
 use c25_chain::fault::{Fault, Refusal};
 use c25_dis::{disassemble_module, disassemble_words};
 use c25_disk::disk::Disk;
 use c25_disk::fault::FileFault;
 use c25_disk::read_binary;
 use c25_hex::read_hex;
+use c25_items::hexadecimal_of;
 use c25_meaning_common::failure::Failure;
 use c25_meaning_common::no_memory::NoMemory;
 use c25_meaning_common::placed::Placed;
@@ -34,12 +37,12 @@ fn is_hex(bytes: &[u8]) -> bool
     }
 }
 
-/// The words of a hex text, disassembled. Its first fault is refused (80 to 89).
-fn words_text(alloc: Global, text: &str) -> Result<String, Fault>
-    ensures { IsTextOf IsGivenText (given_by text.now) result }
+/// The words of a hex text from an address on, disassembled. Its first fault is refused (80 to 89).
+fn words_text(alloc: Global, text: &str, start: u16) -> Result<String, Fault>
+    ensures { IsTextOf (IsGivenText start) (given_by text.now) result }
 {
     match read_hex(alloc, text) {
-        Ok(words) => Ok(disassemble_words(alloc, &words, 0)?),
+        Ok(words) => Ok(disassemble_words(alloc, &words, start)?),
         Err(Failure::NoMemory(error)) => Err(error.into()),
         Err(Failure::Fault(fault)) => Err(Failure::Fault(Refusal::Hex(fault))),
     }
@@ -58,13 +61,13 @@ fn no_text(alloc: Global, name: &str) -> Fault
     }
 }
 
-/// The words of a file that is taken for a hex text, disassembled. It is refused where it is not UTF-8
-/// (8), and then by its first fault (80 to 89).
-fn hex_text(alloc: Global, file: &Object<'_>) -> Result<String, Fault>
-    ensures { IsTextOf IsGivenText (given_in (file.now.name.now, file.now.bytes.items)) result }
+/// The words of a file that is taken for a hex text, from an address on, disassembled. It is refused
+/// where it is not UTF-8 (8), and then by its first fault (80 to 89).
+fn hex_text(alloc: Global, file: &Object<'_>, start: u16) -> Result<String, Fault>
+    ensures { IsTextOf (IsGivenText start) (given_in (file.now.name.now, file.now.bytes.items)) result }
 {
     match str::from_utf8(file.bytes.as_slice()) {
-        Ok(text) => words_text(alloc, text),
+        Ok(text) => words_text(alloc, text, start),
         Err(_not_utf8) => Err(no_text(alloc, file.name)),
     }
 }
@@ -78,39 +81,115 @@ fn object_text(alloc: Global, file: &Object<'_>) -> Result<String, Fault>
     Ok(disassemble_module(alloc, &module)?)
 }
 
-/// The text of a file, by what it is taken for.
-fn text_of(alloc: Global, file: &Object<'_>) -> Result<String, Fault>
-    ensures { Disassembles (file.now.name.now, file.now.bytes.items) result }
+/// Tells that a word is no address, unless memory runs out.
+fn no_address(alloc: Global, word: &str) -> Ending
+    ensures { IsLineOf (no_address_line word.now) result }
 {
-    if is_hex(file.bytes.as_slice()) {
-        hex_text(alloc, file)
-    } else {
-        object_text(alloc, file)
+    match format!(in alloc; "dis: no address: {word}") {
+        Ok(line) => Ending::Faulty(line),
+        Err(error) => Ending::NoMemory(NoMemory::from(error)),
     }
 }
 
-/// The text of a file on a disk.
-fn disassembled<D: Disk>(alloc: Global, disk: &D, name: &str) -> Result<String, Fault>
-    ensures { DisassemblesFrom (D.bytes_of disk.now) name.now result }
+/// Tells that a file is an object, unless memory runs out.
+fn is_object(alloc: Global, name: &str) -> Ending
+    ensures { IsLineOf (object_line name.now) result }
+{
+    match format!(in alloc; "dis: {name} is an object, and --from is for a hex text") {
+        Ok(line) => Ending::Faulty(line),
+        Err(error) => Ending::NoMemory(NoMemory::from(error)),
+    }
+}
+
+/// Refuses a file that is taken for an object, since printing is to begin at an address. Bytes of no
+/// module are told as such (40 to 45).
+fn refuse_object(alloc: Global, file: &Object<'_>) -> Ending
+    ensures { RefusesObject (file.now.name.now, file.now.bytes.items) result }
+{
+    match module_of(alloc, file) {
+        Ok(_module) => is_object(alloc, file.name),
+        Err(fault) => ending_of_fault(alloc, &fault),
+    }
+}
+
+/// Prints a file that is taken for an object, unless printing is to begin at an address.
+fn print_object<O: Write>(
+    alloc: Global,
+    file: &Object<'_>,
+    start: Option<u16>,
+    out: &mut O,
+) -> Ending
+    ensures { DisassemblesBy false start (file.now.name.now, file.now.bytes.items) result (O.contents out.old, O.contents out.new) }
+{
+    match start {
+        Some(_address) => refuse_object(alloc, file),
+        None => {
+            let told = object_text(alloc, file);
+            report_text(alloc, &told, out)
+        }
+    }
+}
+
+/// Prints a file, by what it is taken for.
+fn print_file<O: Write>(alloc: Global, file: &Object<'_>, start: Option<u16>, out: &mut O) -> Ending
+    ensures { Disassembles start (file.now.name.now, file.now.bytes.items) result (O.contents out.old, O.contents out.new) }
+{
+    if is_hex(file.bytes.as_slice()) {
+        let told = hex_text(alloc, file, start.unwrap_or(0));
+        report_text(alloc, &told, out)
+    } else {
+        print_object(alloc, file, start, out)
+    }
+}
+
+/// Prints a file on a disk.
+fn print_named<D: Disk, O: Write>(
+    alloc: Global,
+    name: &str,
+    start: Option<u16>,
+    disk: &D,
+    out: &mut O,
+) -> Ending
+    ensures { DisassemblesNamed (D.bytes_of disk.now) name.now start result (O.contents out.old, O.contents out.new) }
 {
     match read_binary(alloc, disk, name) {
         Ok(bytes) => {
             let file = Object { name, bytes };
-            text_of(alloc, &file)
+            print_file(alloc, &file, start, out)
         }
-        Err(failure) => Err(fault_of_file(failure)),
+        Err(failure) => ending_of_fault(alloc, &fault_of_file(failure)),
     }
 }
 
-/// Prints an object or a hex text as instructions.
-pub(crate) fn disassemble<D: Disk, O: Write>(
+/// Prints a file from the address on that a word writes. What is no address is told before the file is
+/// read.
+fn print_from<D: Disk, O: Write>(
     alloc: Global,
     name: &str,
+    word: &str,
     disk: &D,
     out: &mut O,
 ) -> Ending
-    ensures { DisassemblesTold (D.bytes_of disk.now) name.now result (O.contents out.old, O.contents out.new) }
+    ensures { DisassemblesFrom (D.bytes_of disk.now) name.now word.now (address_of word.now) result (O.contents out.old, O.contents out.new) }
 {
-    let told = disassembled(alloc, disk, name);
-    report_text(alloc, &told, out)
+    match hexadecimal_of(1, word.as_bytes()) {
+        Some(address) => print_named(alloc, name, Some(address), disk, out),
+        None => no_address(alloc, word),
+    }
+}
+
+/// Prints an object, or a hex text, from an address on where a word says so, as instructions.
+pub(crate) fn disassemble<D: Disk, O: Write>(
+    alloc: Global,
+    name: &str,
+    from: Option<&str>,
+    disk: &D,
+    out: &mut O,
+) -> Ending
+    ensures { DisassemblesTold (D.bytes_of disk.now) name.now (text_of from.entry) result (O.contents out.old, O.contents out.new) }
+{
+    match from {
+        None => print_named(alloc, name, None, disk, out),
+        Some(word) => print_from(alloc, name, word, disk, out),
+    }
 }

@@ -1,13 +1,16 @@
 //! The explanation of a fault.
 
 ghost use Rattle.std.specs.Prelude.{◌≡◌, IfOk, string_bytes};
+ghost use Rattle.c25_explain.specs.Explanation.{whole_text};
+ghost use Rattle.c25_report.specs.Ending.{IsPrinted};
+ghost use Rattle.c25_report.specs.declared.ending.Ending.TheVariants as ending;
 ghost use Rattle.c25_tasks.specs.Explaining.{Explained, unknown_line};
 ghost use Rattle.c25_tasks.specs.Tells.{IsLineOf};
 
 use c25_explain::explanation::explanation;
+use c25_explain::parts::Explanation;
 use c25_meaning_common::no_memory::NoMemory;
 use c25_report::ending::Ending;
-use c25_report::printing::print_answers;
 use std::alloc::Global;
 use std::io::Write;
 
@@ -28,12 +31,22 @@ fn unknown(alloc: Global, number: u8) -> Ending
     }
 }
 
+/// Prints an explanation.
+fn print_explanation<O: Write>(explanation: &Explanation, out: &mut O) -> Ending
+    ensures { IsPrinted (whole_text explanation.now) ending.Done result (O.contents out.old) (O.contents out.new) }
+{
+    match write!(out, "{explanation}") {
+        Ok(()) => Ending::Done,
+        Err(_) => Ending::Unprinted,
+    }
+}
+
 /// Prints the explanation of the fault of this number, and tells where there is none.
-pub(crate) fn explain<O: Write>(alloc: Global, number: u8, out: &mut O) -> Ending
+pub(crate) fn explain_number<O: Write>(alloc: Global, number: u8, out: &mut O) -> Ending
     ensures { Explained number result (O.contents out.old, O.contents out.new) }
 {
     match explanation(number) {
-        Some(text) => print_answers(text, out),
+        Some(explanation) => print_explanation(&explanation, out),
         None => unknown(alloc, number),
     }
 }

@@ -9,12 +9,15 @@ mod disassembly;
 mod explaining;
 mod files;
 mod linking;
+mod notes;
 mod objects;
 mod program;
+mod refusals;
 mod report;
 mod running;
 mod sources;
 mod standard_input;
+mod symbols;
 mod task;
 mod texts;
 

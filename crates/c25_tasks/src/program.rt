@@ -1,32 +1,32 @@
 //! What the program does with its words.
 
 ghost use Rattle.std.specs.Prelude.{OnOk, map, string_bytes};
-ghost use Rattle.c25_report.specs.Ending.{IsTold};
-ghost use Rattle.c25_tasks.specs.Program.{DoesWords, HasNoWords, IsProgram};
+ghost use Rattle.c25_report.specs.Ending.{IsReported};
+ghost use Rattle.c25_tasks.specs.Program.{DoesWords, HasNoWords, IsProgram, effect_of};
 
 use crate::task::do_task;
 use c25_disk::disk::Disk;
 use c25_meaning_common::no_memory::NoMemory;
-use c25_report::ending::{Ended, Ending, finish};
+use c25_report::ending::{Ended, Ending, Report, finish};
 use c25_words::read::read_words;
 use std::alloc::{AllocError, Global};
 use std::io::{ErrorKind, Read, Write};
 use std::rt::Env;
 use std::{env, io};
 
-/// What words come to.
-fn ending_of_words<D: Disk, R: Read, O: Write>(
+/// What is told of words.
+fn report_of_words<D: Disk, R: Read, O: Write>(
     alloc: Global,
     words: &[String],
     disk: &mut D,
     input: &mut R,
     out: &mut O,
-) -> Ending
-    ensures { DoesWords (D.bytes_of disk.old) (R.remaining input.old) (map string_bytes words.now) (record { ending = result; out = (O.contents out.old, O.contents out.new); written = (D.written disk.old, D.written disk.new) }) }
+) -> Report
+    ensures { DoesWords (D.bytes_of disk.old) (R.remaining input.old) (map string_bytes words.now) (effect_of result (O.contents out.old, O.contents out.new) (D.written disk.old, D.written disk.new)) }
 {
     match read_words(alloc, words) {
         Ok(task) => do_task(alloc, &task, disk, input, out),
-        Err(fault) => Ending::NoTask(fault),
+        Err(fault) => Report::without_note(alloc, Ending::NoTask(fault)),
     }
 }
 
@@ -39,11 +39,11 @@ pub fn run_words<D: Disk, R: Read, O: Write, E: Write>(
     out: &mut O,
     err: &mut E,
 ) -> Ended
-    ensures done { DoesWords (D.bytes_of disk.old) (R.remaining input.old) (map string_bytes words.now) (record { ending = result.ending; out = (O.contents out.old, O.contents out.new); written = (D.written disk.old, D.written disk.new) }) }
-    ensures told { OnOk result.told (IsTold result.ending (E.contents err.old) (E.contents err.new)) }
+    ensures done { DoesWords (D.bytes_of disk.old) (R.remaining input.old) (map string_bytes words.now) (effect_of result.report (O.contents out.old, O.contents out.new) (D.written disk.old, D.written disk.new)) }
+    ensures told { OnOk result.told (IsReported result.report (E.contents err.old) (E.contents err.new)) }
 {
-    let ending = ending_of_words(alloc, words, disk, input, out);
-    finish(ending, err)
+    let report = report_of_words(alloc, words, disk, input, out);
+    finish(report, err)
 }
 
 /// The words of the program, its name first.
@@ -65,19 +65,19 @@ fn ending_without_words(error: &io::Error) -> Ending
     Ending::NoText
 }
 
-/// What the program comes to.
-fn ending_of_program<V: Env, D: Disk, R: Read, O: Write>(
+/// What is told of the program.
+fn report_of_program<V: Env, D: Disk, R: Read, O: Write>(
     alloc: Global,
     env: &V,
     disk: &mut D,
     input: &mut R,
     out: &mut O,
-) -> Ending
-    ensures { IsProgram (D.bytes_of disk.old) (R.remaining input.old) (record { ending = result; out = (O.contents out.old, O.contents out.new); written = (D.written disk.old, D.written disk.new) }) }
+) -> Report
+    ensures { IsProgram (D.bytes_of disk.old) (R.remaining input.old) (effect_of result (O.contents out.old, O.contents out.new) (D.written disk.old, D.written disk.new)) }
 {
     match words_of(alloc, env) {
-        Ok(words) => ending_of_words(alloc, &words, disk, input, out),
-        Err(error) => ending_without_words(&error),
+        Ok(words) => report_of_words(alloc, &words, disk, input, out),
+        Err(error) => Report::without_note(alloc, ending_without_words(&error)),
     }
 }
 
@@ -90,9 +90,9 @@ pub fn run_program<V: Env, D: Disk, R: Read, O: Write, E: Write>(
     out: &mut O,
     err: &mut E,
 ) -> Ended
-    ensures done { IsProgram (D.bytes_of disk.old) (R.remaining input.old) (record { ending = result.ending; out = (O.contents out.old, O.contents out.new); written = (D.written disk.old, D.written disk.new) }) }
-    ensures told { OnOk result.told (IsTold result.ending (E.contents err.old) (E.contents err.new)) }
+    ensures done { IsProgram (D.bytes_of disk.old) (R.remaining input.old) (effect_of result.report (O.contents out.old, O.contents out.new) (D.written disk.old, D.written disk.new)) }
+    ensures told { OnOk result.told (IsReported result.report (E.contents err.old) (E.contents err.new)) }
 {
-    let ending = ending_of_program(alloc, env, disk, input, out);
-    finish(ending, err)
+    let report = report_of_program(alloc, env, disk, input, out);
+    finish(report, err)
 }

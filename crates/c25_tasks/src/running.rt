@@ -1,16 +1,18 @@
 //! The run of sources from a disk.
 
+ghost use Rattle.std.specs.Prelude.{string_bytes};
 ghost use Rattle.c25_words.specs.Task.{texts_of};
 ghost use Rattle.c25_tasks.specs.Running.{RunsFrom, RunsTold};
 
 use crate::copies::{Run, run_over};
 use crate::files::{names_of, read_optional};
-use crate::report::report;
+use crate::notes::Notes;
+use crate::report::report_run;
 use crate::sources::sources_of;
-use c25_chain::chain::Chain;
 use c25_chain::fault::Fault;
+use c25_debug_chain::NotedRun;
 use c25_disk::disk::Disk;
-use c25_report::ending::Ending;
+use c25_report::ending::Report;
 use c25_words::task::RunFiles;
 use std::alloc::Global;
 use std::io::Write;
@@ -22,9 +24,10 @@ fn answer<D: Disk>(
     disk: &D,
     sources: &[&str],
     steps: u32,
+    regs: bool,
     beside: RunFiles<'_>,
-) -> Result<Chain, Fault>
-    ensures { RunsFrom (D.bytes_of disk.now) (texts_of sources.now) steps beside.entry result }
+) -> Result<NotedRun, Fault>
+    ensures { RunsFrom (D.bytes_of disk.now) (texts_of sources.now) steps regs beside.entry result }
 {
     let files = sources_of(alloc, disk, sources)?;
     let command = read_optional(alloc, disk, beside.command)?;
@@ -37,21 +40,25 @@ fn answer<D: Disk>(
         samples: samples.as_str(),
         schedule: schedule.as_str(),
         steps,
+        regs,
     };
     run_over(alloc, disk, files, &work)
 }
 
-/// Runs sources, and prints the run.
+/// Runs sources, prints the run, and notes the registers at its end or what is noted of a fault, where
+/// they are asked for.
 pub(crate) fn run_sources<D: Disk, O: Write>(
     alloc: Global,
     sources: &[&str],
     steps: u32,
+    regs: bool,
     beside: RunFiles<'_>,
+    notes: Notes<'_>,
     disk: &D,
     out: &mut O,
-) -> Ending
-    ensures { RunsTold (D.bytes_of disk.now) (texts_of sources.now) steps beside.entry result (O.contents out.old, O.contents out.new) }
+) -> Report
+    ensures { RunsTold (D.bytes_of disk.now) notes.entry (texts_of sources.now) steps regs beside.entry result.ending (string_bytes result.note) (O.contents out.old, O.contents out.new) }
 {
-    let told = answer(alloc, disk, sources, steps, beside);
-    report(alloc, &told, out)
+    let told = answer(alloc, disk, sources, steps, regs, beside);
+    report_run(alloc, disk, told, notes, out)
 }

@@ -1,20 +1,22 @@
 //! The run of a source from standard input.
 
+ghost use Rattle.std.specs.Prelude.{string_bytes};
 ghost use Rattle.c25_tasks.specs.Files.{ComesTo};
 ghost use Rattle.c25_tasks.specs.Running.{RanInput, RanText, Runs};
 
 use crate::copies::{Run, run_over};
 use crate::files::names_of;
-use crate::report::report;
-use c25_chain::chain::Chain;
+use crate::notes::Notes;
+use crate::report::report_run;
 use c25_chain::fault::{Fault, Refusal};
+use c25_debug_chain::NotedRun;
 use c25_disk::disk::Disk;
 use c25_disk::fault::FileFault;
 use c25_disk::{CannotRead, read_text};
 use c25_macro::files::{FileTwice, Files};
 use c25_meaning_common::failure::Failure;
 use c25_meaning_common::placed::Placed;
-use c25_report::ending::Ending;
+use c25_report::ending::Report;
 use c25_words::task::DEFAULT_STEPS;
 use std::alloc::Global;
 use std::io::{Read, Write};
@@ -23,7 +25,7 @@ use std::io::{Read, Write};
 const STANDARD_INPUT: &str = "stdin";
 
 /// Runs a text as the one source of the chain, with the files that it copies from a disk.
-fn run_text<D: Disk>(alloc: Global, disk: &D, text: &str) -> Result<Chain, Fault>
+fn run_text<D: Disk>(alloc: Global, disk: &D, text: &str) -> Result<NotedRun, Fault>
     ensures { RanText (D.bytes_of disk.now) text.now result }
 {
     let mut files = Files::new(alloc);
@@ -39,12 +41,13 @@ fn run_text<D: Disk>(alloc: Global, disk: &D, text: &str) -> Result<Chain, Fault
         samples: "",
         schedule: "",
         steps: DEFAULT_STEPS,
+        regs: false,
     };
     run_over(alloc, disk, files, &work)
 }
 
 /// What the run of the text that a reader gives answers.
-fn answer<D: Disk, R: Read>(alloc: Global, disk: &D, reader: &mut R) -> Result<Chain, Fault>
+fn answer<D: Disk, R: Read>(alloc: Global, disk: &D, reader: &mut R) -> Result<NotedRun, Fault>
     ensures { RanInput (D.bytes_of disk.now) (R.remaining reader.old) result }
 {
     match read_text(alloc, reader) {
@@ -64,9 +67,9 @@ pub(crate) fn run_standard_input<D: Disk, R: Read, O: Write>(
     disk: &D,
     input: &mut R,
     out: &mut O,
-) -> Ending
-    ensures { Runs (D.bytes_of disk.now) (R.remaining input.old) result (O.contents out.old, O.contents out.new) }
+) -> Report
+    ensures { Runs (D.bytes_of disk.now) (R.remaining input.old) result.ending (string_bytes result.note) (O.contents out.old, O.contents out.new) }
 {
     let told = answer(alloc, disk, input);
-    report(alloc, &told, out)
+    report_run(alloc, disk, told, Notes::Nothing, out)
 }

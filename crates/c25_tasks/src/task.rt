@@ -1,42 +1,51 @@
 //! The tasks of the program.
 
-ghost use Rattle.c25_words.specs.Task.{text_of};
+ghost use Rattle.std.specs.Prelude.{◌≡◌, string_bytes};
+ghost use Rattle.c25_words.specs.Task.{text_of, texts_of};
 ghost use Rattle.c25_tasks.specs.Assembly.{Assembles};
 ghost use Rattle.c25_tasks.specs.Building.{WritesProgram};
-ghost use Rattle.c25_tasks.specs.Program.{Does};
+ghost use Rattle.c25_tasks.specs.Program.{Does, effect_of, notes_under};
+ghost use Rattle.c25_tasks.specs.Symbols.{BuildsToDisk, WritesWithSymbols};
 ghost use Rattle.c25_tasks.specs.Tells.{WritesTold};
 
 use crate::assembly::asm_outputs;
 use crate::building::built;
 use crate::debugging::debug_sources;
 use crate::disassembly::disassemble;
-use crate::explaining::explain;
+use crate::explaining::explain_number;
 use crate::files::fault_of_file;
 use crate::linking::linked;
-use crate::report::ending_of_fault;
+use crate::notes::{Notes, notes_for};
+use crate::report::report_of_fault;
 use crate::running::run_sources;
 use crate::standard_input::run_standard_input;
-use crate::texts::outputs_of;
+use crate::symbols::{BuiltWithSymbols, built_with_symbols};
+use crate::texts::{outputs_of, outputs_with_symbols};
 use c25_chain::built::Built;
 use c25_chain::fault::Fault;
 use c25_disk::disk::Disk;
 use c25_disk::{Output, write_outputs};
-use c25_report::ending::Ending;
+use c25_report::ending::{Ending, Report};
 use c25_report::texts::file_names;
-use c25_words::task::Task;
+use c25_words::task::{RunFiles, Task};
 use std::alloc::Global;
 use std::io::{Read, Write};
 
 /// Writes the files that all work came to.
-fn write_told<D: Disk>(alloc: Global, told: &Result<Vec<Output<'_>>, Fault>, disk: &mut D) -> Ending
-    ensures { WritesTold told.now result (D.written disk.old, D.written disk.new) }
+fn write_told<D: Disk>(
+    alloc: Global,
+    told: &Result<Vec<Output<'_>>, Fault>,
+    notes: Notes<'_>,
+    disk: &mut D,
+) -> Report
+    ensures { WritesTold (D.bytes_of disk.old) notes.entry told.now result.ending (string_bytes result.note) (D.written disk.old, D.written disk.new) }
 {
     match told {
         Ok(outputs) => match write_outputs(alloc, disk, outputs) {
-            Ok(()) => Ending::Done,
-            Err(failure) => ending_of_fault(alloc, &fault_of_file(failure)),
+            Ok(()) => Report::without_note(alloc, Ending::Done),
+            Err(failure) => report_of_fault(alloc, disk, &fault_of_file(failure), notes),
         },
-        Err(fault) => ending_of_fault(alloc, fault),
+        Err(fault) => report_of_fault(alloc, disk, fault, notes),
     }
 }
 
@@ -46,12 +55,13 @@ fn assemble_to_disk<D: Disk>(
     source: &str,
     object: &str,
     listing: Option<&str>,
+    notes: Notes<'_>,
     disk: &mut D,
-) -> Ending
-    ensures { Assembles (D.bytes_of disk.old) source.now object.now (text_of listing.entry) result (D.written disk.old, D.written disk.new) }
+) -> Report
+    ensures { Assembles (D.bytes_of disk.old) notes.entry source.now object.now (text_of listing.entry) result.ending (string_bytes result.note) (D.written disk.old, D.written disk.new) }
 {
     let told = asm_outputs(alloc, disk, source, object, listing);
-    write_told(alloc, &told, disk)
+    write_told(alloc, &told, notes, disk)
 }
 
 /// Writes the files of a program behind a base name.
@@ -60,23 +70,86 @@ fn write_program<D: Disk>(
     alloc: Global,
     base: &str,
     told: Result<Built, Fault>,
+    notes: Notes<'_>,
     disk: &mut D,
-) -> Ending
-    ensures { WritesProgram base.now told result (D.written disk.old, D.written disk.new) }
+) -> Report
+    ensures { WritesProgram (D.bytes_of disk.old) notes.entry base.now told result.ending (string_bytes result.note) (D.written disk.old, D.written disk.new) }
 {
     let built = match told {
         Ok(built) => built,
-        Err(fault) => return ending_of_fault(alloc, &fault),
+        Err(fault) => return report_of_fault(alloc, disk, &fault, notes),
     };
     let names = match file_names(alloc, base, built.listings.len()) {
         Ok(names) => names,
-        Err(error) => return ending_of_fault(alloc, &Fault::from(error)),
+        Err(error) => return Report::without_note(alloc, Ending::NoMemory(error)),
     };
-    let told = match outputs_of(alloc, &names, built) {
-        Ok(outputs) => Ok(outputs),
-        Err(error) => Err(Fault::from(error)),
+    match outputs_of(alloc, &names, built) {
+        Ok(outputs) => write_told(alloc, &Ok(outputs), notes, disk),
+        Err(error) => Report::without_note(alloc, Ending::NoMemory(error)),
+    }
+}
+
+/// Writes the files of a program behind a base name, and one of its symbols.
+#[tactic(auto, using(crate::proofs::Quiet::stays))]
+fn write_with_symbols<D: Disk>(
+    alloc: Global,
+    base: &str,
+    file: &str,
+    told: Result<BuiltWithSymbols, Fault>,
+    notes: Notes<'_>,
+    disk: &mut D,
+) -> Report
+    ensures { WritesWithSymbols (D.bytes_of disk.old) notes.entry base.now file.now told result.ending (string_bytes result.note) (D.written disk.old, D.written disk.new) }
+{
+    let told = match told {
+        Ok(told) => told,
+        Err(fault) => return report_of_fault(alloc, disk, &fault, notes),
     };
-    write_told(alloc, &told, disk)
+    let names = match file_names(alloc, base, told.built.listings.len()) {
+        Ok(names) => names,
+        Err(error) => return Report::without_note(alloc, Ending::NoMemory(error)),
+    };
+    match outputs_with_symbols(alloc, &names, file, told) {
+        Ok(outputs) => write_told(alloc, &Ok(outputs), notes, disk),
+        Err(error) => Report::without_note(alloc, Ending::NoMemory(error)),
+    }
+}
+
+/// Builds sources, and writes the files of their program, and one of its symbols where it is named.
+fn build_to_disk<D: Disk>(
+    alloc: Global,
+    sources: &[&str],
+    base: &str,
+    command: Option<&str>,
+    symbols: Option<&str>,
+    notes: Notes<'_>,
+    disk: &mut D,
+) -> Report
+    ensures { BuildsToDisk (D.bytes_of disk.old) notes.entry (texts_of sources.now) (text_of command.entry) base.now (text_of symbols.entry) result.ending (string_bytes result.note) (D.written disk.old, D.written disk.new) }
+{
+    match symbols {
+        None => {
+            let told = built(alloc, disk, sources, command);
+            write_program(alloc, base, told, notes, disk)
+        }
+        Some(file) => {
+            let told = built_with_symbols(alloc, disk, sources, command);
+            write_with_symbols(alloc, base, file, told, notes, disk)
+        }
+    }
+}
+
+/// Explanations where they are asked for; of a fault of the command file that is told by this name its
+/// line.
+fn notes_under<'a>(explain: bool, command: Option<&'a str>) -> Notes<'a>
+    ensures { result ≡ notes_under explain command.entry }
+{
+    let files = RunFiles {
+        command,
+        samples: None,
+        schedule: None,
+    };
+    notes_for(explain, files, None)
 }
 
 /// Does what the words ask for.
@@ -87,8 +160,8 @@ pub(crate) fn do_task<D: Disk, R: Read, O: Write>(
     disk: &mut D,
     input: &mut R,
     out: &mut O,
-) -> Ending
-    ensures { Does (D.bytes_of disk.old) (R.remaining input.old) task.now (record { ending = result; out = (O.contents out.old, O.contents out.new); written = (D.written disk.old, D.written disk.new) }) }
+) -> Report
+    ensures { Does (D.bytes_of disk.old) (R.remaining input.old) task.now (effect_of result (O.contents out.old, O.contents out.new) (D.written disk.old, D.written disk.new)) }
 {
     match task {
         Task::RunStandardInput => run_standard_input(alloc, disk, input, out),
@@ -96,34 +169,57 @@ pub(crate) fn do_task<D: Disk, R: Read, O: Write>(
             source,
             object,
             listing,
-        } => assemble_to_disk(alloc, source, object, *listing, disk),
+            explain,
+        } => {
+            let notes = notes_under(*explain, None);
+            assemble_to_disk(alloc, source, object, *listing, notes, disk)
+        }
         Task::Link {
             command,
             objects,
             base,
+            explain,
         } => {
             let told = linked(alloc, disk, command, objects);
-            write_program(alloc, base, told, disk)
+            let notes = notes_under(*explain, Some(*command));
+            write_program(alloc, base, told, notes, disk)
         }
         Task::Build {
             sources,
             base,
             command,
+            symbols,
+            explain,
         } => {
-            let told = built(alloc, disk, sources, *command);
-            write_program(alloc, base, told, disk)
+            let notes = notes_under(*explain, *command);
+            build_to_disk(alloc, sources, base, *command, *symbols, notes, disk)
         }
         Task::Run {
             sources,
             steps,
             files,
-        } => run_sources(alloc, sources, *steps, *files, disk, out),
+            regs,
+            explain,
+        } => {
+            let notes = notes_for(*explain, *files, None);
+            run_sources(alloc, sources, *steps, *regs, *files, notes, disk, out)
+        }
         Task::Debug {
             sources,
             script,
             files,
-        } => debug_sources(alloc, sources, script, *files, disk, out),
-        Task::Explain { number } => explain(alloc, *number, out),
-        Task::Disassemble { file } => disassemble(alloc, file, disk, out),
+            explain,
+        } => {
+            let notes = notes_for(*explain, *files, Some(*script));
+            debug_sources(alloc, sources, script, *files, notes, disk, out)
+        }
+        Task::Explain { number } => {
+            let ending = explain_number(alloc, *number, out);
+            Report::without_note(alloc, ending)
+        }
+        Task::Disassemble { file, from } => {
+            let ending = disassemble(alloc, file, *from, disk, out);
+            Report::without_note(alloc, ending)
+        }
     }
 }

@@ -1,10 +1,11 @@
 //! The files that are written of what was built.
 
-ghost use Rattle.std.specs.Prelude.{◌≡◌, ℕ, List, IfOk, map};
+ghost use Rattle.std.specs.Prelude.{◌≡◌, ◌++◌, ◌∷◌, [], ℕ, List, IfOk, map, string_bytes};
 ghost use Rattle.c25_disk.specs.Written.{contents_of};
 ghost use Rattle.c25_report.specs.ProgramFiles.{AreNames, files_of};
 ghost use Rattle.c25_tasks.specs.Building.{texts_in};
 
+use crate::symbols::BuiltWithSymbols;
 use c25_chain::built::Built;
 use c25_chain::linked::Linked;
 use c25_chain::page::Page;
@@ -37,4 +38,21 @@ pub(crate) fn outputs_of<'a>(
         listings,
     };
     program_outputs(alloc, names, texts)
+}
+
+/// The same, and behind them a file of the symbols.
+pub(crate) fn outputs_with_symbols<'a>(
+    alloc: Global,
+    names: &'a Names,
+    file: &'a str,
+    told: BuiltWithSymbols,
+) -> Result<Vec<Output<'a>>, NoMemory>
+    ensures { (base : List ℕ) → AreNames base told.built.listings.len names.entry.now
+        → IfOk result (λ outputs. map contents_of outputs.items ≡ files_of base (texts_in told.built) ++ (file.entry.now, string_bytes told.symbols) ∷ []) }
+{
+    let BuiltWithSymbols { built, symbols } = told;
+    let mut outputs = outputs_of(alloc, names, built)?;
+    let bytes = symbols.into_bytes();
+    outputs.push(Output { name: file, bytes })?;
+    Ok(outputs)
 }

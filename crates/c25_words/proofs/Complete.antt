@@ -1,19 +1,18 @@
 -- Words without a fault name a subcommand, and have what it must have.
-use Rattle.std.proofs.Common.{◌≡◌, ◌∙◌, ◌&&◌, ◌||◌, ℕ, Bool, cond, codes, true, false, not, refl, sym, ap, subst, arith, drop, length, inl, inr, List, [], ◌∷◌, Option, Some, None, is_some, unwrap_or, true≢false, nat_lt}
+use Rattle.std.proofs.Common.{◌≡◌, ◌&&◌, ◌||◌, ℕ, Bool, cond, codes, true, false, not, refl, sym, ap, subst, arith, drop, length, map, List, [], ◌∷◌, Option, Some, None, is_some, unwrap_or, true≢false}
 use Rattle.std.specs.List.{AllByRecursion, find, list_all, list_any, slice_index_or}
 use Rattle.std.specs.Option.{option_map, option_map_or}
-use Rattle.std.specs.Str.{bytes_eq}
-use Rattle.clap.specs.Walk.{Row, Rule, Text, action_of, answers_to, finished, is_empty, nothing_held, rows_after, settled, walk, walk_from}
+use Rattle.clap.specs.Walk.{Row, Rule, Text, answers_to, finished, nothing_held, rows_after, settled, walk, walk_from}
 use Rattle.clap.specs.Simple.{Shape, built, entered, help_shape, label_of, names_of, rows_at, subcommand_of}
-use Rattle.clap.specs.Facts.{unwrap_or_range}
+use Rattle.clap.specs.Facts.{parser_of_value}
 use Rattle.clap.specs.Faults.{check_fault, defaults_fault, entered_fault, fault_of, level_fault, settle_fault, walk_fault}
 use Rattle.clap.specs.Takes.{is_given}
-use Rattle.clap.specs.Values.{is_request}
+use Rattle.clap.specs.declared.builder.value_parser.ValueParser.{ValueParser}
 use Rattle.clap.specs.declared.error.kind.ErrorKind.TheVariants as kind
 use Rattle.c25_words.specs.Complete.{IsComplete, IsFoundComplete, IsNumberText}
 use Rattle.c25_words.specs.Program.{program}
-use Rattle.c25_words.proofs.Rows.{AreFine, IsSound, given_there, number_fine, one_there, parser_to, takes_or_asks, use_fine}
-use Rattle.c25_words.proofs.Walks.{level_keeps, none_of_both}
+use Rattle.c25_words.proofs.Rows.{AreFine, IsSound, all_sound, default_fine, flag_fine, given_there, is_sound, number_fine, one_there, parser_in, use_fine}
+use Rattle.c25_words.proofs.Walks.{KeepsDefault, level_keeps, none_of_both}
 
 -- what holds of each holds of the one that is found
 found_each : {X : Type 0} (P : X → Type 0) (p : X → Bool) (xs : List X) (x : X) → AllByRecursion P xs → find p xs ≡ Some x → P x
@@ -50,23 +49,22 @@ check_passes true e =
     let none : length (kind.MissingRequiredArgument ∷ []) ≡ 0 = ap length e in
     absurd (omega arith)
 
-abbrev EachSound : Text → ℕ → Shape → Type 0
-EachSound named high s = AllByRecursion (IsSound named high) s.rules
+abbrev parser_at : Shape → Text → ValueParser
+parser_at s = parser_in s.rules
 
-fine_rows : (named : Text) (high : ℕ) (s : Shape) → EachSound named high s → list_all (λ a. is_empty a.defaults) s.rules ≡ true → (words : List Text) → level_fault s [] nothing_held words false [] ≡ []
-    → AreFine named high (rows_after s.rules [] words) × (check_fault s (rows_after s.rules [] words) false ≡ [])
-fine_rows named high s sound none words e =
-    level_keeps s (AreFine named high) (λ p a is values rows e fine. use_fine named high s.args_override_self a (found_each (IsSound named high) p s.rules a sound is) values rows e fine) words none e tt
-
--- an option or operand that is no number, and the request for help
-taking : {named : Text} {high : ℕ} (a : Rule) → takes_or_asks (action_of a) ≡ true → nat_lt 0 (unwrap_or_range a.range).start_inclusive ≡ true → bytes_eq a.id named ≡ false → IsSound named high a
-taking a takes least other = record { action = takes; least = inr least; numbers = λ is. absurd (true≢false (sym is ∙ other)) }
-
-asking : {named : Text} {high : ℕ} (a : Rule) → takes_or_asks (action_of a) ≡ true → is_request (action_of a) ≡ true → bytes_eq a.id named ≡ false → IsSound named high a
-asking a takes asks other = record { action = takes; least = inl asks; numbers = λ is. absurd (true≢false (sym is ∙ other)) }
-
-numbered : {named : Text} {high : ℕ} (a : Rule) → takes_or_asks (action_of a) ≡ true → nat_lt 0 (unwrap_or_range a.range).start_inclusive ≡ true → a.parser ≡ Some (parser_to high) → IsSound named high a
-numbered a takes least parser = record { action = takes; least = inr least; numbers = λ is. parser }
+-- a subcommand that has no fault has fine rows, where its arguments are sound
+fine_rows : (s : Shape) → list_all (is_sound (parser_at s)) s.rules ≡ true → map (λ a. parser_of_value a.parser) s.rules ≡ map (λ a. parser_at s a.id) s.rules
+    → (words : List Text) → level_fault s [] nothing_held words false [] ≡ []
+    → AreFine (parser_at s) (rows_after s.rules [] words) × (check_fault s (rows_after s.rules [] words) false ≡ [])
+fine_rows s test own words e =
+    let sound = all_sound (parser_at s) s.rules test own in
+    level_keeps s (AreFine (parser_at s))
+    (λ p a is values rows e fine. use_fine (parser_at s) s.args_override_self a (found_each (IsSound (parser_at s)) p s.rules a sound is) values rows e fine)
+    words (defaults_fine s.rules sound) e tt
+  where
+    defaults_fine : (rules : List Rule) → AllByRecursion (IsSound (parser_at s)) rules → AllByRecursion (KeepsDefault (AreFine (parser_at s))) rules
+    defaults_fine [] each = tt
+    defaults_fine (a ∷ rules) each = (default_fine (parser_at s) a each.0, defaults_fine rules each.1)
 
 -- ---- the subcommands
 
@@ -78,12 +76,12 @@ sub k = slice_index_or (built program).subs k help_shape
 
 asm_each : IsEach (sub 0)
 asm_each words e =
-    let kept = fine_rows (codes "steps") 4294967295 (sub 0) (taking _ refl refl refl, (taking _ refl refl refl, (taking _ refl refl refl, (asking _ refl refl refl, tt)))) refl words e in
+    let kept = fine_rows (sub 0) refl refl words e in
     let rows = rows_after (sub 0).rules [] words in
     let found = none_missing rows (sub 0).rules (check_passes _ kept.1) in
     record {
       named = refl;
-      asm = λ is. (given_there (codes "steps") 4294967295 (codes "source") rows kept.0 (found.0 refl), given_there (codes "steps") 4294967295 (codes "obj") rows kept.0 (found.1.0 refl));
+      asm = λ is. (given_there (parser_at (sub 0)) (codes "source") rows kept.0 (found.0 refl), given_there (parser_at (sub 0)) (codes "obj") rows kept.0 (found.1.0 refl), flag_fine (parser_at (sub 0)) (codes "explain") refl rows kept.0);
       link = λ is. absurd (true≢false (sym is));
       build = λ is. absurd (true≢false (sym is));
       run = λ is. absurd (true≢false (sym is));
@@ -94,13 +92,13 @@ asm_each words e =
 
 link_each : IsEach (sub 1)
 link_each words e =
-    let kept = fine_rows (codes "steps") 4294967295 (sub 1) (taking _ refl refl refl, (taking _ refl refl refl, (taking _ refl refl refl, (asking _ refl refl refl, tt)))) refl words e in
+    let kept = fine_rows (sub 1) refl refl words e in
     let rows = rows_after (sub 1).rules [] words in
     let found = none_missing rows (sub 1).rules (check_passes _ kept.1) in
     record {
       named = refl;
       asm = λ is. absurd (true≢false (sym is));
-      link = λ is. (given_there (codes "steps") 4294967295 (codes "command") rows kept.0 (found.0 refl), given_there (codes "steps") 4294967295 (codes "object") rows kept.0 (found.1.0 refl), given_there (codes "steps") 4294967295 (codes "out") rows kept.0 (found.1.1.0 refl));
+      link = λ is. (given_there (parser_at (sub 1)) (codes "command") rows kept.0 (found.0 refl), given_there (parser_at (sub 1)) (codes "object") rows kept.0 (found.1.0 refl), given_there (parser_at (sub 1)) (codes "out") rows kept.0 (found.1.1.0 refl), flag_fine (parser_at (sub 1)) (codes "explain") refl rows kept.0);
       build = λ is. absurd (true≢false (sym is));
       run = λ is. absurd (true≢false (sym is));
       debug = λ is. absurd (true≢false (sym is));
@@ -110,14 +108,14 @@ link_each words e =
 
 build_each : IsEach (sub 2)
 build_each words e =
-    let kept = fine_rows (codes "steps") 4294967295 (sub 2) (taking _ refl refl refl, (taking _ refl refl refl, (taking _ refl refl refl, (asking _ refl refl refl, tt)))) refl words e in
+    let kept = fine_rows (sub 2) refl refl words e in
     let rows = rows_after (sub 2).rules [] words in
     let found = none_missing rows (sub 2).rules (check_passes _ kept.1) in
     record {
       named = refl;
       asm = λ is. absurd (true≢false (sym is));
       link = λ is. absurd (true≢false (sym is));
-      build = λ is. (given_there (codes "steps") 4294967295 (codes "source") rows kept.0 (found.0 refl), given_there (codes "steps") 4294967295 (codes "out") rows kept.0 (found.1.0 refl));
+      build = λ is. (given_there (parser_at (sub 2)) (codes "source") rows kept.0 (found.0 refl), given_there (parser_at (sub 2)) (codes "out") rows kept.0 (found.1.0 refl), flag_fine (parser_at (sub 2)) (codes "explain") refl rows kept.0);
       run = λ is. absurd (true≢false (sym is));
       debug = λ is. absurd (true≢false (sym is));
       explain = λ is. absurd (true≢false (sym is));
@@ -126,7 +124,7 @@ build_each words e =
 
 run_each : IsEach (sub 3)
 run_each words e =
-    let kept = fine_rows (codes "steps") 4294967295 (sub 3) (taking _ refl refl refl, (numbered _ refl refl refl, (taking _ refl refl refl, (taking _ refl refl refl, (taking _ refl refl refl, (asking _ refl refl refl, tt)))))) refl words e in
+    let kept = fine_rows (sub 3) refl refl words e in
     let rows = rows_after (sub 3).rules [] words in
     let found = none_missing rows (sub 3).rules (check_passes _ kept.1) in
     record {
@@ -134,7 +132,7 @@ run_each words e =
       asm = λ is. absurd (true≢false (sym is));
       link = λ is. absurd (true≢false (sym is));
       build = λ is. absurd (true≢false (sym is));
-      run = λ is. (given_there (codes "steps") 4294967295 (codes "source") rows kept.0 (found.0 refl), number_fine (codes "steps") 4294967295 32 (omega arith) rows kept.0);
+      run = λ is. (given_there (parser_at (sub 3)) (codes "source") rows kept.0 (found.0 refl), number_fine (parser_at (sub 3)) (codes "steps") 4294967295 32 refl (omega arith) rows kept.0, flag_fine (parser_at (sub 3)) (codes "regs") refl rows kept.0, flag_fine (parser_at (sub 3)) (codes "explain") refl rows kept.0);
       debug = λ is. absurd (true≢false (sym is));
       explain = λ is. absurd (true≢false (sym is));
       dis = λ is. absurd (true≢false (sym is));
@@ -142,7 +140,7 @@ run_each words e =
 
 debug_each : IsEach (sub 4)
 debug_each words e =
-    let kept = fine_rows (codes "steps") 4294967295 (sub 4) (taking _ refl refl refl, (taking _ refl refl refl, (taking _ refl refl refl, (taking _ refl refl refl, (taking _ refl refl refl, (asking _ refl refl refl, tt)))))) refl words e in
+    let kept = fine_rows (sub 4) refl refl words e in
     let rows = rows_after (sub 4).rules [] words in
     let found = none_missing rows (sub 4).rules (check_passes _ kept.1) in
     record {
@@ -151,14 +149,14 @@ debug_each words e =
       link = λ is. absurd (true≢false (sym is));
       build = λ is. absurd (true≢false (sym is));
       run = λ is. absurd (true≢false (sym is));
-      debug = λ is. (given_there (codes "steps") 4294967295 (codes "source") rows kept.0 (found.0 refl), given_there (codes "steps") 4294967295 (codes "script") rows kept.0 (found.1.0 refl));
+      debug = λ is. (given_there (parser_at (sub 4)) (codes "source") rows kept.0 (found.0 refl), given_there (parser_at (sub 4)) (codes "script") rows kept.0 (found.1.0 refl), flag_fine (parser_at (sub 4)) (codes "explain") refl rows kept.0);
       explain = λ is. absurd (true≢false (sym is));
       dis = λ is. absurd (true≢false (sym is));
     }
 
 explain_each : IsEach (sub 5)
 explain_each words e =
-    let kept = fine_rows (codes "number") 255 (sub 5) (numbered _ refl refl refl, (asking _ refl refl refl, tt)) refl words e in
+    let kept = fine_rows (sub 5) refl refl words e in
     let rows = rows_after (sub 5).rules [] words in
     let found = none_missing rows (sub 5).rules (check_passes _ kept.1) in
     record {
@@ -168,14 +166,14 @@ explain_each words e =
       build = λ is. absurd (true≢false (sym is));
       run = λ is. absurd (true≢false (sym is));
       debug = λ is. absurd (true≢false (sym is));
-      explain = λ is. one_there (IsNumberText 8) (codes "number") rows (given_there (codes "number") 255 (codes "number") rows kept.0 (found.0 refl))
-          (number_fine (codes "number") 255 8 (omega arith) rows kept.0);
+      explain = λ is. one_there (IsNumberText 8) (codes "number") rows (given_there (parser_at (sub 5)) (codes "number") rows kept.0 (found.0 refl))
+          (number_fine (parser_at (sub 5)) (codes "number") 255 8 refl (omega arith) rows kept.0);
       dis = λ is. absurd (true≢false (sym is));
     }
 
 dis_each : IsEach (sub 6)
 dis_each words e =
-    let kept = fine_rows (codes "steps") 4294967295 (sub 6) (taking _ refl refl refl, (asking _ refl refl refl, tt)) refl words e in
+    let kept = fine_rows (sub 6) refl refl words e in
     let rows = rows_after (sub 6).rules [] words in
     let found = none_missing rows (sub 6).rules (check_passes _ kept.1) in
     record {
@@ -186,7 +184,7 @@ dis_each words e =
       run = λ is. absurd (true≢false (sym is));
       debug = λ is. absurd (true≢false (sym is));
       explain = λ is. absurd (true≢false (sym is));
-      dis = λ is. given_there (codes "steps") 4294967295 (codes "file") rows kept.0 (found.0 refl);
+      dis = λ is. given_there (parser_at (sub 6)) (codes "file") rows kept.0 (found.0 refl);
     }
 
 -- ---- the program

@@ -1,3 +1,4 @@
+pub mod FlagText
 pub mod NumberText
 pub mod Rows
 pub mod Walks

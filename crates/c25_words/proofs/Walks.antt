@@ -1,16 +1,14 @@
--- What a walk without a fault keeps: a fact of the rows that each use without a fault keeps.
+-- What a walk without a fault keeps: a fact of the rows that each use without a fault and each default keeps.
 use Rattle.std.proofs.Common.{◌≡◌, ℕ, Bool, cond, true, false, zero, suc, not, ◌&&◌, refl, ap, arith, length, drop, List, [], ◌∷◌, Option, Some, None, is_some}
 use Rattle.std.specs.Prelude.{encode_utf8, slice_get}
-use Rattle.std.specs.List.{find, fold, list_all}
+use Rattle.std.specs.List.{AllByRecursion, find, fold}
 use Rattle.std.specs.Option.{option_map_or}
 use Rattle.std.specs.Str.{bytes_eq, chars}
 use Rattle.clap.specs.Lexer.{long_of, short_of}
-use Rattle.clap.specs.Walk.{Held, Names, Outcome, Row, Rule, Step, Text, Waiting, Walk, done, waits, plain, refused, idle, option, positional, next, trailing, subcommand, value, after_flag, after_step, arg_by_id, arg_by_index, arg_by_long, arg_by_short, attached_value, bundle_met, bundle_step, default_rows, flag_met, has_long, has_row, has_short, is_empty, is_pending, long_met, long_or_other, nothing_held, option_met, option_word, plain_word, pushed, reacted, reading_by, rows_after, settled, settled_rows, short_met, short_or_plain, subcommand_met, subcommand_or_other, takes_several, takes_values, to_positional, used, used_by_id, walk, walk_from, walked, walked_from, with_default, word_met}
+use Rattle.clap.specs.Walk.{Held, Names, Outcome, Row, Rule, Step, Text, Waiting, Walk, done, waits, plain, refused, idle, option, positional, next, trailing, subcommand, value, after_flag, after_step, arg_by_id, arg_by_index, arg_by_long, arg_by_short, attached_value, bundle_met, bundle_step, flag_met, has_long, has_short, is_pending, long_met, long_or_other, nothing_held, option_met, option_word, plain_word, pushed, reacted, rows_after, settled, settled_rows, short_met, short_or_plain, subcommand_met, subcommand_or_other, takes_several, takes_values, to_positional, used, used_by_id, walk, walk_from, walked, walked_from, with_default, word_met}
 use Rattle.clap.specs.Simple.{Shape}
 use Rattle.clap.specs.Kinds.{Kinds, or_else}
 use Rattle.clap.specs.Faults.{bundle_step_fault, check_fault, defaults_fault, flag_word_fault, flags_fault, level_fault, long_fault, option_fault, other_fault, positional_fault, react_fault, settle_fault, short_fault, step_fault, stray_fault, turn_fault, use_fault, walk_fault, word_fault}
-use Rattle.std.proofs.lemmas.Bool.{eqb-true}
-use Rattle.clap.proofs.WalkLemmas.{both}
 use Rattle.clap.specs.declared.error.kind.ErrorKind.TheVariants as kind
 
 -- where two steps have no fault, neither has
@@ -19,6 +17,10 @@ none_of_both [] b e = (refl, e)
 none_of_both (k ∷ ks) b e =
     let none : length (k ∷ ks) ≡ 0 = ap length e in
     absurd (omega arith)
+
+-- where the argument has a default, the fact is kept with it
+abbrev pub KeepsDefault : (List Row → Type 0) → Rule → Type 0
+KeepsDefault Inv a = (rows : List Row) → Inv rows → Inv (with_default rows a)
 
 module _ (s : Shape) (Inv : List Row → Type 0)
     (uses : (p : Rule → Bool) (a : Rule) → find p s.rules ≡ Some a → (values : List Text) (rows : List Row) → use_fault s.args_override_self a values rows ≡ [] → Inv rows → Inv (used a values rows))
@@ -183,29 +185,17 @@ module _ (s : Shape) (Inv : List Row → Type 0)
 
     -- ---- after the walk
 
-    default_keeps : (a : Rule) (rows : List Row) → is_empty a.defaults ≡ true → Inv rows → Inv (with_default rows a)
-    default_keeps a rows none inv = go (has_row a.id rows) a.defaults none
-      where
-        go : (b : Bool) (values : List Text) → is_empty values ≡ true → Inv (cond b rows (default_rows a.id (reading_by a) values rows))
-        go true values none = inv
-        go false [] none = inv
-        go false (v ∷ vs) none =
-            let zero_long : length (v ∷ vs) ≡ 0 = eqb-true _ _ none in
-            absurd (omega arith)
-
-    defaults_keep : (rules : List Rule) (rows : List Row) → list_all (λ a. is_empty a.defaults) rules ≡ true → Inv rows → Inv (fold with_default rows rules)
-    defaults_keep [] rows none inv = inv
-    defaults_keep (a ∷ rules) rows none inv =
-        let parts = both (is_empty a.defaults) (list_all (λ a. is_empty a.defaults) rules) none in
-        defaults_keep rules (with_default rows a) parts.1 (default_keeps a rows parts.0 inv)
+    defaults_keep : (rules : List Rule) (rows : List Row) → AllByRecursion (KeepsDefault Inv) rules → Inv rows → Inv (fold with_default rows rules)
+    defaults_keep [] rows each inv = inv
+    defaults_keep (a ∷ rules) rows each inv = defaults_keep rules (with_default rows a) each.1 (each.0 rows inv)
 
     -- a command without subcommands that has no fault of the words keeps the fact, and has what must be there
-    pub level_keeps : (words : List Text) → list_all (λ a. is_empty a.defaults) s.rules ≡ true → level_fault s [] nothing_held words false [] ≡ [] → Inv []
+    pub level_keeps : (words : List Text) → AllByRecursion (KeepsDefault Inv) s.rules → level_fault s [] nothing_held words false [] ≡ [] → Inv []
         → Inv (rows_after s.rules [] words) × (check_fault s (rows_after s.rules [] words) false ≡ [])
-    level_keeps words none e inv =
+    level_keeps words each e inv =
         let end = (walk s.rules [] nothing_held words).held in
         let parts = none_of_both (walk_fault s [] (walk_from nothing_held) words) _ e in
         let settling = none_of_both (settle_fault s.rules s.args_override_self end) _ parts.1 in
         let defaults = none_of_both (defaults_fault (settled s.rules end).rows s.rules) _ settling.1 in
         let walked_rows = walk_keeps [] (walk_from nothing_held) words parts.0 inv in
-        (defaults_keep s.rules (settled s.rules end).rows none (settle_keeps end settling.0 walked_rows), defaults.1)
+        (defaults_keep s.rules (settled s.rules end).rows each (settle_keeps end settling.0 walked_rows), defaults.1)

@@ -3,9 +3,14 @@ use Rattle.std.specs.Prelude.{◌≡◌, true, false, pos, List, [], ◌∷◌, 
 use Rattle.clap.specs.Lexer.{usize_max}
 use Rattle.clap.specs.Words.{App, Rule, Shape, Text, new_rule, shape_of}
 use Rattle.clap.specs.Simple.{new_shape}
+use Rattle.clap.specs.declared.builder.action.ArgAction.TheVariants.{SetTrue}
 use Rattle.clap.specs.declared.builder.command.Command.{Command}
 use Rattle.clap.specs.declared.builder.command.Command.TheViews.{out-Command}
 use Rattle.clap.specs.declared.builder.value_parser.ValueParser.TheVariants as parser
+
+-- `--name`, which is given or not
+abbrev pub flag_rule : Text → Rule
+flag_rule name = record (new_rule name) { long = Some name; action = Some SetTrue }
 
 -- `--name VALUE`
 abbrev pub option_rule : Text → Rule
@@ -43,37 +48,41 @@ shape_with name rules = record (new_shape name) { rules = rules }
 abbrev pub added : Shape → Rule → Shape
 added shape rule = record shape { rules = shape.rules ++ rule ∷ [] }
 
+-- .. [--explain]
+abbrev pub with_explain : Shape → Shape
+with_explain shape = added shape (flag_rule (codes "explain"))
+
 -- .. [--command F] [--samples F] [--schedule F]
 abbrev pub with_run_files : Shape → Shape
 with_run_files shape = added (added (added shape (option_rule (codes "command"))) (option_rule (codes "samples"))) (option_rule (codes "schedule"))
 
--- asm SOURCE --obj F [--list F]; here and below `-o` stands for `--obj` and for `--out` as well
+-- asm SOURCE --obj F [--list F] [--explain]; here and below `-o` stands for `--obj` and for `--out` as well
 abbrev pub asm_shape : Shape
-asm_shape = shape_with (codes "asm") (operand_rule (codes "source") ∷ output_rule (codes "obj") ∷ option_rule (codes "list") ∷ [])
+asm_shape = with_explain (shape_with (codes "asm") (operand_rule (codes "source") ∷ output_rule (codes "obj") ∷ option_rule (codes "list") ∷ []))
 
--- link COMMAND OBJECT.. --out B
+-- link COMMAND OBJECT.. --out B [--explain]
 abbrev pub link_shape : Shape
-link_shape = shape_with (codes "link") (operand_rule (codes "command") ∷ operands_rule (codes "object") ∷ output_rule (codes "out") ∷ [])
+link_shape = with_explain (shape_with (codes "link") (operand_rule (codes "command") ∷ operands_rule (codes "object") ∷ output_rule (codes "out") ∷ []))
 
--- build SOURCE.. --out B [--command F]
+-- build SOURCE.. --out B [--command F] [--symbols F] [--explain]
 abbrev pub build_shape : Shape
-build_shape = shape_with (codes "build") (operands_rule (codes "source") ∷ output_rule (codes "out") ∷ option_rule (codes "command") ∷ [])
+build_shape = with_explain (shape_with (codes "build") (operands_rule (codes "source") ∷ output_rule (codes "out") ∷ option_rule (codes "command") ∷ option_rule (codes "symbols") ∷ []))
 
--- run SOURCE.. [--steps N] [--command F] [--samples F] [--schedule F]
+-- run SOURCE.. [--steps N] [--regs] [--command F] [--samples F] [--schedule F] [--explain]
 abbrev pub run_shape : Shape
-run_shape = with_run_files (shape_with (codes "run") (operands_rule (codes "source") ∷ steps_rule ∷ []))
+run_shape = with_explain (with_run_files (shape_with (codes "run") (operands_rule (codes "source") ∷ steps_rule ∷ flag_rule (codes "regs") ∷ [])))
 
--- debug SOURCE.. --script F [--command F] [--samples F] [--schedule F]
+-- debug SOURCE.. --script F [--command F] [--samples F] [--schedule F] [--explain]
 abbrev pub debug_shape : Shape
-debug_shape = with_run_files (shape_with (codes "debug") (operands_rule (codes "source") ∷ needed_rule (codes "script") ∷ []))
+debug_shape = with_explain (with_run_files (shape_with (codes "debug") (operands_rule (codes "source") ∷ needed_rule (codes "script") ∷ [])))
 
 -- explain NUMBER
 abbrev pub explain_shape : Shape
 explain_shape = shape_with (codes "explain") (number_rule ∷ [])
 
--- dis FILE
+-- dis FILE [--from ADDRESS]
 abbrev pub dis_shape : Shape
-dis_shape = shape_with (codes "dis") (operand_rule (codes "file") ∷ [])
+dis_shape = shape_with (codes "dis") (operand_rule (codes "file") ∷ option_rule (codes "from") ∷ [])
 
 -- the program before it has its subcommands: it has a version, one of them must be there, and `help` is none
 abbrev pub bare_program : App

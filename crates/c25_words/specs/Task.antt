@@ -1,5 +1,6 @@
 -- What the words ask for, by the matches that `clap` defines.
-use Rattle.std.specs.Prelude.{◌≡◌, ℕ, List, [], Option, Some, None, Result, Ok, Err, codes, map, option_map, IsSomeAnd}
+use Rattle.std.specs.Prelude.{◌≡◌, ℕ, Bool, false, List, [], Option, Some, None, Result, Ok, Err, codes, map, option_map, IsSomeAnd}
+use Rattle.std.specs.Str.{bytes_eq}
 use Rattle.std.specs.Str.Parse.{IsNumeral, digits_value, without_leading_plus}
 use Rattle.std.specs.Borrow.{Bor}
 use Rattle.clap.specs.Words.{Row, Text, all_of, first_of, kind_of, one_of, subcommand_of}
@@ -35,6 +36,11 @@ IsSteps (Some text) n = Gives text n
 abbrev pub IsNumber : Option Text → ℕ → Type 0
 IsNumber text n = IsSomeAnd text (λ t. Gives t n)
 
+-- whether a flag was given: the text that is found for it is `true` where it was, and else `false`
+abbrev pub IsFlag : Option Text → Bool → Type 0
+IsFlag None given = given ≡ false
+IsFlag (Some text) given = given ≡ bytes_eq text (codes "true")
+
 -- the files of a run are the values of its options
 pub record AreRunFiles (rows : List Row) (files : RunFiles) : Type 0 where
   pub command : text_of files.command ≡ first_of (codes "command") rows
@@ -44,33 +50,41 @@ pub record AreRunFiles (rows : List Row) (files : RunFiles) : Type 0 where
 -- the task is what a subcommand of this name with these matches asks for
 abbrev pub Asks : Text → List Row → Task → Type 0
 Asks name rows RunStandardInput = ⊥
-Asks name rows (Assemble source object listing) =
+Asks name rows (Assemble source object listing explain) =
     (name ≡ codes "asm")
     × (first_of (codes "source") rows ≡ Some source.now)
     × (first_of (codes "obj") rows ≡ Some object.now)
     × (first_of (codes "list") rows ≡ text_of listing)
-Asks name rows (Link command objects base) =
+    × IsFlag (one_of (codes "explain") rows) explain
+Asks name rows (Link command objects base explain) =
     (name ≡ codes "link")
     × (first_of (codes "command") rows ≡ Some command.now)
     × (all_of (codes "object") rows ≡ Some (texts_of objects.items))
     × (first_of (codes "out") rows ≡ Some base.now)
-Asks name rows (Build sources base command) =
+    × IsFlag (one_of (codes "explain") rows) explain
+Asks name rows (Build sources base command symbols explain) =
     (name ≡ codes "build")
     × (all_of (codes "source") rows ≡ Some (texts_of sources.items))
     × (first_of (codes "out") rows ≡ Some base.now)
     × (first_of (codes "command") rows ≡ text_of command)
-Asks name rows (Run sources steps files) =
+    × (first_of (codes "symbols") rows ≡ text_of symbols)
+    × IsFlag (one_of (codes "explain") rows) explain
+Asks name rows (Run sources steps files regs explain) =
     (name ≡ codes "run")
     × (all_of (codes "source") rows ≡ Some (texts_of sources.items))
     × IsSteps (one_of (codes "steps") rows) steps
     × AreRunFiles rows files
-Asks name rows (Debug sources script files) =
+    × IsFlag (one_of (codes "regs") rows) regs
+    × IsFlag (one_of (codes "explain") rows) explain
+Asks name rows (Debug sources script files explain) =
     (name ≡ codes "debug")
     × (all_of (codes "source") rows ≡ Some (texts_of sources.items))
     × (first_of (codes "script") rows ≡ Some script.now)
     × AreRunFiles rows files
+    × IsFlag (one_of (codes "explain") rows) explain
 Asks name rows (Explain number) = (name ≡ codes "explain") × IsNumber (one_of (codes "number") rows) number
-Asks name rows (Disassemble file) = (name ≡ codes "dis") × (first_of (codes "file") rows ≡ Some file.now)
+Asks name rows (Disassemble file from) =
+    (name ≡ codes "dis") × (first_of (codes "file") rows ≡ Some file.now) × (first_of (codes "from") rows ≡ text_of from)
 
 -- the same of what `clap` finds
 abbrev pub IsAskedBy : Option (Text × List Row) → Task → Type 0

@@ -2,10 +2,21 @@
 
 ghost use Rattle.std.specs.Prelude.{◌≡◌, codes, false};
 ghost use Rattle.clap.specs.Words.{rule_of};
-ghost use Rattle.c25_words.specs.Program.{needed_rule, number_rule, operand_rule, operands_rule, option_rule, output_rule, steps_rule};
+ghost use Rattle.c25_words.specs.Program.{flag_rule, needed_rule, number_rule, operand_rule, operands_rule, option_rule, output_rule, steps_rule};
 
-use clap::{Arg, value_parser};
+use clap::{Arg, ArgAction, value_parser};
 use std::alloc::Global;
+
+/// `--name`, which is given or not.
+pub(crate) fn flag<'a>(alloc: Global, name: &'a str, help: &'a str) -> Arg<'a>
+    ensures rule { rule_of result ≡ flag_rule name.entry.now }
+    ensures local { result.global ≡ false }
+{
+    Arg::new(alloc, name)
+        .long(name)
+        .action(ArgAction::SetTrue)
+        .help(help)
+}
 
 /// `--name FILE`.
 pub(crate) fn option<'a>(alloc: Global, name: &'a str, help: &'a str) -> Arg<'a>
@@ -62,6 +73,14 @@ pub(crate) fn steps<'a>(alloc: Global) -> Arg<'a>
     option(alloc, "steps", "The number of steps, 1000 by default")
         .value_name("N")
         .value_parser(value_parser!(u32))
+}
+
+/// `--from ADDRESS`.
+pub(crate) fn first_address<'a>(alloc: Global, help: &'a str) -> Arg<'a>
+    ensures rule { rule_of result ≡ option_rule (codes "from") }
+    ensures local { result.global ≡ false }
+{
+    option(alloc, "from", help).value_name("ADDRESS")
 }
 
 /// One operand, which must be there.

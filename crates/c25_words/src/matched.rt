@@ -2,8 +2,8 @@
 
 ghost use Rattle.std.specs.Prelude.{◌≡◌, IfOk, IfSome, IsSomeAnd, Some, codes};
 ghost use Rattle.clap.specs.Words.{all_of, first_of, one_of};
-ghost use Rattle.c25_words.specs.Complete.{IsNumberText, IsThere, rows_in};
-ghost use Rattle.c25_words.specs.Task.{AreRunFiles, IsNumber, IsSteps, text_of, texts_of};
+ghost use Rattle.c25_words.specs.Complete.{IsFlagIn, IsNumberText, IsThere, rows_in};
+ghost use Rattle.c25_words.specs.Task.{AreRunFiles, IsFlag, IsNumber, IsSteps, text_of, texts_of};
 
 use crate::task::{DEFAULT_STEPS, RunFiles};
 use c25_meaning_common::no_memory::NoMemory;
@@ -50,6 +50,14 @@ pub(crate) fn all<'a>(
         Some(values) => copied(alloc, values),
         None => unreachable!(),
     }
+}
+
+/// Whether a flag was given.
+pub(crate) fn flag(matches: &ArgMatches<'_>, id: &str) -> bool
+    requires { IsFlagIn (rows_in matches.now) id.now }
+    ensures { IsFlag (one_of id.now (rows_in matches.now)) result }
+{
+    matches.get_flag(id)
 }
 
 /// The number of steps.

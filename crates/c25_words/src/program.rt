@@ -4,17 +4,18 @@ ghost use Rattle.std.specs.Prelude.{◌≡◌, IfOk, false};
 ghost use Rattle.clap.specs.Simple.{new_shape};
 ghost use Rattle.clap.specs.Words.{app_of, shape_of};
 ghost use Rattle.clap.specs.declared.builder.command.Command.TheViews.{out-Command as fields_of};
-ghost use Rattle.c25_words.specs.Program.{IsSubcommand, asm_shape, bare_program, build_shape, debug_shape, dis_shape, explain_shape, link_shape, program, run_shape, with_run_files};
+ghost use Rattle.c25_words.specs.Program.{IsSubcommand, asm_shape, bare_program, build_shape, debug_shape, dis_shape, explain_shape, link_shape, program, run_shape, with_explain, with_run_files};
 
 use crate::arguments::{
-    base_name, command_file, needed, number, operand, operands, option, output, steps,
+    base_name, command_file, first_address, flag, needed, number, operand, operands, option,
+    output, steps,
 };
 use clap::Command;
 use std::alloc::{AllocError, Global};
 
 /// What `--version` prints behind the program's name. It rises with each change of what the program
 /// reads, writes or answers.
-const VERSION: &str = "1.4.0";
+const VERSION: &str = "1.5.0";
 
 /// What help says of the program behind its subcommands.
 const MORE: &str =
@@ -31,24 +32,37 @@ fn subcommand<'a>(alloc: Global, name: &'a str, about: &'a str, example: &'a str
     Command::new(alloc, name).about(about).after_help(example)
 }
 
+/// The flag by which a fault is explained.
+fn with_explain<'a>(alloc: Global, command: Command<'a>) -> Result<Command<'a>, AllocError>
+    requires { (fields_of command).has_globals ≡ false }
+    ensures { IfOk result (IsSubcommand (with_explain (shape_of command.entry))) }
+{
+    command.arg(flag(
+        alloc,
+        "explain",
+        "Explains a fault behind its line, as explain does",
+    ))
+}
+
 fn asm<'a>(alloc: Global) -> Result<Command<'a>, AllocError>
     ensures { IfOk result (IsSubcommand asm_shape) }
 {
-    subcommand(
+    let command = subcommand(
         alloc,
         "asm",
         "Assembles a source: writes its object and its listing",
-        "Example: c25 asm fir.asm -o fir.obj --list fir.lst",
+        "Example: c25 asm fir.asm -o fir.obj --list fir.lst --explain",
     )
     .arg(operand(alloc, "source", "SOURCE", "The source"))?
     .arg(output(alloc, "obj", "The file for the object"))?
-    .arg(option(alloc, "list", "The file for the listing"))
+    .arg(option(alloc, "list", "The file for the listing"))?;
+    with_explain(alloc, command)
 }
 
 fn link<'a>(alloc: Global) -> Result<Command<'a>, AllocError>
     ensures { IfOk result (IsSubcommand link_shape) }
 {
-    subcommand(
+    let command = subcommand(
         alloc,
         "link",
         "Links objects: writes BASE.p0.hex, BASE.p1.hex and BASE.map",
@@ -56,21 +70,28 @@ fn link<'a>(alloc: Global) -> Result<Command<'a>, AllocError>
     )
     .arg(operand(alloc, "command", "COMMAND", "The linker's command file"))?
     .arg(operands(alloc, "object", "OBJECT", "The objects, in their order"))?
-    .arg(base_name(alloc, "How the names of the hex texts and the map begin"))
+    .arg(base_name(alloc, "How the names of the hex texts and the map begin"))?;
+    with_explain(alloc, command)
 }
 
 fn build<'a>(alloc: Global) -> Result<Command<'a>, AllocError>
     ensures { IfOk result (IsSubcommand build_shape) }
 {
-    subcommand(
+    let command = subcommand(
         alloc,
         "build",
         "Assembles and links sources: writes what link does, and a listing BASE.N.lst of each",
-        "Example: c25 build main.asm fir.asm -o fir --command fir.cmd",
+        "Example: c25 build main.asm fir.asm -o fir --command fir.cmd --symbols fir.sym",
     )
     .arg(operands(alloc, "source", "SOURCE", "The sources, in their order"))?
     .arg(base_name(alloc, "How the names of the written files begin"))?
-    .arg(command_file(alloc))
+    .arg(command_file(alloc))?
+    .arg(option(
+        alloc,
+        "symbols",
+        "The file for the names of the program and their addresses",
+    ))?;
+    with_explain(alloc, command)
 }
 
 /// The files that a run reads beside its sources.
@@ -91,11 +112,17 @@ fn run<'a>(alloc: Global) -> Result<Command<'a>, AllocError>
         alloc,
         "run",
         "Assembles, links and runs sources: prints their outputs and how the run ended",
-        "Example: c25 run fir.asm --steps 100000 --samples in.txt > out.txt",
+        "Example: c25 run fir.asm --steps 100000 --samples in.txt --regs > out.txt",
     )
     .arg(operands(alloc, "source", "SOURCE", "The sources, in their order"))?
-    .arg(steps(alloc))?;
-    with_run_files(alloc, command)
+    .arg(steps(alloc))?
+    .arg(flag(
+        alloc,
+        "regs",
+        "Prints the registers at the end of the run too",
+    ))?;
+    let command = with_run_files(alloc, command)?;
+    with_explain(alloc, command)
 }
 
 fn debug<'a>(alloc: Global) -> Result<Command<'a>, AllocError>
@@ -109,7 +136,8 @@ fn debug<'a>(alloc: Global) -> Result<Command<'a>, AllocError>
     )
     .arg(operands(alloc, "source", "SOURCE", "The sources, in their order"))?
     .arg(needed(alloc, "script", "The debugger's commands, a line each"))?;
-    with_run_files(alloc, command)
+    let command = with_run_files(alloc, command)?;
+    with_explain(alloc, command)
 }
 
 fn explain<'a>(alloc: Global) -> Result<Command<'a>, AllocError>
@@ -131,13 +159,17 @@ fn dis<'a>(alloc: Global) -> Result<Command<'a>, AllocError>
         alloc,
         "dis",
         "Prints an object or a hex text as instructions",
-        "Example: c25 dis fir.obj",
+        "Example: c25 dis fir.p0.hex --from 0400",
     )
     .arg(operand(
         alloc,
         "file",
         "FILE",
         "The object, or the hex text of program memory",
+    ))?
+    .arg(first_address(
+        alloc,
+        "Where printing begins in a hex text, one to four hexadecimal digits",
     ))
 }
 

@@ -2,13 +2,13 @@
 
 ghost use Rattle.std.specs.Prelude.{◌≡◌, ◌<◌, ◌≤◌, IfErr, IfOk, IfSome, IsSomeAnd, Ok, codes, length, map, string_bytes, true};
 ghost use Rattle.clap.specs.Words.{one_of, subcommand_rows_of, takes};
-ghost use Rattle.c25_words.specs.Complete.{IsComplete, IsFoundComplete, IsNumberText, IsThere, rows_in};
+ghost use Rattle.c25_words.specs.Complete.{IsComplete, IsFlagIn, IsFoundComplete, IsNumberText, IsThere, rows_in};
 ghost use Rattle.c25_words.specs.Program.{program};
 ghost use Rattle.c25_words.specs.declared.task.Task.TheVariants.{RunStandardInput};
 ghost use Rattle.c25_words.specs.Task.{Asks, IsAskedBy, IsWantOfMemory, Reads};
 
 use crate::fault::WordsFault;
-use crate::matched::{all, needed, number, optional, run_files, steps};
+use crate::matched::{all, flag, needed, number, optional, run_files, steps};
 use crate::program::program;
 use crate::task::Task;
 use c25_meaning_common::failure::Failure;
@@ -18,61 +18,68 @@ use std::alloc::Global;
 
 /// The task of `asm`.
 fn assemble<'a>(matches: &ArgMatches<'a>) -> Task<'a>
-    requires { IsThere (rows_in matches.now) (codes "source") × IsThere (rows_in matches.now) (codes "obj") }
+    requires { IsThere (rows_in matches.now) (codes "source") × IsThere (rows_in matches.now) (codes "obj") × IsFlagIn (rows_in matches.now) (codes "explain") }
     ensures { Asks (codes "asm") (rows_in matches.now) result }
 {
     Task::Assemble {
         source: needed(matches, "source"),
         object: needed(matches, "obj"),
         listing: optional(matches, "list"),
+        explain: flag(matches, "explain"),
     }
 }
 
 /// The task of `link`.
 fn link<'a>(alloc: Global, matches: &ArgMatches<'a>) -> Result<Task<'a>, NoMemory>
-    requires { IsThere (rows_in matches.now) (codes "command") × IsThere (rows_in matches.now) (codes "object") × IsThere (rows_in matches.now) (codes "out") }
+    requires { IsThere (rows_in matches.now) (codes "command") × IsThere (rows_in matches.now) (codes "object") × IsThere (rows_in matches.now) (codes "out") × IsFlagIn (rows_in matches.now) (codes "explain") }
     ensures { IfOk result (Asks (codes "link") (rows_in matches.now)) }
 {
     Ok(Task::Link {
         command: needed(matches, "command"),
         objects: all(alloc, matches, "object")?,
         base: needed(matches, "out"),
+        explain: flag(matches, "explain"),
     })
 }
 
 /// The task of `build`.
 fn build<'a>(alloc: Global, matches: &ArgMatches<'a>) -> Result<Task<'a>, NoMemory>
-    requires { IsThere (rows_in matches.now) (codes "source") × IsThere (rows_in matches.now) (codes "out") }
+    requires { IsThere (rows_in matches.now) (codes "source") × IsThere (rows_in matches.now) (codes "out") × IsFlagIn (rows_in matches.now) (codes "explain") }
     ensures { IfOk result (Asks (codes "build") (rows_in matches.now)) }
 {
     Ok(Task::Build {
         sources: all(alloc, matches, "source")?,
         base: needed(matches, "out"),
         command: optional(matches, "command"),
+        symbols: optional(matches, "symbols"),
+        explain: flag(matches, "explain"),
     })
 }
 
 /// The task of `run`.
 fn run<'a>(alloc: Global, matches: &ArgMatches<'a>) -> Result<Task<'a>, NoMemory>
-    requires { IsThere (rows_in matches.now) (codes "source") × IfSome (one_of (codes "steps") (rows_in matches.now)) (IsNumberText 32) }
+    requires { IsThere (rows_in matches.now) (codes "source") × IfSome (one_of (codes "steps") (rows_in matches.now)) (IsNumberText 32) × IsFlagIn (rows_in matches.now) (codes "regs") × IsFlagIn (rows_in matches.now) (codes "explain") }
     ensures { IfOk result (Asks (codes "run") (rows_in matches.now)) }
 {
     Ok(Task::Run {
         sources: all(alloc, matches, "source")?,
         steps: steps(matches),
         files: run_files(matches),
+        regs: flag(matches, "regs"),
+        explain: flag(matches, "explain"),
     })
 }
 
 /// The task of `debug`.
 fn debug<'a>(alloc: Global, matches: &ArgMatches<'a>) -> Result<Task<'a>, NoMemory>
-    requires { IsThere (rows_in matches.now) (codes "source") × IsThere (rows_in matches.now) (codes "script") }
+    requires { IsThere (rows_in matches.now) (codes "source") × IsThere (rows_in matches.now) (codes "script") × IsFlagIn (rows_in matches.now) (codes "explain") }
     ensures { IfOk result (Asks (codes "debug") (rows_in matches.now)) }
 {
     Ok(Task::Debug {
         sources: all(alloc, matches, "source")?,
         script: needed(matches, "script"),
         files: run_files(matches),
+        explain: flag(matches, "explain"),
     })
 }
 
@@ -93,6 +100,7 @@ fn disassemble<'a>(matches: &ArgMatches<'a>) -> Task<'a>
 {
     Task::Disassemble {
         file: needed(matches, "file"),
+        from: optional(matches, "from"),
     }
 }
 

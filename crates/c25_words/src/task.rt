@@ -20,45 +20,54 @@ pub struct RunFiles<'a> {
 pub enum Task<'a> {
     /// No words: the source is standard input, and runs for `DEFAULT_STEPS` steps.
     RunStandardInput,
-    /// `asm SOURCE --obj FILE [--list FILE]`: writes the object and the listing.
+    /// `asm SOURCE --obj FILE [--list FILE] [--explain]`: writes the object and the listing.
     Assemble {
         source: &'a str,
         object: &'a str,
         listing: Option<&'a str>,
+        explain: bool,
     },
-    /// `link COMMAND OBJECT.. --out BASE`: writes `BASE.p0.hex`, `BASE.p1.hex` and `BASE.map`.
+    /// `link COMMAND OBJECT.. --out BASE [--explain]`: writes `BASE.p0.hex`, `BASE.p1.hex` and
+    /// `BASE.map`.
     Link {
         command: &'a str,
         objects: Vec<&'a str>,
         base: &'a str,
+        explain: bool,
     },
-    /// `build SOURCE.. --out BASE [--command FILE]`: writes what `link` does, and `BASE.1.lst`,
-    /// `BASE.2.lst`, .., a listing for each source.
+    /// `build SOURCE.. --out BASE [--command FILE] [--symbols FILE] [--explain]`: writes what `link`
+    /// does, and `BASE.1.lst`, `BASE.2.lst`, .., a listing for each source.
     Build {
         sources: Vec<&'a str>,
         base: &'a str,
         command: Option<&'a str>,
+        symbols: Option<&'a str>,
+        explain: bool,
     },
-    /// `run SOURCE.. [--steps N] [--command FILE] [--samples FILE] [--schedule FILE]`: prints the
-    /// outputs and how the run ended.
+    /// `run SOURCE.. [--steps N] [--regs] [--command FILE] [--samples FILE] [--schedule FILE]
+    /// [--explain]`: prints the outputs and how the run ended.
     Run {
         sources: Vec<&'a str>,
         steps: u32,
         files: RunFiles<'a>,
+        regs: bool,
+        explain: bool,
     },
-    /// `debug SOURCE.. --script FILE [--command FILE] [--samples FILE] [--schedule FILE]`: prints
-    /// the answers to a debugger's script.
+    /// `debug SOURCE.. --script FILE [--command FILE] [--samples FILE] [--schedule FILE]
+    /// [--explain]`: prints the answers to a debugger's script.
     Debug {
         sources: Vec<&'a str>,
         script: &'a str,
         files: RunFiles<'a>,
+        explain: bool,
     },
     /// `explain NUMBER`: prints what the fault of this number means.
     Explain {
         number: u8,
     },
-    /// `dis FILE`: prints an object, or the words of a hex text, as instructions.
+    /// `dis FILE [--from ADDRESS]`: prints an object, or the words of a hex text, as instructions.
     Disassemble {
         file: &'a str,
+        from: Option<&'a str>,
     },
 }

@@ -25,6 +25,15 @@ fn push_words(out: &mut String, words: &[&str]) -> Result<(), AllocError> {
     Ok(())
 }
 
+/// Adds a flag that was given.
+fn push_flag(out: &mut String, name: &str, given: bool) -> Result<(), AllocError> {
+    if given {
+        write!(out, " {name}")
+    } else {
+        Ok(())
+    }
+}
+
 /// Adds an option that was given.
 fn push_option(out: &mut String, name: &str, value: Option<&str>) -> Result<(), AllocError> {
     match value {
@@ -47,51 +56,68 @@ fn show(alloc: Global, task: &Task<'_>) -> Result<String, AllocError> {
             source,
             object,
             listing,
+            explain,
         } => {
             write!(out, "asm {source} object={object}")?;
             push_option(&mut out, "listing", *listing)?;
+            push_flag(&mut out, "explain", *explain)?;
         }
         Task::Link {
             command,
             objects,
             base,
+            explain,
         } => {
             write!(out, "link {command} :")?;
             push_words(&mut out, objects)?;
             write!(out, " base={base}")?;
+            push_flag(&mut out, "explain", *explain)?;
         }
         Task::Build {
             sources,
             base,
             command,
+            symbols,
+            explain,
         } => {
             write!(out, "build")?;
             push_words(&mut out, sources)?;
             write!(out, " base={base}")?;
             push_option(&mut out, "command", *command)?;
+            push_option(&mut out, "symbols", *symbols)?;
+            push_flag(&mut out, "explain", *explain)?;
         }
         Task::Run {
             sources,
             steps,
             files,
+            regs,
+            explain,
         } => {
             write!(out, "run")?;
             push_words(&mut out, sources)?;
             write!(out, " steps={steps}")?;
             push_files(&mut out, *files)?;
+            push_flag(&mut out, "regs", *regs)?;
+            push_flag(&mut out, "explain", *explain)?;
         }
         Task::Debug {
             sources,
             script,
             files,
+            explain,
         } => {
             write!(out, "debug")?;
             push_words(&mut out, sources)?;
             write!(out, " script={script}")?;
             push_files(&mut out, *files)?;
+            push_flag(&mut out, "explain", *explain)?;
         }
         Task::Explain { number } => write!(out, "explain {number}")?,
-        Task::Disassemble { file } => write!(out, "dis {file}")?,
+        Task::Disassemble { file, from } => {
+            write!(out, "dis {file}")?;
+            push_option(&mut out, "from", *from)?;
+        }
     }
     Ok(out)
 }
@@ -136,6 +162,15 @@ fn subcommands_take_their_words(rt: HostRuntime) -> Result<(), Fail> {
 #[test]
 fn numbers_of_steps_are_read(rt: HostRuntime) -> Result<(), Fail> {
     assert_eq!(rt; differing(rt.alloc(), STEPS)?.as_str(), "");
+    Ok(())
+}
+
+#[test]
+fn flags_and_values_are_told_apart(rt: HostRuntime) -> Result<(), Fail> {
+    assert_eq!(rt; differing(rt.alloc(), REGS)?.as_str(), "");
+    assert_eq!(rt; differing(rt.alloc(), SYMBOLS)?.as_str(), "");
+    assert_eq!(rt; differing(rt.alloc(), FROM)?.as_str(), "");
+    assert_eq!(rt; differing(rt.alloc(), EXPLAIN)?.as_str(), "");
     Ok(())
 }
 
@@ -224,6 +259,100 @@ refused | run a --steps 5.0
 refused | run a --steps
 refused | run a --steps 5 --steps 5
 refused | run a --steps=5 --steps 6
+";
+
+const REGS: &str = "\
+run a steps=1000 regs | run a --regs
+run a steps=1000 regs | run --regs a
+run a b steps=5 command=c samples=s schedule=w regs | run a --regs b --steps 5 --command c --samples s --schedule w
+run --regs steps=1000 | run -- --regs
+run a --regs steps=1000 regs | run --regs -- a --regs
+run a regs steps=1000 | run a regs
+run a steps=1000 command=--regs | run a --command=--regs
+refused | run --regs
+refused | run a --regs --regs
+refused | run a --regs=true
+refused | run a --regs=false
+refused | run a --regs=
+refused | run a --reg
+refused | run a --Regs
+refused | run a -regs
+refused | run a --no-regs
+refused | run a --steps --regs
+refused | debug a --script d --regs
+refused | build a --out b --regs
+refused | asm a --obj b --regs
+refused | --regs run a
+";
+
+const SYMBOLS: &str = "\
+build a base=b symbols=s | build a --out b --symbols s
+build a base=b symbols=s | build --symbols=s --out=b a
+build a c base=b command=d symbols=s | build a --symbols s c --command d -o b
+build a base=b symbols=-s | build a --out b --symbols=-s
+build a base=b symbols= | build a --out b --symbols=
+build --symbols s base=b | build --out b -- --symbols s
+refused | build a --out b --symbols
+refused | build a --symbols --out b
+refused | build a --out b --symbols -s
+refused | build a --out b --symbols s --symbols s
+refused | build a --out b --symbols=s --symbols t
+refused | build a --out b --symbol s
+refused | build a --symbols s
+refused | build --symbols s --out b
+refused | link c a --out b --symbols s
+refused | asm a --obj b --symbols s
+refused | run a --symbols s
+refused | debug a --script d --symbols s
+";
+
+const FROM: &str = "\
+dis a from=0400 | dis a --from 0400
+dis a from=0400 | dis --from=0400 a
+dis a from=zz | dis a --from zz
+dis a from=-1 | dis a --from=-1
+dis a from= | dis a --from=
+dis a from=0 | dis --from 0 -- a
+dis --from | dis -- --from
+refused | dis a --from
+refused | dis --from 0400
+refused | dis a --from -1
+refused | dis a --from 0 --from 0
+refused | dis a --from=0 --from 1
+refused | dis a --from 0 1
+refused | dis a --From 0
+refused | dis a -f 0
+refused | run a --from 0
+refused | explain 53 --from 0
+";
+
+const EXPLAIN: &str = "\
+asm a object=o explain | asm a -o o --explain
+asm a object=o listing=l explain | asm --explain a --list l --obj o
+link c : a b base=d explain | link c a --explain b --out d
+link c : a --explain base=d | link --out d -- c a --explain
+build a base=b explain | build --explain a --out b
+build a base=b command=c symbols=s explain | build a --out b --command c --explain --symbols s
+run a steps=1000 explain | run a --explain
+run a steps=1000 regs explain | run --explain a --regs
+run a steps=1000 command=--explain | run a --command=--explain
+debug a script=d explain | debug a --script d --explain
+debug a script=d command=c samples=s schedule=w explain | debug a --explain --script d --command c --samples s --schedule w
+refused | asm a -o o --explain --explain
+refused | link c a -o d --explain --explain
+refused | build a -o b --explain --explain
+refused | run a --explain --explain
+refused | debug a --script d --explain --explain
+refused | asm a -o o --explain=true
+refused | run a --explain=
+refused | run a --explain=53
+refused | run --explain
+refused | debug a --script --explain
+refused | run a --Explain
+refused | run a --expl
+refused | dis a --explain
+refused | explain 53 --explain
+refused | --explain run a
 ";
 
 const REFUSED: &str = "\

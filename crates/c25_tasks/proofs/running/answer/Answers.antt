@@ -59,7 +59,7 @@ returns-in_err-sources g c =
           inr (
             _,
             c.in_ok-schedule.ensures,
-            runs_told (g.D.Disk.bytes_of c.args.disk.now) _ (texts_of c.args.sources.now) c.args.steps _ _ _ c.from_residual-in_err-sources.result c.from_residual-in_err-sources.ensures.1,
+            runs_told (g.D.Disk.bytes_of c.args.disk.now) _ (texts_of c.args.sources.now) c.args.steps c.args.regs _ _ _ c.from_residual-in_err-sources.result c.from_residual-in_err-sources.ensures.1,
           ),
         ),
       ),
@@ -79,7 +79,7 @@ returns g c =
           inr (
             _,
             c.in_ok-schedule.ensures,
-            runs_over (g.D.Disk.bytes_of c.args.disk.now) _ (texts_of c.args.sources.now) _ c.args.steps _ _ _ _ _ _ c.run_over.result (ap (λ xs. map string_bytes xs) c.as_slice.ensures.value ∙ c.in_ok-sources.ensures)
+            runs_over (g.D.Disk.bytes_of c.args.disk.now) _ (texts_of c.args.sources.now) _ c.args.steps c.args.regs _ _ _ _ _ _ c.run_over.result (ap (λ xs. map string_bytes xs) c.as_slice.ensures.value ∙ c.in_ok-sources.ensures)
                 c.as_str.ensures.value c.as_str-2.ensures.value c.as_str-3.ensures.value c.run_over.ensures,
           ),
         ),

@@ -1,0 +1,1 @@
+ .copy "no-file.inc"

@@ -1,0 +1,2 @@
+ NOP
+ .copy "copied.inc"

@@ -1,0 +1,3 @@
+* The second word is none.
+ LACK 5
+ LACK 256

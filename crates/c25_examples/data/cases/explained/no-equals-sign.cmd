@@ -1,0 +1,3 @@
+MEMORY {
+  PAGE 0 : ROM : origin = 0, length 1000h
+}

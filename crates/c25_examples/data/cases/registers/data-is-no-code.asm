@@ -1,0 +1,2 @@
+        NOP
+        .word   5500h           ; NOP's word, and no instruction

@@ -1,0 +1,3 @@
+        .def    DOUBLE
+DOUBLE  SFL
+        RET

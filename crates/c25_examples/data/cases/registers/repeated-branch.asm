@@ -1,0 +1,3 @@
+        LACK    9
+        RPTK    2
+        B       0

@@ -1,0 +1,2 @@
+        B       TABLE+1
+TABLE   LALK    1234h

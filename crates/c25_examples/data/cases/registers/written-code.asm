@@ -1,0 +1,3 @@
+        LACK    2
+        TBLW    60h
+        NOP

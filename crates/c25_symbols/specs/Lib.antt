@@ -1,0 +1,5 @@
+pub mod Parts
+pub mod Symbols
+pub mod Text
+pub mod Used
+pub mod View

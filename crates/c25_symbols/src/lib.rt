@@ -1,0 +1,15 @@
+//! The symbols of a linked program by name, local ones too, and how many words of its memories are used.
+#![tactic(auto)]
+
+mod digits;
+mod entries;
+pub mod laws;
+mod order;
+mod parts;
+mod ranges;
+#[cfg(test)]
+mod tests;
+mod used;
+mod writing;
+
+pub use writing::write_symbols;

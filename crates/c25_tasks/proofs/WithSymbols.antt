@@ -1,0 +1,45 @@
+-- Programs with their symbols, over files that were read from a disk.
+use Rattle.std.proofs.Common.{◌≡◌, refl, sym, subst, ℕ, List, string_bytes}
+use Rattle.std.specs.Prelude.{Result, Ok, Err, String}
+use Rattle.std.specs.Result.{IsErrAnd}
+use Rattle.std.specs.declared.alloc.Global.{Global}
+use Rattle.c25_chain.specs.Linked.{IsLinked, places_of}
+use Rattle.c25_chain.specs.Modules.{modules_of}
+use Rattle.c25_chain.specs.Refusal.{Fault}
+use Rattle.c25_chain.specs.View.{modules_view}
+use Rattle.c25_chain.specs.declared.linked.Linked.{Linked}
+use Rattle.c25_chain.specs.declared.modules.Modules.{Modules}
+use Rattle.c25_disk.specs.Held.{Held}
+use Rattle.c25_meaning_common.specs.Results.{IsNoMemory}
+use Rattle.c25_meaning_expansion.specs.Files.{Files}
+use Rattle.c25_meaning_objects.specs.Module.{Contents}
+use Rattle.c25_meaning_placing.specs.GoodMap.{ranges_for}
+use Rattle.c25_symbols.specs.Text.{symbols_text}
+use Rattle.c25_tasks.specs.Symbols.{BuildsWithSymbols, BuildsWithSymbolsOver, IsBuiltWithSymbols}
+use Rattle.c25_tasks.specs.declared.symbols.BuiltWithSymbols.{BuiltWithSymbols}
+use Rattle.c25_tasks.proofs.Gathered.{over_short}
+
+-- ---- what was built
+
+pub with_symbols : (files : Files) (sources : List (List ℕ)) (command : List ℕ) (m : Modules) (linked : Linked) (symbols : String Global) (shown : List Contents) → modules_of files sources ≡ Ok (modules_view m) → shown ≡ m.modules.items
+    → (l : IsLinked shown command linked) → string_bytes symbols ≡ symbols_text shown sources (places_of linked.image.described) (ranges_for l.under.command)
+    → IsBuiltWithSymbols files sources command (record { built = record { linked = linked; listings = m.listings }; symbols = symbols })
+with_symbols files sources command m linked symbols shown assembled is = subst With (sym is) (λ l text. record {
+  built = record { all = modules_view m; assembled = assembled; listings_are = refl; linked = l };
+  symbols_are = text;
+})
+  where
+    With : List Contents → Type 0
+    With ms = (l : IsLinked ms command linked) → string_bytes symbols ≡ symbols_text ms sources (places_of linked.image.described) (ranges_for l.under.command)
+        → IsBuiltWithSymbols files sources command (record { built = record { linked = linked; listings = m.listings }; symbols = symbols })
+
+-- ---- over a disk
+
+pub over_same : (held : Held) (given : Files) (names sources : List (List ℕ)) (command shown : List ℕ) (answer : Result BuiltWithSymbols Fault) → sources ≡ names → shown ≡ command → BuildsWithSymbolsOver held given sources shown answer
+    → BuildsWithSymbolsOver held given names command answer
+over_same held given names sources command shown answer named same comes =
+    subst (λ (t : List ℕ). BuildsWithSymbolsOver held given names t answer) same (subst (λ (ns : List (List ℕ)). BuildsWithSymbolsOver held given ns shown answer) named comes)
+
+pub over_told : (held : Held) (given : Files) (names : List (List ℕ)) (command : List ℕ) (answer : Result BuiltWithSymbols Fault) → IsErrAnd answer IsNoMemory → BuildsWithSymbolsOver held given names command answer
+over_told held given names command (Ok b) short = absurd short
+over_told held given names command (Err fault) short = over_short held given (λ files result. BuildsWithSymbols files names command result) fault short

@@ -1,9 +1,0 @@
-use Rattle.std.proofs.Common.{refl}
-use Rattle.std.specs.Prelude.{Err}
-use Rattle.c25_tasks.proofs.Quiet.{keeps, stays}
-use Rattle.c25_tasks.proofs.Words.{are_read}
-use Rattle.c25_tasks.proofs.program.ending_of_words.Goals as goal
-
-pub returns-in-Err : goal.returns-in-Err
-returns-in-Err g c =
-    (Err c.in-Err.fault, are_read c.args.words.now (Err c.in-Err.fault) c.in-Err.ensures.none c.in-Err.ensures.some, (refl, (keeps _, stays _)))

@@ -1,0 +1,8 @@
+use Rattle.std.proofs.Common.{string_bytes}
+use Rattle.c25_tasks.proofs.Done.{reports_line}
+use Rattle.c25_tasks.proofs.report.report_of_fault.Goals as goal
+
+pub returns-in-Ok : goal.returns-in-Ok
+returns-in-Ok g c =
+    reports_line (g.D.Disk.bytes_of c.args.disk.now) c.args.notes c.args.fault.now c.in-Fault.refusal c.in-Ok.line (string_bytes c.note_of-note.result)
+    c.in-Fault.is c.in-Ok.ensures c.note_of-note.ensures
