@@ -2,7 +2,7 @@
 
 use crate::explanation::explanation;
 use crate::fault::AnyFault;
-use crate::note::{ShownLine, explained, line_of};
+use crate::note::{Shown, explained, line_of};
 use c25_meaning_language::statement::FaultKind;
 use std::test::Fail;
 
@@ -24,12 +24,12 @@ fn a_number_that_no_fault_has_is_not_explained(rt: HostRuntime) {
 #[test]
 fn a_note_shows_the_line_that_is_told(rt: HostRuntime) -> Result<(), Fail> {
     let text = line_of(" NOP\r\n .word -1\r\n", 2).ok_or("no line")?;
-    let line = ShownLine {
+    let shown = Shown::Line {
         file: "a.asm",
         number: 2,
         text,
     };
-    let note = explained(rt.alloc(), AnyFault::Source(FaultKind::TooDeep), Some(line))?;
+    let note = explained(rt.alloc(), AnyFault::Source(FaultKind::TooDeep), shown)?;
     assert_eq!(rt;
         note.as_str(),
         "a.asm:2:  .word -1\n\nParentheses and unary operators nest more than 64 deep.\n\nDo: name a part of it with .set and use the name.\n\nExample: c25 explain 21\n"
