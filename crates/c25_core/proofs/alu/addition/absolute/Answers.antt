@@ -1,5 +1,5 @@
 use Rattle.c25_meaning_arithmetic.specs.Arithmetic.{absolute}
-use Rattle.c25_alu.proofs.addition.absolute.Goals as goal
+use Rattle.c25_core.proofs.alu.addition.absolute.Goals as goal
 
 pub returns : goal.returns
 unfolding absolute

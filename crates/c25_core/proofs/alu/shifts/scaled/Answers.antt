@@ -1,8 +1,8 @@
 use Rattle.std.proofs.Common.{◌≡◌, ℕ, ◌<◌, ◌≤◌, ◌*◌, ◌%◌, ◌^◌, nat_abs, Bool, true, false, arith, ap, ◌∙◌}
 use Rattle.c25_bits.specs.Cut.{cut, signed}
 use Rattle.c25_meaning_arithmetic.specs.Arithmetic.{scaled, extended}
-use Rattle.c25_alu.proofs.Numbers.{cut_signed, scaled_bits}
-use Rattle.c25_alu.proofs.shifts.scaled.Goals as goal
+use Rattle.c25_core.proofs.Numbers.{cut_signed, scaled_bits}
+use Rattle.c25_core.proofs.alu.shifts.scaled.Goals as goal
 
 word_is_small : (sxm : Bool) (word : ℕ) → word < 2 ^ 16 → nat_abs (extended sxm word) ≤ 65535
 word_is_small true word p = grind arith

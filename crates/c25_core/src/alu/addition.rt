@@ -3,7 +3,7 @@
 ghost use Rattle.std.specs.Prelude.{◌≡◌, ◌+ℤ◌, ◌-ℤ◌, ℤ, pos, unsigned_abs};
 ghost use Rattle.c25_bits.specs.Cut.{signed};
 ghost use Rattle.c25_meaning_arithmetic.specs.Arithmetic.{absolute, difference, negated, sum, with_total};
-ghost use Rattle.c25_alu.specs.Total.{IsTotal};
+ghost use Rattle.c25_core.specs.Total.{IsTotal};
 
 use c25_meaning_arithmetic::accumulator::Acc;
 
@@ -15,12 +15,12 @@ const HIGHEST: u32 = 0x7FFF_FFFF;
 
 /// What two signed numbers of 32 bits come to.
 #[derive(Clone, Copy)]
-pub struct Total {
+pub(super) struct Total {
     /// Its low 32 bits.
-    pub bits: u32,
+    pub(super) bits: u32,
     /// It has left 32 signed bits.
-    pub overflows: bool,
-    pub negative: bool,
+    pub(super) overflows: bool,
+    pub(super) negative: bool,
 }
 
 /// The sum of the signed numbers of these bits.
@@ -40,7 +40,7 @@ fn total_sum(first: u32, second: u32) -> Total
 
 /// The difference of the signed numbers of these bits.
 #[inline(always)]
-pub fn total_difference(first: u32, second: u32) -> Total
+pub(super) fn total_difference(first: u32, second: u32) -> Total
     ensures { IsTotal result (signed first 32 -ℤ signed second 32) }
 {
     let bits = first.wrapping_sub(second);
@@ -91,7 +91,7 @@ fn kept(acc: Acc, total: Total, carry: bool, ovm: bool) -> Acc
 /// accumulator takes the end of the range that was left.
 #[tactic(auto, unfolding(c25_meaning_arithmetic::specs::Arithmetic::sum))]
 #[inline(always)]
-pub fn add(acc: Acc, addend: u32, ovm: bool) -> Acc
+pub(crate) fn add(acc: Acc, addend: u32, ovm: bool) -> Acc
     ensures { result ≡ sum acc (signed addend 32) ovm }
 {
     let (_, carry) = acc.value.overflowing_add(addend);
@@ -102,7 +102,7 @@ pub fn add(acc: Acc, addend: u32, ovm: bool) -> Acc
 /// where the 32 bits borrow. OV and saturation are as for [`add`].
 #[tactic(auto, unfolding(c25_meaning_arithmetic::specs::Arithmetic::difference))]
 #[inline(always)]
-pub fn subtract(acc: Acc, amount: u32, ovm: bool) -> Acc
+pub(crate) fn subtract(acc: Acc, amount: u32, ovm: bool) -> Acc
     ensures { result ≡ difference acc (signed amount 32) ovm }
 {
     kept(
@@ -116,7 +116,7 @@ pub fn subtract(acc: Acc, amount: u32, ovm: bool) -> Acc
 /// The accumulator after `ABS`: its absolute value, and C 0. 80000000h has none in 32 signed bits,
 /// so there OV is set, and with `ovm` the value is 7FFFFFFFh.
 #[tactic(auto, unfolding(c25_meaning_arithmetic::specs::Arithmetic::absolute))]
-pub fn absolute(acc: Acc, ovm: bool) -> Acc
+pub(crate) fn absolute(acc: Acc, ovm: bool) -> Acc
     ensures { result ≡ absolute acc ovm }
 {
     kept(acc, total_absolute(acc.value), false, ovm)
@@ -125,7 +125,7 @@ pub fn absolute(acc: Acc, ovm: bool) -> Acc
 /// The accumulator after `NEG`: its negative, and C 1 at 0 alone. At 80000000h OV is set, and with
 /// `ovm` the value is 7FFFFFFFh.
 #[tactic(auto, unfolding(c25_meaning_arithmetic::specs::Arithmetic::negated))]
-pub fn negate(acc: Acc, ovm: bool) -> Acc
+pub(crate) fn negate(acc: Acc, ovm: bool) -> Acc
     ensures { result ≡ negated acc ovm }
 {
     kept(acc, total_difference(0, acc.value), acc.value == 0, ovm)

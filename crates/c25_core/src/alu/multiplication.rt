@@ -7,7 +7,7 @@ use c25_meaning_arithmetic::accumulator::ProductShift;
 
 /// The product of two signed words, in 32 bits.
 #[tactic(auto, unfolding(c25_meaning_arithmetic::specs::Arithmetic::product))]
-pub fn product(first: i16, second: i16) -> u32
+pub(crate) fn product(first: i16, second: i16) -> u32
     ensures { result ≡ product first second }
 {
     let product = i32::from(first) * i32::from(second);
@@ -16,7 +16,7 @@ pub fn product(first: i16, second: i16) -> u32
 
 /// The product as PM hands it on, cut to 32 bits. The shift to the right keeps the sign.
 #[tactic(auto, unfolding(c25_meaning_arithmetic::specs::Arithmetic::shifted_product))]
-pub fn shifted_product(p: u32, shift: ProductShift) -> u32
+pub(crate) fn shifted_product(p: u32, shift: ProductShift) -> u32
     ensures { result ≡ shifted_product p shift }
 {
     match shift {
