@@ -14,7 +14,5 @@ mod objects;
 pub mod parts;
 mod run_files;
 mod source_lines;
-#[cfg(test)]
-mod tests;
 mod texts;
 mod written_texts;
