@@ -14,7 +14,7 @@ ghost use Rattle.c25_macro.specs.Dictionary.{dictionary_of};
 ghost use Rattle.c25_macro.specs.Scopes.{other_branches};
 ghost use Rattle.c25_macro.specs.declared.state.Mode.TheVariants as modes;
 
-use crate::act::{Act, Order};
+use crate::act::{ExpansionAct, Order};
 use crate::conditions::takes_lines;
 use crate::directive::directive_in;
 use crate::line::Line;
@@ -41,29 +41,29 @@ impl<'a> State<'a> {
         files: &'a Files,
         symbols: &Symbols,
         place: Place,
-        act: Act<'a>,
+        act: ExpansionAct<'a>,
     ) -> Result<(), Failure<Refusal>>
         requires expansions { (config self.old).names.count < 2 ^ 31 }
         requires reading { self.old.mode ≡ modes.Reading }
         ensures { GoesOn (rule.acts files.now symbols.now place (act_of act.entry) (config self.old)) result (config self.new) }
     {
         match act {
-            Act::If(condition) => self.begin_if(symbols, place, &condition),
-            Act::ElseIf(condition) => self.elseif(symbols, place, &condition),
-            Act::Else => self.pass_else(place),
-            Act::EndIf => self.end_if(place),
-            Act::Define { name, parameters } => self.begin_macro(place, name, parameters),
-            Act::Stray => Err(fault(FaultKind::StrayEnd, place)),
-            Act::Exit => self.leave_block(Block::Expansion, place),
-            Act::Loop(count) => self.begin_loop(symbols, place, count),
-            Act::Break(condition) => self.break_loop(symbols, place, condition),
-            Act::Assign { text, name } => self.assign(name.as_str(), text),
-            Act::Evaluate { expression, name } => {
+            ExpansionAct::If(condition) => self.begin_if(symbols, place, &condition),
+            ExpansionAct::ElseIf(condition) => self.elseif(symbols, place, &condition),
+            ExpansionAct::Else => self.pass_else(place),
+            ExpansionAct::EndIf => self.end_if(place),
+            ExpansionAct::Define { name, parameters } => self.begin_macro(place, name, parameters),
+            ExpansionAct::Stray => Err(fault(FaultKind::StrayEnd, place)),
+            ExpansionAct::Exit => self.leave_block(Block::Expansion, place),
+            ExpansionAct::Loop(count) => self.begin_loop(symbols, place, count),
+            ExpansionAct::Break(condition) => self.break_loop(symbols, place, condition),
+            ExpansionAct::Assign { text, name } => self.assign(name.as_str(), text),
+            ExpansionAct::Evaluate { expression, name } => {
                 self.evaluate(symbols, place, &expression, name.as_str())
             }
-            Act::Copy(name) => self.copy(files, place, name),
-            Act::End => self.end_all(place),
-            Act::Call { body, arguments } => self.begin_expansion(place, body, arguments),
+            ExpansionAct::Copy(name) => self.copy(files, place, name),
+            ExpansionAct::End => self.end_all(place),
+            ExpansionAct::Call { body, arguments } => self.begin_expansion(place, body, arguments),
         }
     }
 

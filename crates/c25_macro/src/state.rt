@@ -7,7 +7,7 @@ ghost use Rattle.c25_macro.specs.Config.{config, mode_of};
 ghost use Rattle.c25_macro.specs.Scopes.{kind_of, test_of};
 ghost use Rattle.c25_macro.specs.declared.state.Mode.TheVariants as modes;
 
-use crate::act::Act;
+use crate::act::ExpansionAct;
 use crate::dictionary::Dictionary;
 use crate::line::Line;
 use crate::scope::{Block, Branches, Kind, Scope, Source, Stack};
@@ -27,7 +27,7 @@ pub(crate) enum Mode<'a> {
     /// The label of the line that stands there was given, and what the line asks for is still to be done.
     Acting {
         place: Place,
-        act: Act<'a>,
+        act: ExpansionAct<'a>,
     },
     /// It goes into the body of a macro, in which so many macros are nested.
     InMacro {

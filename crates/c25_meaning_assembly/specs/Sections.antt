@@ -5,7 +5,7 @@ use Rattle.std.specs.List.{position, find, list_any}
 use Rattle.std.specs.Ordering.{int_eq}
 use Rattle.std.specs.Str.{bytes_eq, is_utf8}
 use Rattle.c25_meaning_assembly.specs.OperandFields.{target_size}
-use Rattle.c25_meaning_assembly.specs.AssemblyLine.{Room, Act, Nothing, Enter, Reserve, Equate, Put, Load, Space, Declare, Export, Label, Registers, Statement}
+use Rattle.c25_meaning_assembly.specs.AssemblyLine.{Room, AssemblyAct, Nothing, Enter, Reserve, Equate, Put, Load, Space, Declare, Export, Label, Registers, Statement}
 use Rattle.c25_meaning_common.specs.Results.{◌>>=◌, fold_ok}
 use Rattle.c25_meaning_language.specs.Absolute.{number_by}
 use Rattle.c25_meaning_language.specs.Statement.{valued}
@@ -302,7 +302,7 @@ define_pair p pair = define pair.0 pair.1 p
 -- ---- the directives, each in the order of its faults
 
 -- what is looked at before the label is defined: a section of the other kind, then what is no expression
-abbrev pub allowed : Act → Progress → Result (Unit {0}) FaultKind
+abbrev pub allowed : AssemblyAct → Progress → Result (Unit {0}) FaultKind
 allowed (Enter section) p = of_kind section true p
 allowed (Reserve section name room) p = of_kind section false p >>= λ _. room >>= λ r. Ok tt
 allowed _ p = Ok tt
@@ -359,7 +359,7 @@ unfoldable pub registers : Progress → Result Progress FaultKind
 registers p = if p.registers then Ok p else fold_ok define_pair (record p { registers = true }) register_names
 
 -- what a line does
-abbrev pub act : Origin → Act → Progress → Result Progress FaultKind
+abbrev pub act : Origin → AssemblyAct → Progress → Result Progress FaultKind
 act origin Nothing p = Ok p
 act origin (Enter section) p = enter section p
 act origin (Reserve section name room) p = reserve_count section name room p

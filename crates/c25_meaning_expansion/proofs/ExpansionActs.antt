@@ -10,7 +10,7 @@ use Rattle.c25_meaning_instructions.specs.Spellings.{spelling_of}
 use Rattle.c25_meaning_expansion.specs.Files.{Files, text_named}
 use Rattle.c25_meaning_expansion.specs.Rows.{Row, file_number}
 use Rattle.c25_meaning_language.specs.Texts.{Texts}
-use Rattle.c25_meaning_expansion.specs.Acts.{Act, If, ElseIf, Else, EndIf, Define, Stray, Exit, Loop, Break, Assign, Evaluate, Copy, End, Call}
+use Rattle.c25_meaning_expansion.specs.Acts.{ExpansionAct, If, ElseIf, Else, EndIf, Define, Stray, Exit, Loop, Break, Assign, Evaluate, Copy, End, Call}
 use Rattle.c25_meaning_expansion.specs.Expansion.{Item, Kind, Copied, Expanded, Turn, Scope, Expansion, Mode, Dictionary, Config, Rewriting, Gives, Goes, Faults, Misses, unless, depth, is_full, with_branches, left_through, after_close, without_ended, is_expansion, is_turn, stands_in, macro_named, assigned, assigned_by}
 use Rattle.c25_meaning_expansion.specs.ExpansionRules.{absolute, with_number, needed, phase_of, elseif_in, else_in, begins_if, enters, elseif_by, else_by, endif_by, begins_macro, begins_expansion, leaves, turns_of, collects, begins_loop, breaks_if, breaks, evaluates, copies_by, copies, ends_all, acts}
 use Rattle.c25_meaning_expansion.specs.ExpansionBounds.{nested_of, pending, collecting, nesting, deepest, skipping}
@@ -184,7 +184,7 @@ acted_copy None file place name c h = misses
 acted_copy (Some text) file place name c h = comes_unless (is_full c) fault.Depth place _ (λ room. goes (omega (arith, not_full c room, blocks_in c.scope c.outer)))
 
 -- what acting on a line comes to
-pub acted : (files : Files) (s : Table) (place : Place) (act : Act) (c : Config) → IsIdle c.mode → Comes (Acted c) Never (acts files s place act c)
+pub acted : (files : Files) (s : Table) (place : Place) (act : ExpansionAct) (c : Config) → IsIdle c.mode → Comes (Acted c) Never (acts files s place act c)
 unfolding acts copies ends_all
 acted files s place (If e) c h = acted_if s place e c h
 acted files s place (ElseIf e) c h = acted_elseif s place e c.scope.branches c h refl

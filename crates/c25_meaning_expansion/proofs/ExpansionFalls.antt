@@ -5,7 +5,7 @@ use Rattle.std.proofs.lemmas.Bool.Decides.{nat_tests}
 use Rattle.c25_meaning_language.specs.Value.{Table}
 use Rattle.c25_meaning_expansion.specs.Files.{Files}
 use Rattle.c25_meaning_expansion.specs.Rows.{Row}
-use Rattle.c25_meaning_expansion.specs.Acts.{Act}
+use Rattle.c25_meaning_expansion.specs.Acts.{ExpansionAct}
 use Rattle.c25_meaning_expansion.specs.Expansion.{Item, Read, Close, Kind, Copied, Expanded, Turn, Scope, Mode, Reading, Acting, InMacro, InLoop, Config, Rewriting, Gives, Goes, Finishes, Faults, Misses}
 use Rattle.c25_meaning_expansion.specs.ExpansionRules.{acts}
 use Rattle.c25_meaning_expansion.specs.ExpansionRuns.{read_by, is_empty, is_closed, back, ended, front, rewrite_by, rewrite, front_weight, mode_weight, weight}
@@ -44,7 +44,7 @@ idle = record { nested = refl; nothing_waits = refl; no_loop = refl }
 
 -- ---- a line whose label was given
 
-falls_acted : (place : Place) (act : Act) (c d : Config) → c.mode ≡ Acting place act → Acted (record c { mode = Reading }) d → Falls c d
+falls_acted : (place : Place) (act : ExpansionAct) (c d : Config) → c.mode ≡ Acting place act → Acted (record c { mode = Reading }) d → Falls c d
 falls_acted place act c d e h =
     let pends = ap pending e in
     let nested = ap nested_of e in
@@ -55,7 +55,7 @@ falls_acted place act c d e h =
       bounded = λ bounds. omega (arith, h, bounds);
     }
 
-after_acted : (place : Place) (act : Act) (c : Config) (r : Rewriting) → c.mode ≡ Acting place act → Comes (Acted (record c { mode = Reading })) Never r → After c r
+after_acted : (place : Place) (act : ExpansionAct) (c : Config) (r : Rewriting) → c.mode ≡ Acting place act → Comes (Acted (record c { mode = Reading })) Never r → After c r
 after_acted place act c _ e (goes {d = d} h) = falls_acted place act c d e h
 after_acted place act c _ e (gives h) = absurd h
 after_acted place act c _ e faults = tt

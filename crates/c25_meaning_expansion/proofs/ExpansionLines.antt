@@ -4,7 +4,7 @@ use Rattle.c25_meaning_lines.specs.Line.{first_word}
 use Rattle.c25_meaning_language.specs.Value.{Table}
 use Rattle.c25_meaning_expansion.specs.Files.{Files}
 use Rattle.c25_meaning_expansion.specs.Rows.{Row}
-use Rattle.c25_meaning_expansion.specs.Acts.{Act, Macro, Order, order_of, call_of}
+use Rattle.c25_meaning_expansion.specs.Acts.{ExpansionAct, Macro, Order, order_of, call_of}
 use Rattle.c25_meaning_expansion.specs.Expansion.{Mode, InMacro, InLoop, Config, Rewriting, depth, with_branches}
 use Rattle.c25_meaning_expansion.specs.ExpansionRules.{acts, labelled, consumed, macro_of, calls, uses, directive_in, substituted_as, unless_long, used, resumes, takes_lines, enters, reads_elseif, skips_outer, skips_nested, skips, takes, reads_by, in_macro, in_loop}
 use Rattle.c25_meaning_expansion.specs.ExpansionRuns.{read_by}
@@ -39,7 +39,7 @@ takes_acted m c _ misses = misses
 -- ---- lines that are used
 
 module _ (files : Files) (s : Table) (m : Mode) where
-  takes_labelled : (place : Place) (label : Option (List ℕ)) (act : Act) (c : Config) → IsIdle c.mode → Takes m c (labelled files s place label act c)
+  takes_labelled : (place : Place) (label : Option (List ℕ)) (act : ExpansionAct) (c : Config) → IsIdle c.mode → Takes m c (labelled files s place label act c)
   takes_labelled place None act c h = takes_acted m c (acts files s place act c) (acted files s place act c h)
   takes_labelled place (Some name) act c h = gives (omega arith)
 

@@ -4,7 +4,7 @@ use Rattle.std.specs.Prelude.{ℕ, ◌+◌, List, [], ◌∷◌, ◌++◌, Bool,
 use Rattle.std.specs.List.{list_any}
 use Rattle.std.specs.Map.{lookup}
 use Rattle.std.specs.Str.{bytes_eq}
-use Rattle.c25_meaning_expansion.specs.Acts.{Act, Macro}
+use Rattle.c25_meaning_expansion.specs.Acts.{ExpansionAct, Macro}
 use Rattle.c25_meaning_expansion.specs.Rows.{Row}
 use Rattle.c25_meaning_language.specs.Fragments.{visible}
 use Rattle.c25_meaning_language.specs.Texts.{Named, Texts, with_name}
@@ -39,7 +39,7 @@ pub record Expansion : Type 0 where
 -- loop, in which so many blocks of that kind are open
 pub data Mode : Type 0 where
   Reading : Mode
-  Acting : (place : Place) (act : Act) → Mode
+  Acting : (place : Place) (act : ExpansionAct) → Mode
   InMacro : (name : List ℕ) (parameters : List (List ℕ)) (body : List Row) (nested : ℕ) → Mode
   InLoop : (turns : ℕ) (body : List Row) (nested : ℕ) → Mode
 

@@ -32,7 +32,7 @@ use Rattle.c25_meaning_expansion.specs.Files.{Files, text_named}
 use Rattle.c25_meaning_expansion.specs.Rows.{Row, rows_of, last_place, file_number}
 use Rattle.c25_meaning_language.specs.Substitution.{substituted, substituted_before_comma, unsubstituted}
 use Rattle.c25_meaning_language.specs.Texts.{Texts, with_name}
-use Rattle.c25_meaning_expansion.specs.Acts.{Act, If, ElseIf, Else, EndIf, Define, Stray, Exit, Loop, Break, Assign, Evaluate, Copy, End, Call, Macro, Order, directive_of, order_of, call_of}
+use Rattle.c25_meaning_expansion.specs.Acts.{ExpansionAct, If, ElseIf, Else, EndIf, Define, Stray, Exit, Loop, Break, Assign, Evaluate, Copy, End, Call, Macro, Order, directive_of, order_of, call_of}
 use Rattle.c25_meaning_expansion.specs.Expansion.{Kind, Copied, Expanded, Turn, Reading, Acting, InMacro, InLoop, Dictionary, Config, Rewriting, Gives, Goes, Faults, Misses, unless, is_full, opened, with_branches, left_through, is_expansion, is_turn, stands_in, macro_named, seen, number_of, assigned, called}
 use Rattle.c25_meaning_language.specs.declared.value.Value.{Value}
 use Rattle.c25_meaning_expansion.specs.declared.expansion.Place.{Place}
@@ -183,7 +183,7 @@ unfoldable pub ends_all : Place → Config → Rewriting
 ends_all place c = Goes (record c { lines = []; scope = record { kind = Copied; last = place; branches = [] }; outer = []; names = record c.names { expansions = [] } })
 
 -- what a line asks for is done
-unfoldable pub acts : Files → Table → Place → Act → Config → Rewriting
+unfoldable pub acts : Files → Table → Place → ExpansionAct → Config → Rewriting
 acts files s place (If e) c = begins_if s place e c
 acts files s place (ElseIf e) c = elseif_by s place e c.scope.branches c
 acts files s place Else c = else_by place c.scope.branches c
@@ -202,7 +202,7 @@ acts files s place (Call body arguments) c = begins_expansion place body argumen
 -- ---- lines that are used: neither skipped nor collected
 
 -- a line's label becomes a line, and what the line asks for is done after it
-abbrev pub labelled : Files → Table → Place → Option (List ℕ) → Act → Config → Rewriting
+abbrev pub labelled : Files → Table → Place → Option (List ℕ) → ExpansionAct → Config → Rewriting
 labelled files s place None act c = acts files s place act c
 labelled files s place (Some name) act c = Gives (record { place = place; text = name }) (record c { mode = Acting place act })
 

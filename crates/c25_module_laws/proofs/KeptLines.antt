@@ -4,7 +4,7 @@ use Rattle.std.specs.List.{AllByRecursion, list_any, find, slice_get}
 use Rattle.std.proofs.lemmas.Bool.{ltb-false, false≢true}
 use Rattle.c25_meaning_assembly.specs.OperandFields.{target_size}
 use Rattle.c25_meaning_assembly.specs.AssemblyLine as line
-use Rattle.c25_meaning_assembly.specs.AssemblyLine.{Act, Statement, read_statement}
+use Rattle.c25_meaning_assembly.specs.AssemblyLine.{AssemblyAct, Statement, read_statement}
 use Rattle.c25_meaning_assembly.specs.Emission.{at_origin}
 use Rattle.c25_meaning_expansion.specs.Expansion.{Config}
 use Rattle.c25_meaning_expansion.specs.ExpansionAnswers.{ExpandedLine, given_by, fault_by}
@@ -404,7 +404,7 @@ reserve_kept section name n flag u p q is symbol kind allowed kept e =
     (define_kept name (place_in r.sections i) (block flag i (size_at r.sections i) n b.0) q symbol (subst (λ (n : ℕ). IsGoodValue (IsInside n) (place_in r.sections i)) (sym g.1) good) g.0 b.2).0
 
 -- the section that an act names, if there is one, is of its kind
-abbrev KindFits : Act → List Section → Type 0
+abbrev KindFits : AssemblyAct → List Section → Type 0
 KindFits (line.Enter section) sections = same_kind true (find (is_called section) sections) ≡ true
 KindFits (line.Reserve section name room) sections = same_kind false (find (is_called section) sections) ≡ true
 KindFits line.Nothing sections = Unit {0}
@@ -417,7 +417,7 @@ KindFits (line.Export names) sections = Unit {0}
 KindFits (line.Label name) sections = Unit {0}
 KindFits line.Registers sections = Unit {0}
 
-kind_fits : (a : Act) (p : Progress) (u : Unit {0}) → allowed a p ≡ Ok u → KindFits a p.sections
+kind_fits : (a : AssemblyAct) (p : Progress) (u : Unit {0}) → allowed a p ≡ Ok u → KindFits a p.sections
 kind_fits (line.Enter section) p u e = (permitted (same_kind true (find (is_called section) p.sections)) tt fault.OperandForm u e).0
 kind_fits (line.Reserve section name room) p u e =
     let a = bound (of_kind section false p) (λ _. room >>= λ t. Ok tt) u e in
@@ -432,7 +432,7 @@ kind_fits (line.Export names) p u e = tt
 kind_fits (line.Label name) p u e = tt
 kind_fits line.Registers p u e = tt
 
-act_kept : (origin : Origin) (a : Act) (p q : Progress) → IsGoodAct a → KindFits a p.sections → AllKept p → act origin a p ≡ Ok q → AllKept q
+act_kept : (origin : Origin) (a : AssemblyAct) (p q : Progress) → IsGoodAct a → KindFits a p.sections → AllKept p → act origin a p ≡ Ok q → AllKept q
 act_kept origin line.Nothing p q good kind kept e = let same : p ≡ q = cc in subst AllKept same kept
 act_kept origin (line.Enter section) p q good kind kept e = enter_kept section p q good kind kept e
 act_kept origin (line.Reserve section name room) p q good kind kept e =

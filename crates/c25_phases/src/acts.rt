@@ -23,7 +23,7 @@ use c25_meaning_common::failure::Failure;
 use c25_meaning_common::no_memory::NoMemory;
 use c25_meaning_language::statement::FaultKind;
 use c25_meaning_language::value::{Base, Value};
-use c25_statements::statement::{Act, Room, Statement};
+use c25_statements::statement::{AssemblyAct, Room, Statement};
 use std::alloc::Global;
 
 fn any_predefined(names: &[&str]) -> bool
@@ -59,12 +59,12 @@ impl<'a> Progress<'a> {
     }
 
     /// What is looked at before the label is defined.
-    fn allowed(&self, act: &Act<'_>) -> Result<(), FaultKind>
+    fn allowed(&self, act: &AssemblyAct<'_>) -> Result<(), FaultKind>
         ensures { result ≡ meaning.allowed (act_of act.now) (progress_of self.now) }
     {
         match act {
-            Act::Enter(section) => self.of_kind(section.as_str(), true),
-            Act::Reserve { section, room, .. } => {
+            AssemblyAct::Enter(section) => self.of_kind(section.as_str(), true),
+            AssemblyAct::Reserve { section, room, .. } => {
                 match self.of_kind(section.as_str(), false) {
                     Ok(()) => match room {
                         Ok(_) => Ok(()),
@@ -312,28 +312,28 @@ impl<'a> Progress<'a> {
     }
 
     /// What a line does.
-    fn act(&mut self, origin: Origin<'a>, act: Act<'_>) -> Result<(), Failure<FaultKind>>
+    fn act(&mut self, origin: Origin<'a>, act: AssemblyAct<'_>) -> Result<(), Failure<FaultKind>>
         ensures { Meets (λ _. progress_of self.new) (meaning.act (origin_of origin.entry) (act_of act.entry) (progress_of self.old)) result }
     {
         match act {
-            Act::Nothing => Ok(()),
-            Act::Enter(section) => self.enter(section.as_str()),
-            Act::Reserve {
+            AssemblyAct::Nothing => Ok(()),
+            AssemblyAct::Enter(section) => self.enter(section.as_str()),
+            AssemblyAct::Reserve {
                 section,
                 name,
                 room,
             } => self.reserve_count(section.as_str(), name, &room),
-            Act::Equate { name, value } => self.equate(name, &value),
-            Act::Put(target, operands) => self.put(origin, target, operands),
-            Act::Load(words) => {
+            AssemblyAct::Equate { name, value } => self.equate(name, &value),
+            AssemblyAct::Put(target, operands) => self.put(origin, target, operands),
+            AssemblyAct::Load(words) => {
                 let count = words.len();
                 self.lay(origin, Content::Words(words), count)
             }
-            Act::Space(bits) => self.space(origin, &bits),
-            Act::Declare(names) => self.declare(names.as_slice()),
-            Act::Export(names) => self.export(origin, names.as_slice()),
-            Act::Label(name) => self.name_loaded(name),
-            Act::Registers => self.name_registers(),
+            AssemblyAct::Space(bits) => self.space(origin, &bits),
+            AssemblyAct::Declare(names) => self.declare(names.as_slice()),
+            AssemblyAct::Export(names) => self.export(origin, names.as_slice()),
+            AssemblyAct::Label(name) => self.name_loaded(name),
+            AssemblyAct::Registers => self.name_registers(),
         }
     }
 

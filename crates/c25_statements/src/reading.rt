@@ -12,7 +12,7 @@ ghost use Rattle.c25_statements.specs.View.{act_of, statement_of};
 use crate::directives::act_of;
 use crate::names::directive_in;
 use crate::operations::operation_in;
-use crate::statement::{Act, Operation, Statement};
+use crate::statement::{AssemblyAct, Operation, Statement};
 use c25_bytes::{byte_at, is_blank};
 use c25_expr::failure::line_fault;
 use c25_expr::operands::{operands_of, tokens_of};
@@ -28,11 +28,11 @@ fn instructing<'a>(
     alloc: Global,
     word: &str,
     operands: &[&[Token<'_>]],
-) -> Result<Act<'a>, Failure<FaultKind>>
+) -> Result<AssemblyAct<'a>, Failure<FaultKind>>
     ensures { Meets act_of (says.instructing word.now (operands_view operands.now)) result }
 {
     let Operation { form, trees } = operation_in(alloc, word, operands)?;
-    Ok(Act::Put(Target::Instruction(form), trees))
+    Ok(AssemblyAct::Put(Target::Instruction(form), trees))
 }
 
 /// What a line does whose first word is no directive.
@@ -40,12 +40,12 @@ fn act_without<'a>(
     alloc: Global,
     word: Option<Word<'_>>,
     operands: &[&[Token<'_>]],
-) -> Result<Act<'a>, Failure<FaultKind>>
+) -> Result<AssemblyAct<'a>, Failure<FaultKind>>
     ensures { Meets act_of (says.act_without (option_map part_of word.entry) (operands_view operands.now)) result }
 {
     match word {
         Some(word) => instructing(alloc, word.text, operands),
-        None => Ok(Act::Nothing),
+        None => Ok(AssemblyAct::Nothing),
     }
 }
 
@@ -54,7 +54,7 @@ fn act_by<'a>(
     alloc: Global,
     directive: Option<Directive>,
     line: &Line<'a>,
-) -> Result<Act<'a>, Failure<FaultKind>>
+) -> Result<AssemblyAct<'a>, Failure<FaultKind>>
     ensures { Meets act_of (says.act_by directive (parts_of line.now)) result }
 {
     let tokens = tokens_of(alloc, line)?;
