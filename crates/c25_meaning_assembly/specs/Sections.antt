@@ -50,7 +50,7 @@ pub data Content : Type 0 where
   Exported : (names : List (List ℕ)) → Content
 
 -- content, the line that it is of, and where it begins
-pub record Item : Type 0 where
+pub record LaidContent : Type 0 where
   pub origin : Origin
   pub section : ℕ
   pub offset : ℕ
@@ -68,7 +68,7 @@ pub record Progress : Type 0 where
   pub exported : List (List ℕ)
   -- whether there was a `.mmregs`
   pub registers : Bool
-  pub items : List Item
+  pub items : List LaidContent
   -- the names of the files that hold instructions
   pub files : List (List ℕ)
 

@@ -11,7 +11,7 @@ use Rattle.c25_meaning_expansion.specs.Files.{Files, text_named}
 use Rattle.c25_meaning_expansion.specs.Rows.{Row, file_number}
 use Rattle.c25_meaning_language.specs.Texts.{Texts}
 use Rattle.c25_meaning_expansion.specs.Acts.{ExpansionAct, If, ElseIf, Else, EndIf, Define, Stray, Exit, Loop, Break, Assign, Evaluate, Copy, End, Call}
-use Rattle.c25_meaning_expansion.specs.Expansion.{Item, Kind, Copied, Expanded, Turn, Scope, Expansion, Mode, Dictionary, Config, Rewriting, Gives, Goes, Faults, Misses, unless, depth, is_full, with_branches, left_through, after_close, without_ended, is_expansion, is_turn, stands_in, macro_named, assigned, assigned_by}
+use Rattle.c25_meaning_expansion.specs.Expansion.{LineOrEnd, Kind, Copied, Expanded, Turn, Scope, Expansion, Mode, Dictionary, Config, Rewriting, Gives, Goes, Faults, Misses, unless, depth, is_full, with_branches, left_through, after_close, without_ended, is_expansion, is_turn, stands_in, macro_named, assigned, assigned_by}
 use Rattle.c25_meaning_expansion.specs.ExpansionRules.{absolute, with_number, needed, phase_of, elseif_in, else_in, begins_if, enters, elseif_by, else_by, endif_by, begins_macro, begins_expansion, leaves, turns_of, collects, begins_loop, breaks_if, breaks, evaluates, copies_by, copies, ends_all, acts}
 use Rattle.c25_meaning_expansion.specs.ExpansionBounds.{nested_of, pending, collecting, nesting, deepest, skipping}
 use Rattle.c25_meaning_expansion.specs.declared.expansion.Place.{Place}
@@ -132,7 +132,7 @@ count_stays Copied names = refl
 count_stays Expanded names = refl
 count_stays (Turn body more) names = refl
 
-acted_left : (test : Kind → Bool) (lines : List Item) (scope : Scope) (outer : List Scope) (names : Dictionary) (c : Config) → IsIdle c.mode →
+acted_left : (test : Kind → Bool) (lines : List LineOrEnd) (scope : Scope) (outer : List Scope) (names : Dictionary) (c : Config) → IsIdle c.mode →
     length outer ≤ length c.outer → deepest (scope ∷ outer) ≤ skipping c → names.count ≡ c.names.count →
     length scope.branches + sum_by (λ g. length g.branches + 1) outer ≤ depth c → IfSome (left_through test lines scope outer names c) (Acted c)
 acted_left test lines scope [] names c h l k n b = tt

@@ -13,9 +13,9 @@ use Rattle.c25_meaning_expansion.specs.declared.expansion.Branch.{Branch}
 use Rattle.c25_meaning_language.specs.declared.statement.FaultKind.{FaultKind}
 
 -- a line still to come, or the end of a copied file, of an expansion or of a turn of a loop
-pub data Item : Type 0 where
-  Read : (row : Row) → Item
-  Close : Item
+pub data LineOrEnd : Type 0 where
+  Read : (row : Row) → LineOrEnd
+  Close : LineOrEnd
 
 -- what the lines up to the next end are: a copied file, an expansion of a macro, or a turn of a loop, so many more to
 -- come
@@ -55,7 +55,7 @@ pub record Dictionary : Type 0 where
 
 -- all that stands at a line
 pub record Config : Type 0 where
-  pub lines : List Item
+  pub lines : List LineOrEnd
   pub scope : Scope
   -- those in which it stands, the innermost first
   pub outer : List Scope
@@ -96,7 +96,7 @@ abbrev pub with_branches : List Branch → Config → Config
 with_branches branches c = record c { scope = record { kind = c.scope.kind; last = c.scope.last; branches = branches } }
 
 -- the lines after the next end
-abbrev pub after_close : List Item → List Item
+abbrev pub after_close : List LineOrEnd → List LineOrEnd
 after_close [] = []
 after_close (Close ∷ items) = items
 after_close (Read row ∷ items) = after_close items
@@ -108,7 +108,7 @@ without_ended Copied names = names
 without_ended (Turn body more) names = names
 
 -- lines dropped through the end of the innermost file, expansion or turn that passes the test
-abbrev pub left_through : (Kind → Bool) → List Item → Scope → List Scope → Dictionary → Config → Option Config
+abbrev pub left_through : (Kind → Bool) → List LineOrEnd → Scope → List Scope → Dictionary → Config → Option Config
 left_through test lines scope [] names c = None
 left_through test lines scope (f ∷ fs) names c =
     if test scope.kind

@@ -15,7 +15,7 @@ use Rattle.c25_meaning_objects.specs.Module.{each_fits}
 use Rattle.c25_meaning_sources.specs.ModuleOfSource.{Passed, no_lines, entry_of, origin_of, pass_line, passed, passed_by, passed_from, read_and_pass}
 use Rattle.c25_meaning_common.specs.Results.{◌>>=◌, fold_ok}
 use Rattle.c25_meaning_assembly.specs.Sections as meaning
-use Rattle.c25_meaning_assembly.specs.Sections.{Definitions, Section, Content, Operands, Words, Zeros, Exported, Origin, Item, Progress, changed, longer, with_block, with_mark, use_line, block, block_allowed, flag_in, is_in, are_distinct, once, all_once, stands, define, label, here, loaded_here, table, place_in, same_kind, of_kind, opened, grow, lay, with_item, size_at, size_by, is_called, count_in, reserve, reserve_room, register_names, define_pair, name_count, few, pass, allowed, act}
+use Rattle.c25_meaning_assembly.specs.Sections.{Definitions, Section, Content, Operands, Words, Zeros, Exported, Origin, LaidContent, Progress, changed, longer, with_block, with_mark, use_line, block, block_allowed, flag_in, is_in, are_distinct, once, all_once, stands, define, label, here, loaded_here, table, place_in, same_kind, of_kind, opened, grow, lay, with_item, size_at, size_by, is_called, count_in, reserve, reserve_room, register_names, define_pair, name_count, few, pass, allowed, act}
 use Rattle.c25_meaning_language.specs.Statement.{valued, form_row}
 use Rattle.c25_meaning_instructions.specs.Table.{size}
 use Rattle.c25_meaning_language.specs.Tree.{Tree}
@@ -50,10 +50,10 @@ sections_changed f sections i current same h = record {
 names_changed : (f : Section → Section) (sections : List Section) (i : ℕ) (names : Definitions) → AreNames (length sections) names → AreNames (length (changed f sections i)) names
 names_changed f sections i names h = subst (λ (n : ℕ). AreNames n names) (sym (length_changed f sections i)) h
 
-codes_changed : (f : Section → Section) (sections : List Section) (i : ℕ) (items : List Item) → ((s : Section) → head_of (f s) ≡ head_of s)
+codes_changed : (f : Section → Section) (sections : List Section) (i : ℕ) (items : List LaidContent) → ((s : Section) → head_of (f s) ≡ head_of s)
     → AllByRecursion (λ i. is_code (heads sections) i.section ≡ true) items → AllByRecursion (λ j. is_code (heads (changed f sections i)) j.section ≡ true) items
 codes_changed f sections i items same h =
-    subst (λ (hs : List Head). AllByRecursion (λ (j : Item). is_code hs j.section ≡ true) items) (sym (heads_changed f sections i same)) h
+    subst (λ (hs : List Head). AllByRecursion (λ (j : LaidContent). is_code hs j.section ≡ true) items) (sym (heads_changed f sections i same)) h
 
 grow_files : (i n : ℕ) (p q : Progress) → grow i n p ≡ Ok q → q.files ≡ p.files
 unfolding grow
@@ -140,11 +140,11 @@ offset_is p kept =
     omega (arith, a, b)
 
 -- an item at the current place
-abbrev laid_item : Origin → Content → Progress → Item
+abbrev laid_item : Origin → Content → Progress → LaidContent
 laid_item origin content p = record { origin = origin; section = p.current; offset = size_at p.sections p.current; content = content }
 
 -- one item more, whose mark is still to come
-record IsLaid (item : Item) (p q : Progress) : Type 0 where
+record IsLaid (item : LaidContent) (p q : Progress) : Type 0 where
   kept : AllBut p.items q
   items : q.items ≡ p.items ++ item ∷ []
   current : q.current ≡ p.current
@@ -183,8 +183,8 @@ lay_kept origin content n p q count good kept e =
                 relocations = h.relocations;
               });
           laid = laid_push (λ k. 0) p.items item kept.items.laid (offset_is p kept);
-          good = pushed (λ (i : Item). IsGoodContent i.content) p.items item kept.items.good good;
-          codes = codes_changed (longer n) p.sections c items (λ _. refl) (pushed (λ (i : Item). is_code (heads p.sections) i.section ≡ true) p.items item kept.items.codes kept.sections.code);
+          good = pushed (λ (i : LaidContent). IsGoodContent i.content) p.items item kept.items.good good;
+          codes = codes_changed (longer n) p.sections c items (λ _. refl) (pushed (λ (i : LaidContent). is_code (heads p.sections) i.section ≡ true) p.items item kept.items.codes kept.sections.code);
         };
         told = told_longer p.files p.sections c n kept.told;
       };
@@ -193,7 +193,7 @@ lay_kept origin content n p q count good kept e =
     })
 
 -- other items that have the same marks
-remarked : (old new : List Item) (p : Progress) → ((k : ℕ) → marks_in k old ≡ marks_in k new) → AllBut old p → AllBut new p
+remarked : (old new : List LaidContent) (p : Progress) → ((k : ℕ) → marks_in k old ≡ marks_in k new) → AllBut old p → AllBut new p
 remarked old new p same kept = record {
   sections = kept.sections;
   names = kept.names;
@@ -208,7 +208,7 @@ remarked old new p same kept = record {
 }
 
 -- an item without a mark
-unmarked : (item : Item) (p q : Progress) → mark_by item item.content ≡ [] → IsLaid item p q → AllKept q
+unmarked : (item : LaidContent) (p q : Progress) → mark_by item item.content ≡ [] → IsLaid item p q → AllKept q
 unmarked item p q none h =
     remarked p.items q.items q (λ k. sym (ap (marks_in k) h.items ∙ marks_same k p.items item none)) h.kept
 
@@ -324,7 +324,7 @@ declare_kept names p q symbols kept e =
 export_kept : (origin : Origin) (names : List (List ℕ)) (p q : Progress) → AllKept p → meaning.export origin names p ≡ Ok q → AllKept q
 export_kept origin names p q kept e =
     let c = p.current in
-    let item : Item = record { origin = origin; section = c; offset = size_at p.sections c; content = Exported names } in
+    let item : LaidContent = record { origin = origin; section = c; offset = size_at p.sections c; content = Exported names } in
     let made : Progress = record p { exported = all_once p.exported names; items = p.items ++ item ∷ [] } in
     let a = refused (list_any meaning.is_predefined names) fault.Defined made q e in
     subst AllKept a.1 (record {
@@ -346,8 +346,8 @@ export_kept origin names p q kept e =
               relocations = h.relocations;
             };
         laid = laid_push (λ k. 0) p.items item kept.items.laid (offset_is p kept);
-        good = pushed (λ (i : Item). IsGoodContent i.content) p.items item kept.items.good tt;
-        codes = pushed (λ (i : Item). is_code (heads p.sections) i.section ≡ true) p.items item kept.items.codes kept.sections.code;
+        good = pushed (λ (i : LaidContent). IsGoodContent i.content) p.items item kept.items.good tt;
+        codes = pushed (λ (i : LaidContent). is_code (heads p.sections) i.section ≡ true) p.items item kept.items.codes kept.sections.code;
       };
       told = kept.told;
     })

@@ -13,7 +13,7 @@ ghost use Rattle.c25_phases.specs.Sizes.{IsBlockSize, IsSize};
 ghost use Rattle.c25_phases.specs.View.{progress_of};
 
 use crate::counts::block_allowed;
-use crate::item::{Content, Item, Origin};
+use crate::item::{Content, LaidContent, Origin};
 use crate::progress::Progress;
 use crate::targets::target_size;
 use c25_expr::symbols::is_predefined;
@@ -267,7 +267,7 @@ impl<'a> Progress<'a> {
         let names = copied(self.alloc, names)?;
         let section = self.current;
         let offset = self.sections.size_at(section);
-        self.items.push(Item {
+        self.items.push(LaidContent {
             origin,
             section,
             offset,

@@ -12,7 +12,7 @@ ghost use Rattle.c25_phases.specs.Names.{bytes_of_names};
 ghost use Rattle.c25_phases.specs.View.{content_of, fault_of, item_of};
 
 use crate::fault::AsmFault;
-use crate::item::{Content, Item};
+use crate::item::{Content, LaidContent};
 use crate::names::Names;
 use crate::phase::place;
 use crate::refusal::at_origin;
@@ -181,7 +181,7 @@ fn emit(
     symbols: &mut Symbols,
     sections: &mut Sections<'_>,
     sheet: &mut Sheet,
-    item: &Item<'_>,
+    item: &LaidContent<'_>,
 ) -> Result<(), Failure<FaultKind>>
     ensures told { Meets (λ _. sections.new) (emission.emit symbols.old.entries item.now.section item.now.offset sections.old (content_of item.now.content)) result }
     ensures names { symbols.new.entries ≡ symbols.old.entries }
@@ -219,7 +219,7 @@ pub(crate) fn emit_all<'a>(
     symbols: &mut Symbols,
     sections: &mut Sections<'_>,
     sheet: &mut Sheet,
-    items: &[Item<'a>],
+    items: &[LaidContent<'a>],
 ) -> Result<(), Failure<AsmFault<'a>>>
     ensures told { MeetsBy fault_of (λ _. sections.new) (emission.emit_all symbols.old.entries sections.old (map item_of items.now)) result }
     ensures names { symbols.new.entries ≡ symbols.old.entries }

@@ -12,7 +12,7 @@ ghost use Rattle.c25_phases.specs.Steps.{marked};
 ghost use Rattle.c25_phases.specs.View.{content_of, progress_of, symbols_of};
 
 use crate::counts::{count_of, flag_of, is_file_name, is_line_number};
-use crate::item::{Content, Item, Origin, SourceLine};
+use crate::item::{Content, LaidContent, Origin, SourceLine};
 use crate::names::Names;
 use crate::progress::Progress;
 use crate::section::Section;
@@ -222,7 +222,7 @@ impl<'a> Progress<'a> {
         let section = self.current;
         let offset = self.sections.size_at(section);
         self.grow(section, words)?;
-        self.items.push(Item {
+        self.items.push(LaidContent {
             origin,
             section,
             offset,

@@ -3,7 +3,7 @@
 ghost use Rattle.std.specs.Prelude.{◌≡◌, length};
 ghost use Rattle.c25_meaning_assembly.specs.Sections.{imports};
 
-use crate::item::Item;
+use crate::item::LaidContent;
 use crate::names::Names;
 use crate::sections::Sections;
 use c25_expr::symbols::Symbols;
@@ -25,7 +25,7 @@ pub struct Progress<'a> {
     pub(crate) exported: Names,
     /// Whether there was a `.mmregs`.
     pub(crate) registers: bool,
-    pub(crate) items: Vec<Item<'a>>,
+    pub(crate) items: Vec<LaidContent<'a>>,
     /// The names of the files that hold instructions.
     pub(crate) files: Names,
     /// The number among these of the last instruction's file, so that most need no hash of it.
