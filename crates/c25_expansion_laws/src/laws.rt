@@ -7,7 +7,7 @@ ghost use Rattle.c25_expansion_laws.specs.ExpansionLaws.{StandsForNothing, HasNo
 ghost use Rattle.c25_meaning_expansion.specs.ExpansionRules.{takes_lines};
 ghost use Rattle.c25_meaning_expansion.specs.ExpansionRuns.{ComesTo, Leads, first, start};
 ghost use Rattle.c25_meaning_expansion.specs.Files.{Files};
-ghost use Rattle.c25_meaning_language.specs.Fragments.{Names};
+ghost use Rattle.c25_meaning_language.specs.Fragments.{Replacements};
 ghost use Rattle.c25_meaning_expansion.specs.Rows.{Row, rows_of};
 ghost use Rattle.c25_meaning_language.specs.Substitution.{substituted, unsubstituted};
 ghost use Rattle.c25_meaning_language.specs.Value.{Table};
@@ -38,7 +38,7 @@ pub fn expansion_opens_at_most_32_blocks()
 /// A line without `?` is kept as it is where no name that begins in it stands for a text, in any
 /// expansion; that it may be too long is all that is left to test.
 pub fn texts_without_names_are_kept()
-    ensures { (names : Names) (number : ℕ) (line : List ℕ) → StandsForNothing names line → HasNoMark line
+    ensures { (names : Replacements) (number : ℕ) (line : List ℕ) → StandsForNothing names line → HasNoMark line
         → substituted names number line ≡ unsubstituted line }
 {}
 

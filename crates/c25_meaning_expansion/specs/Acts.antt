@@ -10,7 +10,7 @@ use Rattle.c25_meaning_language.specs.Operands.{operands_of, written_of}
 use Rattle.c25_meaning_language.specs.Tree.{Tree}
 use Rattle.c25_meaning_common.specs.Results.{◌>>=◌}
 use Rattle.c25_meaning_language.specs.Forms.{is_expression}
-use Rattle.c25_meaning_language.specs.Texts.{Texts}
+use Rattle.c25_meaning_language.specs.SubstitutionTexts.{SubstitutionTexts}
 use Rattle.c25_meaning_language.specs.Arguments.{arguments, assigned_text}
 use Rattle.c25_meaning_expansion.specs.Rows.{Row}
 use Rattle.c25_meaning_expansion.specs.declared.expansion.Directive.{Directive}
@@ -42,7 +42,7 @@ pub data ExpansionAct : Type 0 where
   Evaluate : (expression : Tree) (name : List ℕ) → ExpansionAct
   Copy : (name : List ℕ) → ExpansionAct
   End : ExpansionAct
-  Call : (body : List Row) (arguments : Texts) → ExpansionAct
+  Call : (body : List Row) (arguments : SubstitutionTexts) → ExpansionAct
 
 -- what a line asks for, and the label that becomes a line of its own before that
 pub record Order : Type 0 where

@@ -7,7 +7,7 @@ use Rattle.std.specs.Str.{bytes_eq}
 use Rattle.c25_meaning_expansion.specs.Acts.{ExpansionAct, Macro}
 use Rattle.c25_meaning_expansion.specs.Rows.{Row}
 use Rattle.c25_meaning_language.specs.Fragments.{visible}
-use Rattle.c25_meaning_language.specs.Texts.{Named, Texts, with_name}
+use Rattle.c25_meaning_language.specs.SubstitutionTexts.{Named, SubstitutionTexts, with_name}
 use Rattle.c25_meaning_expansion.specs.declared.expansion.Place.{Place}
 use Rattle.c25_meaning_expansion.specs.declared.expansion.Branch.{Branch}
 use Rattle.c25_meaning_language.specs.declared.statement.FaultKind.{FaultKind}
@@ -33,7 +33,7 @@ pub record Scope : Type 0 where
 -- an expansion that is open: its number, and the texts of its parameters
 pub record Expansion : Type 0 where
   pub number : ℕ
-  pub arguments : Texts
+  pub arguments : SubstitutionTexts
 
 -- how the next line is looked at: read, or acted on after its label was given, or put into the body of a macro or of a
 -- loop, in which so many blocks of that kind are open
@@ -47,7 +47,7 @@ pub data Mode : Type 0 where
 pub record Dictionary : Type 0 where
   pub macros : Named Macro
   -- those of `.asg` and `.eval`
-  pub texts : Texts
+  pub texts : SubstitutionTexts
   -- the open expansions, the innermost first
   pub expansions : List Expansion
   -- how many expansions there have been
@@ -138,7 +138,7 @@ abbrev pub macro_named : Dictionary → List ℕ → Option Macro
 macro_named names name = lookup (bytes_eq name) names.macros
 
 -- the arguments of the innermost expansion
-abbrev pub arguments_of : List Expansion → Texts
+abbrev pub arguments_of : List Expansion → SubstitutionTexts
 arguments_of [] = []
 arguments_of (e ∷ es) = e.arguments
 
@@ -164,6 +164,6 @@ abbrev pub assigned : List ℕ → List ℕ → Dictionary → Dictionary
 assigned name text names = assigned_by names.expansions name text names
 
 -- one expansion more, with these texts of its parameters
-abbrev pub called : Texts → Dictionary → Dictionary
+abbrev pub called : SubstitutionTexts → Dictionary → Dictionary
 called arguments names =
     record names { expansions = record { number = names.count + 1; arguments = arguments } ∷ names.expansions; count = names.count + 1 }

@@ -13,7 +13,7 @@ ghost use Rattle.c25_phases.specs.View.{content_of, fault_of, item_of};
 
 use crate::fault::AsmFault;
 use crate::item::{Content, LaidContent};
-use crate::names::Names;
+use crate::names::DistinctNames;
 use crate::phase::place;
 use crate::refusal::at_origin;
 use crate::sections::Sections;
@@ -32,7 +32,7 @@ use std::alloc::Global;
 
 /// The declared names that stand for nothing, behind the others: other modules' names, each with its
 /// number among all.
-pub(crate) fn import_all(symbols: &mut Symbols, declared: &Names) -> Result<(), NoMemory>
+pub(crate) fn import_all(symbols: &mut Symbols, declared: &DistinctNames) -> Result<(), NoMemory>
     requires { name_count symbols.old.entries declared.now ≤ 65535 }
     ensures { OnOk result (symbols.new.entries ≡ emission.names_with symbols.old.entries declared.now) }
 {

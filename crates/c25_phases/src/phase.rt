@@ -13,7 +13,7 @@ ghost use Rattle.c25_phases.specs.View.{content_of, progress_of, symbols_of};
 
 use crate::counts::{count_of, flag_of, is_file_name, is_line_number};
 use crate::item::{Content, LaidContent, Origin, SourceLine};
-use crate::names::Names;
+use crate::names::DistinctNames;
 use crate::progress::Progress;
 use crate::section::Section;
 use crate::sections::Sections;
@@ -62,12 +62,12 @@ impl<'a> Progress<'a> {
             sections,
             current: 0,
             symbols: Symbols::new(alloc),
-            declared: Names::new(alloc),
+            declared: DistinctNames::new(alloc),
             missing: 0,
-            exported: Names::new(alloc),
+            exported: DistinctNames::new(alloc),
             registers: false,
             items: Vec::new(alloc),
-            files: Names::new(alloc),
+            files: DistinctNames::new(alloc),
             recent: 0,
         })
     }

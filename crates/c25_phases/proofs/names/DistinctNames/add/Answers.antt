@@ -3,7 +3,7 @@ use Rattle.c25_meaning_assembly.specs.Sections.{are_distinct, is_in}
 use Rattle.c25_meaning_assembly.proofs.Distinct.{distinct_push}
 use Rattle.c25_phases.proofs.Declared.{once_new}
 use Rattle.c25_phases.proofs.Keys.{added}
-use Rattle.c25_phases.proofs.names.Names.add.Goals as goal
+use Rattle.c25_phases.proofs.names.DistinctNames.add.Goals as goal
 
 pub returns-clause-ok : goal.returns-clause-ok
 returns-clause-ok c =

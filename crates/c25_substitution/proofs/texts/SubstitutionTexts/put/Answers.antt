@@ -3,7 +3,7 @@ use Rattle.std.specs.String.{string_bytes}
 use Rattle.c25_meaning_language.specs.Texts.{with_name}
 use Rattle.c25_substitution.specs.Pairs.{pairs}
 use Rattle.c25_substitution.proofs.Pairs.{pairs-insert}
-use Rattle.c25_substitution.proofs.texts.Texts.put.Goals as goal
+use Rattle.c25_substitution.proofs.texts.SubstitutionTexts.put.Goals as goal
 
 pub returns-clause-ok : goal.returns-clause-ok
 returns-clause-ok c =

@@ -2,7 +2,7 @@ use denote.Ref.{Bor}
 use Rattle.std.proofs.Common.{List, ℕ, ap, sym, ◌∙◌}
 use Rattle.std.specs.Option.{option_map}
 use Rattle.c25_phases.proofs.Keys.{among_at}
-use Rattle.c25_phases.proofs.names.Names.is_at.Goals as goal
+use Rattle.c25_phases.proofs.names.DistinctNames.is_at.Goals as goal
 
 pub returns-in-Some : goal.returns-in-Some
 returns-in-Some c = λ e.

@@ -4,7 +4,7 @@ use Rattle.std.specs.Option.{option_map}
 use Rattle.std.specs.Str.{bytes_eq}
 use Rattle.std.specs.String.{string_bytes}
 use Rattle.c25_substitution.proofs.Pairs.{lookup-pairs}
-use Rattle.c25_substitution.proofs.texts.Texts.get.Goals as goal
+use Rattle.c25_substitution.proofs.texts.SubstitutionTexts.get.Goals as goal
 
 pub returns-in-Some : goal.returns-in-Some
 returns-in-Some c =
