@@ -26,7 +26,7 @@ use c25_expr::symbols::Symbols;
 use c25_files::files::Files;
 use c25_lines::Row;
 use c25_meaning_common::failure::Failure;
-use c25_meaning_expansion::expansion::{Branch, Directive, Phase, Place};
+use c25_meaning_expansion::expansion::{Branch, Directive, Phase, SourcePlace};
 use c25_meaning_language::long_line::LongLine;
 use c25_meaning_language::statement::FaultKind;
 use c25_substitution::substitution::{substitute, substitute_before_comma, unsubstituted};
@@ -40,7 +40,7 @@ impl<'a> State<'a> {
         &mut self,
         files: &'a Files,
         symbols: &Symbols,
-        place: Place,
+        place: SourcePlace,
         act: ExpansionAct<'a>,
     ) -> Result<(), Failure<Refusal>>
         requires expansions { (config self.old).names.count < 2 ^ 31 }
@@ -72,7 +72,7 @@ impl<'a> State<'a> {
         &mut self,
         files: &'a Files,
         symbols: &Symbols,
-        place: Place,
+        place: SourcePlace,
         order: Order<'a>,
     ) -> Result<Progress<'a>, Failure<Refusal>>
         requires expansions { (config self.old).names.count < 2 ^ 31 }
@@ -97,7 +97,7 @@ impl<'a> State<'a> {
         &mut self,
         files: &'a Files,
         symbols: &Symbols,
-        place: Place,
+        place: SourcePlace,
         order: Result<Order<'a>, Failure<FaultKind>>,
     ) -> Result<Progress<'a>, Failure<Refusal>>
         requires expansions { (config self.old).names.count < 2 ^ 31 }
@@ -199,7 +199,7 @@ impl<'a> State<'a> {
         &mut self,
         files: &'a Files,
         symbols: &Symbols,
-        place: Place,
+        place: SourcePlace,
         directive: Directive,
         text: &str,
     ) -> Result<Progress<'a>, Failure<Refusal>>

@@ -14,7 +14,7 @@ use crate::scope::{Block, Branches, Kind, Scope, Source, Stack};
 use c25_files::text::Text;
 use c25_lines::Rows;
 use c25_meaning_common::no_memory::NoMemory;
-use c25_meaning_expansion::expansion::Place;
+use c25_meaning_expansion::expansion::SourcePlace;
 use std::alloc::Global;
 use std::mem;
 
@@ -26,7 +26,7 @@ pub(crate) enum Mode<'a> {
     Reading,
     /// The label of the line that stands there was given, and what the line asks for is still to be done.
     Acting {
-        place: Place,
+        place: SourcePlace,
         act: ExpansionAct<'a>,
     },
     /// It goes into the body of a macro, in which so many macros are nested.
@@ -79,7 +79,7 @@ impl<'a> State<'a> {
         ensures { config result ≡ start file text.now }
     {
         let rows = text.rows(file);
-        let last = rows.last_place(Place { file, line: 0 });
+        let last = rows.last_place(SourcePlace { file, line: 0 });
         State {
             alloc,
             top: Source {
@@ -101,7 +101,7 @@ impl<'a> State<'a> {
     pub(crate) fn open(
         &mut self,
         kind: Kind<'a>,
-        last: Place,
+        last: SourcePlace,
         rows: Rows<'a>,
     ) -> Result<(), NoMemory>
         requires reading { self.old.mode ≡ modes.Reading }

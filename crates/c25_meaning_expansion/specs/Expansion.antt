@@ -8,7 +8,7 @@ use Rattle.c25_meaning_expansion.specs.Acts.{ExpansionAct, Macro}
 use Rattle.c25_meaning_expansion.specs.Rows.{Row}
 use Rattle.c25_meaning_language.specs.Fragments.{visible}
 use Rattle.c25_meaning_language.specs.SubstitutionTexts.{Named, SubstitutionTexts, with_name}
-use Rattle.c25_meaning_expansion.specs.declared.expansion.Place.{Place}
+use Rattle.c25_meaning_expansion.specs.declared.expansion.SourcePlace.{SourcePlace}
 use Rattle.c25_meaning_expansion.specs.declared.expansion.Branch.{Branch}
 use Rattle.c25_meaning_language.specs.declared.statement.FaultKind.{FaultKind}
 
@@ -27,7 +27,7 @@ pub data Kind : Type 0 where
 -- a file, expansion or turn that is open: where its last line stands, and the `.if`s begun in it, the innermost first
 pub record Scope : Type 0 where
   pub kind : Kind
-  pub last : Place
+  pub last : SourcePlace
   pub branches : List Branch
 
 -- an expansion that is open: its number, and the texts of its parameters
@@ -39,7 +39,7 @@ pub record Expansion : Type 0 where
 -- loop, in which so many blocks of that kind are open
 pub data Mode : Type 0 where
   Reading : Mode
-  Acting : (place : Place) (act : ExpansionAct) → Mode
+  Acting : (place : SourcePlace) (act : ExpansionAct) → Mode
   InMacro : (name : List ℕ) (parameters : List (List ℕ)) (body : List Row) (nested : ℕ) → Mode
   InLoop : (turns : ℕ) (body : List Row) (nested : ℕ) → Mode
 
@@ -69,11 +69,11 @@ pub data Rewriting : Type 0 where
   Gives : (row : Row) (rest : Config) → Rewriting
   Goes : (rest : Config) → Rewriting
   Finishes : (rest : Config) → Rewriting
-  Faults : (place : Place) (kind : FaultKind) → Rewriting
-  Misses : (place : Place) (name : List ℕ) → Rewriting
+  Faults : (place : SourcePlace) (kind : FaultKind) → Rewriting
+  Misses : (place : SourcePlace) (name : List ℕ) → Rewriting
 
 -- a fault where the test holds
-abbrev pub unless : Bool → FaultKind → Place → Rewriting → Rewriting
+abbrev pub unless : Bool → FaultKind → SourcePlace → Rewriting → Rewriting
 unless test kind place next = if test then Faults place kind else next
 
 -- ---- open blocks
@@ -87,7 +87,7 @@ abbrev pub is_full : Config → Bool
 is_full c = nat_le 32 (depth c)
 
 -- these lines come next, and then an end
-abbrev pub opened : Kind → Place → List Row → Config → Config
+abbrev pub opened : Kind → SourcePlace → List Row → Config → Config
 opened kind last rows c =
     record c { lines = map Read rows ++ Close ∷ c.lines; scope = record { kind = kind; last = last; branches = [] }; outer = c.scope ∷ c.outer }
 

@@ -5,7 +5,7 @@ use Rattle.c25_meaning_placing.specs.GoodMap.{is_usable}
 use Rattle.c25_meaning_placing.specs.Place.{blocks_of}
 use Rattle.c25_place.specs.View.{wanted_view, ranges_view, request_view, places_view}
 use Rattle.c25_place.proofs.Placing.{base_of_is, bad_run}
-use Rattle.c25_place.proofs.placement.Placed.base_for.Goals as goal
+use Rattle.c25_place.proofs.placement.PlacedSections.base_for.Goals as goal
 
 pub base_of-requires-clause-sized : goal.base_of-requires-clause-sized
 base_of-requires-clause-sized c = (c.on_page-taken.ensures (places_view c.args.self.now.places.items) c.requires.room).sized

@@ -2,8 +2,8 @@ use Rattle.std.proofs.Common.{◌≡◌, ℕ, true, subst, sym, ◌∙◌}
 use Rattle.std.proofs.lemmas.Bool.{eqb-true}
 use Rattle.c25_place.specs.View.{request_view, places_view}
 use Rattle.c25_place.proofs.Elsewhere.{AreOpen, runs_there, open_for, words_there}
-use Rattle.c25_place.proofs.placement.Placed.may_run.Goals.{then-page-eq0, else-page-eq0}
-use Rattle.c25_place.proofs.placement.Placed.may_run.Goals as goal
+use Rattle.c25_place.proofs.placement.PlacedSections.may_run.Goals.{then-page-eq0, else-page-eq0}
+use Rattle.c25_place.proofs.placement.PlacedSections.may_run.Goals as goal
 
 pub returns-then-request-clause-yes : goal.returns-then-request-clause-yes
 returns-then-request-clause-yes c = λ e all modules here.

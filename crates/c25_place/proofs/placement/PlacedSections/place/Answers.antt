@@ -5,7 +5,7 @@ use Rattle.c25_place.specs.Room.{KnowsRoom, KnowsRuns}
 use Rattle.c25_place.specs.View.{request_view, place_view, places_view, refusal_of}
 use Rattle.c25_place.specs.declared.placement.Place.{Place}
 use Rattle.c25_place.proofs.Placing.{refused_is}
-use Rattle.c25_place.proofs.placement.Placed.place.Goals as goal
+use Rattle.c25_place.proofs.placement.PlacedSections.place.Goals as goal
 
 pub returns-in_ok-push-in-Ok-clause-room : goal.returns-in_ok-push-in-Ok-clause-room
 returns-in_ok-push-in-Ok-clause-room c =
