@@ -5,7 +5,7 @@ use Rattle.std.proofs.lemmas.Bool.{ne_eqb, cond_both, le-leb}
 use Rattle.c25_meaning_language.specs.declared.expression.BinaryOperator.{BinaryOperator}
 use Rattle.c25_meaning_language.specs.declared.expression.UnaryOperator.{UnaryOperator}
 use Rattle.c25_meaning_language.specs.Tree.{Tree, Single, Group, Unary, Binary, Mark, Operand, Signed, Stray, level_of}
-use Rattle.c25_meaning_language.specs.Reading.{PostfixItem, Push, Wrap, Apply, Combine, Frame, Open, Pending, After, State, settle, reduced, loosest, step, step_by, opened, waiting_by, closed, followed, finished_by, whole, run, unary_of, binary_of, is_open, is_close}
+use Rattle.c25_meaning_language.specs.Reading.{PostfixItem, Push, Wrap, Apply, Combine, Frame, Open, Pending, After, State, settle, reduced, loosest, step, step_by, operand_begun, waiting_by, closed, followed, finished_by, whole, run, unary_of, binary_of, is_open, is_close}
 use Rattle.c25_expr.specs.Completes.{opens, completes, completes_on, behind_open, behind_close, behind_follow}
 use Rattle.c25_expr.proofs.Sound.{level_loosest}
 
@@ -65,7 +65,7 @@ answers_settled ms more fs e is h =
     let s = settles fs e is h in
     more (settle fs e is) (s.shaped, s.settled) ∙ ap (λ b. completes ms b (opens (settle fs e is).frames)) s.some ∙ ap (completes ms false) s.same
 
-answers_opened : (ms : List Mark) → Answers ms → (fs : List Frame) (is : List PostfixItem) (o : Option UnaryOperator) (b : Bool) → IsShaped fs → is_some (option_and_then (run ms) (opened fs is o b)) ≡ completes_on (completes ms) (behind_open (opens fs) (is_some o) b)
+answers_opened : (ms : List Mark) → Answers ms → (fs : List Frame) (is : List PostfixItem) (o : Option UnaryOperator) (b : Bool) → IsShaped fs → is_some (option_and_then (run ms) (operand_begun fs is o b)) ≡ completes_on (completes ms) (behind_open (opens fs) (is_some o) b)
 answers_opened ms more fs is (Some op) b h = more (record { frames = Pending op ∷ fs; current = None; items = is }) (h, tt)
 answers_opened ms more fs is None true h = more (record { frames = Open ∷ fs; current = None; items = is }) (h, tt)
 answers_opened ms more fs is None false h = refl
@@ -124,7 +124,7 @@ abbrev StepShaped : Option State → Type 0
 StepShaped None = Unit {0}
 StepShaped (Some s) = HasShape s
 
-shaped_opened : (fs : List Frame) (is : List PostfixItem) (o : Option UnaryOperator) (b : Bool) → IsShaped fs → StepShaped (opened fs is o b)
+shaped_opened : (fs : List Frame) (is : List PostfixItem) (o : Option UnaryOperator) (b : Bool) → IsShaped fs → StepShaped (operand_begun fs is o b)
 shaped_opened fs is (Some op) b h = (h, tt)
 shaped_opened fs is None true h = (h, tt)
 shaped_opened fs is None false h = tt

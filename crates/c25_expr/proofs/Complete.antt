@@ -9,7 +9,7 @@ use Rattle.c25_meaning_language.specs.declared.expression.BinaryOperator.TheVari
 use Rattle.c25_meaning_language.specs.declared.expression.UnaryOperator.{UnaryOperator}
 use Rattle.c25_meaning_language.specs.declared.expression.UnaryOperator.TheVariants as unary
 use Rattle.c25_meaning_language.specs.Tree.{Tree, Single, Group, Unary, Binary, Mark, Signed, level_of, level, spelling, binary_sign, unary_sign, IsGrouped, IsTreeOf}
-use Rattle.c25_meaning_language.specs.Reading.{PostfixItem, Push, Wrap, Apply, Combine, Frame, Open, Pending, After, State, Found, start, settle, reduced, loosest, opened, waiting, closed, followed, step_by, finished_by, whole, run, unary_of, binary_of, is_open, is_close}
+use Rattle.c25_meaning_language.specs.Reading.{PostfixItem, Push, Wrap, Apply, Combine, Frame, Open, Pending, After, State, Found, start, settle, reduced, loosest, operand_begun, waiting, closed, followed, step_by, finished_by, whole, run, unary_of, binary_of, is_open, is_close}
 use Rattle.c25_expr.proofs.Sound.{IsReady, level_positive, level_loosest, run_sound}
 
 -- a tree in postfix order, the last item first
@@ -150,7 +150,7 @@ reads (Group e) fs is rest g f =
     ∙ reads e (Open ∷ fs) is (Signed sign.CloseParenthesis ∷ rest) g tt
     ∙ ap (option_and_then (run rest)) (after_close s.frames s.current s.items fs e (postfix e ++ is) (spread_reduce loosest (Open ∷ fs) e is tt g (level_most e)))
 reads (Unary op e) fs is rest g f =
-    ap (λ (o : Option UnaryOperator). option_and_then (run (spelling e ++ rest)) (opened fs is o (is_open (unary_sign op)))) (unary_sign-of op)
+    ap (λ (o : Option UnaryOperator). option_and_then (run (spelling e ++ rest)) (operand_begun fs is o (is_open (unary_sign op)))) (unary_sign-of op)
     ∙ reads e (Pending op ∷ fs) is rest g.1 g.0
     ∙ ap (run rest) (pending_spread op fs e is g.0)
 reads (Binary op l r) fs is rest g f =

@@ -5,7 +5,7 @@ use Rattle.std.proofs.lemmas.Bool.{cond_both}
 use Rattle.c25_meaning_language.specs.declared.expression.BinaryOperator.{BinaryOperator}
 use Rattle.c25_meaning_language.specs.declared.expression.UnaryOperator.{UnaryOperator}
 use Rattle.c25_meaning_language.specs.Tree.{Tree, Single, Group, Unary, Binary, Mark, Operand, Signed, Stray, depth, level_of}
-use Rattle.c25_meaning_language.specs.Reading.{PostfixItem, Push, Wrap, Apply, Combine, Frame, Open, Pending, After, State, Found, settle, reduced, loosest, step, step_by, opened, waiting_by, closed_by, followed, finished_by, whole_by, run}
+use Rattle.c25_meaning_language.specs.Reading.{PostfixItem, Push, Wrap, Apply, Combine, Frame, Open, Pending, After, State, Found, settle, reduced, loosest, step, step_by, operand_begun, waiting_by, closed_by, followed, finished_by, whole_by, run}
 use Rattle.c25_expr.specs.Completes.{nesting}
 
 -- how deep the frames, and the trees in them, nest
@@ -64,7 +64,7 @@ Deepens n (Some s) = Nears n s
 deepens_settle : (fs : List Frame) (e : Tree) (is : List PostfixItem) (n : ℕ) → n ≡ max (height fs) (nesting fs + depth e) → Nears n (settle fs e is)
 deepens_settle fs e is n h = record { least = omega (arith, h, reach-settle fs e is); most = omega (arith, h, reach-settle fs e is) }
 
-deepens_opened : (fs : List Frame) (is : List PostfixItem) (o : Option UnaryOperator) (b : Bool) → Deepens (height fs) (opened fs is o b)
+deepens_opened : (fs : List Frame) (is : List PostfixItem) (o : Option UnaryOperator) (b : Bool) → Deepens (height fs) (operand_begun fs is o b)
 deepens_opened fs is (Some op) b = record { least = omega arith; most = omega arith }
 deepens_opened fs is None true = record { least = omega arith; most = omega arith }
 deepens_opened fs is None false = tt

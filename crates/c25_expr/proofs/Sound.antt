@@ -10,7 +10,7 @@ use Rattle.c25_meaning_language.specs.declared.expression.BinaryOperator.TheVari
 use Rattle.c25_meaning_language.specs.declared.expression.UnaryOperator.{UnaryOperator}
 use Rattle.c25_meaning_language.specs.declared.expression.UnaryOperator.TheVariants as unary
 use Rattle.c25_meaning_language.specs.Tree.{Tree, Single, Group, Unary, Binary, Mark, Operand, Signed, Stray, level_of, level, spelling, binary_sign, unary_sign, IsGrouped}
-use Rattle.c25_meaning_language.specs.Reading.{PostfixItem, Push, Wrap, Apply, Combine, Frame, Open, Pending, After, State, Found, settle, reduced, loosest, step, step_by, opened, waiting_by, closed_by, followed, finished_by, whole_by, run, unary_of, binary_of, is_open, is_close}
+use Rattle.c25_meaning_language.specs.Reading.{PostfixItem, Push, Wrap, Apply, Combine, Frame, Open, Pending, After, State, Found, settle, reduced, loosest, step, step_by, operand_begun, waiting_by, closed_by, followed, finished_by, whole_by, run, unary_of, binary_of, is_open, is_close}
 
 -- the tokens of what is open
 abbrev pub before : List Frame → List Mark
@@ -148,7 +148,7 @@ spelled_none ms t s h = append-nil _ ∙ ap (λ x. ms ++ Signed x ∷ []) h ∙ 
 regroup : (xs : List Mark) (a : Mark) (ys : List Mark) (b : Mark) → xs ++ (a ∷ (ys ++ b ∷ [])) ≡ ((xs ++ a ∷ []) ++ ys) ++ b ∷ []
 regroup xs a ys b = simp append_assoc
 
-open_steps : (fs : List Frame) (is : List PostfixItem) (s : Sign) (o : Option UnaryOperator) (b : Bool) → unary_of s ≡ o → is_open s ≡ b → AreGrouped fs → Steps (record { frames = fs; current = None; items = is }) (Signed s) (opened fs is o b)
+open_steps : (fs : List Frame) (is : List PostfixItem) (s : Sign) (o : Option UnaryOperator) (b : Bool) → unary_of s ≡ o → is_open s ≡ b → AreGrouped fs → Steps (record { frames = fs; current = None; items = is }) (Signed s) (operand_begun fs is o b)
 open_steps fs is s (Some op) b h q g = record { spelled = spelled_none (before fs) (unary_sign op) s (sym (unary_of-sign s op h)); sound = (g, tt) }
 open_steps fs is s None true h q g = record { spelled = spelled_none (before fs) sign.OpenParenthesis s (sym (is_open-sign s q)); sound = (g, tt) }
 open_steps fs is s None false h q g = tt

@@ -4,7 +4,7 @@ ghost use Rattle.std.specs.Prelude.{◌≡◌, ◌≢◌, ◌+◌, ◌<◌, ◌�
 ghost use Rattle.std.specs.Option.{ok_or, option_map};
 ghost use Rattle.c25_meaning_common.specs.Results.{Meets};
 ghost use Rattle.c25_meaning_language.specs.Tree.{mark_of};
-ghost use Rattle.c25_meaning_language.specs.Reading.{Found, start, settle, reduced, step, opened, followed, closed, finished, unary_of, binary_of, is_open, is_close};
+ghost use Rattle.c25_meaning_language.specs.Reading.{Found, start, settle, reduced, step, operand_begun, followed, closed, finished, unary_of, binary_of, is_open, is_close};
 ghost use Rattle.c25_text.specs.View.{piece_of};
 ghost use Rattle.c25_expr.specs.Completes.{nesting, opens, completes};
 ghost use Rattle.c25_expr.specs.Postfix.{item_of, runs, last_tree};
@@ -134,7 +134,7 @@ impl Builder {
     /// A sign where an operand has to come.
     fn open(&mut self, sign: Sign) -> Result<(), Failure<ExpressionFault>>
         requires { self.old.expects ≡ true }
-        ensures { Meets (λ _. state_of self.new) (ok_or (opened (state_of self.old).frames (items_of self.old) (unary_of sign) (is_open sign)) ExpressionFault.BadExpression) result }
+        ensures { Meets (λ _. state_of self.new) (ok_or (operand_begun (state_of self.old).frames (items_of self.old) (unary_of sign) (is_open sign)) ExpressionFault.BadExpression) result }
     {
         if let Some(operator) = unary_of(sign) {
             self.frames.push(Frame::Pending(operator))?;

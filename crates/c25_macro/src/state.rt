@@ -105,7 +105,7 @@ impl<'a> State<'a> {
         rows: Rows<'a>,
     ) -> Result<(), NoMemory>
         requires reading { self.old.mode ≡ modes.Reading }
-        ensures { OnOk result (config self.new ≡ exp.opened (kind_of kind.entry) last rows.entry (config self.old)) }
+        ensures { OnOk result (config self.new ≡ exp.source_opened (kind_of kind.entry) last rows.entry (config self.old)) }
     {
         let source = Source {
             lines: rows.into_passage(),

@@ -173,8 +173,8 @@ opened_by None name initialised p =
     else Ok (length p.sections, record p { sections = p.sections ++ empty_section name initialised ∷ [] })
 
 -- the number of the section of this name
-unfoldable pub opened : List ℕ → Bool → Progress → Result (ℕ × Progress) FaultKind
-opened name initialised p = opened_by (position (is_called name) p.sections) name initialised p
+unfoldable pub section_opened : List ℕ → Bool → Progress → Result (ℕ × Progress) FaultKind
+section_opened name initialised p = opened_by (position (is_called name) p.sections) name initialised p
 
 -- sections, this one changed, if it is there
 abbrev pub changed_by : (Section → Section) → List Section → ℕ → Option Section → List Section
@@ -276,7 +276,7 @@ block_allowed flag n = if flag && not (nat_le 1 n && nat_le n 128) then Err faul
 -- words for a name
 unfoldable pub reserve : List ℕ → List ℕ → ℕ → Bool → Progress → Result Progress FaultKind
 reserve section name n flag p =
-    opened section false p >>= λ o. grow o.0 n o.1 >>= λ q.
+    section_opened section false p >>= λ o. grow o.0 n o.1 >>= λ q.
     define name (place_in o.1.sections o.0) (block flag o.0 (size_at o.1.sections o.0) n q)
 
 -- ---- names
@@ -286,14 +286,14 @@ abbrev pub is_predefined : List ℕ → Bool
 is_predefined name = is_some (predefined name)
 
 -- a plain number
-abbrev pub absolute : ℕ → Value
-absolute n = record { base = base.Absolute; offset = pos n }
+abbrev pub value_of_number : ℕ → Value
+value_of_number n = record { base = base.Absolute; offset = pos n }
 
 -- the memory-mapped registers, by their data addresses (SPRU014, memory-mapped registers)
 abbrev pub register_names : Definitions
 register_names =
-    (codes "DRR", absolute 0) ∷ (codes "DXR", absolute 1) ∷ (codes "TIM", absolute 2)
-    ∷ (codes "PRD", absolute 3) ∷ (codes "IMR", absolute 4) ∷ (codes "GREG", absolute 5) ∷ []
+    (codes "DRR", value_of_number 0) ∷ (codes "DXR", value_of_number 1) ∷ (codes "TIM", value_of_number 2)
+    ∷ (codes "PRD", value_of_number 3) ∷ (codes "IMR", value_of_number 4) ∷ (codes "GREG", value_of_number 5) ∷ []
 
 -- a name and what it stands for
 abbrev pub define_pair : Progress → List ℕ × Value → Result Progress FaultKind
@@ -309,7 +309,7 @@ allowed _ p = Ok tt
 
 -- `.text`, `.data`, `.sect`
 abbrev pub enter : List ℕ → Progress → Result Progress FaultKind
-enter section p = opened section true p >>= λ o. Ok (record o.1 { current = o.0 })
+enter section p = section_opened section true p >>= λ o. Ok (record o.1 { current = o.0 })
 
 -- so much room for a name: the count is looked at before the flag, what a block may have behind both
 abbrev pub reserve_room : List ℕ → List ℕ → Room → Progress → Result Progress FaultKind

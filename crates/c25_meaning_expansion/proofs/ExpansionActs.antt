@@ -12,7 +12,7 @@ use Rattle.c25_meaning_expansion.specs.Rows.{Row, file_number}
 use Rattle.c25_meaning_language.specs.SubstitutionTexts.{SubstitutionTexts}
 use Rattle.c25_meaning_expansion.specs.Acts.{ExpansionAct, If, ElseIf, Else, EndIf, Define, Stray, Exit, Loop, Break, Assign, Evaluate, Copy, End, Call}
 use Rattle.c25_meaning_expansion.specs.Expansion.{LineOrEnd, Kind, Copied, Expanded, Turn, Scope, Expansion, Mode, Dictionary, Config, Rewriting, Gives, Goes, Faults, Misses, unless, depth, is_full, with_branches, left_through, after_close, without_ended, is_expansion, is_turn, stands_in, macro_named, assigned, assigned_by}
-use Rattle.c25_meaning_expansion.specs.ExpansionRules.{absolute, with_number, needed, phase_of, elseif_in, else_in, begins_if, enters, elseif_by, else_by, endif_by, begins_macro, begins_expansion, leaves, turns_of, collects, begins_loop, breaks_if, breaks, evaluates, copies_by, copies, ends_all, acts}
+use Rattle.c25_meaning_expansion.specs.ExpansionRules.{absolute_number, with_number, needed, phase_of, elseif_in, else_in, begins_if, enters, elseif_by, else_by, endif_by, begins_macro, begins_expansion, leaves, turns_of, collects, begins_loop, breaks_if, breaks, evaluates, copies_by, copies, ends_all, acts}
 use Rattle.c25_meaning_expansion.specs.ExpansionBounds.{nested_of, pending, collecting, nesting, deepest, skipping}
 use Rattle.c25_meaning_expansion.specs.declared.expansion.SourcePlace.{SourcePlace}
 use Rattle.c25_meaning_expansion.specs.declared.expansion.Branch.{Branch}
@@ -44,7 +44,7 @@ module _ {P Q : Config → Type 0} where
   comes_with_number place (Err kind) next h = faults
 
   comes_needed : (s : Table) (place : SourcePlace) (e : Tree) (next : ℤ → Rewriting) → ((n : ℤ) → Comes P Q (next n)) → Comes P Q (needed s place e next)
-  comes_needed s place e next h = comes_with_number place (absolute (valued s e)) next h
+  comes_needed s place e next h = comes_with_number place (absolute_number (valued s e)) next h
 
   pub comes_elseif : (phase : Phase) (place : SourcePlace) (next : Phase → Rewriting) (sought : Rewriting) → ((p : Phase) → Comes P Q (next p)) → Comes P Q sought → Comes P Q (elseif_in phase place next sought)
   comes_elseif Seeking place next sought h k = k

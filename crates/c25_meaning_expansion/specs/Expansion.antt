@@ -87,8 +87,8 @@ abbrev pub is_full : Config → Bool
 is_full c = nat_le 32 (depth c)
 
 -- these lines come next, and then an end
-abbrev pub opened : Kind → SourcePlace → List Row → Config → Config
-opened kind last rows c =
+abbrev pub source_opened : Kind → SourcePlace → List Row → Config → Config
+source_opened kind last rows c =
     record c { lines = map Read rows ++ Close ∷ c.lines; scope = record { kind = kind; last = last; branches = [] }; outer = c.scope ∷ c.outer }
 
 -- with these `.if`s in the innermost file, expansion or turn

@@ -33,7 +33,7 @@ use Rattle.c25_meaning_expansion.specs.Rows.{Row, rows_of, last_place, file_numb
 use Rattle.c25_meaning_language.specs.Substitution.{substituted, substituted_before_comma, unsubstituted}
 use Rattle.c25_meaning_language.specs.SubstitutionTexts.{SubstitutionTexts, with_name}
 use Rattle.c25_meaning_expansion.specs.Acts.{ExpansionAct, If, ElseIf, Else, EndIf, Define, Stray, Exit, Loop, Break, Assign, Evaluate, Copy, End, Call, Macro, Order, directive_of, order_of, call_of}
-use Rattle.c25_meaning_expansion.specs.Expansion.{Kind, Copied, Expanded, Turn, Reading, Acting, InMacro, InLoop, Dictionary, Config, Rewriting, Gives, Goes, Faults, Misses, unless, is_full, opened, with_branches, left_through, is_expansion, is_turn, stands_in, macro_named, seen, number_of, assigned, called}
+use Rattle.c25_meaning_expansion.specs.Expansion.{Kind, Copied, Expanded, Turn, Reading, Acting, InMacro, InLoop, Dictionary, Config, Rewriting, Gives, Goes, Faults, Misses, unless, is_full, source_opened, with_branches, left_through, is_expansion, is_turn, stands_in, macro_named, seen, number_of, assigned, called}
 use Rattle.c25_meaning_language.specs.declared.value.Value.{Value}
 use Rattle.c25_meaning_expansion.specs.declared.expansion.SourcePlace.{SourcePlace}
 use Rattle.c25_meaning_expansion.specs.declared.expansion.Branch.{Branch}
@@ -48,8 +48,8 @@ use Rattle.c25_meaning_language.specs.declared.statement.FaultKind.TheVariants a
 -- ---- values that are needed now
 
 -- an absolute number, or the fault
-abbrev pub absolute : Result Value FaultKind → Result ℤ FaultKind
-absolute value = value >>= λ v. number_by v.base v.offset
+abbrev pub absolute_number : Result Value FaultKind → Result ℤ FaultKind
+absolute_number value = value >>= λ v. number_by v.base v.offset
 
 -- what follows a number, or the fault
 abbrev pub with_number : SourcePlace → Result ℤ FaultKind → (ℤ → Rewriting) → Rewriting
@@ -58,7 +58,7 @@ with_number place (Err kind) next = Faults place kind
 
 -- what follows the number of an expression under the symbols so far: 22 to 25
 abbrev pub needed : Table → SourcePlace → Tree → (ℤ → Rewriting) → Rewriting
-needed s place e next = with_number place (absolute (valued s e)) next
+needed s place e next = with_number place (absolute_number (valued s e)) next
 
 -- ---- conditional lines: `.elseif` and `.else` by the phase of the `.if` that they go on with
 --
@@ -132,7 +132,7 @@ begins_macro place name parameters c =
 -- a call
 unfoldable pub begins_expansion : SourcePlace → List Row → SubstitutionTexts → Config → Rewriting
 begins_expansion place body arguments c =
-    unless (is_full c) fault.Depth place (Goes (record (opened Expanded (last_place place body) body c) { names = called arguments c.names }))
+    unless (is_full c) fault.Depth place (Goes (record (source_opened Expanded (last_place place body) body c) { names = called arguments c.names }))
 
 -- the lines through the end of the innermost expansion or turn are dropped
 abbrev pub leaves : (Kind → Bool) → SourcePlace → Config → Rewriting
@@ -172,7 +172,7 @@ evaluates s place e name c = needed s place e (λ number. Goes (record c { names
 abbrev pub copies_by : Option (List ℕ) → ℕ → SourcePlace → List ℕ → Config → Rewriting
 copies_by None file place name c = Misses place name
 copies_by (Some text) file place name c =
-    unless (is_full c) fault.Depth place (Goes (opened Copied (last_place place (rows_of file text)) (rows_of file text) c))
+    unless (is_full c) fault.Depth place (Goes (source_opened Copied (last_place place (rows_of file text)) (rows_of file text) c))
 
 -- `.copy`
 unfoldable pub copies : Files → SourcePlace → List ℕ → Config → Rewriting
@@ -302,7 +302,7 @@ in_macro row _ name parameters body nested c = Goes (record c { mode = InMacro n
 
 -- the turns of a loop whose lines were collected
 abbrev pub turns_begin : SourcePlace → ℕ → List Row → Config → Rewriting
-turns_begin place turns body c = if turns == 0 then Goes c else Goes (opened (Turn body (turns - 1)) (last_place place body) body c)
+turns_begin place turns body c = if turns == 0 then Goes c else Goes (source_opened (Turn body (turns - 1)) (last_place place body) body c)
 
 -- a line of a loop's body: the end of the loop, or one more
 unfoldable pub in_loop : Row → Option Directive → ℕ → List Row → ℕ → Config → Rewriting

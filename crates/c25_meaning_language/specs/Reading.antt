@@ -95,10 +95,10 @@ abbrev pub loosest : ℕ
 loosest = 8
 
 -- a sign where an operand has to come, by what it is
-abbrev pub opened : List Frame → List PostfixItem → Option UnaryOperator → Bool → Option State
-opened fs is (Some op) b = Some (record { frames = Pending op ∷ fs; current = None; items = is })
-opened fs is None true = Some (record { frames = Open ∷ fs; current = None; items = is })
-opened fs is None false = None
+abbrev pub operand_begun : List Frame → List PostfixItem → Option UnaryOperator → Bool → Option State
+operand_begun fs is (Some op) b = Some (record { frames = Pending op ∷ fs; current = None; items = is })
+operand_begun fs is None true = Some (record { frames = Open ∷ fs; current = None; items = is })
+operand_begun fs is None false = None
 
 -- an operator waits for its right operand
 abbrev pub waiting_by : BinaryOperator → List Frame → Option Tree → List PostfixItem → State
@@ -127,7 +127,7 @@ followed fs e is None false = None
 -- one token
 abbrev pub step_by : List Frame → Option Tree → List PostfixItem → Mark → Option State
 step_by fs None is (Operand l) = Some (settle fs (Single l) (Push l ∷ is))
-step_by fs None is (Signed s) = opened fs is (unary_of s) (is_open s)
+step_by fs None is (Signed s) = operand_begun fs is (unary_of s) (is_open s)
 step_by fs None is Stray = None
 step_by fs (Some e) is (Operand l) = None
 step_by fs (Some e) is (Signed s) = followed fs e is (binary_of s) (is_close s)

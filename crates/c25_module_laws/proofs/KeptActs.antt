@@ -7,7 +7,7 @@ use Rattle.std.proofs.lemmas.List.{map-append, length-append, length-map}
 use Rattle.std.proofs.lemmas.Bool.{and_from, and_parts, ltb-true, ltb-false, leb-true, leb-false, cond_both, le-ltb, lt-ltb, not_from_false, not-true}
 use Rattle.c25_meaning_objects.specs.Module.{each_fits}
 use Rattle.c25_meaning_assembly.specs.Sections as meaning
-use Rattle.c25_meaning_assembly.specs.Sections.{Definitions, Section, Content, Operands, Words, Zeros, Exported, Origin, LaidContent, Progress, changed, longer, with_mark, is_in, are_distinct, once, all_once, stands, define, label, here, table, place_in, same_kind, of_kind, opened, grow, lay, loaded_here, with_item, size_at, size_by, empty_section, is_called, count_in, reserve, register_names, absolute, define_pair}
+use Rattle.c25_meaning_assembly.specs.Sections.{Definitions, Section, Content, Operands, Words, Zeros, Exported, Origin, LaidContent, Progress, changed, longer, with_mark, is_in, are_distinct, once, all_once, stands, define, label, here, table, place_in, same_kind, of_kind, section_opened, grow, lay, loaded_here, with_item, size_at, size_by, empty_section, is_called, count_in, reserve, register_names, value_of_number, define_pair}
 use Rattle.c25_meaning_language.specs.Statement.{valued}
 use Rattle.c25_meaning_language.specs.Tree.{Tree}
 use Rattle.c25_meaning_language.specs.Value.{named_by, predefined, defined, upper}
@@ -268,8 +268,8 @@ kind_is true s h = h
 kind_is false s h = not-true s.initialised h
 
 pub opened_kept : (name : List ℕ) (initialised : Bool) (p : Progress) (o : ℕ × Progress) → IsSection name → same_kind initialised (find (is_called name) p.sections) ≡ true → AllKept p
-    → opened name initialised p ≡ Ok o → IsOpened o initialised
-unfolding opened
+    → section_opened name initialised p ≡ Ok o → IsOpened o initialised
+unfolding section_opened
 opened_kept name initialised p o section kind kept e = on (position (is_called name) p.sections) refl e
   where
     on : (i : Option ℕ) → position (is_called name) p.sections ≡ i → meaning.opened_by i name initialised p ≡ Ok o → IsOpened o initialised

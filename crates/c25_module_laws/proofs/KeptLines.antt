@@ -15,7 +15,7 @@ use Rattle.c25_meaning_objects.specs.Module.{each_fits}
 use Rattle.c25_meaning_sources.specs.ModuleOfSource.{Passed, no_lines, entry_of, origin_of, pass_line, passed, passed_by, passed_from, read_and_pass}
 use Rattle.c25_meaning_common.specs.Results.{◌>>=◌, fold_ok}
 use Rattle.c25_meaning_assembly.specs.Sections as meaning
-use Rattle.c25_meaning_assembly.specs.Sections.{Definitions, Section, Content, Operands, Words, Zeros, Exported, Origin, LaidContent, Progress, changed, longer, with_block, with_mark, use_line, block, block_allowed, flag_in, is_in, are_distinct, once, all_once, stands, define, label, here, loaded_here, table, place_in, same_kind, of_kind, opened, grow, lay, with_item, size_at, size_by, is_called, count_in, reserve, reserve_room, register_names, define_pair, name_count, few, pass, allowed, act}
+use Rattle.c25_meaning_assembly.specs.Sections.{Definitions, Section, Content, Operands, Words, Zeros, Exported, Origin, LaidContent, Progress, changed, longer, with_block, with_mark, use_line, block, block_allowed, flag_in, is_in, are_distinct, once, all_once, stands, define, label, here, loaded_here, table, place_in, same_kind, of_kind, section_opened, grow, lay, with_item, size_at, size_by, is_called, count_in, reserve, reserve_room, register_names, define_pair, name_count, few, pass, allowed, act}
 use Rattle.c25_meaning_language.specs.Statement.{valued, form_row}
 use Rattle.c25_meaning_instructions.specs.Table.{size}
 use Rattle.c25_meaning_language.specs.Tree.{Tree}
@@ -378,7 +378,7 @@ registers_kept p q kept e = on p.registers e
 
 enter_kept : (section : List ℕ) (p q : Progress) → IsSection section → same_kind true (find (is_called section) p.sections) ≡ true → AllKept p → meaning.enter section p ≡ Ok q → AllKept q
 enter_kept section p q name kind kept e =
-    let a = bound (opened section true p) (λ o. Ok (record o.1 { current = o.0 })) q e in
+    let a = bound (section_opened section true p) (λ o. Ok (record o.1 { current = o.0 })) q e in
     let made : Progress = record (a.0).1 { current = (a.0).0 } in
     let same : made ≡ q = let last = a.2 in cc in
     let o = opened_kept section true p a.0 name kind kept a.1 in
@@ -394,7 +394,7 @@ reserve_kept : (section name : List ℕ) (n : ℕ) (flag : Bool) (u : Unit {0}) 
     → block_allowed flag n ≡ Ok u → AllKept p → reserve section name n flag p ≡ Ok q → AllKept q
 unfolding reserve
 reserve_kept section name n flag u p q is symbol kind allowed kept e =
-    let a = bound (opened section false p) (λ o. grow o.0 n o.1 >>= λ r. define name (place_in o.1.sections o.0) (block flag o.0 (size_at o.1.sections o.0) n r)) q e in
+    let a = bound (section_opened section false p) (λ o. grow o.0 n o.1 >>= λ r. define name (place_in o.1.sections o.0) (block flag o.0 (size_at o.1.sections o.0) n r)) q e in
     let i = (a.0).0 in
     let r = (a.0).1 in
     let b = bound (grow i n r) (λ x. define name (place_in r.sections i) (block flag i (size_at r.sections i) n x)) q a.2 in

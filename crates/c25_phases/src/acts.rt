@@ -285,7 +285,7 @@ impl<'a> Progress<'a> {
     }
 
     fn define_register(&mut self, name: &str, number: u8) -> Result<(), Failure<FaultKind>>
-        ensures { Meets (λ _. progress_of self.new) (meaning.define name.now (meaning.absolute number) (progress_of self.old)) result }
+        ensures { Meets (λ _. progress_of self.new) (meaning.define name.now (meaning.value_of_number number) (progress_of self.old)) result }
     {
         let value = Value {
             base: Base::Absolute,

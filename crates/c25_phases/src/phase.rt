@@ -177,9 +177,9 @@ impl<'a> Progress<'a> {
     }
 
     /// The number of the section of a name; a new one comes last.
-    #[tactic(auto, unfolding(c25_meaning_assembly::specs::Sections::opened))]
+    #[tactic(auto, unfolding(c25_meaning_assembly::specs::Sections::section_opened))]
     pub(crate) fn open(&mut self, name: &str, initialised: bool) -> Result<u16, Failure<FaultKind>>
-        ensures { Meets (λ i. (i, progress_of self.new)) (meaning.opened name.now initialised (progress_of self.old)) result }
+        ensures { Meets (λ i. (i, progress_of self.new)) (meaning.section_opened name.now initialised (progress_of self.old)) result }
     {
         if let Some(number) = self.sections.position(name) {
             return Ok(number as u16);

@@ -33,9 +33,9 @@ abbrev pub operation_of : Operation → line.Operation
 operation_of o = record { form = o.form; trees = trees_of o.trees.items }
 
 -- a count, or what is wrong with it
-abbrev pub count_of : Result Expr FaultKind → Result Tree FaultKind
-count_of (Ok e) = Ok (tree_of e)
-count_of (Err f) = Err f
+abbrev pub count_tree : Result Expr FaultKind → Result Tree FaultKind
+count_tree (Ok e) = Ok (tree_of e)
+count_tree (Err f) = Err f
 
 -- a count and a flag
 abbrev pub room_of : Room → says.Room
