@@ -9,9 +9,9 @@ ghost use Rattle.c25_meaning_objects.specs.Module.{body_size, body_words, words_
 ghost use Rattle.c25_obj.specs.View.{body_data, contents, section_data, symbols_data};
 
 use crate::index::{IndexEntry, at, first_at, index_of, item_at};
+use crate::instruction_reader::instruction;
 use crate::line::{push_address, push_line};
 use crate::notes::push_filled;
-use crate::reading::instruction;
 use c25_meaning_common::no_memory::NoMemory;
 use c25_meaning_instructions::insn::Insn;
 use c25_meaning_objects::object::ModuleMark;
