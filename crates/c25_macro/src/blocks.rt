@@ -1,4 +1,6 @@
 //! Macros, loops and copied files.
+//!
+//! `State` and its other methods: `state.rt` says where they are.
 
 ghost use Rattle.std.specs.Prelude.{◌≡◌, ◌<◌, ◌^◌, ◌||◌, is_some};
 ghost use Rattle.std.specs.Option.{option_map};

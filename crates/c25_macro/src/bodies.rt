@@ -1,4 +1,6 @@
 //! Lines that go into the body of a macro or of a loop.
+//!
+//! `State` and its other methods: `state.rt` says where they are.
 
 ghost use Rattle.std.specs.Prelude.{◌≡◌, ◌<◌, ◌^◌};
 ghost use Rattle.std.specs.String.{string_bytes};

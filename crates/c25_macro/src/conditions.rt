@@ -1,4 +1,6 @@
 //! Conditional lines: `.if`, `.elseif`, `.else`, `.endif`.
+//!
+//! `State` and its other methods: `state.rt` says where they are.
 
 ghost use Rattle.std.specs.Prelude.{◌≡◌};
 ghost use Rattle.c25_meaning_expansion.specs.ExpansionRules as rule;

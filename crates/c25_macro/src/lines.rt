@@ -1,4 +1,6 @@
 //! Lines as they are read: skipped, taken, substituted, and given or consumed.
+//!
+//! `State` and its other methods: `state.rt` says where they are.
 
 ghost use Rattle.std.specs.Prelude.{◌≡◌, ◌<◌, ◌^◌, Result};
 ghost use Rattle.std.specs.Cow.{cow_str_bytes};

@@ -1,4 +1,6 @@
-//! What an expander works on: the sources that are open, and how the next line is looked at.
+//! What an expander works on: the sources that are open, and how the next line is looked at. Methods of
+//! `State` for one rule each: `conditions.rt` `.if`, `blocks.rt` macros, loops and copied files,
+//! `bodies.rt` their bodies, `lines.rt` a line that is read; `step.rt` goes on until a line is given.
 
 ghost use Rattle.std.specs.Prelude.{◌≡◌, ◌<◌, ◌^◌, ◌++◌, Some, None, OnOk, MatchBool};
 ghost use Rattle.c25_meaning_expansion.specs.Expansion as exp;

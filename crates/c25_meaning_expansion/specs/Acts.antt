@@ -10,7 +10,7 @@ use Rattle.c25_meaning_language.specs.Operands.{operands_of, written_of}
 use Rattle.c25_meaning_language.specs.Tree.{Tree}
 use Rattle.c25_meaning_common.specs.Results.{◌>>=◌}
 use Rattle.c25_meaning_language.specs.Forms.{is_expression}
-use Rattle.c25_meaning_language.specs.SubstitutionTexts.{SubstitutionTexts}
+use Rattle.c25_meaning_language.specs.Texts.{SubstitutionTexts}
 use Rattle.c25_meaning_language.specs.Arguments.{arguments, assigned_text}
 use Rattle.c25_meaning_expansion.specs.Rows.{Row}
 use Rattle.c25_meaning_expansion.specs.declared.expansion.Directive.{Directive}

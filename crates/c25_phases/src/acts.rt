@@ -1,4 +1,5 @@
-//! The first phase: what one line does.
+//! The first phase: what one line does. The type of these methods, `Progress`, is in `progress.rt`, its
+//! other methods are in `first_phase.rt`.
 
 ghost use Rattle.std.specs.Prelude.{◌≡◌, ◌≤◌, ◌+◌, OnOk, IfOk};
 ghost use Rattle.std.specs.List.{list_any};

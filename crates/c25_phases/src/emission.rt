@@ -12,9 +12,9 @@ ghost use Rattle.c25_phases.specs.Names.{bytes_of_names};
 ghost use Rattle.c25_phases.specs.View.{content_of, fault_of, item_of};
 
 use crate::fault::AsmFault;
+use crate::first_phase::place;
 use crate::item::{Content, LaidContent};
 use crate::names::DistinctNames;
-use crate::phase::place;
 use crate::refusal::at_origin;
 use crate::sections::Sections;
 use crate::sheet::Sheet;

@@ -1,4 +1,5 @@
-//! The first phase: names, counts and sections.
+//! The first phase: names, counts and sections. The type of these methods, `Progress`, is in
+//! `progress.rt`, its other methods are in `acts.rt`.
 
 ghost use Rattle.std.specs.Prelude.{◌≡◌, ◌≤◌, ◌<◌, ◌+◌, Ok, OnOk, IfOk};
 ghost use Rattle.std.specs.Option.{option_map};
