@@ -166,15 +166,15 @@ of_kind name initialised p =
     if same_kind initialised (find (is_called name) p.sections) then Ok tt else Err fault.OperandForm
 
 -- the section of this number, or a new one, which comes last; there are at most 255
-abbrev pub opened_by : Option ℕ → List ℕ → Bool → Progress → Result (ℕ × Progress) FaultKind
-opened_by (Some i) name initialised p = Ok (i, p)
-opened_by None name initialised p =
+abbrev pub section_opened_by : Option ℕ → List ℕ → Bool → Progress → Result (ℕ × Progress) FaultKind
+section_opened_by (Some i) name initialised p = Ok (i, p)
+section_opened_by None name initialised p =
     if nat_le 255 (length p.sections) then Err fault.TooLarge
     else Ok (length p.sections, record p { sections = p.sections ++ empty_section name initialised ∷ [] })
 
 -- the number of the section of this name
 unfoldable pub section_opened : List ℕ → Bool → Progress → Result (ℕ × Progress) FaultKind
-section_opened name initialised p = opened_by (position (is_called name) p.sections) name initialised p
+section_opened name initialised p = section_opened_by (position (is_called name) p.sections) name initialised p
 
 -- sections, this one changed, if it is there
 abbrev pub changed_by : (Section → Section) → List Section → ℕ → Option Section → List Section

@@ -272,7 +272,7 @@ pub opened_kept : (name : List ℕ) (initialised : Bool) (p : Progress) (o : ℕ
 unfolding section_opened
 opened_kept name initialised p o section kind kept e = on (position (is_called name) p.sections) refl e
   where
-    on : (i : Option ℕ) → position (is_called name) p.sections ≡ i → meaning.opened_by i name initialised p ≡ Ok o → IsOpened o initialised
+    on : (i : Option ℕ) → position (is_called name) p.sections ≡ i → meaning.section_opened_by i name initialised p ≡ Ok o → IsOpened o initialised
     on (Some i) is e =
         let found = position_found (is_called name) p.sections i is in
         let same : (i, p) ≡ o = cc in
