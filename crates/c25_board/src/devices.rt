@@ -6,7 +6,7 @@ ghost use Rattle.c25_meaning_processor.specs.Memory.{memory_of};
 ghost use Rattle.c25_meaning_image.specs.Marks.{run_fit};
 ghost use Rattle.c25_board.specs.Places.{are_whole, marks_in};
 
-use crate::places::{Place, WORDS, place_at};
+use crate::places::{CodePlace, WORDS, place_at};
 use crate::ports::{Feed, Sink};
 use c25_core::{Bus, SinkFailed};
 use c25_meaning_common::no_memory::NoMemory;
@@ -21,7 +21,7 @@ use c25_meaning_image::word_map::WordMap;
 pub(crate) struct Devices<F: Feed + Drop, S: Sink + Drop> {
     pub(crate) words: Vec<u16>,
     pub(crate) program: Vec<u16>,
-    pub(crate) places: Vec<Place>,
+    pub(crate) places: Vec<CodePlace>,
     pub(crate) run_marks: Vec<RunMark>,
     pub(crate) feed: F,
     pub(crate) sink: S,

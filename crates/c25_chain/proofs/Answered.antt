@@ -15,7 +15,7 @@ use Rattle.c25_meaning_stimulus.specs.declared.schedule.Entry.{Entry}
 use Rattle.c25_chain.specs.Built.{IsBuilt, IsBuiltAs}
 use Rattle.c25_chain.specs.Chain.{Answers, Given, Inputs, IsAnswer, inputs_in, run_of, texts_of}
 use Rattle.c25_chain.specs.Linked as linked
-use Rattle.c25_chain.specs.Linked.{Texts}
+use Rattle.c25_chain.specs.Linked.{LinkedTexts}
 use Rattle.c25_chain.specs.Refusal.{Fault, refusal_of}
 use Rattle.c25_chain.specs.Run.{EndsAs, HasRun, RunsWords, run_data}
 use Rattle.c25_chain.specs.declared.built.Built.{Built}
@@ -89,7 +89,7 @@ answered g n b d c samples entries is e h run texts listings done =
       image = image;
       inputs = record { samples = samples; entries = entries };
       built = subst (λ (ls : Vec (String Global) Global). IsBuilt g.files g.sources g.command image (texts_of c) (map string_bytes ls.items)) (sym listings)
-          (subst (λ (t : Texts). IsBuilt g.files g.sources g.command image t (map string_bytes b.listings.items)) (sym texts) built);
+          (subst (λ (t : LinkedTexts). IsBuilt g.files g.sources g.command image t (map string_bytes b.listings.items)) (sym texts) built);
       read = both_read g samples entries e h;
       run = (
         run.0,

@@ -20,13 +20,13 @@ use Rattle.c25_chain.proofs.Sourced.{are_modules, have_statements, modules_are}
 use Rattle.c25_chain.specs.Built.{IsBuilt}
 use Rattle.c25_chain.specs.Chain.{Given, IsAnswer, run_of, texts_of}
 use Rattle.c25_chain.specs.Headline.{CodeStays, HasSourceWords, HoldsSourceWords, MarksStatements, OfProgram, RunsAsSources, RunsItsWords, TellsStatementsRun, first_state, source_modules, source_statements, stored_statements, without_refusal}
-use Rattle.c25_chain.specs.Linked.{Texts, places_of}
+use Rattle.c25_chain.specs.Linked.{LinkedTexts, places_of}
 use Rattle.c25_chain.specs.Run.{EndsAs}
 use Rattle.c25_chain.specs.declared.chain.Chain.{Chain}
 
 -- ---- the program
 
-module _ (laws : Laws) (files : Files) (names : List (List ℕ)) (command : List ℕ) (image : ImageData) (texts : Texts) (listings : List (List ℕ)) (b : IsBuilt files names command image texts listings) where
+module _ (laws : Laws) (files : Files) (names : List (List ℕ)) (command : List ℕ) (image : ImageData) (texts : LinkedTexts) (listings : List (List ℕ)) (b : IsBuilt files names command image texts listings) where
   modules_said : source_modules files names ≡ (b.all).modules
   modules_said = ap without_refusal b.assembled
 

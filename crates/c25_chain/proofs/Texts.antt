@@ -11,13 +11,13 @@ use Rattle.c25_meaning_placing.specs.Place.{Place}
 use Rattle.c25_meaning_common.specs.Results.{told}
 use Rattle.c25_meaning_common.specs.declared.placed.Placed.{Placed}
 use Rattle.c25_meaning_commands.specs.declared.command_fault.CommandFault.{CommandFault}
-use Rattle.c25_chain.specs.Linked.{AreTexts, HasTextsOf, IsLinked, Texts, places_of, texts_of}
+use Rattle.c25_chain.specs.Linked.{AreTexts, HasTextsOf, IsLinked, LinkedTexts, places_of, texts_of}
 use Rattle.c25_chain.specs.declared.fault.Refusal.{Refusal}
 use Rattle.c25_chain.specs.declared.fault.Refusal.TheVariants.{Command}
 use Rattle.c25_chain.specs.declared.linked.Linked.{Linked}
 
 -- a program with its texts
-are_texts : (modules : List Contents) (command : CommandData) (image : ImageData) (texts : Texts) (p : IsProgram modules command image)
+are_texts : (modules : List Contents) (command : CommandData) (image : ImageData) (texts : LinkedTexts) (p : IsProgram modules command image)
     → places_of image.described ≡ p.places → IsMapOf texts.map image.described
     → texts.page0 ≡ written image.program → texts.page1 ≡ written image.store
     → AreTexts modules command image texts

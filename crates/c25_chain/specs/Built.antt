@@ -4,14 +4,14 @@ use Rattle.std.specs.String.{string_bytes}
 use Rattle.c25_meaning_expansion.specs.Files.{Files}
 use Rattle.c25_meaning_linking.specs.Linking.{ImageData}
 use Rattle.c25_meaning_common.specs.declared.failure.Failure.TheVariants as failure
-use Rattle.c25_chain.specs.Linked.{Texts, IsLinked, IsLinkedUnder, IsRefusedUnder}
+use Rattle.c25_chain.specs.Linked.{LinkedTexts, IsLinked, IsLinkedUnder, IsRefusedUnder}
 use Rattle.c25_chain.specs.Modules.{Modules, modules_of}
 use Rattle.c25_chain.specs.Refusal.{Fault, refusal_of}
 use Rattle.c25_chain.specs.declared.built.Built.{Built}
 use Rattle.c25_chain.specs.declared.fault.Refusal.{Refusal}
 
 -- the program that the modules of these sources come to under the command, with its texts and the listings of the sources
-pub record IsBuilt (files : Files) (sources : List (List ℕ)) (command : List ℕ) (image : ImageData) (texts : Texts) (listings : List (List ℕ)) : Type 0 where
+pub record IsBuilt (files : Files) (sources : List (List ℕ)) (command : List ℕ) (image : ImageData) (texts : LinkedTexts) (listings : List (List ℕ)) : Type 0 where
   pub all : Modules
   pub assembled : modules_of files sources ≡ Ok all
   pub listings_are : listings ≡ all.listings

@@ -10,7 +10,7 @@ use Rattle.c25_meaning_common.specs.declared.failure.Failure.TheVariants as fail
 use Rattle.c25_meaning_stimulus.specs.declared.sample.Sample.{Sample}
 use Rattle.c25_meaning_stimulus.specs.declared.schedule.Entry.{Entry}
 use Rattle.c25_chain.specs.Built.{IsBuilt, IsUnbuilt}
-use Rattle.c25_chain.specs.Linked.{Texts}
+use Rattle.c25_chain.specs.Linked.{LinkedTexts}
 use Rattle.c25_chain.specs.Refusal.{Fault, refusal_of}
 use Rattle.c25_chain.specs.Run.{RunData, IsRunOf}
 use Rattle.c25_chain.specs.declared.chain.Chain.{Chain}
@@ -44,7 +44,7 @@ inputs_in g =
 -- its sources come to a program, but a text beside them is refused
 pub record IsRefusedInput (g : Given) (r : Refusal (List ℕ)) : Type 0 where
   pub image : ImageData
-  pub texts : Texts
+  pub texts : LinkedTexts
   pub listings : List (List ℕ)
   pub built : IsBuilt g.files g.sources g.command image texts listings
   pub refused : inputs_in g ≡ Err r
@@ -56,7 +56,7 @@ IsRefused g r = IsUnbuilt g.files g.sources g.command r ⊎ IsRefusedInput g r
 -- ---- the answer
 
 -- its hex texts and its map
-abbrev pub texts_of : Chain → Texts
+abbrev pub texts_of : Chain → LinkedTexts
 texts_of c = record { page0 = string_bytes c.page0; page1 = string_bytes c.page1; map = string_bytes c.map }
 
 -- its run

@@ -21,7 +21,7 @@ use Rattle.c25_chain.specs.declared.linked.Linked.{Linked}
 -- ---- texts
 
 -- the hex texts of both pages and the text of the map
-pub record Texts : Type 0 where
+pub record LinkedTexts : Type 0 where
   pub page0 : List ℕ
   pub page1 : List ℕ
   pub map : List ℕ
@@ -32,7 +32,7 @@ places_of m = map (λ s. s.place) m.sections
 
 -- the texts of a program of modules under a command. The map's text reads as this one map, which is good; the hex texts are those of
 -- the words at its places, neither more nor less, and the instructions are those at its places
-pub record AreTexts (modules : List Contents) (command : CommandData) (image : ImageData) (texts : Texts) : Type 0 where
+pub record AreTexts (modules : List Contents) (command : CommandData) (image : ImageData) (texts : LinkedTexts) : Type 0 where
   pub printed : IsMapOf texts.map image.described
   pub good : IsGoodMap modules command (places_of image.described)
   pub program : HasWords modules (places_of image.described) 0 image.program
@@ -45,7 +45,7 @@ pub record AreTexts (modules : List Contents) (command : CommandData) (image : I
 -- ---- what the code has
 
 -- the texts of what was linked
-abbrev pub texts_of : Linked → Texts
+abbrev pub texts_of : Linked → LinkedTexts
 texts_of l = record { page0 = string_bytes l.page0.text; page1 = string_bytes l.page1.text; map = string_bytes l.map }
 
 -- an image with the texts of its words and of its map, and the words that the hex texts are read as
@@ -72,7 +72,7 @@ Links modules command (Err (failure.NoMemory n)) = Unit {0}
 Links modules command (Err (failure.Fault f)) = IsLinkRefusal modules command (refusal_of f)
 
 -- modules linked under the command of a text
-pub record IsLinkedUnder (modules : List Contents) (text : List ℕ) (image : ImageData) (texts : Texts) : Type 0 where
+pub record IsLinkedUnder (modules : List Contents) (text : List ℕ) (image : ImageData) (texts : LinkedTexts) : Type 0 where
   pub command : CommandData
   pub read : command_of text ≡ Ok command
   pub program : IsProgram modules command image

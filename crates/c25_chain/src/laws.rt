@@ -9,7 +9,7 @@ ghost use Rattle.c25_meaning_stimulus.specs.declared.sample.Sample.{Sample};
 ghost use Rattle.c25_chain.specs.Built.{IsBuilt};
 ghost use Rattle.c25_chain.specs.Chain.{Given, IsAnswer};
 ghost use Rattle.c25_chain.specs.Headline.{CodeStays, HoldsSourceWords, MarksStatements, OfProgram, RunsAsSources, TellsStatementsRun, first_state, source_statements};
-ghost use Rattle.c25_chain.specs.Linked.{Texts};
+ghost use Rattle.c25_chain.specs.Linked.{LinkedTexts};
 ghost use Rattle.c25_chain.specs.declared.chain.Chain.{Chain};
 
 use c25_cmd::laws::spelled_commands_keep_the_rules;
@@ -27,7 +27,7 @@ use c25_run_laws::laws::steps_keep_the_words_of_code;
 /// Sources and the text of a command come to one program at most: its words, its marks and its map
 /// are theirs alone, whatever the samples, the schedule and the number of steps are.
 pub fn sources_have_one_program()
-    ensures { (files : Files) (names : List (List ℕ)) (command : List ℕ) (image other : ImageData) (texts others : Texts) (listings more : List (List ℕ))
+    ensures { (files : Files) (names : List (List ℕ)) (command : List ℕ) (image other : ImageData) (texts others : LinkedTexts) (listings more : List (List ℕ))
         → IsBuilt files names command image texts listings → IsBuilt files names command other others more → image ≡ other }
 {
     modules_have_one_program();
@@ -42,7 +42,7 @@ pub fn answers_run_as_their_sources()
     ensures runs { (g : Given) (n : ℕ) (c : Chain) → IsAnswer g n c → OfProgram RunsAsSources g.files g.sources g.command c }
     ensures code { (g : Given) (n : ℕ) (c : Chain) → IsAnswer g n c → OfProgram CodeStays g.files g.sources g.command c }
     ensures own_run { (g : Given) (n : ℕ) (c : Chain) → IsAnswer g n c → TellsStatementsRun g n c }
-    ensures first_states { (files : Files) (names : List (List ℕ)) (command : List ℕ) (image : ImageData) (texts : Texts) (listings : List (List ℕ)) (samples : List Sample)
+    ensures first_states { (files : Files) (names : List (List ℕ)) (command : List ℕ) (image : ImageData) (texts : LinkedTexts) (listings : List (List ℕ)) (samples : List Sample)
         → IsBuilt files names command image texts listings → IsImageOf (source_statements files names image.described) (first_state image samples).world }
 {
     sources_make_modules();

@@ -6,17 +6,17 @@
 
 mod bytes;
 mod command;
+mod command_reader;
 mod grammar;
 pub mod laws;
 mod lexer;
 mod memory;
 mod parts;
 mod ranges;
-mod reading;
 mod sections;
 pub mod taken;
 mod token;
 mod words;
 
 pub use command::{Command, MemoryRange, Placing, Target};
-pub use reading::read_command;
+pub use command_reader::read_command;

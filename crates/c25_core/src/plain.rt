@@ -6,7 +6,7 @@ ghost use Rattle.c25_meaning_arithmetic.specs.Arithmetic.{normalized};
 
 use crate::accumulator::{low_half, minus_product, plus_product, product_word};
 use crate::alu::{
-    absolute, negate, norm, rotate_left, rotate_right, shift_left_once, shift_right_once,
+    absolute_value, negate, norm, rotate_left, rotate_right, shift_left_once, shift_right_once,
 };
 use crate::operand::{change_ar, current};
 use crate::stack::{call, pop, push};
@@ -111,7 +111,7 @@ pub fn plain(registers: &mut Registers, name: PlainName, operand: &PlainOperand)
         PlainName::Spac => minus_product(registers),
         PlainName::Sfl => registers.acc = shift_left_once(registers.acc),
         PlainName::Sfr => registers.acc = shift_right_once(registers.acc, registers.sxm),
-        PlainName::Abs => registers.acc = absolute(registers.acc, registers.ovm),
+        PlainName::Abs => registers.acc = absolute_value(registers.acc, registers.ovm),
         PlainName::Push => push(registers, low_half(registers.acc.value)),
         PlainName::Pop => registers.acc.value = u32::from(pop(registers)),
         PlainName::Trap => call(registers, 0x1E),

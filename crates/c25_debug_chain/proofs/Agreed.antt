@@ -3,7 +3,7 @@ use Rattle.std.proofs.Common.{◌≡◌, ◌↔◌, ℕ, List}
 use Rattle.c25_chain.specs.Built.{IsBuilt}
 use Rattle.c25_chain.specs.Chain.{Given}
 use Rattle.c25_chain.specs.Headline.{first_state, source_statements}
-use Rattle.c25_chain.specs.Linked.{Texts}
+use Rattle.c25_chain.specs.Linked.{LinkedTexts}
 use Rattle.c25_debug_chain.specs.Debug.{AnswersBy, statements_of}
 use Rattle.c25_meaning_debugger.specs.Debugger.{AnswersScript}
 use Rattle.c25_meaning_expansion.specs.Files.{Files}
@@ -19,7 +19,7 @@ use Rattle.c25_meaning_stimulus.specs.declared.script.Cmd.{Cmd}
 -- the first state of each program holds the statements of its sources
 abbrev pub FirstStates : Type 0
 FirstStates =
-    (files : Files) (names : List (List ℕ)) (command : List ℕ) (image : ImageData) (texts : Texts) (listings : List (List ℕ)) (samples : List Sample)
+    (files : Files) (names : List (List ℕ)) (command : List ℕ) (image : ImageData) (texts : LinkedTexts) (listings : List (List ℕ)) (samples : List Sample)
     → IsBuilt files names command image texts listings → IsImageOf (source_statements files names image.described) (first_state image samples).world
 
 -- a script is answered over words as over the statements that they are

@@ -5,7 +5,7 @@ use Rattle.std.specs.declared.alloc.Global.{Global}
 use Rattle.c25_chain.specs.Built.{IsBuilt}
 use Rattle.c25_chain.specs.Chain.{Given, Inputs, IsRefused, inputs_in}
 use Rattle.c25_chain.specs.Headline.{first_state, source_statements}
-use Rattle.c25_chain.specs.Linked.{Texts}
+use Rattle.c25_chain.specs.Linked.{LinkedTexts}
 use Rattle.c25_chain.specs.Refusal.{Fault, refusal_of}
 use Rattle.c25_chain.specs.declared.fault.Refusal.{Refusal}
 use Rattle.c25_chain.specs.declared.fault.Refusal.TheVariants.{Script}
@@ -28,7 +28,7 @@ StepOf = ImageData → Stepping
 -- schedule, one step of it being this
 pub record AnswersBy (step_of : StepOf) (g : Given) (script : List ℕ) (text : List ℕ) : Type 0 where
   pub image : ImageData
-  pub texts : Texts
+  pub texts : LinkedTexts
   pub listings : List (List ℕ)
   pub inputs : Inputs
   pub commands : List Cmd
@@ -40,7 +40,7 @@ pub record AnswersBy (step_of : StepOf) (g : Given) (script : List ℕ) (text : 
 -- all else is read, but a line of the script is no command
 pub record IsRefusedScript (g : Given) (script : List ℕ) (r : Refusal (List ℕ)) : Type 0 where
   pub image : ImageData
-  pub texts : Texts
+  pub texts : LinkedTexts
   pub listings : List (List ℕ)
   pub inputs : Inputs
   pub built : IsBuilt g.files g.sources g.command image texts listings

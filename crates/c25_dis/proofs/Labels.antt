@@ -13,7 +13,7 @@ use Rattle.c25_obj.specs.declared.parts.Symbol.{Symbol}
 use Rattle.c25_dis.specs.Index.{IsIndexOf, is_at, is_there}
 use Rattle.c25_dis.specs.Sections.{counts_from, label_line, stands_at}
 use Rattle.c25_dis.specs.View.{label_by, label_in, mark_place, offset_place, relocation_place, symbol_place}
-use Rattle.c25_dis.specs.declared.index.Placed.{Placed}
+use Rattle.c25_dis.specs.declared.index.IndexEntry.{IndexEntry}
 use Rattle.c25_dis.proofs.Found.{item_of, items_found, find_alike}
 use Rattle.c25_dis.proofs.Ordered.{filter_alike}
 
@@ -62,11 +62,11 @@ lines_same place section (x ∷ xs) = by_test (lines_same place section xs) (sta
   by_test rest false = rest
 
 -- the lines of the symbols that are found are the labels of the module
-pub labels_same : (symbols : List Symbol) (index : List Placed) (place section : ℕ) → IsIndexOf (λ y. symbol_place y section) symbols index
+pub labels_same : (symbols : List Symbol) (index : List IndexEntry) (place section : ℕ) → IsIndexOf (λ y. symbol_place y section) symbols index
     → flat_map (label_by symbols place) (filter (is_at place) index) ≡ flat_map (λ y. label_line place y.name) (filter (stands_at section place) (symbols_data symbols))
 labels_same symbols index place section indexed =
     let place_of : Symbol → Option ℕ = λ (y : Symbol). symbol_place y section in
-    let found : List Placed = filter (is_at place) index in
+    let found : List IndexEntry = filter (is_at place) index in
     let own : Symbol → Bool = λ (y : Symbol). is_there place (symbol_place y section) in
     let test : Symbol → Bool = λ (y : Symbol). stands_at section place (symbol_data y) in
     sym (flat_map-map (label_in place) (item_of place_of symbols) found)

@@ -6,7 +6,7 @@ use Rattle.std.specs.declared.cmp.Ordering.TheVariants.{Less, Equal, Greater}
 use Rattle.std.proofs.lemmas.Bool.{cases_lt}
 use Rattle.std.proofs.lemmas.Bool.Decides.{nat_tests}
 use Rattle.c25_dis.specs.Index.{is_at}
-use Rattle.c25_dis.specs.declared.index.Placed.{Placed}
+use Rattle.c25_dis.specs.declared.index.IndexEntry.{IndexEntry}
 
 -- a filter by the same test under another name
 pub filter_alike : {A : Type 0} (f g : A → Bool) → ((x : A) → f x ≡ g x) → (xs : List A) → filter f xs ≡ filter g xs
@@ -31,32 +31,32 @@ tied p q =
     ap (λ (b : Bool). not b && not (is_lt (nat_cmp q p))) (less_is p q) ∙ ap (λ (b : Bool). not (nat_lt p q) && not b) (less_is q p) ∙ neither p q
 
 -- the items of a place stay, and in their order
-pub stable_at : (xs ys : List Placed) → IsStableByKey (λ (x : Placed). x.place) nat_cmp xs ys → (place : ℕ) → filter (is_at place) ys ≡ filter (is_at place) xs
+pub stable_at : (xs ys : List IndexEntry) → IsStableByKey (λ (x : IndexEntry). x.place) nat_cmp xs ys → (place : ℕ) → filter (is_at place) ys ≡ filter (is_at place) xs
 stable_at xs ys stable place =
-    let one : Placed = record { place = place; number = 0 } in
-    let tie : Placed → Bool = ties (λ (a b : Placed). is_lt (nat_cmp a.place b.place)) one in
-    let same : (y : Placed) → is_at place y ≡ tie y = λ y. sym (tied place y.place) in
+    let one : IndexEntry = record { place = place; number = 0 } in
+    let tie : IndexEntry → Bool = ties (λ (a b : IndexEntry). is_lt (nat_cmp a.place b.place)) one in
+    let same : (y : IndexEntry) → is_at place y ≡ tie y = λ y. sym (tied place y.place) in
     filter_alike (is_at place) tie same ys ∙ stable one ∙ sym (filter_alike (is_at place) tie same xs)
 
 -- ---- two searches
 
 -- those below a place are so many, and those up to it
-abbrev pub IsBelow : ℕ → Placed → Bool
+abbrev pub IsBelow : ℕ → IndexEntry → Bool
 IsBelow place x = nat_lt x.place place
 
-abbrev pub IsUpTo : ℕ → Placed → Bool
+abbrev pub IsUpTo : ℕ → IndexEntry → Bool
 IsUpTo place x = nat_le x.place place
 
 -- where they end
-abbrev pub Ends : (Placed → Bool) → List Placed → ℕ → Type 0
+abbrev pub Ends : (IndexEntry → Bool) → List IndexEntry → ℕ → Type 0
 Ends p xs i = IsPartitionPoint (λ y. p y ≡ true) (λ y. p y ≡ false) xs i
 
 -- those below a place end before those up to it do
-pub in_order : (place : ℕ) (xs : List Placed) (i j : ℕ) → i ≤ length xs → j ≤ length xs → Ends (IsBelow place) xs i → Ends (IsUpTo place) xs j → i ≤ j
+pub in_order : (place : ℕ) (xs : List IndexEntry) (i j : ℕ) → i ≤ length xs → j ≤ length xs → Ends (IsBelow place) xs i → Ends (IsUpTo place) xs j → i ≤ j
 in_order place xs i j within within_2 below up =
     elim (cases_lt j i) [
       | inl lt ↦
-          let d : Placed = record { place = 0; number = 0 } in
+          let d : IndexEntry = record { place = 0; number = 0 } in
           let first : nat_lt (get_or xs j d).place place ≡ true = below.0 j d (omega arith) lt in
           let second : nat_le (get_or xs j d).place place ≡ false = up.1 j d (omega arith) (omega (arith, lt, within)) in
           absurd (apart (get_or xs j d).place place first second)
@@ -66,10 +66,10 @@ in_order place xs i j within within_2 below up =
     apart : (a b : ℕ) → nat_lt a b ≡ true → nat_le a b ≡ false → ⊥
     apart a b h k = grind (arith, nat_tests)
 
-skipped : (place : ℕ) (x : Placed) (xs : List Placed) → (x.place == place) ≡ false → filter (is_at place) (x ∷ xs) ≡ filter (is_at place) xs
+skipped : (place : ℕ) (x : IndexEntry) (xs : List IndexEntry) → (x.place == place) ≡ false → filter (is_at place) (x ∷ xs) ≡ filter (is_at place) xs
 skipped place x xs h = ap (λ (b : Bool). cond b (x ∷ filter (is_at place) xs) (filter (is_at place) xs)) h
 
-kept : (place : ℕ) (x : Placed) (xs : List Placed) → (x.place == place) ≡ true → filter (is_at place) (x ∷ xs) ≡ x ∷ filter (is_at place) xs
+kept : (place : ℕ) (x : IndexEntry) (xs : List IndexEntry) → (x.place == place) ≡ true → filter (is_at place) (x ∷ xs) ≡ x ∷ filter (is_at place) xs
 kept place x xs h = ap (λ (b : Bool). cond b (x ∷ filter (is_at place) xs) (filter (is_at place) xs)) h
 
 not_below : (a b : ℕ) → nat_lt a b ≡ true → (a == b) ≡ false
@@ -81,14 +81,14 @@ not_above a b h = grind (arith, nat_tests)
 just_there : (a b : ℕ) → nat_lt a b ≡ false → nat_le a b ≡ true → (a == b) ≡ true
 just_there a b h k = grind (arith, nat_tests)
 
-behind : (p : Placed → Bool) (x : Placed) (xs : List Placed) (i : ℕ) → Ends p (x ∷ xs) (suc i) → Ends p xs i
+behind : (p : IndexEntry → Bool) (x : IndexEntry) (xs : List IndexEntry) (i : ℕ) → Ends p (x ∷ xs) (suc i) → Ends p xs i
 behind p x xs i e = ((λ k d lo hi. e.0 (suc k) d (omega arith) (omega arith)), (λ k d lo hi. e.1 (suc k) d (omega arith) (omega arith)))
 
-behind_none : (p : Placed → Bool) (x : Placed) (xs : List Placed) → Ends p (x ∷ xs) zero → Ends p xs zero
+behind_none : (p : IndexEntry → Bool) (x : IndexEntry) (xs : List IndexEntry) → Ends p (x ∷ xs) zero → Ends p xs zero
 behind_none p x xs e = ((λ k d lo hi. absurd (omega arith)), (λ k d lo hi. e.1 (suc k) d (omega arith) (omega arith)))
 
 -- between the two ends stand those of the place
-pub cut_out : (place : ℕ) (xs : List Placed) (i j : ℕ) → i ≤ j → j ≤ length xs → Ends (IsBelow place) xs i → Ends (IsUpTo place) xs j → take (j - i) (drop i xs) ≡ filter (is_at place) xs
+pub cut_out : (place : ℕ) (xs : List IndexEntry) (i j : ℕ) → i ≤ j → j ≤ length xs → Ends (IsBelow place) xs i → Ends (IsUpTo place) xs j → take (j - i) (drop i xs) ≡ filter (is_at place) xs
 cut_out place [] zero zero le within below up = refl
 cut_out place [] zero (suc j) le within below up = absurd (omega arith)
 cut_out place [] (suc i) j le within below up = absurd (omega arith)
@@ -100,7 +100,7 @@ cut_out place (x ∷ xs) zero (suc j) le within below up =
     let whole : suc j - 0 ≡ suc j = omega arith in
     let less : j ≡ j - 0 = omega arith in
     let here = just_there x.place place (below.1 0 x (omega arith) (omega arith)) (up.0 0 x (omega arith) (omega arith)) in
-    ap (λ (n : ℕ). take n (x ∷ xs)) whole ∙ ap (λ (n : ℕ). x ∷ take n xs) less ∙ ap (λ (ys : List Placed). x ∷ ys) rest ∙ sym (kept place x xs here)
+    ap (λ (n : ℕ). take n (x ∷ xs)) whole ∙ ap (λ (n : ℕ). x ∷ take n xs) less ∙ ap (λ (ys : List IndexEntry). x ∷ ys) rest ∙ sym (kept place x xs here)
 cut_out place (x ∷ xs) (suc i) zero le within below up = absurd (omega arith)
 cut_out place (x ∷ xs) (suc i) (suc j) le within below up =
     let rest = cut_out place xs i j (omega arith) (omega arith) (behind (IsBelow place) x xs i below) (behind (IsUpTo place) x xs j up) in

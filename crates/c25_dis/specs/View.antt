@@ -7,7 +7,7 @@ use Rattle.c25_meaning_objects.specs.declared.object.Relocation.{Relocation}
 use Rattle.c25_obj.specs.declared.parts.Symbol.{Symbol}
 use Rattle.c25_dis.specs.Index.{IsIndexOf}
 use Rattle.c25_dis.specs.Sections.{counts_from, label_line}
-use Rattle.c25_dis.specs.declared.index.Placed.{Placed}
+use Rattle.c25_dis.specs.declared.index.IndexEntry.{IndexEntry}
 use Rattle.c25_dis.specs.declared.section.Places.{Places}
 
 -- the place of an offset; none before the first
@@ -37,5 +37,5 @@ label_in place None = []
 label_in place (Some y) = label_line place (string_bytes y.name)
 
 -- the line of the symbol of a number
-abbrev pub label_by : List Symbol → ℕ → Placed → List ℕ
+abbrev pub label_by : List Symbol → ℕ → IndexEntry → List ℕ
 label_by symbols place x = label_in place (slice_get symbols x.number)

@@ -9,7 +9,7 @@ use std::alloc::Global;
 
 /// An item that stands at a place of a section: the place, and the item's number in its list.
 #[derive(Clone, Copy)]
-pub(crate) struct Placed {
+pub(crate) struct IndexEntry {
     place: usize,
     pub(crate) number: usize,
 }
@@ -25,13 +25,17 @@ pub(crate) trait Stands {
 }
 
 /// The items that stand in a section, in the order of their list.
-fn numbered<T: Stands>(alloc: Global, items: &[T], section: usize) -> Result<Vec<Placed>, NoMemory>
+fn numbered<T: Stands>(
+    alloc: Global,
+    items: &[T],
+    section: usize,
+) -> Result<Vec<IndexEntry>, NoMemory>
     ensures { IfOk result (λ v. v.items ≡ numbered (λ x. T.place_of x section) 0 items.now) }
 {
     let mut index = Vec::new(alloc);
     for (number, item) in items.iter().enumerate() {
         match item.place(section) {
-            Some(place) => index.push(Placed { place, number })?,
+            Some(place) => index.push(IndexEntry { place, number })?,
             None => {}
         }
     }
@@ -39,7 +43,7 @@ fn numbered<T: Stands>(alloc: Global, items: &[T], section: usize) -> Result<Vec
 }
 
 /// Brings items into the order of their places; those of one place stay in their order.
-fn sort(alloc: Global, index: &mut [Placed]) -> Result<(), NoMemory>
+fn sort(alloc: Global, index: &mut [IndexEntry]) -> Result<(), NoMemory>
     ensures sorted { OnOk result (IsNonDecreasingBy (λ x. x.place) index.new) }
     ensures stable { OnOk result ((place : ℕ) → filter (is_at place) index.new ≡ filter (is_at place) index.old) }
 {
@@ -52,7 +56,7 @@ pub(crate) fn index_of<T: Stands>(
     alloc: Global,
     items: &[T],
     section: usize,
-) -> Result<Vec<Placed>, NoMemory>
+) -> Result<Vec<IndexEntry>, NoMemory>
     ensures { IfOk result (λ v. IsIndexOf (λ x. T.place_of x section) items.now v.items) }
 {
     let mut index = numbered(alloc, items, section)?;
@@ -61,7 +65,7 @@ pub(crate) fn index_of<T: Stands>(
 }
 
 /// Those of a place, among items in the order of their places.
-pub(crate) fn at(index: &[Placed], place: usize) -> &[Placed]
+pub(crate) fn at(index: &[IndexEntry], place: usize) -> &[IndexEntry]
     requires { IsNonDecreasingBy (λ x. x.place) index.now }
     ensures { result.now ≡ filter (is_at place) index.now }
 {
@@ -80,7 +84,7 @@ pub(crate) fn item_at<T: Copy>(items: &[T], number: usize) -> Option<T>
 /// The first item of a list that stands at a place of a section, by the index of that section.
 pub(crate) fn first_at<T: Stands + Copy>(
     items: &[T],
-    index: &[Placed],
+    index: &[IndexEntry],
     section: usize,
     place: usize,
 ) -> Option<T>

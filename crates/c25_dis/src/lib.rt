@@ -2,11 +2,11 @@
 #![tactic(auto)]
 
 mod index;
+mod instruction_reader;
 pub mod laws;
 mod line;
 mod module;
 mod notes;
-mod reading;
 mod section;
 mod standing;
 mod words;

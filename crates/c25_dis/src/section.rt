@@ -8,10 +8,10 @@ ghost use Rattle.c25_dis.specs.View.{AreIndexed, label_by, symbol_place};
 ghost use Rattle.c25_meaning_objects.specs.Module.{body_size, body_words, words_at};
 ghost use Rattle.c25_obj.specs.View.{body_data, contents, section_data, symbols_data};
 
-use crate::index::{Placed, at, first_at, index_of, item_at};
+use crate::index::{IndexEntry, at, first_at, index_of, item_at};
+use crate::instruction_reader::instruction;
 use crate::line::{push_address, push_line};
 use crate::notes::push_filled;
-use crate::reading::instruction;
 use c25_meaning_common::no_memory::NoMemory;
 use c25_meaning_instructions::insn::Insn;
 use c25_meaning_objects::object::ModuleMark;
@@ -23,9 +23,9 @@ use std::alloc::Global;
 pub(crate) struct Places<'m> {
     parts: &'m Parts,
     section: usize,
-    symbols: Vec<Placed>,
-    marks: Vec<Placed>,
-    relocations: Vec<Placed>,
+    symbols: Vec<IndexEntry>,
+    marks: Vec<IndexEntry>,
+    relocations: Vec<IndexEntry>,
 }
 
 /// The places of a section.
@@ -70,7 +70,7 @@ fn push_numbered(
     text: &mut String,
     symbols: &[Symbol],
     place: usize,
-    item: &Placed,
+    item: &IndexEntry,
 ) -> Result<(), NoMemory>
     ensures { OnOk result (string_bytes text.new ≡ string_bytes text.old ++ label_by symbols.now place item.now) }
 {
@@ -85,7 +85,7 @@ fn push_labels(
     text: &mut String,
     symbols: &[Symbol],
     place: usize,
-    found: &[Placed],
+    found: &[IndexEntry],
 ) -> Result<(), NoMemory>
     ensures { OnOk result (string_bytes text.new ≡ string_bytes text.old ++ flat_map (label_by symbols.now place) found.now) }
 {
@@ -99,7 +99,7 @@ fn push_labels(
 fn push_labels_at(
     text: &mut String,
     symbols: &[Symbol],
-    index: &[Placed],
+    index: &[IndexEntry],
     section: usize,
     place: usize,
 ) -> Result<(), NoMemory>

@@ -5,8 +5,8 @@ ghost use Rattle.c25_dis.specs.Lines.{IsCode};
 ghost use Rattle.c25_dis.specs.Words.{gap_text, is_before, word_at, IsAddressText, IsTaken, IsWordLine, IsWordsText};
 ghost use Rattle.c25_meaning_instructions.specs.declared.insn.Insn.{Insn};
 
+use crate::instruction_reader::instruction;
 use crate::line::push_line;
-use crate::reading::instruction;
 use c25_meaning_common::no_memory::NoMemory;
 use c25_meaning_image::word_map::WordMap;
 use c25_meaning_instructions::insn::Insn;

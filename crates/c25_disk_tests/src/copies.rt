@@ -3,7 +3,7 @@
 ghost use Rattle.std.specs.Prelude.{◌≡◌, None, Some, string_bytes, option_map};
 ghost use Rattle.c25_disk_tests.specs.declared.copies.Stop.TheVariants.{Lacks, At};
 
-use crate::reading::{line_of, shelf_of};
+use crate::reads_and_writes::{line_of, shelf_of};
 use c25_disk::with_copies;
 use c25_disk::work::{CopyFault, Work};
 use c25_files::files::Files;

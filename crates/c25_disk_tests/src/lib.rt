@@ -7,7 +7,7 @@ mod added;
 mod copies;
 pub mod readers;
 #[cfg(test)]
-mod reading;
+mod reads_and_writes;
 pub mod shelf;
 #[cfg(test)]
 mod system;

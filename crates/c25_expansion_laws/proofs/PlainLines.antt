@@ -5,7 +5,7 @@ use Rattle.c25_meaning_lines.specs.Line.{first_word}
 use Rattle.c25_meaning_language.specs.Value.{Table}
 use Rattle.c25_meaning_expansion.specs.Files.{Files}
 use Rattle.c25_meaning_expansion.specs.Rows.{Row, rows_of}
-use Rattle.c25_meaning_expansion.specs.Expansion.{Item, Read, Reading, Config, Gives, Goes, Finishes, Faults, seen, number_of}
+use Rattle.c25_meaning_expansion.specs.Expansion.{LineOrEnd, Read, Reading, Config, Gives, Goes, Finishes, Faults, seen, number_of}
 use Rattle.c25_meaning_expansion.specs.ExpansionRules.{directive_in, macro_of, calls, uses, unless_long, used, takes_lines, takes, skips_outer, skips_nested, skips, reads_by}
 use Rattle.c25_meaning_expansion.specs.ExpansionRuns.{rewrite, Leads, first, start}
 use Rattle.c25_meaning_expansion.specs.ExpansionBounds.{Gave, nothing, line}
@@ -35,7 +35,7 @@ module _ (files : Files) (s : Table) where
   taken_plain row (b ∷ bs) c taken h = ap (λ t. if t then takes files s row None b bs c else skips files s row None b bs c) taken ∙ used_plain row c h
 
   -- it is given
-  pub gives_plain : (row : Row) (rest : List Item) (c : Config) → are_taken c.scope.branches ≡ true → 0 < c.left → IsPlain c.names row.text →
+  pub gives_plain : (row : Row) (rest : List LineOrEnd) (c : Config) → are_taken c.scope.branches ≡ true → 0 < c.left → IsPlain c.names row.text →
       rewrite files s (record c { lines = Read row ∷ rest; mode = Reading }) ≡ Gives row (record c { lines = rest; mode = Reading; left = c.left - 1 })
   unfolding rewrite
   gives_plain row rest c taken some h =
@@ -44,7 +44,7 @@ module _ (files : Files) (s : Table) where
       ∙ ap (λ d. reads_by files s row d next.scope.branches next) h.no_directive
       ∙ taken_plain row next.scope.branches next taken h
 
-  pub first_plain : (row : Row) (rest : List Item) (c : Config) → are_taken c.scope.branches ≡ true → 0 < c.left → IsPlain c.names row.text →
+  pub first_plain : (row : Row) (rest : List LineOrEnd) (c : Config) → are_taken c.scope.branches ≡ true → 0 < c.left → IsPlain c.names row.text →
       first files s (record c { lines = Read row ∷ rest; mode = Reading }) ≡ Gives row (record c { lines = rest; mode = Reading; left = c.left - 1 })
   first_plain row rest c taken some h =
       let old : Config = record c { lines = Read row ∷ rest; mode = Reading } in
@@ -81,7 +81,7 @@ module _ (files : Files) (s : Table) where
 -- ---- what a line that is read says of the configuration where it stands
 
 -- so it is given, where nothing else stands
-pub plain_line : (files : Files) (s : Table) (row : Row) (rest : List Item) (c : Config) → c.mode ≡ Reading → c.lines ≡ Read row ∷ rest → are_taken c.scope.branches ≡ true → 0 < c.left → IsPlain c.names row.text →
+pub plain_line : (files : Files) (s : Table) (row : Row) (rest : List LineOrEnd) (c : Config) → c.mode ≡ Reading → c.lines ≡ Read row ∷ rest → are_taken c.scope.branches ≡ true → 0 < c.left → IsPlain c.names row.text →
     first files s c ≡ Gives row (record c { lines = rest; left = c.left - 1 })
 plain_line files s row rest c reading lines taken some h =
     let same : c ≡ record c { lines = Read row ∷ rest; mode = Reading } = ap (λ ls. record c { lines = ls }) lines ∙ ap (λ m. record c { lines = Read row ∷ rest; mode = m }) reading in
@@ -99,7 +99,7 @@ plain_source files s file text h l =
 
 module _ (files : Files) (s : Table) (c : Config) (b : Branch) (bs : List Branch) (skipped : takes_lines b.phase ≡ false) where
   -- these lines are still to come, so many `.if`s are nested, and so many lines may still be read
-  abbrev pub standing : List Item → ℕ → ℕ → Config
+  abbrev pub standing : List LineOrEnd → ℕ → ℕ → Config
   standing lines nested left = record c { lines = lines; mode = Reading; left = left; scope = record c.scope { branches = record b { nested = nested } ∷ bs } }
 
   skips_deep : (row : Row) (d : Option Directive) (n : ℕ) (old : Config) → skips files s row d (record b { nested = suc n }) bs old ≡ skips_nested d (record b { nested = suc n }) bs old
@@ -107,7 +107,7 @@ module _ (files : Files) (s : Table) (c : Config) (b : Branch) (bs : List Branch
   skips_deep row d n old =
       ap (λ t. if t then skips_outer files s row d (record b { nested = suc n }) bs old else skips_nested d (record b { nested = suc n }) bs old) (not_none (suc n) (omega arith))
 
-  skips_one : (row : Row) (rest : List Item) (nested left : ℕ) (d : Option Directive) (f : ℕ → Bool) → closed_by nested d f ≡ true →
+  skips_one : (row : Row) (rest : List LineOrEnd) (nested left : ℕ) (d : Option Directive) (f : ℕ → Bool) → closed_by nested d f ≡ true →
       (next : ℕ) × (f next ≡ true) × (skips files s row d (record b { nested = nested }) bs (standing rest nested left) ≡ Goes (standing rest next left))
   unfolding skips
   skips_one row rest zero left (Some directive.If) f h = (1, h, refl)
@@ -121,7 +121,7 @@ module _ (files : Files) (s : Table) (c : Config) (b : Branch) (bs : List Branch
       (n, h, skips_deep row (Some directive.EndIf) n (standing rest (suc n) left) ∙ ap (λ k. Goes (standing rest k left)) less)
   skips_one row rest (suc n) left d f h = (suc n, h, skips_deep row d n (standing rest (suc n) left))
 
-  reads_skipped : (row : Row) (rest : List Item) (nested left next : ℕ) → 0 < left →
+  reads_skipped : (row : Row) (rest : List LineOrEnd) (nested left next : ℕ) → 0 < left →
       skips files s row (directive_in (first_word row.text)) (record b { nested = nested }) bs (standing rest nested (left - 1)) ≡ Goes (standing rest next (left - 1)) →
       rewrite files s (standing (Read row ∷ rest) nested left) ≡ Goes (standing rest next (left - 1))
   unfolding rewrite
@@ -133,7 +133,7 @@ module _ (files : Files) (s : Table) (c : Config) (b : Branch) (bs : List Branch
       ∙ ap (λ t. if t then takes files s row d b-nested bs old else skips files s row d b-nested bs old) skipped
       ∙ e
 
-  all_skipped : (rows : List Row) (rest : List Item) (nested left : ℕ) → are_closed nested rows ≡ true → length rows ≤ left →
+  all_skipped : (rows : List Row) (rest : List LineOrEnd) (nested left : ℕ) → are_closed nested rows ≡ true → length rows ≤ left →
       Leads files s (length rows) (standing (map Read rows ++ rest) nested left) (standing rest 0 (left - length rows))
   all_skipped [] rest nested left h l =
       let none : nested ≡ 0 = grind (arith, nat_tests) in
@@ -148,11 +148,11 @@ module _ (files : Files) (s : Table) (c : Config) (b : Branch) (bs : List Branch
       subst (λ n. Leads files s (length (row ∷ rows)) (standing (Read row ∷ (map Read rows ++ rest)) nested left) (standing rest 0 n)) same all
 
 -- they change nothing but the count of lines that may still be read
-pub lines_skipped : (files : Files) (s : Table) (rows : List Row) (rest : List Item) (c : Config) (b : Branch) (bs : List Branch) → c.mode ≡ Reading → c.lines ≡ map Read rows ++ rest →
+pub lines_skipped : (files : Files) (s : Table) (rows : List Row) (rest : List LineOrEnd) (c : Config) (b : Branch) (bs : List Branch) → c.mode ≡ Reading → c.lines ≡ map Read rows ++ rest →
     c.scope.branches ≡ b ∷ bs → takes_lines b.phase ≡ false → b.nested ≡ 0 → are_closed 0 rows ≡ true → length rows ≤ c.left →
     Leads files s (length rows) c (record c { lines = rest; left = c.left - length rows })
 lines_skipped files s rows rest c b bs reading lines branches skipped outer closed l =
-    let same : (items : List Item) (left : ℕ) → record c { lines = items; left = left } ≡ standing files s c b bs skipped items 0 left = λ items left.
+    let same : (items : List LineOrEnd) (left : ℕ) → record c { lines = items; left = left } ≡ standing files s c b bs skipped items 0 left = λ items left.
     ap (λ m. record c { lines = items; left = left; mode = m }) reading
     ∙ ap (λ xs. record c { lines = items; left = left; mode = Reading; scope = record c.scope { branches = xs } }) branches
     ∙ ap (λ n. record c { lines = items; left = left; mode = Reading; scope = record c.scope { branches = record b { nested = n } ∷ bs } }) outer in

@@ -8,7 +8,7 @@ use Rattle.std.proofs.lemmas.List.Folds.{length-prefix_len}
 use Rattle.c25_meaning_common.specs.Bytes.{is_digit, is_letter_or_digit, begins_name, goes_on_name}
 use Rattle.c25_expansion_laws.specs.ExpansionLaws.{StandsForNothing, HasNoMark}
 use Rattle.c25_meaning_language.specs.Quoting.{behind}
-use Rattle.c25_meaning_language.specs.Fragments.{Names, without, Kept, Replaced, Front, kept, character, whole_name, unit, unforced, forced, forced_or, front, fragments, is_beyond_ascii}
+use Rattle.c25_meaning_language.specs.Fragments.{Replacements, without, Kept, Replaced, Front, kept, character, whole_name, unit, unforced, forced, forced_or, front, fragments, is_beyond_ascii}
 use Rattle.c25_meaning_language.specs.Substitution.{Draft, as_is, joined, all_joined, drafted_by, drafted, measured, too_long, line_quoting, substituted, unsubstituted}
 use Rattle.c25_meaning_language.specs.declared.quoting.Quoting.{Quoting}
 use Rattle.c25_meaning_language.specs.declared.quoting.Quoting.TheVariants.{Outside, Within, Throughout, Comment}
@@ -41,7 +41,7 @@ keeps_kept size text h = record { fragment = refl; some = h }
 keeps_character : (text : List ℕ) → Keeps text (character text)
 keeps_character text = keeps_kept (max (prefix_len is_beyond_ascii text) 1) text (omega arith)
 
-keeps_name : (names : Names) (text : List ℕ) (marked : Bool) → 0 < prefix_len goes_on_name text → names (take_while goes_on_name text) ≡ None → marked ≡ false → Keeps text (whole_name names (take_while goes_on_name text) marked)
+keeps_name : (names : Replacements) (text : List ℕ) (marked : Bool) → 0 < prefix_len goes_on_name text → names (take_while goes_on_name text) ≡ None → marked ≡ false → Keeps text (whole_name names (take_while goes_on_name text) marked)
 keeps_name names text true some none unmarked = absurd (cc)
 keeps_name names text false some none unmarked =
     let name : List ℕ = take_while goes_on_name text in
@@ -50,7 +50,7 @@ keeps_name names text false some none unmarked =
     subst (λ (o : Option (List ℕ)). Keeps text (elim o [ None ↦ record { fragment = Kept name; size = length name } | Some inner ↦ record { fragment = Replaced name inner Outside; size = length name } ])) (sym none) as_written
 
 -- outside quotes
-keeps_unit : (names : Names) (b : ℕ) (rest : List ℕ) → StandsForNothing names (b ∷ rest) → HasNoMark (b ∷ rest) → Keeps (b ∷ rest) (unit names (b ∷ rest))
+keeps_unit : (names : Replacements) (b : ℕ) (rest : List ℕ) → StandsForNothing names (b ∷ rest) → HasNoMark (b ∷ rest) → Keeps (b ∷ rest) (unit names (b ∷ rest))
 keeps_unit names b rest none unmarked =
     keeps_if (b ∷ rest) (is_digit b) _ _
     (λ digit. keeps_kept (prefix_len is_letter_or_digit (b ∷ rest)) (b ∷ rest) (first_passes is_letter_or_digit b rest (digit_goes_on b digit)))
@@ -60,23 +60,23 @@ keeps_unit names b rest none unmarked =
     (λ begins. keeps_name names (b ∷ rest) _ (first_passes goes_on_name b rest (name_goes_on b begins)) (none 0) (unmarked (prefix_len goes_on_name (b ∷ rest))))
     (λ _. keeps_character (b ∷ rest))))
 
-keeps_unforced : (names : Names) (q : Quoting) (b : ℕ) (rest : List ℕ) → StandsForNothing names (b ∷ rest) → HasNoMark (b ∷ rest) → Keeps (b ∷ rest) (unforced names q (b ∷ rest))
+keeps_unforced : (names : Replacements) (q : Quoting) (b : ℕ) (rest : List ℕ) → StandsForNothing names (b ∷ rest) → HasNoMark (b ∷ rest) → Keeps (b ∷ rest) (unforced names q (b ∷ rest))
 keeps_unforced names Outside b rest none unmarked = keeps_unit names b rest none unmarked
 keeps_unforced names (Within quote) b rest none unmarked = keeps_character (b ∷ rest)
 keeps_unforced names Throughout b rest none unmarked = keeps_character (b ∷ rest)
 keeps_unforced names Comment b rest none unmarked = keeps_character (b ∷ rest)
 
-no_text : (names : Names) (name : List ℕ) (b : Bool) → names name ≡ None → option_and_then {U = List ℕ × List ℕ} (λ n. option_map (λ inner. (n, inner)) (names n)) (if b then Some name else None) ≡ None
+no_text : (names : Replacements) (name : List ℕ) (b : Bool) → names name ≡ None → option_and_then {U = List ℕ × List ℕ} (λ n. option_map (λ inner. (n, inner)) (names n)) (if b then Some name else None) ≡ None
 no_text names name true h = rw h refl
 no_text names name false h = refl
 
-not_forced : (names : Names) (q : Quoting) (text : List ℕ) → StandsForNothing names text → forced names q text ≡ None
+not_forced : (names : Replacements) (q : Quoting) (text : List ℕ) → StandsForNothing names text → forced names q text ≡ None
 not_forced names Outside text none = no_text names (take_while goes_on_name (drop 1 text)) _ (none 1)
 not_forced names (Within quote) text none = no_text names (take_while goes_on_name (drop 1 text)) _ (none 1)
 not_forced names Throughout text none = no_text names (take_while goes_on_name (drop 1 text)) _ (none 1)
 not_forced names Comment text none = refl
 
-keeps_front : (names : Names) (q : Quoting) (b : ℕ) (rest : List ℕ) → StandsForNothing names (b ∷ rest) → HasNoMark (b ∷ rest) → Keeps (b ∷ rest) (front names q (b ∷ rest))
+keeps_front : (names : Replacements) (q : Quoting) (b : ℕ) (rest : List ℕ) → StandsForNothing names (b ∷ rest) → HasNoMark (b ∷ rest) → Keeps (b ∷ rest) (front names q (b ∷ rest))
 unfolding front
 keeps_front names q b rest none unmarked =
     subst (λ o. Keeps (b ∷ rest) (forced_or o q (unforced names q (b ∷ rest)))) (sym (not_forced names q (b ∷ rest) none)) (keeps_unforced names q b rest none unmarked)
@@ -89,7 +89,7 @@ rejoined (suc n) b rest h =
     let less : suc n - 1 ≡ n = omega arith in
     ap (λ k. take (suc n) (b ∷ rest) ++ drop k rest) less ∙ ap (λ xs. b ∷ xs) (take-append-drop n rest)
 
-all_kept : (replace : List ℕ → List ℕ → Quoting → Draft) (number : ℕ) (names : Names) (q : Quoting) (skip : ℕ) (text : List ℕ) → StandsForNothing names text → HasNoMark text →
+all_kept : (replace : List ℕ → List ℕ → Quoting → Draft) (number : ℕ) (names : Replacements) (q : Quoting) (skip : ℕ) (text : List ℕ) → StandsForNothing names text → HasNoMark text →
     all_joined (drafted_by replace number) (fragments names q skip text) ≡ as_is (drop skip text)
 unfolding fragments
 all_kept replace number names q zero [] none unmarked = refl
@@ -103,12 +103,12 @@ all_kept replace number names q zero (b ∷ rest) none unmarked =
     ∙ ap (joined (as_is (take f.size (b ∷ rest)))) (all_kept replace number names (behind b q) (f.size - 1) rest (λ i. none (suc i)) (λ i. unmarked (suc i)))
     ∙ ap as_is (rejoined f.size b rest k.some)
 
-drafted_kept : (depth : ℕ) (names : Names) (number : ℕ) (q : Quoting) (text : List ℕ) → StandsForNothing names text → HasNoMark text → drafted (suc depth) names number [] q text ≡ as_is text
+drafted_kept : (depth : ℕ) (names : Replacements) (number : ℕ) (q : Quoting) (text : List ℕ) → StandsForNothing names text → HasNoMark text → drafted (suc depth) names number [] q text ≡ as_is text
 unfolding drafted
 drafted_kept depth names number q text none unmarked = all_kept _ number (without [] names) q 0 text none unmarked
 
 -- the line, with the same test of its length
-pub line_kept : (names : Names) (number : ℕ) (line : List ℕ) → StandsForNothing names line → HasNoMark line → substituted names number line ≡ unsubstituted line
+pub line_kept : (names : Replacements) (number : ℕ) (line : List ℕ) → StandsForNothing names line → HasNoMark line → substituted names number line ≡ unsubstituted line
 line_kept names number line none unmarked = ap measured (drafted_kept 1024 names number (line_quoting line) line none unmarked)
 
 pub short_kept : (line : List ℕ) → length line ≤ 1024 → unsubstituted line ≡ Ok line

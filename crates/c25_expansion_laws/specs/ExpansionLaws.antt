@@ -4,7 +4,7 @@ use Rattle.std.specs.List.{take_while}
 use Rattle.c25_meaning_common.specs.Bytes.{goes_on_name}
 use Rattle.c25_meaning_lines.specs.Line.{first_word}
 use Rattle.c25_meaning_expansion.specs.Rows.{Row}
-use Rattle.c25_meaning_language.specs.Fragments.{Names}
+use Rattle.c25_meaning_language.specs.Fragments.{Replacements}
 use Rattle.c25_meaning_expansion.specs.Expansion.{Dictionary, seen}
 use Rattle.c25_meaning_expansion.specs.ExpansionRules.{directive_in, macro_of, takes_lines}
 use Rattle.c25_meaning_expansion.specs.declared.expansion.Branch.{Branch}
@@ -12,7 +12,7 @@ use Rattle.c25_meaning_expansion.specs.declared.expansion.Directive.{Directive}
 use Rattle.c25_meaning_expansion.specs.declared.expansion.Directive.TheVariants as directive
 
 -- no name that begins anywhere in a text stands for a text
-abbrev pub StandsForNothing : Names → List ℕ → Type 0
+abbrev pub StandsForNothing : Replacements → List ℕ → Type 0
 StandsForNothing names text = (i : ℕ) → names (take_while goes_on_name (drop i text)) ≡ None
 
 -- no byte of a text is `?`

@@ -1,13 +1,13 @@
 //! Laws of expansion, each the contract of a function that does nothing.
 
 ghost use Rattle.std.specs.Prelude.{◌≡◌, ℕ, ◌<◌, ◌≤◌, List, length, ◌-◌, ◌++◌, ◌∷◌, map, true, false};
-ghost use Rattle.c25_meaning_expansion.specs.Expansion.{Config, Rewriting, Gives, depth, Item, Read, Reading, Finishes};
+ghost use Rattle.c25_meaning_expansion.specs.Expansion.{Config, Rewriting, Gives, depth, LineOrEnd, Read, Reading, Finishes};
 ghost use Rattle.c25_meaning_expansion.specs.ExpansionBounds.{IsLast, Gave};
 ghost use Rattle.c25_expansion_laws.specs.ExpansionLaws.{StandsForNothing, HasNoMark, IsPlain, ArePlain, are_taken, are_closed};
 ghost use Rattle.c25_meaning_expansion.specs.ExpansionRules.{takes_lines};
 ghost use Rattle.c25_meaning_expansion.specs.ExpansionRuns.{ComesTo, Leads, first, start};
 ghost use Rattle.c25_meaning_expansion.specs.Files.{Files};
-ghost use Rattle.c25_meaning_language.specs.Fragments.{Names};
+ghost use Rattle.c25_meaning_language.specs.Fragments.{Replacements};
 ghost use Rattle.c25_meaning_expansion.specs.Rows.{Row, rows_of};
 ghost use Rattle.c25_meaning_language.specs.Substitution.{substituted, unsubstituted};
 ghost use Rattle.c25_meaning_language.specs.Value.{Table};
@@ -38,7 +38,7 @@ pub fn expansion_opens_at_most_32_blocks()
 /// A line without `?` is kept as it is where no name that begins in it stands for a text, in any
 /// expansion; that it may be too long is all that is left to test.
 pub fn texts_without_names_are_kept()
-    ensures { (names : Names) (number : ℕ) (line : List ℕ) → StandsForNothing names line → HasNoMark line
+    ensures { (names : Replacements) (number : ℕ) (line : List ℕ) → StandsForNothing names line → HasNoMark line
         → substituted names number line ≡ unsubstituted line }
 {}
 
@@ -46,7 +46,7 @@ pub fn texts_without_names_are_kept()
 /// nothing is replaced, expands to itself, and nothing changes but the count of lines that may still
 /// be read. So a source of such lines gives all of them and then ends.
 pub fn plain_lines_expand_to_themselves()
-    ensures line { (files : Files) (s : Table) (row : Row) (rest : List Item) (c : Config) → c.mode ≡ Reading → c.lines ≡ Read row ∷ rest
+    ensures line { (files : Files) (s : Table) (row : Row) (rest : List LineOrEnd) (c : Config) → c.mode ≡ Reading → c.lines ≡ Read row ∷ rest
         → are_taken c.scope.branches ≡ true → 0 < c.left → IsPlain c.names row.text
         → first files s c ≡ Gives row (record c { lines = rest; left = c.left - 1 }) }
     ensures source { (files : Files) (s : Table) (file : ℕ) (text : List ℕ) → ArePlain (rows_of file text) → length (rows_of file text) ≤ 200000
@@ -56,7 +56,7 @@ pub fn plain_lines_expand_to_themselves()
 /// The lines of a false `.if`, whatever they are and whatever the symbols are, change nothing but the
 /// count of lines that may still be read: those up to its own `.elseif`, `.else` or `.endif`.
 pub fn lines_of_a_false_if_are_skipped()
-    ensures { (files : Files) (s : Table) (rows : List Row) (rest : List Item) (c : Config) (b : Branch) (bs : List Branch) → c.mode ≡ Reading
+    ensures { (files : Files) (s : Table) (rows : List Row) (rest : List LineOrEnd) (c : Config) (b : Branch) (bs : List Branch) → c.mode ≡ Reading
         → c.lines ≡ map Read rows ++ rest → c.scope.branches ≡ b ∷ bs → takes_lines b.phase ≡ false → b.nested ≡ 0 → are_closed 0 rows ≡ true
         → length rows ≤ c.left → Leads files s (length rows) c (record c { lines = rest; left = c.left - length rows }) }
 {}

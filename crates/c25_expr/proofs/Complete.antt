@@ -9,11 +9,11 @@ use Rattle.c25_meaning_language.specs.declared.expression.BinaryOperator.TheVari
 use Rattle.c25_meaning_language.specs.declared.expression.UnaryOperator.{UnaryOperator}
 use Rattle.c25_meaning_language.specs.declared.expression.UnaryOperator.TheVariants as unary
 use Rattle.c25_meaning_language.specs.Tree.{Tree, Single, Group, Unary, Binary, Mark, Signed, level_of, level, spelling, binary_sign, unary_sign, IsGrouped, IsTreeOf}
-use Rattle.c25_meaning_language.specs.Reading.{Item, Push, Wrap, Apply, Combine, Frame, Open, Pending, After, State, Found, start, settle, reduced, loosest, opened, waiting, closed, followed, step_by, finished_by, whole, run, unary_of, binary_of, is_open, is_close}
+use Rattle.c25_meaning_language.specs.Reading.{PostfixItem, Push, Wrap, Apply, Combine, Frame, Open, Pending, After, State, Found, start, settle, reduced, loosest, operand_begun, waiting, closed, followed, step_by, finished_by, whole, run, unary_of, binary_of, is_open, is_close}
 use Rattle.c25_expr.proofs.Sound.{IsReady, level_positive, level_loosest, run_sound}
 
 -- a tree in postfix order, the last item first
-abbrev pub postfix : Tree → List Item
+abbrev pub postfix : Tree → List PostfixItem
 postfix (Single l) = Push l ∷ []
 postfix (Group e) = Wrap ∷ postfix e
 postfix (Unary op e) = Apply op ∷ postfix e
@@ -34,11 +34,11 @@ Fits (Open ∷ fs) e = Unit {0}
 Fits (Pending op ∷ fs) e = level e ≡ 0
 Fits (After l op ∷ fs) e = level e < level_of op
 
-abbrev reading : List Frame → List Item → State
+abbrev reading : List Frame → List PostfixItem → State
 reading fs is = record { frames = fs; current = None; items = is }
 
 -- the state behind a tree: the operators of its right spine wait
-abbrev pub spread : List Frame → Tree → List Item → State
+abbrev pub spread : List Frame → Tree → List PostfixItem → State
 spread fs (Single l) is = settle fs (Single l) (Push l ∷ is)
 spread fs (Group e) is = settle fs (Group e) (Wrap ∷ (postfix e ++ is))
 spread fs (Unary op e) is = settle fs (Unary op e) (Apply op ∷ (postfix e ++ is))
@@ -51,25 +51,25 @@ IsSettled (Open ∷ fs) = Unit {0}
 IsSettled (Pending op ∷ fs) = ⊥
 IsSettled (After l op ∷ fs) = Unit {0}
 
-settle_none : (fs : List Frame) (e : Tree) (is : List Item) → IsSettled fs → settle fs e is ≡ record { frames = fs; current = Some e; items = is }
+settle_none : (fs : List Frame) (e : Tree) (is : List PostfixItem) → IsSettled fs → settle fs e is ≡ record { frames = fs; current = Some e; items = is }
 settle_none [] e is h = refl
 settle_none (Open ∷ fs) e is h = refl
 settle_none (Pending op ∷ fs) e is h = absurd h
 settle_none (After l op ∷ fs) e is h = refl
 
 -- the operators of a level take the operand of a state
-abbrev reduced_by : ℕ → List Frame → Option Tree → List Item → State
+abbrev reduced_by : ℕ → List Frame → Option Tree → List PostfixItem → State
 reduced_by n fs None is = record { frames = fs; current = None; items = is }
 reduced_by n fs (Some e) is = reduced n fs e is
 
 abbrev reduce : ℕ → State → State
 reduce n s = reduced_by n s.frames s.current s.items
 
-settle_reduce : (n : ℕ) (fs : List Frame) (e : Tree) (is : List Item) → IsSettled fs → reduce n (settle fs e is) ≡ reduced n fs e is
+settle_reduce : (n : ℕ) (fs : List Frame) (e : Tree) (is : List PostfixItem) → IsSettled fs → reduce n (settle fs e is) ≡ reduced n fs e is
 settle_reduce n fs e is h = ap (reduce n) (settle_none fs e is h)
 
 -- once they have taken it, the tree is whole again
-spread_reduce : (n : ℕ) (fs : List Frame) (e : Tree) (is : List Item) → IsSettled fs → IsGrouped e → level e ≤ n → reduce n (spread fs e is) ≡ reduced n fs e (postfix e ++ is)
+spread_reduce : (n : ℕ) (fs : List Frame) (e : Tree) (is : List PostfixItem) → IsSettled fs → IsGrouped e → level e ≤ n → reduce n (spread fs e is) ≡ reduced n fs e (postfix e ++ is)
 spread_reduce n fs (Single l) is s g h = settle_reduce n fs (Single l) (Push l ∷ is) s
 spread_reduce n fs (Group e) is s g h = settle_reduce n fs (Group e) (Wrap ∷ (postfix e ++ is)) s
 spread_reduce n fs (Unary op e) is s g h = settle_reduce n fs (Unary op e) (Apply op ∷ (postfix e ++ is)) s
@@ -80,7 +80,7 @@ spread_reduce n fs (Binary op l r) is s g h =
     ∙ ap (λ js. reduced n fs (Binary op l r) (Combine op ∷ js)) (sym (append_assoc (postfix r) (postfix l) is))
 
 -- no operator that is open takes the operand
-reduced_none : (n : ℕ) (fs : List Frame) (e : Tree) (is : List Item) → IsReady fs n → reduced n fs e is ≡ record { frames = fs; current = Some e; items = is }
+reduced_none : (n : ℕ) (fs : List Frame) (e : Tree) (is : List PostfixItem) → IsReady fs n → reduced n fs e is ≡ record { frames = fs; current = Some e; items = is }
 reduced_none n [] e is h = refl
 reduced_none n (Open ∷ fs) e is h = refl
 reduced_none n (Pending op ∷ fs) e is h = absurd h
@@ -108,7 +108,7 @@ none_some : (x : Tree) → (let o : Option Tree = None in o) ≡ Some x → ⊥
 none_some x h = cc
 
 -- behind a tree that is whole again, an operator waits
-after_operator : (op : BinaryOperator) (fs : List Frame) (c : Option Tree) (is : List Item) (gs : List Frame) (l : Tree) (js : List Item)
+after_operator : (op : BinaryOperator) (fs : List Frame) (c : Option Tree) (is : List PostfixItem) (gs : List Frame) (l : Tree) (js : List PostfixItem)
     → reduced_by (level_of op) fs c is ≡ record { frames = gs; current = Some l; items = js }
     → step_by fs c is (Signed (binary_sign op)) ≡ Some (record { frames = After l op ∷ gs; current = None; items = js })
 after_operator op fs None is gs l js h = absurd (none_some l (ap (λ (s : State). s.current) h))
@@ -116,14 +116,14 @@ after_operator op fs (Some x) is gs l js h =
     ap (λ (o : Option BinaryOperator). followed fs x is o (is_close (binary_sign op))) (binary_sign-of op) ∙ ap (λ (s : State). Some (waiting op s)) h
 
 -- a group ends
-after_close : (fs : List Frame) (c : Option Tree) (is : List Item) (gs : List Frame) (e : Tree) (js : List Item)
+after_close : (fs : List Frame) (c : Option Tree) (is : List PostfixItem) (gs : List Frame) (e : Tree) (js : List PostfixItem)
     → reduced_by loosest fs c is ≡ record { frames = Open ∷ gs; current = Some e; items = js }
     → step_by fs c is (Signed sign.CloseParenthesis) ≡ Some (settle gs (Group e) (Wrap ∷ js))
 after_close fs None is gs e js h = absurd (none_some e (ap (λ (s : State). s.current) h))
 after_close fs (Some x) is gs e js h = ap closed h
 
 -- the tokens end
-after_all : (fs : List Frame) (c : Option Tree) (is : List Item) (e : Tree) (js : List Item)
+after_all : (fs : List Frame) (c : Option Tree) (is : List PostfixItem) (e : Tree) (js : List PostfixItem)
     → reduced_by loosest fs c is ≡ record { frames = []; current = Some e; items = js }
     → finished_by fs c is ≡ Some (record { tree = e; items = js })
 after_all fs None is e js h = absurd (none_some e (ap (λ (s : State). s.current) h))
@@ -135,14 +135,14 @@ level_most (Group e) = omega arith
 level_most (Unary op e) = omega arith
 level_most (Binary op l r) = level_loosest op
 
-pending_spread : (op : UnaryOperator) (fs : List Frame) (e : Tree) (is : List Item) → level e ≡ 0 → spread (Pending op ∷ fs) e is ≡ spread fs (Unary op e) is
+pending_spread : (op : UnaryOperator) (fs : List Frame) (e : Tree) (is : List PostfixItem) → level e ≡ 0 → spread (Pending op ∷ fs) e is ≡ spread fs (Unary op e) is
 pending_spread op fs (Single l) is h = refl
 pending_spread op fs (Group e) is h = refl
 pending_spread op fs (Unary o e) is h = refl
 pending_spread op fs (Binary o l r) is h = absurd (omega (arith, h, level_positive o))
 
 -- a tree is read as one operand
-pub reads : (e : Tree) (fs : List Frame) (is : List Item) (rest : List Mark) → IsGrouped e → Fits fs e → run (spelling e ++ rest) (reading fs is) ≡ run rest (spread fs e is)
+pub reads : (e : Tree) (fs : List Frame) (is : List PostfixItem) (rest : List Mark) → IsGrouped e → Fits fs e → run (spelling e ++ rest) (reading fs is) ≡ run rest (spread fs e is)
 reads (Single l) fs is rest g f = refl
 reads (Group e) fs is rest g f =
     let s : State = spread (Open ∷ fs) e is in
@@ -150,7 +150,7 @@ reads (Group e) fs is rest g f =
     ∙ reads e (Open ∷ fs) is (Signed sign.CloseParenthesis ∷ rest) g tt
     ∙ ap (option_and_then (run rest)) (after_close s.frames s.current s.items fs e (postfix e ++ is) (spread_reduce loosest (Open ∷ fs) e is tt g (level_most e)))
 reads (Unary op e) fs is rest g f =
-    ap (λ (o : Option UnaryOperator). option_and_then (run (spelling e ++ rest)) (opened fs is o (is_open (unary_sign op)))) (unary_sign-of op)
+    ap (λ (o : Option UnaryOperator). option_and_then (run (spelling e ++ rest)) (operand_begun fs is o (is_open (unary_sign op)))) (unary_sign-of op)
     ∙ reads e (Pending op ∷ fs) is rest g.1 g.0
     ∙ ap (run rest) (pending_spread op fs e is g.0)
 reads (Binary op l r) fs is rest g f =

@@ -3,7 +3,7 @@ use Rattle.std.proofs.Common.{◌≡◌, ℕ, zero, suc, ◌<◌, Bool, true, fa
 use Rattle.std.proofs.lemmas.Bool.{false≢true, eqb-true}
 use Rattle.std.proofs.lemmas.List.{length-reverse, reverse-reverse}
 use Rattle.c25_meaning_language.specs.Tree.{Tree}
-use Rattle.c25_meaning_language.specs.Reading.{Item, State, Found, reduced, loosest, whole, whole_by, finished}
+use Rattle.c25_meaning_language.specs.Reading.{PostfixItem, State, Found, reduced, loosest, whole, whole_by, finished}
 use Rattle.c25_expr.specs.Postfix.{item_of, last_tree, runs}
 use Rattle.c25_expr.specs.View.{woven, trees_of, items_of, behind, state_of, trees_before, operand_by}
 use Rattle.c25_expr.specs.declared.builder.Builder.{Builder}
@@ -16,13 +16,13 @@ finished_is b s h e =
     ap (λ (x : Bool). finished (record { frames = woven (reverse b.frames.items) (trees_before x (trees_of b)); current = operand_by x (trees_of b); items = items_of b })) h
     ∙ ap whole (sym e)
 
-whole_none : (fs : List Frame) (ts : List Tree) (e : Tree) (is : List Item) → 0 < length fs → whole_by (woven fs ts) (Some e) is ≡ None
+whole_none : (fs : List Frame) (ts : List Tree) (e : Tree) (is : List PostfixItem) → 0 < length fs → whole_by (woven fs ts) (Some e) is ≡ None
 whole_none [] ts e is h = absurd (omega (arith, h))
 whole_none (Open ∷ fs) ts e is h = refl
 whole_none (Pending op ∷ fs) ts e is h = refl
 whole_none (After op ∷ fs) ts e is h = refl
 
-whole_some : (fs : List Frame) (ts : List Tree) (e : Tree) (is : List Item) → length fs ≡ 0 → whole_by (woven fs ts) (Some e) is ≡ Some (record { tree = e; items = is })
+whole_some : (fs : List Frame) (ts : List Tree) (e : Tree) (is : List PostfixItem) → length fs ≡ 0 → whole_by (woven fs ts) (Some e) is ≡ Some (record { tree = e; items = is })
 whole_some [] ts e is h = refl
 whole_some (f ∷ fs) ts e is h = absurd (omega (arith, h))
 

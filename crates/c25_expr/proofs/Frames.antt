@@ -4,7 +4,7 @@ use Rattle.std.specs.Option.{is_none}
 use Rattle.std.proofs.lemmas.Bool.{le-leb}
 use Rattle.c25_meaning_language.specs.declared.expression.BinaryOperator.{BinaryOperator}
 use Rattle.c25_meaning_language.specs.Tree.{Tree, level_of}
-use Rattle.c25_meaning_language.specs.Reading.{Item, Combine, reduced}
+use Rattle.c25_meaning_language.specs.Reading.{PostfixItem, Combine, reduced}
 use Rattle.c25_expr.specs.Completes.{nesting, opens}
 use Rattle.c25_expr.specs.Postfix.{built, last_tree, other_trees}
 use Rattle.c25_expr.specs.View.{woven, operand_by}
@@ -43,6 +43,6 @@ is_none_operand true ts = refl
 is_none_operand false ts = refl
 
 -- an operator of the level takes the last operand
-pub reduced_more : (n : ℕ) (op : BinaryOperator) (fs gs : List Frame) (is js : List Item) → level_of op ≤ n → fs ≡ After op ∷ gs → js ≡ Combine op ∷ is
+pub reduced_more : (n : ℕ) (op : BinaryOperator) (fs gs : List Frame) (is js : List PostfixItem) → level_of op ≤ n → fs ≡ After op ∷ gs → js ≡ Combine op ∷ is
     → reduced n (woven gs (other_trees (built js))) (last_tree (built js)) js ≡ reduced n (woven fs (other_trees (built is))) (last_tree (built is)) is
 reduced_more n op fs gs is js h frames items = rw (frames, items, le-leb (level_of op) n h) refl

@@ -5,7 +5,7 @@ use Rattle.std.proofs.lemmas.Bool.{cond_both}
 use Rattle.c25_meaning_language.specs.declared.expression.BinaryOperator.{BinaryOperator}
 use Rattle.c25_meaning_language.specs.declared.expression.UnaryOperator.{UnaryOperator}
 use Rattle.c25_meaning_language.specs.Tree.{Tree, Single, Group, Unary, Binary, Mark, Operand, Signed, Stray, depth, level_of}
-use Rattle.c25_meaning_language.specs.Reading.{Item, Push, Wrap, Apply, Combine, Frame, Open, Pending, After, State, Found, settle, reduced, loosest, step, step_by, opened, waiting_by, closed_by, followed, finished_by, whole_by, run}
+use Rattle.c25_meaning_language.specs.Reading.{PostfixItem, Push, Wrap, Apply, Combine, Frame, Open, Pending, After, State, Found, settle, reduced, loosest, step, step_by, operand_begun, waiting_by, closed_by, followed, finished_by, whole_by, run}
 use Rattle.c25_expr.specs.Completes.{nesting}
 
 -- how deep the frames, and the trees in them, nest
@@ -27,13 +27,13 @@ reach s = reach_by s.frames s.current
 found_same : (f g : Found) → Some f ≡ Some g → f ≡ g
 found_same f g h = cc
 
-reach-settle : (fs : List Frame) (e : Tree) (is : List Item) → reach (settle fs e is) ≡ max (height fs) (nesting fs + depth e)
+reach-settle : (fs : List Frame) (e : Tree) (is : List PostfixItem) → reach (settle fs e is) ≡ max (height fs) (nesting fs + depth e)
 reach-settle [] e is = refl
 reach-settle (Open ∷ fs) e is = refl
 reach-settle (Pending op ∷ fs) e is = omega (arith, reach-settle fs (Unary op e) (Apply op ∷ is))
 reach-settle (After l op ∷ fs) e is = refl
 
-reach-reduced : (n : ℕ) (fs : List Frame) (e : Tree) (is : List Item) → reach (reduced n fs e is) ≡ max (height fs) (nesting fs + depth e)
+reach-reduced : (n : ℕ) (fs : List Frame) (e : Tree) (is : List PostfixItem) → reach (reduced n fs e is) ≡ max (height fs) (nesting fs + depth e)
 reach-reduced n [] e is = refl
 reach-reduced n (Open ∷ fs) e is = refl
 reach-reduced n (Pending op ∷ fs) e is = refl
@@ -42,7 +42,7 @@ reach-reduced n (After l op ∷ fs) e is = cond_both (nat_le (level_of op) n) (r
     (λ _. omega (arith, reach-reduced n fs (Binary op l e) (Combine op ∷ is)))
     (λ _. refl)
 
-reach-waiting : (op : BinaryOperator) (fs : List Frame) (c : Option Tree) (is : List Item) → reach (waiting_by op fs c is) ≡ reach_by fs c
+reach-waiting : (op : BinaryOperator) (fs : List Frame) (c : Option Tree) (is : List PostfixItem) → reach (waiting_by op fs c is) ≡ reach_by fs c
 reach-waiting op fs None is = refl
 reach-waiting op fs (Some e) is = omega arith
 
@@ -61,18 +61,18 @@ abbrev Deepens : ℕ → Option State → Type 0
 Deepens n None = Unit {0}
 Deepens n (Some s) = Nears n s
 
-deepens_settle : (fs : List Frame) (e : Tree) (is : List Item) (n : ℕ) → n ≡ max (height fs) (nesting fs + depth e) → Nears n (settle fs e is)
+deepens_settle : (fs : List Frame) (e : Tree) (is : List PostfixItem) (n : ℕ) → n ≡ max (height fs) (nesting fs + depth e) → Nears n (settle fs e is)
 deepens_settle fs e is n h = record { least = omega (arith, h, reach-settle fs e is); most = omega (arith, h, reach-settle fs e is) }
 
-deepens_opened : (fs : List Frame) (is : List Item) (o : Option UnaryOperator) (b : Bool) → Deepens (height fs) (opened fs is o b)
+deepens_opened : (fs : List Frame) (is : List PostfixItem) (o : Option UnaryOperator) (b : Bool) → Deepens (height fs) (operand_begun fs is o b)
 deepens_opened fs is (Some op) b = record { least = omega arith; most = omega arith }
 deepens_opened fs is None true = record { least = omega arith; most = omega arith }
 deepens_opened fs is None false = tt
 
-deepens_waiting : (op : BinaryOperator) (fs : List Frame) (c : Option Tree) (is : List Item) (n : ℕ) → reach_by fs c ≡ n → Nears n (waiting_by op fs c is)
+deepens_waiting : (op : BinaryOperator) (fs : List Frame) (c : Option Tree) (is : List PostfixItem) (n : ℕ) → reach_by fs c ≡ n → Nears n (waiting_by op fs c is)
 deepens_waiting op fs c is n h = record { least = omega (arith, h, reach-waiting op fs c is); most = omega (arith, h, reach-waiting op fs c is) }
 
-deepens_closed : (fs : List Frame) (c : Option Tree) (is : List Item) (n : ℕ) → reach_by fs c ≡ n → Deepens n (closed_by fs c is)
+deepens_closed : (fs : List Frame) (c : Option Tree) (is : List PostfixItem) (n : ℕ) → reach_by fs c ≡ n → Deepens n (closed_by fs c is)
 deepens_closed [] None is n h = tt
 deepens_closed [] (Some e) is n h = tt
 deepens_closed (Pending op ∷ fs) None is n h = tt
@@ -83,7 +83,7 @@ deepens_closed (Open ∷ fs) None is n h = tt
 deepens_closed (Open ∷ fs) (Some e) is n h =
     record { least = omega (arith, h, reach-settle fs (Group e) (Wrap ∷ is)); most = omega (arith, h, reach-settle fs (Group e) (Wrap ∷ is)) }
 
-deepens_followed : (fs : List Frame) (e : Tree) (is : List Item) (o : Option BinaryOperator) (b : Bool) → Deepens (max (height fs) (nesting fs + depth e)) (followed fs e is o b)
+deepens_followed : (fs : List Frame) (e : Tree) (is : List PostfixItem) (o : Option BinaryOperator) (b : Bool) → Deepens (max (height fs) (nesting fs + depth e)) (followed fs e is o b)
 deepens_followed fs e is (Some op) b =
     let t : State = reduced (level_of op) fs e is in
     deepens_waiting op t.frames t.current t.items (max (height fs) (nesting fs + depth e)) (reach-reduced (level_of op) fs e is)
@@ -92,7 +92,7 @@ deepens_followed fs e is None true =
     deepens_closed t.frames t.current t.items (max (height fs) (nesting fs + depth e)) (reach-reduced loosest fs e is)
 deepens_followed fs e is None false = tt
 
-deepens : (fs : List Frame) (c : Option Tree) (is : List Item) (m : Mark) → Deepens (reach_by fs c) (step_by fs c is m)
+deepens : (fs : List Frame) (c : Option Tree) (is : List PostfixItem) (m : Mark) → Deepens (reach_by fs c) (step_by fs c is m)
 deepens fs None is (Operand l) = deepens_settle fs (Single l) (Push l ∷ is) (height fs) (omega (arith, nesting-height fs))
 deepens fs None is (Signed s) = deepens_opened fs is _ _
 deepens fs None is Stray = tt
@@ -100,14 +100,14 @@ deepens fs (Some e) is (Operand l) = tt
 deepens fs (Some e) is (Signed s) = deepens_followed fs e is _ _
 deepens fs (Some e) is Stray = tt
 
-depth_whole : (fs : List Frame) (c : Option Tree) (is : List Item) (f : Found) → whole_by fs c is ≡ Some f → reach_by fs c ≡ depth f.tree
+depth_whole : (fs : List Frame) (c : Option Tree) (is : List PostfixItem) (f : Found) → whole_by fs c is ≡ Some f → reach_by fs c ≡ depth f.tree
 depth_whole [] None is f h = cc
 depth_whole [] (Some e) is f h = omega (arith, ap (λ (g : Found). depth g.tree) (found_same (record { tree = e; items = is }) f h))
 depth_whole (g ∷ fs) None is f h = cc
 depth_whole (g ∷ fs) (Some e) is f h = cc
 
 -- what is found is as deep as what was read
-pub depth_ended : (fs : List Frame) (c : Option Tree) (is : List Item) (f : Found) → finished_by fs c is ≡ Some f → reach_by fs c ≡ depth f.tree
+pub depth_ended : (fs : List Frame) (c : Option Tree) (is : List PostfixItem) (f : Found) → finished_by fs c is ≡ Some f → reach_by fs c ≡ depth f.tree
 depth_ended fs None is f h = cc
 depth_ended fs (Some e) is f h =
     let t : State = reduced loosest fs e is in

@@ -10,7 +10,7 @@ use Rattle.c25_meaning_language.specs.declared.expression.BinaryOperator.TheVari
 use Rattle.c25_meaning_language.specs.declared.expression.UnaryOperator.{UnaryOperator}
 use Rattle.c25_meaning_language.specs.declared.expression.UnaryOperator.TheVariants as unary
 use Rattle.c25_meaning_language.specs.Tree.{Tree, Single, Group, Unary, Binary, Mark, Operand, Signed, Stray, level_of, level, spelling, binary_sign, unary_sign, IsGrouped}
-use Rattle.c25_meaning_language.specs.Reading.{Item, Push, Wrap, Apply, Combine, Frame, Open, Pending, After, State, Found, settle, reduced, loosest, step, step_by, opened, waiting_by, closed_by, followed, finished_by, whole_by, run, unary_of, binary_of, is_open, is_close}
+use Rattle.c25_meaning_language.specs.Reading.{PostfixItem, Push, Wrap, Apply, Combine, Frame, Open, Pending, After, State, Found, settle, reduced, loosest, step, step_by, operand_begun, waiting_by, closed_by, followed, finished_by, whole_by, run, unary_of, binary_of, is_open, is_close}
 
 -- the tokens of what is open
 abbrev pub before : List Frame → List Mark
@@ -55,19 +55,19 @@ pub level_positive : (op : BinaryOperator) → 0 < level_of op
 level_positive binary.Multiply = lit< tt
 level_positive _ = lit< tt
 
-so_far-settle : (fs : List Frame) (e : Tree) (is : List Item) → so_far (settle fs e is) ≡ before fs ++ spelling e
+so_far-settle : (fs : List Frame) (e : Tree) (is : List PostfixItem) → so_far (settle fs e is) ≡ before fs ++ spelling e
 so_far-settle [] e is = refl
 so_far-settle (Open ∷ fs) e is = refl
 so_far-settle (Pending op ∷ fs) e is = so_far-settle fs (Unary op e) (Apply op ∷ is) ∙ sym (append_assoc (before fs) (Signed (unary_sign op) ∷ []) (spelling e))
 so_far-settle (After l op ∷ fs) e is = refl
 
-IsSound-settle : (fs : List Frame) (e : Tree) (is : List Item) → AreGrouped fs → IsGrouped e → level e ≡ 0 → IsSound (settle fs e is)
+IsSound-settle : (fs : List Frame) (e : Tree) (is : List PostfixItem) → AreGrouped fs → IsGrouped e → level e ≡ 0 → IsSound (settle fs e is)
 IsSound-settle [] e is g h z = (tt, (h, z, tt))
 IsSound-settle (Open ∷ fs) e is g h z = (g, (h, z, tt))
 IsSound-settle (Pending op ∷ fs) e is g h z = IsSound-settle fs (Unary op e) (Apply op ∷ is) g (z, h) refl
 IsSound-settle (After l op ∷ fs) e is g h z = (g, (h, z, level_positive op))
 
-so_far-reduced : (n : ℕ) (fs : List Frame) (e : Tree) (is : List Item) → so_far (reduced n fs e is) ≡ before fs ++ spelling e
+so_far-reduced : (n : ℕ) (fs : List Frame) (e : Tree) (is : List PostfixItem) → so_far (reduced n fs e is) ≡ before fs ++ spelling e
 so_far-reduced n [] e is = refl
 so_far-reduced n (Open ∷ fs) e is = refl
 so_far-reduced n (Pending op ∷ fs) e is = refl
@@ -86,7 +86,7 @@ ReducedBy n fs (Some e) = AreGrouped fs × IsGrouped e × (level e ≤ n) × IsR
 abbrev IsReduced : ℕ → State → Type 0
 IsReduced n s = ReducedBy n s.frames s.current
 
-IsReduced-reduced : (n : ℕ) (fs : List Frame) (e : Tree) (is : List Item) → AreGrouped fs → IsGrouped e → level e ≤ n → IsReady fs (level e) → IsReduced n (reduced n fs e is)
+IsReduced-reduced : (n : ℕ) (fs : List Frame) (e : Tree) (is : List PostfixItem) → AreGrouped fs → IsGrouped e → level e ≤ n → IsReady fs (level e) → IsReduced n (reduced n fs e is)
 IsReduced-reduced n [] e is g h l r = (tt, h, l, tt)
 IsReduced-reduced n (Open ∷ fs) e is g h l r = (g, h, l, tt)
 IsReduced-reduced n (Pending op ∷ fs) e is g h l r = absurd r
@@ -148,13 +148,13 @@ spelled_none ms t s h = append-nil _ ∙ ap (λ x. ms ++ Signed x ∷ []) h ∙ 
 regroup : (xs : List Mark) (a : Mark) (ys : List Mark) (b : Mark) → xs ++ (a ∷ (ys ++ b ∷ [])) ≡ ((xs ++ a ∷ []) ++ ys) ++ b ∷ []
 regroup xs a ys b = simp append_assoc
 
-open_steps : (fs : List Frame) (is : List Item) (s : Sign) (o : Option UnaryOperator) (b : Bool) → unary_of s ≡ o → is_open s ≡ b → AreGrouped fs → Steps (record { frames = fs; current = None; items = is }) (Signed s) (opened fs is o b)
+open_steps : (fs : List Frame) (is : List PostfixItem) (s : Sign) (o : Option UnaryOperator) (b : Bool) → unary_of s ≡ o → is_open s ≡ b → AreGrouped fs → Steps (record { frames = fs; current = None; items = is }) (Signed s) (operand_begun fs is o b)
 open_steps fs is s (Some op) b h q g = record { spelled = spelled_none (before fs) (unary_sign op) s (sym (unary_of-sign s op h)); sound = (g, tt) }
 open_steps fs is s None true h q g = record { spelled = spelled_none (before fs) sign.OpenParenthesis s (sym (is_open-sign s q)); sound = (g, tt) }
 open_steps fs is s None false h q g = tt
 
 -- an operator waits behind what is left
-wait_steps : (s : State) (gs : List Frame) (c : Option Tree) (js : List Item) (o : Sign) (op : BinaryOperator) → o ≡ binary_sign op → ReducedBy (level_of op) gs c → before gs ++ operand_marks c ≡ so_far s → Stepped s (waiting_by op gs c js) (Signed o)
+wait_steps : (s : State) (gs : List Frame) (c : Option Tree) (js : List PostfixItem) (o : Sign) (op : BinaryOperator) → o ≡ binary_sign op → ReducedBy (level_of op) gs c → before gs ++ operand_marks c ≡ so_far s → Stepped s (waiting_by op gs c js) (Signed o)
 wait_steps s gs None js o op q r e = absurd r
 wait_steps s gs (Some x) js o op q r e = record {
   spelled = append-nil _ ∙ sym (append_assoc (before gs) (spelling x) (Signed (binary_sign op) ∷ [])) ∙ ap (λ m. m ++ Signed (binary_sign op) ∷ []) e ∙ ap (λ t. so_far s ++ Signed t ∷ []) (sym q);
@@ -162,7 +162,7 @@ wait_steps s gs (Some x) js o op q r e = record {
 }
 
 -- a group ends behind what is left
-close_steps : (s : State) (n : ℕ) (gs : List Frame) (c : Option Tree) (js : List Item) (o : Sign) → o ≡ sign.CloseParenthesis → ReducedBy n gs c → before gs ++ operand_marks c ≡ so_far s → Steps s (Signed o) (closed_by gs c js)
+close_steps : (s : State) (n : ℕ) (gs : List Frame) (c : Option Tree) (js : List PostfixItem) (o : Sign) → o ≡ sign.CloseParenthesis → ReducedBy n gs c → before gs ++ operand_marks c ≡ so_far s → Steps s (Signed o) (closed_by gs c js)
 close_steps s n [] None js o q r e = tt
 close_steps s n [] (Some x) js o q r e = tt
 close_steps s n (Pending op ∷ gs) None js o q r e = tt
@@ -181,7 +181,7 @@ pub level_loosest : (op : BinaryOperator) → level_of op ≤ 8
 level_loosest binary.Multiply = omega arith
 level_loosest _ = omega arith
 
-follow_steps : (fs : List Frame) (e : Tree) (is : List Item) (s : Sign) (o : Option BinaryOperator) (b : Bool) → binary_of s ≡ o → is_close s ≡ b → AreGrouped fs → OperandGrouped fs (Some e)
+follow_steps : (fs : List Frame) (e : Tree) (is : List PostfixItem) (s : Sign) (o : Option BinaryOperator) (b : Bool) → binary_of s ≡ o → is_close s ≡ b → AreGrouped fs → OperandGrouped fs (Some e)
     → Steps (record { frames = fs; current = Some e; items = is }) (Signed s) (followed fs e is o b)
 follow_steps fs e is s (Some op) b h q g i =
     let t : State = reduced (level_of op) fs e is in
@@ -193,7 +193,7 @@ follow_steps fs e is s None true h q g i =
     (IsReduced-reduced loosest fs e is g i.0 (omega (arith, i.1)) (subst (IsReady fs) (sym i.1) i.2)) (so_far-reduced loosest fs e is)
 follow_steps fs e is s None false h q g i = tt
 
-by_current : (fs : List Frame) (c : Option Tree) (is : List Item) (m : Mark) → AreGrouped fs → OperandGrouped fs c → Steps (record { frames = fs; current = c; items = is }) m (step_by fs c is m)
+by_current : (fs : List Frame) (c : Option Tree) (is : List PostfixItem) (m : Mark) → AreGrouped fs → OperandGrouped fs c → Steps (record { frames = fs; current = c; items = is }) m (step_by fs c is m)
 by_current fs None is (Operand l) g h = record {
   spelled = so_far-settle fs (Single l) (Push l ∷ is) ∙ ap (λ x. x ++ Operand l ∷ []) (sym (append-nil (before fs)));
   sound = IsSound-settle fs (Single l) (Push l ∷ is) g tt refl;
@@ -208,7 +208,7 @@ by_current fs (Some e) is Stray g h = tt
 pub step_steps : (s : State) (m : Mark) → IsSound s → Steps s m (step s m)
 step_steps s m g = by_current s.frames s.current s.items m g.0 g.1
 
-whole_sound : (n : ℕ) (gs : List Frame) (c : Option Tree) (js : List Item) (f : Found) (ms : List Mark) → ReducedBy n gs c → before gs ++ operand_marks c ≡ ms → whole_by gs c js ≡ Some f → (spelling f.tree ≡ ms) × IsGrouped f.tree
+whole_sound : (n : ℕ) (gs : List Frame) (c : Option Tree) (js : List PostfixItem) (f : Found) (ms : List Mark) → ReducedBy n gs c → before gs ++ operand_marks c ≡ ms → whole_by gs c js ≡ Some f → (spelling f.tree ≡ ms) × IsGrouped f.tree
 whole_sound n [] None js f ms r e h = absurd r
 whole_sound n [] (Some x) js f ms r e h =
     let same = ap (λ (g : Found). g.tree) (some_same (let g : Found = record { tree = x; items = js } in g) f h) in
@@ -216,7 +216,7 @@ whole_sound n [] (Some x) js f ms r e h =
 whole_sound n (g ∷ gs) None js f ms r e h = cc
 whole_sound n (g ∷ gs) (Some x) js f ms r e h = cc
 
-ended : (fs : List Frame) (c : Option Tree) (is : List Item) (f : Found) → AreGrouped fs → OperandGrouped fs c → finished_by fs c is ≡ Some f → (spelling f.tree ≡ (before fs ++ operand_marks c) ++ []) × IsGrouped f.tree
+ended : (fs : List Frame) (c : Option Tree) (is : List PostfixItem) (f : Found) → AreGrouped fs → OperandGrouped fs c → finished_by fs c is ≡ Some f → (spelling f.tree ≡ (before fs ++ operand_marks c) ++ []) × IsGrouped f.tree
 ended fs None is f g i h = cc
 ended fs (Some e) is f g i h =
     let t : State = reduced loosest fs e is in

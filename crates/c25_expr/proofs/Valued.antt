@@ -4,7 +4,7 @@ use Rattle.std.proofs.lemmas.Bool.{and_parts, ltb-true, eqb-true}
 use Rattle.std.proofs.lemmas.List.{at_drop_more, append-nil, reverse-append, map-append, take-append-drop, take_more, length-reverse}
 use Rattle.c25_expr.proofs.Lasts.{reverse_pushed}
 use Rattle.c25_meaning_language.specs.Tree.{Tree}
-use Rattle.c25_meaning_language.specs.Reading.{Item, Push, Wrap, Apply, Combine}
+use Rattle.c25_meaning_language.specs.Reading.{PostfixItem, Push, Wrap, Apply, Combine}
 use Rattle.c25_meaning_common.specs.Results.{◌>>=◌}
 use Rattle.c25_meaning_language.specs.Value.{value_of, unary_value, binary_value}
 use Rattle.c25_meaning_language.specs.declared.value.Value.{Value}
@@ -63,7 +63,7 @@ length_values names here (t ∷ ts) vs h =
     omega (arith, more, same)
 
 -- an item makes of the values what it makes of the trees
-pub values_built : (names : Names) (here : Value) (i : Item) (ts : List Tree) (vs : List Value) → values_of names here ts ≡ Ok vs → fits i (length ts) ≡ true → values_of names here (built_one i ts) ≡ applied names here i vs
+pub values_built : (names : Names) (here : Value) (i : PostfixItem) (ts : List Tree) (vs : List Value) → values_of names here ts ≡ Ok vs → fits i (length ts) ≡ true → values_of names here (built_one i ts) ≡ applied names here i vs
 values_built names here (Push l) ts vs h room = rw h refl
 values_built names here Wrap [] vs h room = absurd (omega (arith, ltb-true 0 0 room))
 values_built names here Wrap (t ∷ ts) vs h room = h
@@ -90,7 +90,7 @@ err_binary (Ok vs) (Err e) r g f h = h
 err_binary (Err e) l r g f h = h
 
 -- a fault stays
-err_one : (names : Names) (here : Value) (i : Item) (ts : List Tree) (f : ValueFault) → values_of names here ts ≡ Err f → values_of names here (built_one i ts) ≡ Err f
+err_one : (names : Names) (here : Value) (i : PostfixItem) (ts : List Tree) (f : ValueFault) → values_of names here ts ≡ Err f → values_of names here (built_one i ts) ≡ Err f
 err_one names here (Push l) ts f h = rw h refl
 err_one names here Wrap [] f h = absurd (not_both [] f h)
 err_one names here Wrap (t ∷ ts) f h = h
@@ -100,12 +100,12 @@ err_one names here (Combine op) [] f h = absurd (not_both [] f h)
 err_one names here (Combine op) (r ∷ []) f h = err_unary (Ok []) (value_of names here r) (binary_value op here) f h
 err_one names here (Combine op) (r ∷ l ∷ ts) f h = err_binary (values_of names here ts) (value_of names here l) (value_of names here r) (binary_value op) f h
 
-err_many : (names : Names) (here : Value) (is js : List Item) (f : ValueFault) → values_of names here (built js) ≡ Err f → values_of names here (built (is ++ js)) ≡ Err f
+err_many : (names : Names) (here : Value) (is js : List PostfixItem) (f : ValueFault) → values_of names here (built js) ≡ Err f → values_of names here (built (is ++ js)) ≡ Err f
 err_many names here [] js f h = h
 err_many names here (i ∷ is) js f h = err_one names here i (built (is ++ js)) f (err_many names here is js f h)
 
 -- how many trees there are behind an item
-pub length_built : (i : Item) (ts : List Tree) → fits i (length ts) ≡ true → length (built_one i ts) ≡ height i (length ts)
+pub length_built : (i : PostfixItem) (ts : List Tree) → fits i (length ts) ≡ true → length (built_one i ts) ≡ height i (length ts)
 length_built (Push l) ts room = omega arith
 length_built Wrap [] room = absurd (omega (arith, ltb-true 0 0 room))
 length_built Wrap (t ∷ ts) room = refl
@@ -116,12 +116,12 @@ length_built (Combine op) (r ∷ []) room = absurd (omega (arith, two_wait 1 roo
 length_built (Combine op) (r ∷ l ∷ ts) room = omega arith
 
 -- items that run leave one tree
-one_left : (is js : List Item) → runs is (length (built js)) ≡ true → length (built (reverse is ++ js)) ≡ 1
+one_left : (is js : List PostfixItem) → runs is (length (built js)) ≡ true → length (built (reverse is ++ js)) ≡ 1
 one_left [] js h = eqb-true (length (built js)) 1 h
 one_left (i ∷ is) js h =
     let p = and_parts (fits i (length (built js))) _ h in
     let next : runs is (length (built (i ∷ js))) ≡ true = ap (runs is) (length_built i (built js) p.0) ∙ p.1 in
-    ap (λ (ks : List Item). length (built ks)) (ap (λ (ks : List Item). ks ++ js) (reverse-append (i ∷ []) is) ∙ append_assoc (reverse is) (i ∷ []) js) ∙ one_left is (i ∷ js) next
+    ap (λ (ks : List PostfixItem). length (built ks)) (ap (λ (ks : List PostfixItem). ks ++ js) (reverse-append (i ∷ []) is) ∙ append_assoc (reverse is) (i ∷ []) js) ∙ one_left is (i ∷ js) next
 
 -- the fault of a single tree
 single_err : (names : Names) (here : Value) (ts : List Tree) (f : ValueFault) → length ts ≡ 1 → values_of names here ts ≡ Err f → value_of names here (last_tree ts) ≡ Err f
@@ -144,40 +144,40 @@ single_ok names here (t ∷ ts) v vs n h =
     head_same x y xs ys h = cc
 
 -- one item more
-pub runs_more : {A : Type 0} (g : A → Item) (xs : List A) (i : ℕ) (d : A) (n : ℕ) → i < length xs → runs (map g (drop i xs)) n ≡ true
+pub runs_more : {A : Type 0} (g : A → PostfixItem) (xs : List A) (i : ℕ) (d : A) (n : ℕ) → i < length xs → runs (map g (drop i xs)) n ≡ true
     → (fits (g (get_or xs i d)) n ≡ true) × (runs (map g (drop (i + 1) xs)) (height (g (get_or xs i d)) n) ≡ true)
 runs_more g xs i d n l h = and_parts _ _ (sym (at_drop_more (λ us. runs (map g us) n) xs i d l) ∙ h)
 
 -- what an item makes of the values so far
-made : {A : Type 0} (names : Names) (here : Value) (g : A → Item) (xs : List A) (i : ℕ) (d : A) (vs : List Value) → i < length xs
+made : {A : Type 0} (names : Names) (here : Value) (g : A → PostfixItem) (xs : List A) (i : ℕ) (d : A) (vs : List Value) → i < length xs
     → values_of names here (built (reverse (map g (take i xs)))) ≡ Ok (reverse vs) → runs (map g (drop i xs)) (length vs) ≡ true
     → values_of names here (built (reverse (map g (take (i + 1) xs)))) ≡ applied names here (g (get_or xs i d)) (reverse vs)
 made names here g xs i d vs l valued left =
     let ts : List Tree = built (reverse (map g (take i xs))) in
     let same : length vs ≡ length ts = omega (arith, length_values names here ts (reverse vs) valued, length-reverse vs) in
     let room : fits (g (get_or xs i d)) (length ts) ≡ true = ap (fits (g (get_or xs i d))) (sym same) ∙ (runs_more g xs i d (length vs) l left).0 in
-    ap (λ (ks : List Item). values_of names here (built ks)) (reverse_pushed g (take i xs) (take (i + 1) xs) (get_or xs i d) (take_more xs i d l))
+    ap (λ (ks : List PostfixItem). values_of names here (built ks)) (reverse_pushed g (take i xs) (take (i + 1) xs) (get_or xs i d) (take_more xs i d l))
     ∙ values_built names here (g (get_or xs i d)) ts (reverse vs) valued room
 
 -- behind an item that has values
-pub values_more : {A : Type 0} (names : Names) (here : Value) (g : A → Item) (xs : List A) (i : ℕ) (d : A) (vs ws : List Value) → i < length xs
+pub values_more : {A : Type 0} (names : Names) (here : Value) (g : A → PostfixItem) (xs : List A) (i : ℕ) (d : A) (vs ws : List Value) → i < length xs
     → values_of names here (built (reverse (map g (take i xs)))) ≡ Ok (reverse vs) → runs (map g (drop i xs)) (length vs) ≡ true
     → applied names here (g (get_or xs i d)) (reverse vs) ≡ Ok (reverse ws)
     → (values_of names here (built (reverse (map g (take (i + 1) xs)))) ≡ Ok (reverse ws)) × ((runs (map g (drop (i + 1) xs)) (length ws) ≡ true) × (height (g (get_or xs i d)) (length vs) ≡ length ws))
 values_more names here g xs i d vs ws l valued left h =
     let ts : List Tree = built (reverse (map g (take i xs))) in
     let us : List Tree = built (reverse (map g (take (i + 1) xs))) in
-    let x : Item = g (get_or xs i d) in
+    let x : PostfixItem = g (get_or xs i d) in
     let next : values_of names here us ≡ Ok (reverse ws) = made names here g xs i d vs l valued left ∙ h in
     let same : length vs ≡ length ts = omega (arith, length_values names here ts (reverse vs) valued, length-reverse vs) in
     let room : fits x (length ts) ≡ true = ap (fits x) (sym same) ∙ (runs_more g xs i d (length vs) l left).0 in
     let trees : length us ≡ height x (length ts) =
-    ap (λ (ks : List Item). length (built ks)) (reverse_pushed g (take i xs) (take (i + 1) xs) (get_or xs i d) (take_more xs i d l)) ∙ length_built x ts room in
+    ap (λ (ks : List PostfixItem). length (built ks)) (reverse_pushed g (take i xs) (take (i + 1) xs) (get_or xs i d) (take_more xs i d l)) ∙ length_built x ts room in
     let now : height x (length vs) ≡ length ws = ap (height x) same ∙ sym trees ∙ length_values names here us (reverse ws) next ∙ length-reverse ws in
     (next, (ap (runs (map g (drop (i + 1) xs))) (sym now) ∙ (runs_more g xs i d (length vs) l left).1, now))
 
 -- a fault on the way is the fault of the tree
-pub err_stays : {A : Type 0} (names : Names) (here : Value) (g : A → Item) (xs : List A) (i : ℕ) (d : A) (vs : List Value) (f : ValueFault) → i < length xs
+pub err_stays : {A : Type 0} (names : Names) (here : Value) (g : A → PostfixItem) (xs : List A) (i : ℕ) (d : A) (vs : List Value) (f : ValueFault) → i < length xs
     → values_of names here (built (reverse (map g (take i xs)))) ≡ Ok (reverse vs) → runs (map g (drop i xs)) (length vs) ≡ true
     → applied names here (g (get_or xs i d)) (reverse vs) ≡ Err f → runs (map g xs) 0 ≡ true
     → value_of names here (last_tree (built (reverse (map g xs)))) ≡ Err f
@@ -185,6 +185,6 @@ err_stays names here g xs i d vs f l valued left h whole =
     let all : reverse (map g xs) ≡ reverse (map g (drop (i + 1) xs)) ++ reverse (map g (take (i + 1) xs)) =
     ap (λ ys. reverse (map g ys)) (sym (take-append-drop (i + 1) xs)) ∙ ap reverse (map-append g (take (i + 1) xs) (drop (i + 1) xs)) ∙ reverse-append (map g (take (i + 1) xs)) (map g (drop (i + 1) xs)) in
     single_err names here (built (reverse (map g xs))) f
-    (ap (λ (ks : List Item). length (built ks)) (sym (append-nil (reverse (map g xs)))) ∙ one_left (map g xs) [] whole)
-    (ap (λ (ks : List Item). values_of names here (built ks)) all
+    (ap (λ (ks : List PostfixItem). length (built ks)) (sym (append-nil (reverse (map g xs)))) ∙ one_left (map g xs) [] whole)
+    (ap (λ (ks : List PostfixItem). values_of names here (built ks)) all
     ∙ err_many names here (reverse (map g (drop (i + 1) xs))) (reverse (map g (take (i + 1) xs))) f (made names here g xs i d vs l valued left ∙ h))

@@ -5,11 +5,11 @@ use Rattle.c25_meaning_language.specs.Tree as tree
 use Rattle.c25_meaning_language.specs.Tree.{Tree}
 use Rattle.c25_meaning_language.specs.Reading as reading
 use Rattle.c25_meaning_language.specs.Reading.{Push, Wrap, Apply, Combine}
-use Rattle.c25_expr.specs.declared.tree.Item.{Item}
-use Rattle.c25_expr.specs.declared.tree.Item.TheVariants.{Constant, Name, Here, Group, Unary, Binary}
+use Rattle.c25_expr.specs.declared.tree.PostfixItem.{PostfixItem}
+use Rattle.c25_expr.specs.declared.tree.PostfixItem.TheVariants.{Constant, Name, Here, Group, Unary, Binary}
 
 -- what an item of an expression stands for
-abbrev pub item_of : Item → reading.Item
+abbrev pub item_of : PostfixItem → reading.PostfixItem
 item_of (Constant n) = Push (tree.Constant n)
 item_of (Name s) = Push (tree.Name (string_bytes s))
 item_of Here = Push tree.Here
@@ -28,14 +28,14 @@ other_trees [] = []
 other_trees (t ∷ ts) = ts
 
 -- what an item makes of trees, the last first
-abbrev pub built_one : reading.Item → List Tree → List Tree
+abbrev pub built_one : reading.PostfixItem → List Tree → List Tree
 built_one (Push l) ts = tree.Single l ∷ ts
 built_one Wrap ts = tree.Group (last_tree ts) ∷ other_trees ts
 built_one (Apply op) ts = tree.Unary op (last_tree ts) ∷ other_trees ts
 built_one (Combine op) ts = tree.Binary op (last_tree (other_trees ts)) (last_tree ts) ∷ other_trees (other_trees ts)
 
 -- the trees that items build, both the last first
-abbrev pub built : List reading.Item → List Tree
+abbrev pub built : List reading.PostfixItem → List Tree
 built [] = []
 built (i ∷ is) = built_one i (built is)
 
@@ -45,26 +45,26 @@ abbrev pub most_waiting : ℕ
 most_waiting = 521
 
 -- whether an item finds its operands, and room for its result, where so many operands wait
-abbrev pub fits : reading.Item → ℕ → Bool
+abbrev pub fits : reading.PostfixItem → ℕ → Bool
 fits (Push l) n = nat_lt n most_waiting
 fits Wrap n = nat_lt 0 n
 fits (Apply op) n = nat_lt 0 n && nat_le n most_waiting
 fits (Combine op) n = nat_lt 1 n && nat_le n most_waiting
 
 -- how many operands wait behind an item
-abbrev pub height : reading.Item → ℕ → ℕ
+abbrev pub height : reading.PostfixItem → ℕ → ℕ
 height (Push l) n = n + 1
 height Wrap n = n
 height (Apply op) n = n
 height (Combine op) n = n - 1
 
 -- whether items, the first first, find their operands and room, and leave one operand
-abbrev pub runs : List reading.Item → ℕ → Bool
+abbrev pub runs : List reading.PostfixItem → ℕ → Bool
 runs [] n = n == 1
 runs (i ∷ is) n = fits i n && runs is (height i n)
 
 -- how many operands wait with the result that an item puts behind them; parentheses put none
-abbrev pub with_result : reading.Item → ℕ → ℕ
+abbrev pub with_result : reading.PostfixItem → ℕ → ℕ
 with_result (Push l) n = n + 1
 with_result Wrap n = 0
 with_result (Apply op) n = n

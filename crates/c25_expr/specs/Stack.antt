@@ -1,6 +1,6 @@
 -- How an expression in postfix order is valued: with a list of values, the last first.
 use Rattle.std.specs.Prelude.{ℕ, pos, List, [], ◌∷◌, Option, Result, Ok, Err}
-use Rattle.c25_meaning_language.specs.Reading.{Item, Push, Wrap, Apply, Combine}
+use Rattle.c25_meaning_language.specs.Reading.{PostfixItem, Push, Wrap, Apply, Combine}
 use Rattle.c25_meaning_language.specs.Tree.{Tree}
 use Rattle.c25_meaning_common.specs.Results.{◌>>=◌}
 use Rattle.c25_meaning_language.specs.Value.{leaf_value, unary_value, binary_value, value_of}
@@ -24,7 +24,7 @@ onto (Ok v) vs = Ok (v ∷ vs)
 onto (Err f) vs = Err f
 
 -- what an item makes of values
-abbrev pub applied : (List ℕ → Option Value) → Value → Item → List Value → Result (List Value) ValueFault
+abbrev pub applied : (List ℕ → Option Value) → Value → PostfixItem → List Value → Result (List Value) ValueFault
 applied names here (Push l) vs = onto (leaf_value names here l) vs
 applied names here Wrap vs = Ok vs
 applied names here (Apply op) vs = onto (unary_value op (last_value vs)) (other_values vs)

@@ -21,7 +21,7 @@ abbrev pub marks_of : List Token → List Mark
 marks_of ts = map (λ t. mark_of (piece_of t)) ts
 
 -- what a token stands for that is an operand by itself
-abbrev pub leaf_item : Mark → Option reading.Item
+abbrev pub leaf_item : Mark → Option reading.PostfixItem
 leaf_item (tree.Operand l) = Some (reading.Push l)
 leaf_item _ = None
 
@@ -33,7 +33,7 @@ woven (Pending op ∷ fs) ts = reading.Pending op ∷ woven fs ts
 woven (After op ∷ fs) ts = reading.After (last_tree ts) op ∷ woven fs (other_trees ts)
 
 -- the items so far, the last first
-abbrev pub items_of : Builder → List reading.Item
+abbrev pub items_of : Builder → List reading.PostfixItem
 items_of b = reverse (map item_of b.items.items)
 
 -- the trees so far, the last first

@@ -4,7 +4,7 @@ ghost use Rattle.std.specs.Prelude.{◌≡◌, ◌≢◌, ◌+◌, ◌<◌, ◌�
 ghost use Rattle.std.specs.Option.{ok_or, option_map};
 ghost use Rattle.c25_meaning_common.specs.Results.{Meets};
 ghost use Rattle.c25_meaning_language.specs.Tree.{mark_of};
-ghost use Rattle.c25_meaning_language.specs.Reading.{Found, start, settle, reduced, step, opened, followed, closed, finished, unary_of, binary_of, is_open, is_close};
+ghost use Rattle.c25_meaning_language.specs.Reading.{Found, start, settle, reduced, step, operand_begun, followed, closed, finished, unary_of, binary_of, is_open, is_close};
 ghost use Rattle.c25_text.specs.View.{piece_of};
 ghost use Rattle.c25_expr.specs.Completes.{nesting, opens, completes};
 ghost use Rattle.c25_expr.specs.Postfix.{item_of, runs, last_tree};
@@ -12,7 +12,7 @@ ghost use Rattle.c25_expr.specs.View.{tree_of, leaf_item, marks_of};
 
 use crate::completes::completes;
 use crate::signs::{LOOSEST, binary_of, level_of, unary_of};
-use crate::tree::{Expr, Item};
+use crate::tree::{Expr, PostfixItem};
 use c25_meaning_common::failure::Failure;
 use c25_meaning_common::no_memory::NoMemory;
 use c25_meaning_language::expression::{BinaryOperator, ExpressionFault, UnaryOperator};
@@ -38,7 +38,7 @@ pub(crate) enum Frame {
 pub(crate) struct Builder {
     alloc: Global,
     frames: Vec<Frame>,
-    items: Vec<Item>,
+    items: Vec<PostfixItem>,
     expects: bool,
 }
 
@@ -65,7 +65,7 @@ impl Builder {
     {
         while let Some(Frame::Pending(operator)) = self.frames.last().copied() {
             self.frames.pop();
-            self.items.push(Item::Unary(operator))?;
+            self.items.push(PostfixItem::Unary(operator))?;
         }
         Ok(())
     }
@@ -81,7 +81,7 @@ impl Builder {
                 return Ok(());
             }
             self.frames.pop();
-            self.items.push(Item::Binary(operator))?;
+            self.items.push(PostfixItem::Binary(operator))?;
         }
         Ok(())
     }
@@ -134,7 +134,7 @@ impl Builder {
     /// A sign where an operand has to come.
     fn open(&mut self, sign: Sign) -> Result<(), Failure<ExpressionFault>>
         requires { self.old.expects ≡ true }
-        ensures { Meets (λ _. state_of self.new) (ok_or (opened (state_of self.old).frames (items_of self.old) (unary_of sign) (is_open sign)) ExpressionFault.BadExpression) result }
+        ensures { Meets (λ _. state_of self.new) (ok_or (operand_begun (state_of self.old).frames (items_of self.old) (unary_of sign) (is_open sign)) ExpressionFault.BadExpression) result }
     {
         if let Some(operator) = unary_of(sign) {
             self.frames.push(Frame::Pending(operator))?;
@@ -155,7 +155,7 @@ impl Builder {
         let Some(Frame::Open) = self.frames.pop() else {
             return Err(Failure::Fault(ExpressionFault::BadExpression));
         };
-        self.items.push(Item::Group)?;
+        self.items.push(PostfixItem::Group)?;
         self.settle()?;
         Ok(())
     }
@@ -217,14 +217,14 @@ impl Builder {
 }
 
 /// What a token stands for that is an operand by itself.
-fn leaf_of(alloc: Global, token: &Token<'_>) -> Result<Option<Item>, NoMemory>
+fn leaf_of(alloc: Global, token: &Token<'_>) -> Result<Option<PostfixItem>, NoMemory>
     ensures { IfOk result (λ o. option_map item_of o ≡ leaf_item (mark_of (piece_of token.now))) }
 {
     Ok(match token.kind {
-        TokenKind::Name => Some(Item::Name(String::from_str(alloc, token.text)?)),
-        TokenKind::Constant => Some(Item::Constant(constant_value(token.text.as_bytes()))),
-        TokenKind::Character => Some(Item::Constant(u32::from(second_byte(token.text)))),
-        TokenKind::Sign(Sign::Dollar) => Some(Item::Here),
+        TokenKind::Name => Some(PostfixItem::Name(String::from_str(alloc, token.text)?)),
+        TokenKind::Constant => Some(PostfixItem::Constant(constant_value(token.text.as_bytes()))),
+        TokenKind::Character => Some(PostfixItem::Constant(u32::from(second_byte(token.text)))),
+        TokenKind::Sign(Sign::Dollar) => Some(PostfixItem::Here),
         TokenKind::Sign(_) | TokenKind::Quoted | TokenKind::DottedName => None,
     })
 }

@@ -3,11 +3,11 @@
 
 mod builder;
 mod completes;
+pub mod expression_reader;
 pub mod failure;
 pub mod laws;
 pub mod operands;
 mod operators;
-pub mod reading;
 mod signs;
 pub mod symbols;
 pub mod tree;

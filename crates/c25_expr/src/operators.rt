@@ -1,7 +1,7 @@
 //! Operators on values.
 
 ghost use Rattle.std.specs.Prelude.{◌≡◌, ◌<◌, ◌≤◌, ◌^◌, ◌*ℤ◌, IfSome};
-ghost use Rattle.c25_meaning_language.specs.Value.{in_range, count_of, number_of, truth, base_of, absolute, unary_value, binary_value, plain_value};
+ghost use Rattle.c25_meaning_language.specs.Value.{in_range, shift_count, number_of, truth, base_of, absolute_base, unary_value, binary_value, plain_value};
 
 use c25_meaning_language::expression::{BinaryOperator, UnaryOperator};
 use c25_meaning_language::value::{Base, Value, ValueFault};
@@ -18,8 +18,8 @@ fn in_range(number: i64) -> Result<i32, ValueFault>
 }
 
 /// A shift count, 0 to 31.
-fn count_of(number: i32) -> Option<u32>
-    ensures value { result ≡ count_of number }
+fn shift_count(number: i32) -> Option<u32>
+    ensures value { result ≡ shift_count number }
     ensures small { IfSome result (λ n. n < 32) }
 {
     if number >= 0 && number < 32 {
@@ -76,7 +76,7 @@ fn power_of_two(count: u32) -> u32
 fn shifted_left(x: i32, y: i32) -> Result<i32, ValueFault>
     ensures { result ≡ number_of BinaryOperator.ShiftLeft x y }
 {
-    let Some(count) = count_of(y) else {
+    let Some(count) = shift_count(y) else {
         return Err(ValueFault::ValueRange);
     };
     in_range(i64::from(x) * i64::from(power_of_two(count)))
@@ -85,7 +85,7 @@ fn shifted_left(x: i32, y: i32) -> Result<i32, ValueFault>
 fn shifted_right(x: i32, y: i32) -> Result<i32, ValueFault>
     ensures { result ≡ number_of BinaryOperator.ShiftRight x y }
 {
-    let Some(count) = count_of(y) else {
+    let Some(count) = shift_count(y) else {
         return Err(ValueFault::ValueRange);
     };
     Ok(x >> count)
@@ -152,8 +152,8 @@ pub(crate) fn binary_value(
     Ok(Value { base, offset })
 }
 
-fn absolute(base: Base) -> Result<Base, ValueFault>
-    ensures { result ≡ absolute base }
+fn absolute_base(base: Base) -> Result<Base, ValueFault>
+    ensures { result ≡ absolute_base base }
 {
     match base {
         Base::Absolute => Ok(base),
@@ -167,12 +167,12 @@ pub(crate) fn unary_value(operator: UnaryOperator, x: Value) -> Result<Value, Va
     match operator {
         UnaryOperator::Plus => Ok(x),
         UnaryOperator::Minus => {
-            let base = absolute(x.base)?;
+            let base = absolute_base(x.base)?;
             let offset = in_range(-i64::from(x.offset))?;
             Ok(Value { base, offset })
         }
         UnaryOperator::Complement => {
-            let base = absolute(x.base)?;
+            let base = absolute_base(x.base)?;
             let offset = !x.offset;
             Ok(Value { base, offset })
         }

@@ -7,7 +7,7 @@ use c25_meaning_language::expression::{BinaryOperator, UnaryOperator};
 
 /// One step of an expression in postfix order.
 #[derive(Drop)]
-pub(crate) enum Item {
+pub(crate) enum PostfixItem {
     /// A constant. One above 2,147,483,647 stands as 2,147,483,648, which has no value.
     Constant(u32),
     /// A name.
@@ -26,6 +26,6 @@ pub(crate) enum Item {
 /// recursion that is as deep as the expression is long.
 #[derive(Drop)]
 pub struct Expr {
-    pub(crate) items: Vec<Item>,
+    pub(crate) items: Vec<PostfixItem>,
     ghost whole: { runs (map item_of items.items) 0 ≡ true },
 }

@@ -9,7 +9,7 @@ ghost use Rattle.c25_expr.specs.View.{tree_of};
 
 use crate::operators::{binary_value, plain_value, unary_value};
 use crate::symbols::Symbols;
-use crate::tree::{Expr, Item};
+use crate::tree::{Expr, PostfixItem};
 use arrayvec::ArrayVec;
 use c25_meaning_language::value::{Value, ValueFault};
 
@@ -59,7 +59,7 @@ fn value_over<const ROOM: usize>(
 
 /// Values an item of an expression over the operands that wait.
 fn apply<const ROOM: usize>(
-    item: &Item,
+    item: &PostfixItem,
     waiting: &mut ArrayVec<Value, ROOM>,
     symbols: &Symbols,
 ) -> Result<(), ValueFault>
@@ -70,15 +70,17 @@ fn apply<const ROOM: usize>(
         (λ f. applied (value_named symbols.now) symbols.now.here (item_of item.now) (reverse waiting.old.items) ≡ Err f) }
 {
     match item {
-        Item::Constant(number) => waiting.push(plain_value(*number)?),
-        Item::Name(name) => waiting.push(symbols.get(name.as_str()).ok_or(ValueFault::Undefined)?),
-        Item::Here => waiting.push(symbols.here()),
-        Item::Group => {}
-        Item::Unary(operator) => {
+        PostfixItem::Constant(number) => waiting.push(plain_value(*number)?),
+        PostfixItem::Name(name) => waiting.push(
+            symbols.get(name.as_str()).ok_or(ValueFault::Undefined)?,
+        ),
+        PostfixItem::Here => waiting.push(symbols.here()),
+        PostfixItem::Group => {}
+        PostfixItem::Unary(operator) => {
             let operand = last_of(waiting);
             waiting.push(unary_value(*operator, operand)?);
         }
-        Item::Binary(operator) => {
+        PostfixItem::Binary(operator) => {
             let right = last_of(waiting);
             let left = last_of(waiting);
             waiting.push(binary_value(*operator, left, right)?);

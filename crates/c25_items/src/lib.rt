@@ -1,10 +1,10 @@
 //! Texts of one item a line: their lines, words and numbers.
 #![tactic(auto)]
 
+mod item_reader;
 mod numbers;
-mod reading;
 mod words;
 
+pub use item_reader::{LineFormat, read_items};
 pub use numbers::{decimal_of, hexadecimal_of};
-pub use reading::{LineFormat, read_items};
 pub use words::is_word;

@@ -14,7 +14,7 @@ use Rattle.c25_meaning_assembly.specs.InstructionStatements.{Instruction}
 use Rattle.c25_meaning_objects.specs.Module.{Contents}
 use Rattle.c25_meaning_common.specs.Fields.{field_values}
 use Rattle.c25_meaning_placing.specs.Place.{Place}
-use Rattle.c25_meaning_assembly.specs.Sections.{Content, Definitions, Exported, Item, Operands, Progress, Words, Zeros, place}
+use Rattle.c25_meaning_assembly.specs.Sections.{Content, Definitions, Exported, LaidContent, Operands, Progress, Words, Zeros, place}
 use Rattle.c25_meaning_language.specs.Statement.{form_row, insn_of}
 use Rattle.c25_meaning_instructions.specs.Table.{Reads, opcode_word, second_word, size, words}
 use Rattle.c25_meaning_language.specs.Tree.{Tree}
@@ -90,11 +90,11 @@ both true b h = (refl, h)
 both false b h = absurd cc
 
 -- the statement of an item is one of the module's
-said_contains : (names : Definitions) (is : List Item) (i : Item) (x : Instruction) → Contains is i → said_by names i i.content ≡ x ∷ [] → Contains (said_in names is) x
+said_contains : (names : Definitions) (is : List LaidContent) (i : LaidContent) (x : Instruction) → Contains is i → said_by names i i.content ≡ x ∷ [] → Contains (said_in names is) x
 said_contains names [] i x c e = absurd (nothing_in i c)
 said_contains names (y ∷ is) i x c e =
     elim (in_front y i is c) [
-      | inl same ↦ Contains-append_left (said_by names y y.content) (said_in names is) x (subst (λ (xs : List Instruction). Contains xs x) (sym (ap (λ (z : Item). said_by names z z.content) same ∙ e)) (first_in x []))
+      | inl same ↦ Contains-append_left (said_by names y y.content) (said_in names is) x (subst (λ (xs : List Instruction). Contains xs x) (sym (ap (λ (z : LaidContent). said_by names z z.content) same ∙ e)) (first_in x []))
       | inr later ↦ Contains-append_right (said_by names y y.content) (said_in names is) x (said_contains names is i x later e)
     ]
 
@@ -120,7 +120,7 @@ no_addresses B ns low high [] h = refl
 no_addresses B ns low high (a ∷ list) h = let k = (h.1).kind in absurd (cc)
 
 -- as many words as it was laid with
-pub item_count : (all : List Contents) (places : List Place) (number : ℕ) (m : Contents) (names : Definitions) (i : Item) (c : Content) → length (item_words all places number m names i c) ≡ words_in c
+pub item_count : (all : List Contents) (places : List Place) (number : ℕ) (m : Contents) (names : Definitions) (i : LaidContent) (c : Content) → length (item_words all places number m names i c) ≡ words_in c
 item_count all places number m names i (Operands (target.Instruction f) trees) = form_size f (numbers_under all places number m names i.section i.offset (target.Instruction f) trees)
 item_count all places number m names i (Operands target.Words trees) = counted_length _ 0 trees
 item_count all places number m names i (Operands target.Bytes trees) = counted_length _ 0 trees
@@ -137,14 +137,14 @@ module _ (all : List Contents) (places : List Place) (number : ℕ) (p : Progres
   abbrev value : Address → ℕ
   value a = field_number a.kind (address_value all places number m a)
 
-  pub code : (i : Item) → Contains p.items i → is_code (heads p.sections) i.section ≡ true
-  code i c = each_in (λ (i : Item). is_code (heads p.sections) i.section ≡ true) p.items i (kept.kept).items.codes c
+  pub code : (i : LaidContent) → Contains p.items i → is_code (heads p.sections) i.section ≡ true
+  code i c = each_in (λ (i : LaidContent). is_code (heads p.sections) i.section ≡ true) p.items i (kept.kept).items.codes c
 
-  pub stands : (i : Item) → Contains p.items i → StandsIn (base_in p) (all_names p) (λ k. words_at k ms) (λ k. relocations_at k ms) i
+  pub stands : (i : LaidContent) → Contains p.items i → StandsIn (base_in p) (all_names p) (λ k. words_at k ms) (λ k. relocations_at k ms) i
   stands i c =
       stands_in (base_in p) (all_names p) (λ k. []) (λ k. []) (λ k. 0) p.items ms (λ k. refl) (λ k r e. absurd (nothing_in r e)) (kept.kept).items.laid (good p ms kept give) give i c
 
-  module _ (i : Item) (c : Contains p.items i) where
+  module _ (i : LaidContent) (c : Contains p.items i) where
     abbrev made : Made
     made = (stands i c).made
 
@@ -159,7 +159,7 @@ module _ (all : List Contents) (places : List Place) (number : ℕ) (p : Progres
     sheet_is : (t : Target) (trees : List Tree) (s : Sheet) → sheet_of t (table_at (all_names p) i.section i.offset) trees ≡ Ok s → IsSheet (base_in p) t (length trees) s
     sheet_is t trees s is =
         sheet_made (base_in p) tt t (table_at (all_names p) i.section i.offset) (all_known (length p.sections) p.names p.declared p.exported (kept.kept).names.symbols)
-        (each_in (λ (i : Item). IsGoodValue (base_in p) (place i.section i.offset)) p.items i
+        (each_in (λ (i : LaidContent). IsGoodValue (base_in p) (place i.section i.offset)) p.items i
         (items_placed p p.items kept.kept (kept.kept).items.codes (laid_within (λ k. 0) p.items (kept.kept).items.laid)) c) trees s is
 
     read : (j : ℕ) → j < length made.words → word_at m i.section (i.offset + j) ≡ slice_index made.words j

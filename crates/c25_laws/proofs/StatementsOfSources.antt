@@ -11,7 +11,7 @@ use Rattle.c25_meaning_objects.specs.Module as modules
 use Rattle.c25_meaning_objects.specs.Module.{Contents}
 use Rattle.c25_meaning_sources.specs.ModuleOfSource.{Assembled, Passed, assembled, completed, passed_from}
 use Rattle.c25_meaning_common.specs.Results.{◌>>=◌}
-use Rattle.c25_meaning_assembly.specs.Sections.{Definitions, Item, Progress, Section}
+use Rattle.c25_meaning_assembly.specs.Sections.{Definitions, LaidContent, Progress, Section}
 use Rattle.c25_meaning_instructions.specs.Table.{Reads}
 use Rattle.c25_meaning_assembly.specs.declared.assembly.Address.{Address}
 use Rattle.c25_meaning_assembly.specs.declared.assembly.Target.TheVariants as target
@@ -71,7 +71,7 @@ record IsGoodStatement (hs : List Head) (x : Instruction) : Type 0 where
   operands : HasOperands x
   addresses : AllByRecursion (HasAddress x) x.sheet.addresses
 
-good_statements : (B : Base → Type 0) (names : Definitions) (hs : List Head) (is : List Item) (ms : List Made) → AllByRecursion (λ i. is_code hs i.section ≡ true) is → AreMadeOf B is ms → AreSaid B names is ms
+good_statements : (B : Base → Type 0) (names : Definitions) (hs : List Head) (is : List LaidContent) (ms : List Made) → AllByRecursion (λ i. is_code hs i.section ≡ true) is → AreMadeOf B is ms → AreSaid B names is ms
     → AllByRecursion (IsGoodStatement hs) (said_in names is)
 good_statements B names hs [] [] codes made said = tt
 good_statements B names hs [] (m ∷ ms) codes made said = absurd said

@@ -12,7 +12,7 @@ use Rattle.c25_meaning_objects.specs.Module.{Contents}
 use Rattle.c25_meaning_sources.specs.ModuleOfSource.{Assembled, Passed, assembled, completed, passed_from}
 use Rattle.c25_meaning_placing.specs.Place.{Place}
 use Rattle.c25_meaning_common.specs.Results.{◌>>=◌}
-use Rattle.c25_meaning_assembly.specs.Sections.{Content, Definitions, Exported, Item, Operands, Progress, Words, Zeros}
+use Rattle.c25_meaning_assembly.specs.Sections.{Content, Definitions, Exported, LaidContent, Operands, Progress, Words, Zeros}
 use Rattle.c25_meaning_language.specs.Statement.{insn_of}
 use Rattle.c25_meaning_language.specs.Tree.{Tree}
 use Rattle.c25_meaning_linking.specs.Words.{section_base, section_name, section_page, section_run, section_runs_elsewhere}
@@ -39,13 +39,13 @@ use Rattle.c25_laws.specs.ProgramStatements.{AreModulesOf, all_statements, item_
 module _ (modules : List Contents) (places : List Place) (number : ℕ) (m : Contents) (n : ℕ) (names : Definitions) (declared exported : List (List ℕ))
     (symbols : m.symbols ≡ map (symbol_of exported) (names_with names declared)) (good : AllByRecursion (λ e. IsSymbol e.0 × IsGoodValue (IsInside n) e.1) names) where
   -- the numbers of a statement's operands under the map
-  pub numbers_are : (i : Item) (f : Form) (trees : List Tree) (s : Sheet) → sheet_of (target.Instruction f) (table_at (names_with names declared) i.section i.offset) trees ≡ Ok s
+  pub numbers_are : (i : LaidContent) (f : Form) (trees : List Tree) (s : Sheet) → sheet_of (target.Instruction f) (table_at (names_with names declared) i.section i.offset) trees ≡ Ok s
       → operand_numbers modules places number m (record { section = i.section; offset = i.offset; form = f; sheet = s }) ≡ numbers_under modules places number m names i.section i.offset (target.Instruction f) trees
   numbers_are i f trees s is =
       sheet_comes modules places number m names (names_with names declared) i.section i.offset (target.Instruction f)
       (name_means modules places number m n names declared exported symbols good) (name_kind modules places number m n names declared exported symbols good) trees s is
 
-  one_item : (i : Item) (c : Content) (made : Made) → made_by (names_with names declared) i c ≡ Ok made
+  one_item : (i : LaidContent) (c : Content) (made : Made) → made_by (names_with names declared) i c ≡ Ok made
       → item_statements modules places number m names i c ≡ module_statements modules places number m (said_by (names_with names declared) i c)
   one_item i (Operands (target.Instruction f) trees) made e = on (sheet_of (target.Instruction f) (table_at (names_with names declared) i.section i.offset) trees) refl e
     where
@@ -68,7 +68,7 @@ module _ (modules : List Contents) (places : List Place) (number : ℕ) (m : Con
   one_item i (Zeros count) made e = refl
   one_item i (Exported exported) made e = refl
 
-  pub items_say : (is : List Item) (ms : List Made) → Give (names_with names declared) is ms
+  pub items_say : (is : List LaidContent) (ms : List Made) → Give (names_with names declared) is ms
       → flat_map (λ i. item_statements modules places number m names i i.content) is ≡ module_statements modules places number m (said_in (names_with names declared) is)
   items_say [] [] give = refl
   items_say [] (x ∷ ms) give = absurd give

@@ -11,7 +11,7 @@ use Rattle.c25_bits.specs.Cut.{fits32}
 use Rattle.c25_meaning_common.specs.Results.{◌>>=◌, told}
 use Rattle.c25_meaning_language.specs.Statement.{value_fault}
 use Rattle.c25_meaning_language.specs.Tree.{Leaf, Constant, Name, Here, Tree, Single, Group, Unary, Binary}
-use Rattle.c25_meaning_language.specs.Value.{in_range, is_zero, count_of, number_of, base_of, binary_value, unary_value, absolute, leaf_value, value_of}
+use Rattle.c25_meaning_language.specs.Value.{in_range, is_zero, shift_count, number_of, base_of, binary_value, unary_value, absolute_base, leaf_value, value_of}
 use Rattle.c25_meaning_language.specs.declared.expression.UnaryOperator.{UnaryOperator}
 use Rattle.c25_meaning_language.specs.declared.expression.UnaryOperator.TheVariants as unary
 use Rattle.c25_meaning_language.specs.declared.expression.BinaryOperator.{BinaryOperator}
@@ -40,7 +40,7 @@ counted : (b : Bool) (m n : ℕ) → ok_or (cond b (Some m) None) fault.ValueRan
 counted true m n e = let q : m ≡ n = cc in q
 counted false m n e = absurd (cc)
 
-shift_is : (y : ℤ) (n : ℕ) → ok_or (count_of y) fault.ValueRange ≡ Ok n → shift y ≡ n
+shift_is : (y : ℤ) (n : ℕ) → ok_or (shift_count y) fault.ValueRange ≡ Ok n → shift y ≡ n
 shift_is (pos m) n e = counted (ltb m 32) m n e
 shift_is (negsuc m) n e = absurd (cc)
 
@@ -51,8 +51,8 @@ number_is binary.Divide x y z e = divided_is (is_zero y) (int_div x y) z e
 number_is binary.Remainder x y z e = divided_is (is_zero y) (int_rem x y) z e
 number_is binary.Add x y z e = in_range_is (x +ℤ y) z e
 number_is binary.Subtract x y z e = in_range_is (x -ℤ y) z e
-number_is binary.ShiftLeft x y z e = let a = bound (ok_or (count_of y) fault.ValueRange) (λ n. in_range (x *ℤ pos (2 ^ n))) z e in ap (λ n. x *ℤ pos (2 ^ n)) (shift_is y a.0 a.1) ∙ in_range_is (x *ℤ pos (2 ^ a.0)) z a.2
-number_is binary.ShiftRight x y z e = let a = bound (ok_or (count_of y) fault.ValueRange) (λ n. in_range (int_shr x n)) z e in ap (int_shr x) (shift_is y a.0 a.1) ∙ in_range_is (int_shr x a.0) z a.2
+number_is binary.ShiftLeft x y z e = let a = bound (ok_or (shift_count y) fault.ValueRange) (λ n. in_range (x *ℤ pos (2 ^ n))) z e in ap (λ n. x *ℤ pos (2 ^ n)) (shift_is y a.0 a.1) ∙ in_range_is (x *ℤ pos (2 ^ a.0)) z a.2
+number_is binary.ShiftRight x y z e = let a = bound (ok_or (shift_count y) fault.ValueRange) (λ n. in_range (int_shr x n)) z e in ap (int_shr x) (shift_is y a.0 a.1) ∙ in_range_is (int_shr x a.0) z a.2
 number_is binary.Less x y z e = same_ok _ z e
 number_is binary.LessOrEqual x y z e = same_ok _ z e
 number_is binary.Greater x y z e = same_ok _ z e
@@ -84,7 +84,7 @@ same b c e = cc
 same_value : (v w : Value) → ◌≡◌ {A = Result Value ValueFault} (Ok v) (Ok w) → v ≡ w
 same_value v w e = let q : v ≡ w = cc in q
 
-absolute_is : (b a : Base) → absolute b ≡ Ok a → (b ≡ Absolute) × (Absolute ≡ a)
+absolute_is : (b a : Base) → absolute_base b ≡ Ok a → (b ≡ Absolute) × (Absolute ≡ a)
 absolute_is Absolute a e = (refl, same Absolute a e)
 absolute_is (Section n) a e = absurd (cc)
 absolute_is (Loaded n) a e = absurd (cc)
@@ -146,13 +146,13 @@ module _ (at : Base → ℤ) (none : at Absolute ≡ pos 0) where
   unary_moves : (op : UnaryOperator) (x v : Value) → unary_value op x ≡ Ok v → unary_result op (moved x) ≡ moved v
   unary_moves unary.Plus x v e = ap moved (same_value x v e)
   unary_moves unary.Minus x v e =
-      let a = bound (absolute x.base) _ v e in
+      let a = bound (absolute_base x.base) _ v e in
       let made : ℤ → Value = λ z. record { base = a.0; offset = z } in
       let b = bound (in_range (neg_ℤ x.offset)) (λ z. Ok (made z)) v a.2 in
       let p = absolute_is x.base a.0 a.1 in
       ap neg_ℤ (plain_at x.base x.offset p.0) ∙ in_range_is (neg_ℤ x.offset) b.0 b.1 ∙ sym (plain_at a.0 b.0 (sym p.1)) ∙ ap moved (same_value (made b.0) v b.2)
   unary_moves unary.Complement x v e =
-      let a = bound (absolute x.base) _ v e in
+      let a = bound (absolute_base x.base) _ v e in
       let p = absolute_is x.base a.0 a.1 in
       let z = neg_ℤ x.offset -ℤ pos 1 in
       ap (λ y. neg_ℤ y -ℤ pos 1) (plain_at x.base x.offset p.0) ∙ sym (plain_at a.0 z (sym p.1)) ∙ ap moved (same_value (record { base = a.0; offset = z }) v a.2)
@@ -208,12 +208,12 @@ binary_kind op x y v e =
 unary_kind : (op : UnaryOperator) (x v : Value) → unary_value op x ≡ Ok v → unary_is_address op (counts_from_place x.base) ≡ counts_from_place v.base
 unary_kind unary.Plus x v e = ap (λ (w : Value). counts_from_place w.base) (same_value x v e)
 unary_kind unary.Minus x v e =
-    let a = bound (absolute x.base) _ v e in
+    let a = bound (absolute_base x.base) _ v e in
     let made : ℤ → Value = λ z. record { base = a.0; offset = z } in
     let b = bound (in_range (neg_ℤ x.offset)) (λ z. Ok (made z)) v a.2 in
     ap counts_from_place (absolute_is x.base a.0 a.1).1 ∙ ap (λ (w : Value). counts_from_place w.base) (same_value (made b.0) v b.2)
 unary_kind unary.Complement x v e =
-    let a = bound (absolute x.base) _ v e in
+    let a = bound (absolute_base x.base) _ v e in
     ap counts_from_place (absolute_is x.base a.0 a.1).1 ∙ ap (λ (w : Value). counts_from_place w.base) (same_value (record { base = a.0; offset = neg_ℤ x.offset -ℤ pos 1 }) v a.2)
 
 module _ (names : List ℕ → Option Value) (here : Value) (places : List ℕ → Bool) (each : (text : List ℕ) (w : Value) → names text ≡ Some w → places text ≡ counts_from_place w.base) (begins : true ≡ counts_from_place here.base) where

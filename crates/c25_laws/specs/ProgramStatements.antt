@@ -14,7 +14,7 @@ use Rattle.c25_meaning_objects.specs.Module.{Contents}
 use Rattle.c25_meaning_sources.specs.ModuleOfSource.{Assembled, assembled, passed_from}
 use Rattle.c25_meaning_placing.specs.Place.{Place}
 use Rattle.c25_meaning_common.specs.Results.{◌>>=◌}
-use Rattle.c25_meaning_assembly.specs.Sections.{Content, Definitions, Item, Operands, Progress, start}
+use Rattle.c25_meaning_assembly.specs.Sections.{Content, Definitions, LaidContent, Operands, Progress, start}
 use Rattle.c25_meaning_language.specs.Statement.{insn_of}
 use Rattle.c25_meaning_processor.specs.State.{World, program_at}
 use Rattle.c25_meaning_processor.specs.Statements.{Copied, Statement, Statements, marks_of, run_mark_of}
@@ -70,7 +70,7 @@ pub record PlacedStatement : Type 0 where
   pub insn : Insn
 
 -- the statement of an item, if it is one of an instruction: its addresses are those of its section's part and its offset
-abbrev pub item_statements : List Contents → List Place → ℕ → Contents → Definitions → Item → Content → List PlacedStatement
+abbrev pub item_statements : List Contents → List Place → ℕ → Contents → Definitions → LaidContent → Content → List PlacedStatement
 item_statements modules places number m names i (Operands (target.Instruction f) trees) = record {
   section = section_name m i.section;
   page = section_page places m i.section;

@@ -1,9 +1,9 @@
 //! Values, refusals and definitions, from outside.
 
 use crate::cases::CASES;
+use c25_expr::expression_reader::read_expr;
 use c25_expr::failure::{expression_fault, line_fault, value_fault};
 use c25_expr::operands::{operands_of, tokens_of, written_of};
-use c25_expr::reading::read_expr;
 use c25_expr::symbols::{Defined, Symbols};
 use c25_expr::tree::Expr;
 use c25_expr::value::value;

@@ -6,7 +6,7 @@ ghost use Rattle.c25_lines.specs.Passages.{IsRange, rows_in};
 
 use crate::first::first_line;
 use crate::rows::{Row, Rows};
-use c25_meaning_expansion::expansion::Place;
+use c25_meaning_expansion::expansion::SourcePlace;
 use std::marker::Model;
 
 /// Lines that are read one after another. Those since the mark are lines of the text too, so that a body
@@ -64,7 +64,7 @@ impl<'a> Passage<'a> {
         if self.count == 0 {
             return None;
         }
-        let place = Place {
+        let place = SourcePlace {
             file: self.file,
             line: self.line,
         };

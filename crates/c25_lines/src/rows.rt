@@ -7,13 +7,13 @@ ghost use Rattle.c25_meaning_expansion.specs.Rows.{last_place, rows_of};
 ghost use Rattle.c25_lines.specs.Passages.{IsRange, rows_in};
 
 use crate::passage::Passage;
-use c25_meaning_expansion::expansion::Place;
+use c25_meaning_expansion::expansion::SourcePlace;
 use std::marker::Model;
 
 /// A line of a file: where it stands, and its text without its end.
 #[derive(Drop)]
 pub struct Row<'a> {
-    place: Place,
+    place: SourcePlace,
     text: &'a str,
 }
 
@@ -26,13 +26,13 @@ impl<'a> Model for Row<'a> {
 }
 
 impl<'a> Row<'a> {
-    pub(crate) fn new(place: Place, text: &'a str) -> Row<'a>
+    pub(crate) fn new(place: SourcePlace, text: &'a str) -> Row<'a>
         ensures { result ≡ record { place = place; text = text.now } }
     {
         Row { place, text }
     }
 
-    pub fn place(&self) -> Place
+    pub fn place(&self) -> SourcePlace
         ensures { result ≡ self.now.place }
     {
         self.place
@@ -135,13 +135,13 @@ impl<'a> Rows<'a> {
     }
 
     /// Where the last line stands, or this place where there is none.
-    pub fn last_place(&self, place: Place) -> Place
+    pub fn last_place(&self, place: SourcePlace) -> SourcePlace
         ensures { result ≡ last_place place self.now }
     {
         if self.count == 0 {
             place
         } else {
-            Place {
+            SourcePlace {
                 file: self.file,
                 line: self.line + (self.count - 1),
             }

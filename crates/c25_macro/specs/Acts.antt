@@ -5,8 +5,8 @@ use Rattle.std.specs.String.{string_bytes}
 use Rattle.std.specs.declared.alloc.Global.{Global}
 use Rattle.c25_meaning_expansion.specs.Acts as acts
 use Rattle.c25_expr.specs.View.{tree_of}
-use Rattle.c25_macro.specs.declared.act.Act.{Act}
-use Rattle.c25_macro.specs.declared.act.Act.TheVariants as act
+use Rattle.c25_macro.specs.declared.act.ExpansionAct.{ExpansionAct}
+use Rattle.c25_macro.specs.declared.act.ExpansionAct.TheVariants as act
 use Rattle.c25_macro.specs.declared.act.Order.{Order}
 use Rattle.c25_macro.specs.declared.macros.Macro.{Macro}
 
@@ -19,7 +19,7 @@ abbrev pub macro_of : Macro → acts.Macro
 macro_of m = record { parameters = bytes_of_names m.parameters.items; body = m.body }
 
 -- what a line asks for
-abbrev pub act_of : Act → acts.Act
+abbrev pub act_of : ExpansionAct → acts.ExpansionAct
 act_of (act.If e) = acts.If (tree_of e)
 act_of (act.ElseIf e) = acts.ElseIf (tree_of e)
 act_of act.Else = acts.Else

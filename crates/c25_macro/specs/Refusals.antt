@@ -1,5 +1,5 @@
 -- Why no line is given.
-use Rattle.c25_meaning_expansion.specs.declared.expansion.Place.{Place}
+use Rattle.c25_meaning_expansion.specs.declared.expansion.SourcePlace.{SourcePlace}
 use Rattle.c25_meaning_common.specs.declared.failure.Failure.{Failure}
 use Rattle.c25_meaning_common.specs.declared.failure.Failure.TheVariants.{NoMemory, Fault}
 use Rattle.c25_meaning_language.specs.declared.statement.FaultKind.{FaultKind}
@@ -7,6 +7,6 @@ use Rattle.c25_macro.specs.declared.refusal.Refusal.{Refusal}
 use Rattle.c25_macro.specs.declared.refusal.Refusal.TheVariants.{Faulty}
 
 -- why the line that stands there is refused
-abbrev pub at_place : Place → Failure FaultKind → Failure Refusal
+abbrev pub at_place : SourcePlace → Failure FaultKind → Failure Refusal
 at_place place (NoMemory n) = NoMemory n
 at_place place (Fault kind) = Fault (Faulty place kind)

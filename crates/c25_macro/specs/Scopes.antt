@@ -3,7 +3,7 @@ use Rattle.c25_macro.specs.declared.scope.Block.{Block}
 use Rattle.c25_macro.specs.declared.scope.Block.TheVariants as blocks
 use Rattle.std.specs.Prelude.{Bool, List, [], ◌∷◌, ◌++◌, map}
 use Rattle.c25_meaning_expansion.specs.Expansion as exp
-use Rattle.c25_meaning_expansion.specs.Expansion.{Item, Read, Close}
+use Rattle.c25_meaning_expansion.specs.Expansion.{LineOrEnd, Read, Close}
 use Rattle.c25_meaning_expansion.specs.declared.expansion.Branch.{Branch}
 use Rattle.c25_macro.specs.declared.scope.Kind.{Kind}
 use Rattle.c25_macro.specs.declared.scope.Kind.TheVariants as kinds
@@ -21,7 +21,7 @@ abbrev pub scope_of : Scope → exp.Scope
 scope_of f = record { kind = kind_of f.kind; last = f.last; branches = f.branches }
 
 -- what the sources outside the current one still give, each after an end
-abbrev pub after : List Source → List Item
+abbrev pub after : List Source → List LineOrEnd
 after [] = []
 after (s ∷ ss) = Close ∷ (map Read s.lines.rest ++ after ss)
 

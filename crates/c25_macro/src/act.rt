@@ -6,7 +6,7 @@ use c25_substitution::parameters::Arguments;
 
 /// What a line asks for.
 #[derive(Drop)]
-pub(crate) enum Act<'a> {
+pub(crate) enum ExpansionAct<'a> {
     If(Expr),
     ElseIf(Expr),
     Else,
@@ -46,5 +46,5 @@ pub(crate) enum Act<'a> {
 #[derive(Drop)]
 pub(crate) struct Order<'a> {
     pub(crate) label: Option<String>,
-    pub(crate) act: Act<'a>,
+    pub(crate) act: ExpansionAct<'a>,
 }

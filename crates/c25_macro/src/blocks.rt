@@ -1,4 +1,6 @@
 //! Macros, loops and copied files.
+//!
+//! `State` and its other methods: `state.rt` says where they are.
 
 ghost use Rattle.std.specs.Prelude.{◌≡◌, ◌<◌, ◌^◌, ◌||◌, is_some};
 ghost use Rattle.std.specs.Option.{option_map};
@@ -22,7 +24,7 @@ use c25_files::files::Files;
 use c25_isa::mnemonic;
 use c25_lines::Rows;
 use c25_meaning_common::failure::Failure;
-use c25_meaning_expansion::expansion::Place;
+use c25_meaning_expansion::expansion::SourcePlace;
 use c25_meaning_language::statement::FaultKind;
 use c25_substitution::parameters::Arguments;
 
@@ -55,7 +57,7 @@ impl<'a> State<'a> {
     #[tactic(auto, unfolding(c25_meaning_expansion::specs::ExpansionRules::begins_macro))]
     pub(crate) fn begin_macro(
         &mut self,
-        place: Place,
+        place: SourcePlace,
         name: String,
         parameters: Vec<String>,
     ) -> Result<(), Failure<Refusal>>
@@ -77,7 +79,7 @@ impl<'a> State<'a> {
     #[tactic(auto, unfolding(c25_meaning_expansion::specs::ExpansionRules::begins_expansion))]
     pub(crate) fn begin_expansion(
         &mut self,
-        place: Place,
+        place: SourcePlace,
         body: Rows<'a>,
         arguments: Arguments,
     ) -> Result<(), Failure<Refusal>>
@@ -95,7 +97,11 @@ impl<'a> State<'a> {
     }
 
     /// The lines through the end of the innermost such block are dropped.
-    pub(crate) fn leave_block(&mut self, block: Block, place: Place) -> Result<(), Failure<Refusal>>
+    pub(crate) fn leave_block(
+        &mut self,
+        block: Block,
+        place: SourcePlace,
+    ) -> Result<(), Failure<Refusal>>
         requires reading { self.old.mode ≡ modes.Reading }
         ensures { GoesOn (rule.leaves (test_of block) place (config self.old)) result (config self.new) }
     {
@@ -107,7 +113,7 @@ impl<'a> State<'a> {
     }
 
     /// The lines of a loop of so many turns follow.
-    fn collect(&mut self, place: Place, turns: usize) -> Result<(), Failure<Refusal>>
+    fn collect(&mut self, place: SourcePlace, turns: usize) -> Result<(), Failure<Refusal>>
         ensures { GoesOn (rule.collects place turns (config self.old)) result (config self.new) }
     {
         if self.is_full() {
@@ -123,7 +129,7 @@ impl<'a> State<'a> {
     pub(crate) fn begin_loop(
         &mut self,
         symbols: &Symbols,
-        place: Place,
+        place: SourcePlace,
         count: Option<Expr>,
     ) -> Result<(), Failure<Refusal>>
         ensures { GoesOn (rule.begins_loop symbols.now place (option_map tree_of count) (config self.old)) result (config self.new) }
@@ -141,7 +147,7 @@ impl<'a> State<'a> {
     }
 
     /// `.break` whose condition holds or not.
-    fn break_if(&mut self, holds: bool, place: Place) -> Result<(), Failure<Refusal>>
+    fn break_if(&mut self, holds: bool, place: SourcePlace) -> Result<(), Failure<Refusal>>
         requires reading { self.old.mode ≡ modes.Reading }
         ensures { GoesOn (rule.breaks_if holds place (config self.old)) result (config self.new) }
     {
@@ -160,7 +166,7 @@ impl<'a> State<'a> {
     pub(crate) fn break_loop(
         &mut self,
         symbols: &Symbols,
-        place: Place,
+        place: SourcePlace,
         condition: Option<Expr>,
     ) -> Result<(), Failure<Refusal>>
         requires reading { self.old.mode ≡ modes.Reading }
@@ -191,7 +197,7 @@ impl<'a> State<'a> {
     pub(crate) fn evaluate(
         &mut self,
         symbols: &Symbols,
-        place: Place,
+        place: SourcePlace,
         expression: &Expr,
         name: &str,
     ) -> Result<(), Failure<Refusal>>
@@ -211,7 +217,7 @@ impl<'a> State<'a> {
     pub(crate) fn copy(
         &mut self,
         files: &'a Files,
-        place: Place,
+        place: SourcePlace,
         name: String,
     ) -> Result<(), Failure<Refusal>>
         requires reading { self.old.mode ≡ modes.Reading }
@@ -233,7 +239,7 @@ impl<'a> State<'a> {
 
     /// `.end`
     #[tactic(auto, unfolding(c25_meaning_expansion::specs::ExpansionRules::ends_all))]
-    pub(crate) fn end_all(&mut self, place: Place) -> Result<(), Failure<Refusal>>
+    pub(crate) fn end_all(&mut self, place: SourcePlace) -> Result<(), Failure<Refusal>>
         requires reading { self.old.mode ≡ modes.Reading }
         ensures { GoesOn (rule.ends_all place (config self.old)) result (config self.new) }
     {

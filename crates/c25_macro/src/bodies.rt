@@ -1,4 +1,6 @@
 //! Lines that go into the body of a macro or of a loop.
+//!
+//! `State` and its other methods: `state.rt` says where they are.
 
 ghost use Rattle.std.specs.Prelude.{◌≡◌, ◌<◌, ◌^◌};
 ghost use Rattle.std.specs.String.{string_bytes};
@@ -15,7 +17,7 @@ use crate::scope::Kind;
 use crate::state::{Mode, State};
 use c25_lines::{Row, Rows};
 use c25_meaning_common::failure::Failure;
-use c25_meaning_expansion::expansion::{Directive, Place};
+use c25_meaning_expansion::expansion::{Directive, SourcePlace};
 
 impl<'a> State<'a> {
     /// A line of a macro's body, or its end.
@@ -54,7 +56,7 @@ impl<'a> State<'a> {
     /// The turns of a loop whose lines were collected.
     fn begin_turns(
         &mut self,
-        place: Place,
+        place: SourcePlace,
         turns: usize,
         body: Rows<'a>,
     ) -> Result<(), Failure<Refusal>>

@@ -1,4 +1,6 @@
 //! Conditional lines: `.if`, `.elseif`, `.else`, `.endif`.
+//!
+//! `State` and its other methods: `state.rt` says where they are.
 
 ghost use Rattle.std.specs.Prelude.{◌≡◌};
 ghost use Rattle.c25_meaning_expansion.specs.ExpansionRules as rule;
@@ -12,7 +14,7 @@ use crate::values::{is_zero, number};
 use c25_expr::symbols::Symbols;
 use c25_expr::tree::Expr;
 use c25_meaning_common::failure::Failure;
-use c25_meaning_expansion::expansion::{Branch, Phase, Place};
+use c25_meaning_expansion::expansion::{Branch, Phase, SourcePlace};
 use c25_meaning_language::statement::FaultKind;
 
 /// Whether the lines of an `.if` are taken.
@@ -42,7 +44,7 @@ impl State<'_> {
     pub(crate) fn begin_if(
         &mut self,
         symbols: &Symbols,
-        place: Place,
+        place: SourcePlace,
         condition: &Expr,
     ) -> Result<(), Failure<Refusal>>
         ensures { GoesOn (rule.begins_if symbols.now place (tree_of condition.now) (config self.old)) result (config self.new) }
@@ -74,7 +76,7 @@ impl State<'_> {
     fn seek(
         &mut self,
         symbols: &Symbols,
-        place: Place,
+        place: SourcePlace,
         condition: &Expr,
         branch: Branch,
     ) -> Result<(), Failure<Refusal>>
@@ -90,7 +92,7 @@ impl State<'_> {
     pub(crate) fn elseif(
         &mut self,
         symbols: &Symbols,
-        place: Place,
+        place: SourcePlace,
         condition: &Expr,
     ) -> Result<(), Failure<Refusal>>
         ensures { GoesOn (rule.elseif_by symbols.now place (tree_of condition.now) (config self.old).scope.branches (config self.old)) result (config self.new) }
@@ -109,7 +111,7 @@ impl State<'_> {
     }
 
     /// `.else`
-    pub(crate) fn pass_else(&mut self, place: Place) -> Result<(), Failure<Refusal>>
+    pub(crate) fn pass_else(&mut self, place: SourcePlace) -> Result<(), Failure<Refusal>>
         ensures { GoesOn (rule.else_by place (config self.old).scope.branches (config self.old)) result (config self.new) }
     {
         let Some(branch) = self.top.scope.branches.innermost() else {
@@ -123,7 +125,7 @@ impl State<'_> {
     }
 
     /// `.endif`
-    pub(crate) fn end_if(&mut self, place: Place) -> Result<(), Failure<Refusal>>
+    pub(crate) fn end_if(&mut self, place: SourcePlace) -> Result<(), Failure<Refusal>>
         ensures { GoesOn (rule.endif_by place (config self.old).scope.branches (config self.old)) result (config self.new) }
     {
         match self.top.scope.branches.pop() {

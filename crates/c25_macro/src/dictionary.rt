@@ -15,7 +15,7 @@ use crate::macros::{Macro, Macros};
 use crate::scope::Kind;
 use c25_meaning_common::no_memory::NoMemory;
 use c25_substitution::parameters::Arguments;
-use c25_substitution::texts::Texts;
+use c25_substitution::texts::SubstitutionTexts;
 use c25_substitution::visible::Visible;
 use std::alloc::Global;
 
@@ -25,7 +25,7 @@ use std::alloc::Global;
 pub(crate) struct Dictionary<'a> {
     alloc: Global,
     macros: Macros<'a>,
-    texts: Texts,
+    texts: SubstitutionTexts,
     expansions: Expansions,
     /// How many expansions there have been.
     count: u32,
@@ -39,7 +39,7 @@ impl<'a> Dictionary<'a> {
         Dictionary {
             alloc,
             macros: Macros::new(alloc),
-            texts: Texts::new(alloc),
+            texts: SubstitutionTexts::new(alloc),
             expansions: Expansions::new(alloc),
             count: 0,
         }

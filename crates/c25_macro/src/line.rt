@@ -3,7 +3,7 @@
 ghost use Rattle.std.specs.Prelude.{◌≡◌};
 ghost use Rattle.std.specs.Cow.{cow_str_bytes};
 
-use c25_meaning_expansion::expansion::Place;
+use c25_meaning_expansion::expansion::SourcePlace;
 use std::borrow::CowStr;
 use std::marker::Model;
 
@@ -11,7 +11,7 @@ use std::marker::Model;
 /// its end, which is borrowed from the file's where nothing was replaced in it.
 #[derive(Drop)]
 pub(crate) struct Line<'a> {
-    place: Place,
+    place: SourcePlace,
     text: CowStr<'a>,
 }
 
@@ -25,13 +25,13 @@ impl<'a> Model for Line<'a> {
 }
 
 impl<'a> Line<'a> {
-    pub(crate) fn new(place: Place, text: CowStr<'a>) -> Line<'a>
+    pub(crate) fn new(place: SourcePlace, text: CowStr<'a>) -> Line<'a>
         ensures { result ≡ record { place = place; text = cow_str_bytes text.entry } }
     {
         Line { place, text }
     }
 
-    pub(crate) fn place(&self) -> Place
+    pub(crate) fn place(&self) -> SourcePlace
         ensures { result ≡ self.now.place }
     {
         self.place

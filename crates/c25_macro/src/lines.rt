@@ -1,4 +1,6 @@
 //! Lines as they are read: skipped, taken, substituted, and given or consumed.
+//!
+//! `State` and its other methods: `state.rt` says where they are.
 
 ghost use Rattle.std.specs.Prelude.{◌≡◌, ◌<◌, ◌^◌, Result};
 ghost use Rattle.std.specs.Cow.{cow_str_bytes};
@@ -14,7 +16,7 @@ ghost use Rattle.c25_macro.specs.Dictionary.{dictionary_of};
 ghost use Rattle.c25_macro.specs.Scopes.{other_branches};
 ghost use Rattle.c25_macro.specs.declared.state.Mode.TheVariants as modes;
 
-use crate::act::{Act, Order};
+use crate::act::{ExpansionAct, Order};
 use crate::conditions::takes_lines;
 use crate::directive::directive_in;
 use crate::line::Line;
@@ -26,7 +28,7 @@ use c25_expr::symbols::Symbols;
 use c25_files::files::Files;
 use c25_lines::Row;
 use c25_meaning_common::failure::Failure;
-use c25_meaning_expansion::expansion::{Branch, Directive, Phase, Place};
+use c25_meaning_expansion::expansion::{Branch, Directive, Phase, SourcePlace};
 use c25_meaning_language::long_line::LongLine;
 use c25_meaning_language::statement::FaultKind;
 use c25_substitution::substitution::{substitute, substitute_before_comma, unsubstituted};
@@ -40,30 +42,30 @@ impl<'a> State<'a> {
         &mut self,
         files: &'a Files,
         symbols: &Symbols,
-        place: Place,
-        act: Act<'a>,
+        place: SourcePlace,
+        act: ExpansionAct<'a>,
     ) -> Result<(), Failure<Refusal>>
         requires expansions { (config self.old).names.count < 2 ^ 31 }
         requires reading { self.old.mode ≡ modes.Reading }
         ensures { GoesOn (rule.acts files.now symbols.now place (act_of act.entry) (config self.old)) result (config self.new) }
     {
         match act {
-            Act::If(condition) => self.begin_if(symbols, place, &condition),
-            Act::ElseIf(condition) => self.elseif(symbols, place, &condition),
-            Act::Else => self.pass_else(place),
-            Act::EndIf => self.end_if(place),
-            Act::Define { name, parameters } => self.begin_macro(place, name, parameters),
-            Act::Stray => Err(fault(FaultKind::StrayEnd, place)),
-            Act::Exit => self.leave_block(Block::Expansion, place),
-            Act::Loop(count) => self.begin_loop(symbols, place, count),
-            Act::Break(condition) => self.break_loop(symbols, place, condition),
-            Act::Assign { text, name } => self.assign(name.as_str(), text),
-            Act::Evaluate { expression, name } => {
+            ExpansionAct::If(condition) => self.begin_if(symbols, place, &condition),
+            ExpansionAct::ElseIf(condition) => self.elseif(symbols, place, &condition),
+            ExpansionAct::Else => self.pass_else(place),
+            ExpansionAct::EndIf => self.end_if(place),
+            ExpansionAct::Define { name, parameters } => self.begin_macro(place, name, parameters),
+            ExpansionAct::Stray => Err(fault(FaultKind::StrayEnd, place)),
+            ExpansionAct::Exit => self.leave_block(Block::Expansion, place),
+            ExpansionAct::Loop(count) => self.begin_loop(symbols, place, count),
+            ExpansionAct::Break(condition) => self.break_loop(symbols, place, condition),
+            ExpansionAct::Assign { text, name } => self.assign(name.as_str(), text),
+            ExpansionAct::Evaluate { expression, name } => {
                 self.evaluate(symbols, place, &expression, name.as_str())
             }
-            Act::Copy(name) => self.copy(files, place, name),
-            Act::End => self.end_all(place),
-            Act::Call { body, arguments } => self.begin_expansion(place, body, arguments),
+            ExpansionAct::Copy(name) => self.copy(files, place, name),
+            ExpansionAct::End => self.end_all(place),
+            ExpansionAct::Call { body, arguments } => self.begin_expansion(place, body, arguments),
         }
     }
 
@@ -72,7 +74,7 @@ impl<'a> State<'a> {
         &mut self,
         files: &'a Files,
         symbols: &Symbols,
-        place: Place,
+        place: SourcePlace,
         order: Order<'a>,
     ) -> Result<Progress<'a>, Failure<Refusal>>
         requires expansions { (config self.old).names.count < 2 ^ 31 }
@@ -97,7 +99,7 @@ impl<'a> State<'a> {
         &mut self,
         files: &'a Files,
         symbols: &Symbols,
-        place: Place,
+        place: SourcePlace,
         order: Result<Order<'a>, Failure<FaultKind>>,
     ) -> Result<Progress<'a>, Failure<Refusal>>
         requires expansions { (config self.old).names.count < 2 ^ 31 }
@@ -199,7 +201,7 @@ impl<'a> State<'a> {
         &mut self,
         files: &'a Files,
         symbols: &Symbols,
-        place: Place,
+        place: SourcePlace,
         directive: Directive,
         text: &str,
     ) -> Result<Progress<'a>, Failure<Refusal>>

@@ -48,7 +48,7 @@ pub(crate) fn condition_in(
     alloc: Global,
     operands: &[&[Token<'_>]],
 ) -> Result<Expr, Failure<FaultKind>>
-    ensures { (act : Tree → acts.Act)
+    ensures { (act : Tree → acts.ExpansionAct)
         → Meets (λ e. act (tree_of e)) (with_condition act (operands_view operands.now)) result }
 {
     match operands {
@@ -62,7 +62,7 @@ pub(crate) fn option_in(
     alloc: Global,
     operands: &[&[Token<'_>]],
 ) -> Result<Option<Expr>, Failure<FaultKind>>
-    ensures { (act : Option Tree → acts.Act)
+    ensures { (act : Option Tree → acts.ExpansionAct)
         → Meets (λ o. act (option_map tree_of o)) (with_option act (operands_view operands.now)) result }
 {
     match operands {

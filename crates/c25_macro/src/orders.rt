@@ -10,7 +10,7 @@ ghost use Rattle.c25_expr.specs.Pieces.{pieces_of, operands_view};
 ghost use Rattle.c25_meaning_common.specs.Results.{Meets};
 ghost use Rattle.c25_macro.specs.Acts as view;
 
-use crate::act::{Act, Order};
+use crate::act::{ExpansionAct, Order};
 use crate::macros::Macro;
 use crate::operands::{condition_in, name_in, names_in, option_in};
 use c25_bytes::{byte_at, is_blank};
@@ -30,7 +30,10 @@ use std::alloc::Global;
 const MOST_PARAMETERS: usize = 32;
 
 /// A directive that takes no operand.
-fn without<'a>(act: Act<'a>, operands: &[&[Token<'_>]]) -> Result<Act<'a>, Failure<FaultKind>>
+fn without<'a>(
+    act: ExpansionAct<'a>,
+    operands: &[&[Token<'_>]],
+) -> Result<ExpansionAct<'a>, Failure<FaultKind>>
     ensures { Meets view.act_of (acts.without (view.act_of act.entry) (operands_view operands.now)) result }
 {
     match operands {
@@ -44,7 +47,7 @@ fn definition_in<'a>(
     alloc: Global,
     line: &Line<'_>,
     operands: &[&[Token<'_>]],
-) -> Result<Act<'a>, Failure<FaultKind>>
+) -> Result<ExpansionAct<'a>, Failure<FaultKind>>
     ensures { Meets view.act_of (acts.definition_in (parts_of line.now) (operands_view operands.now)) result }
 {
     let parameters = names_in(alloc, operands)?;
@@ -52,7 +55,7 @@ fn definition_in<'a>(
         return Err(Failure::Fault(FaultKind::TooManyParameters));
     }
     let name = String::from_str(alloc, line.label.unwrap_or(""))?;
-    Ok(Act::Define { name, parameters })
+    Ok(ExpansionAct::Define { name, parameters })
 }
 
 /// The last of some operands, if there are two or more.
@@ -70,14 +73,14 @@ fn assignment_in<'a>(
     alloc: Global,
     text: &str,
     operands: &[&[Token<'_>]],
-) -> Result<Act<'a>, Failure<FaultKind>>
+) -> Result<ExpansionAct<'a>, Failure<FaultKind>>
     ensures { Meets view.act_of (acts.assignment_in text.now (operands_view operands.now)) result }
 {
     match last_of_two(operands) {
         Some(last) => {
             let name = name_in(alloc, last)?;
             let text = assigned_text(alloc, text)?;
-            Ok(Act::Assign { text, name })
+            Ok(ExpansionAct::Assign { text, name })
         }
         None => Err(Failure::Fault(FaultKind::OperandCount)),
     }
@@ -88,14 +91,14 @@ fn evaluation_of<'a>(
     alloc: Global,
     first: &[Token<'_>],
     second: &[Token<'_>],
-) -> Result<Act<'a>, Failure<FaultKind>>
+) -> Result<ExpansionAct<'a>, Failure<FaultKind>>
     ensures { Meets view.act_of (acts.evaluation_in (pieces_of first.now ∷ pieces_of second.now ∷ [])) result }
 {
     match written_of(first) {
         Written::Expression => {
             let name = name_in(alloc, second)?;
             let expression = expression_in(alloc, first)?;
-            Ok(Act::Evaluate { expression, name })
+            Ok(ExpansionAct::Evaluate { expression, name })
         }
         _ => Err(Failure::Fault(FaultKind::OperandForm)),
     }
@@ -105,7 +108,7 @@ fn evaluation_of<'a>(
 fn evaluation_in<'a>(
     alloc: Global,
     operands: &[&[Token<'_>]],
-) -> Result<Act<'a>, Failure<FaultKind>>
+) -> Result<ExpansionAct<'a>, Failure<FaultKind>>
     ensures { Meets view.act_of (acts.evaluation_in (operands_view operands.now)) result }
 {
     match operands {
@@ -115,11 +118,14 @@ fn evaluation_in<'a>(
 }
 
 /// `.copy`
-fn copy_in<'a>(alloc: Global, operands: &[&[Token<'_>]]) -> Result<Act<'a>, Failure<FaultKind>>
+fn copy_in<'a>(
+    alloc: Global,
+    operands: &[&[Token<'_>]],
+) -> Result<ExpansionAct<'a>, Failure<FaultKind>>
     ensures { Meets view.act_of (acts.copy_in (operands_view operands.now)) result }
 {
     match operands {
-        [operand] => Ok(Act::Copy(string_in(alloc, operand)?)),
+        [operand] => Ok(ExpansionAct::Copy(string_in(alloc, operand)?)),
         _ => Err(Failure::Fault(FaultKind::OperandCount)),
     }
 }
@@ -132,23 +138,23 @@ fn act_of<'a>(
     text: &str,
     line: &Line<'_>,
     operands: &[&[Token<'_>]],
-) -> Result<Act<'a>, Failure<FaultKind>>
+) -> Result<ExpansionAct<'a>, Failure<FaultKind>>
     ensures { Meets view.act_of (acts.act_of directive text.now (parts_of line.now) (operands_view operands.now)) result }
 {
     match directive {
-        Directive::If => Ok(Act::If(condition_in(alloc, operands)?)),
-        Directive::ElseIf => Ok(Act::ElseIf(condition_in(alloc, operands)?)),
-        Directive::Else => without(Act::Else, operands),
-        Directive::EndIf => without(Act::EndIf, operands),
+        Directive::If => Ok(ExpansionAct::If(condition_in(alloc, operands)?)),
+        Directive::ElseIf => Ok(ExpansionAct::ElseIf(condition_in(alloc, operands)?)),
+        Directive::Else => without(ExpansionAct::Else, operands),
+        Directive::EndIf => without(ExpansionAct::EndIf, operands),
         Directive::Macro => definition_in(alloc, line, operands),
-        Directive::EndMacro | Directive::EndLoop => without(Act::Stray, operands),
-        Directive::ExitMacro => without(Act::Exit, operands),
-        Directive::Loop => Ok(Act::Loop(option_in(alloc, operands)?)),
-        Directive::Break => Ok(Act::Break(option_in(alloc, operands)?)),
+        Directive::EndMacro | Directive::EndLoop => without(ExpansionAct::Stray, operands),
+        Directive::ExitMacro => without(ExpansionAct::Exit, operands),
+        Directive::Loop => Ok(ExpansionAct::Loop(option_in(alloc, operands)?)),
+        Directive::Break => Ok(ExpansionAct::Break(option_in(alloc, operands)?)),
         Directive::Assign => assignment_in(alloc, text, operands),
         Directive::Evaluate => evaluation_in(alloc, operands),
         Directive::Copy => copy_in(alloc, operands),
-        Directive::End => without(Act::End, operands),
+        Directive::End => without(ExpansionAct::End, operands),
     }
 }
 
@@ -230,6 +236,6 @@ pub(crate) fn read_call<'a>(
     let arguments = arguments(alloc, called.parameters.as_slice(), text)?;
     Ok(Order {
         label,
-        act: Act::Call { body, arguments },
+        act: ExpansionAct::Call { body, arguments },
     })
 }

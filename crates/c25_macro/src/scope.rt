@@ -7,7 +7,7 @@ ghost use Rattle.c25_macro.specs.Scopes.{scopes, kind_of, test_of, other_branche
 
 use c25_lines::{Passage, Rows};
 use c25_meaning_common::no_memory::NoMemory;
-use c25_meaning_expansion::expansion::{Branch, Place};
+use c25_meaning_expansion::expansion::{Branch, SourcePlace};
 use std::alloc::Global;
 use std::marker::Model;
 
@@ -115,7 +115,7 @@ impl Kind<'_> {
 pub(crate) struct Scope<'a> {
     pub(crate) kind: Kind<'a>,
     /// Where its last line stands.
-    pub(crate) last: Place,
+    pub(crate) last: SourcePlace,
     /// The `.if`s begun in it.
     pub(crate) branches: Branches,
 }

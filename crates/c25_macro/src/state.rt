@@ -1,4 +1,6 @@
-//! What an expander works on: the sources that are open, and how the next line is looked at.
+//! What an expander works on: the sources that are open, and how the next line is looked at. Methods of
+//! `State` for one rule each: `conditions.rt` `.if`, `blocks.rt` macros, loops and copied files,
+//! `bodies.rt` their bodies, `lines.rt` a line that is read; `step.rt` goes on until a line is given.
 
 ghost use Rattle.std.specs.Prelude.{◌≡◌, ◌<◌, ◌^◌, ◌++◌, Some, None, OnOk, MatchBool};
 ghost use Rattle.c25_meaning_expansion.specs.Expansion as exp;
@@ -7,14 +9,14 @@ ghost use Rattle.c25_macro.specs.Config.{config, mode_of};
 ghost use Rattle.c25_macro.specs.Scopes.{kind_of, test_of};
 ghost use Rattle.c25_macro.specs.declared.state.Mode.TheVariants as modes;
 
-use crate::act::Act;
+use crate::act::ExpansionAct;
 use crate::dictionary::Dictionary;
 use crate::line::Line;
 use crate::scope::{Block, Branches, Kind, Scope, Source, Stack};
 use c25_files::text::Text;
 use c25_lines::Rows;
 use c25_meaning_common::no_memory::NoMemory;
-use c25_meaning_expansion::expansion::Place;
+use c25_meaning_expansion::expansion::SourcePlace;
 use std::alloc::Global;
 use std::mem;
 
@@ -26,8 +28,8 @@ pub(crate) enum Mode<'a> {
     Reading,
     /// The label of the line that stands there was given, and what the line asks for is still to be done.
     Acting {
-        place: Place,
-        act: Act<'a>,
+        place: SourcePlace,
+        act: ExpansionAct<'a>,
     },
     /// It goes into the body of a macro, in which so many macros are nested.
     InMacro {
@@ -79,7 +81,7 @@ impl<'a> State<'a> {
         ensures { config result ≡ start file text.now }
     {
         let rows = text.rows(file);
-        let last = rows.last_place(Place { file, line: 0 });
+        let last = rows.last_place(SourcePlace { file, line: 0 });
         State {
             alloc,
             top: Source {
@@ -101,11 +103,11 @@ impl<'a> State<'a> {
     pub(crate) fn open(
         &mut self,
         kind: Kind<'a>,
-        last: Place,
+        last: SourcePlace,
         rows: Rows<'a>,
     ) -> Result<(), NoMemory>
         requires reading { self.old.mode ≡ modes.Reading }
-        ensures { OnOk result (config self.new ≡ exp.opened (kind_of kind.entry) last rows.entry (config self.old)) }
+        ensures { OnOk result (config self.new ≡ exp.source_opened (kind_of kind.entry) last rows.entry (config self.old)) }
     {
         let source = Source {
             lines: rows.into_passage(),

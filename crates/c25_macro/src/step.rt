@@ -1,4 +1,6 @@
 //! Rewriting the lines still to come until one is given.
+//!
+//! `State` and its other methods: `state.rt` says where they are.
 
 ghost use Rattle.std.specs.Prelude.{◌≡◌, ◌<◌, ◌^◌, [], OnOk};
 ghost use Rattle.c25_meaning_expansion.specs.ExpansionBounds.{IsBounded, nesting};

@@ -2,7 +2,7 @@
 
 ghost use Rattle.std.specs.Prelude.{◌≡◌};
 ghost use Rattle.c25_meaning_language.specs.Statement.{valued};
-ghost use Rattle.c25_meaning_expansion.specs.ExpansionRules.{absolute};
+ghost use Rattle.c25_meaning_expansion.specs.ExpansionRules.{absolute_number};
 ghost use Rattle.c25_meaning_language.specs.Absolute.{number_by};
 ghost use Rattle.c25_meaning_language.specs.Value.{is_zero};
 ghost use Rattle.c25_expr.specs.View.{tree_of};
@@ -15,7 +15,7 @@ use c25_meaning_language::statement::FaultKind;
 use c25_meaning_language::value::{Base, Value};
 
 /// The number of a value that counts from nothing.
-fn absolute(value: Value) -> Result<i32, FaultKind>
+fn absolute_number(value: Value) -> Result<i32, FaultKind>
     ensures { result ≡ number_by value.base value.offset }
 {
     match value.base {
@@ -26,10 +26,10 @@ fn absolute(value: Value) -> Result<i32, FaultKind>
 
 /// The number that an expression stands for under the symbols so far.
 pub(crate) fn number(symbols: &Symbols, expr: &Expr) -> Result<i32, FaultKind>
-    ensures { result ≡ absolute (valued symbols.now (tree_of expr.now)) }
+    ensures { result ≡ absolute_number (valued symbols.now (tree_of expr.now)) }
 {
     match value(expr, symbols) {
-        Ok(value) => absolute(value),
+        Ok(value) => absolute_number(value),
         Err(kind) => Err(value_fault(kind)),
     }
 }

@@ -4,7 +4,7 @@ use c25_substitution::arguments::arguments;
 use c25_substitution::parameters::Arguments;
 use c25_substitution::strings::string_text;
 use c25_substitution::substitution::{substitute, substitute_before_comma, unsubstituted};
-use c25_substitution::texts::Texts;
+use c25_substitution::texts::SubstitutionTexts;
 use c25_substitution::visible::Visible;
 use std::process::Abort;
 use std::test::Fail;
@@ -43,7 +43,7 @@ fn replaces_before_comma(
 
 #[test]
 fn lines_that_no_source_may_have_are_substituted(rt: HostRuntime) -> Result<(), Fail> {
-    let mut texts = Texts::new(rt.alloc());
+    let mut texts = SubstitutionTexts::new(rt.alloc());
     texts.put("k", String::from_str(rt.alloc(), "1")?)?;
     let names = Visible {
         arguments: None,

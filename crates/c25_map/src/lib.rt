@@ -6,11 +6,11 @@ pub mod laws;
 mod lines;
 mod map;
 mod map_fault;
+mod map_reader;
 mod numbers;
-mod reading;
 mod writing;
 
 pub use map::{GlobalSymbol, Map, OutputSection, Part};
 pub use map_fault::MapFault;
-pub use reading::read_map;
+pub use map_reader::read_map;
 pub use writing::{push_symbols, write_map};

@@ -25,34 +25,34 @@ pub record Room : Type 0 where
   pub flag : Option Tree
 
 -- what a line does
-pub data Act : Type 0 where
+pub data AssemblyAct : Type 0 where
   -- a line without a first word, or with a directive that has no effect
-  Nothing : Act
+  Nothing : AssemblyAct
   -- `.text`, `.data`, `.sect`
-  Enter : (section : List ℕ) → Act
+  Enter : (section : List ℕ) → AssemblyAct
   -- `.bss`, `.usect`; count and flag may be no expressions, which is told behind a section of the other kind
-  Reserve : (section name : List ℕ) (room : Result Room FaultKind) → Act
+  Reserve : (section name : List ℕ) (room : Result Room FaultKind) → AssemblyAct
   -- `.set`, `.equ`
-  Equate : (name : List ℕ) (value : Tree) → Act
+  Equate : (name : List ℕ) (value : Tree) → AssemblyAct
   -- an instruction, `.word`, `.int`, `.byte`
-  Put : (target : Target) (operands : List Tree) → Act
+  Put : (target : Target) (operands : List Tree) → AssemblyAct
   -- `.string`
-  Load : (words : List ℕ) → Act
+  Load : (words : List ℕ) → AssemblyAct
   -- `.space`
-  Space : (bits : Tree) → Act
+  Space : (bits : Tree) → AssemblyAct
   -- `.global`, `.ref`
-  Declare : (names : List (List ℕ)) → Act
+  Declare : (names : List (List ℕ)) → AssemblyAct
   -- `.def`
-  Export : (names : List (List ℕ)) → Act
+  Export : (names : List (List ℕ)) → AssemblyAct
   -- `.label`
-  Label : (name : List ℕ) → Act
+  Label : (name : List ℕ) → AssemblyAct
   -- `.mmregs`
-  Registers : Act
+  Registers : AssemblyAct
 
 -- what a line says: a label for the place where it begins, and what it does
 pub record Statement : Type 0 where
   pub label : Option (List ℕ)
-  pub act : Act
+  pub act : AssemblyAct
 
 -- ---- directives by their names
 
@@ -98,7 +98,7 @@ directive_in (Some word) = directive_of word
 -- ---- operands
 
 -- no operand
-abbrev pub without : Act → List (List Piece) → Result Act FaultKind
+abbrev pub without : AssemblyAct → List (List Piece) → Result AssemblyAct FaultKind
 without act [] = Ok act
 without act (o ∷ os) = Err fault.OperandCount
 
@@ -165,25 +165,25 @@ flagged (Err k) flag = Err k
 -- ---- the directives with operands
 
 -- `.sect`
-abbrev pub entering : List (List Piece) → Result Act FaultKind
+abbrev pub entering : List (List Piece) → Result AssemblyAct FaultKind
 entering (o ∷ []) = section_in o >>= λ section. Ok (Enter section)
 entering _ = Err fault.OperandCount
 
 -- `.bss`: a name and a count, and a flag or none
-abbrev pub reserving : List (List Piece) → Result Act FaultKind
+abbrev pub reserving : List (List Piece) → Result AssemblyAct FaultKind
 reserving (o ∷ p ∷ []) = name_in o >>= λ name. later_in p >>= λ count. Ok (Reserve (codes ".bss") name (alone count))
 reserving (o ∷ p ∷ q ∷ []) =
     name_in o >>= λ name. later_in p >>= λ count. later_in q >>= λ flag. Ok (Reserve (codes ".bss") name (flagged count flag))
 reserving _ = Err fault.OperandCount
 
 -- `.usect`: a section and a count, for the label
-abbrev pub reserving_in : List ℕ → List (List Piece) → Result Act FaultKind
+abbrev pub reserving_in : List ℕ → List (List Piece) → Result AssemblyAct FaultKind
 reserving_in label (o ∷ p ∷ []) =
     section_in o >>= λ section. later_in p >>= λ count. Ok (Reserve section label (alone count))
 reserving_in label _ = Err fault.OperandCount
 
 -- one operand, an expression
-abbrev pub with_expression : (Tree → Act) → List (List Piece) → Result Act FaultKind
+abbrev pub with_expression : (Tree → AssemblyAct) → List (List Piece) → Result AssemblyAct FaultKind
 with_expression act (o ∷ []) = expression_in o >>= λ e. Ok (act e)
 with_expression act _ = Err fault.OperandCount
 
@@ -199,16 +199,16 @@ strings_in [] = Ok []
 strings_in (o ∷ os) = string_in o >>= λ text. strings_in os >>= λ words. Ok (packed text ++ words)
 
 -- `.string`: strings, at least one
-abbrev pub loading : List (List Piece) → Result Act FaultKind
+abbrev pub loading : List (List Piece) → Result AssemblyAct FaultKind
 loading operands = some operands >>= λ _. strings_in operands >>= λ words. Ok (Load words)
 
 -- `.label`: a name
-abbrev pub naming : List (List Piece) → Result Act FaultKind
+abbrev pub naming : List (List Piece) → Result AssemblyAct FaultKind
 naming (o ∷ []) = name_in o >>= λ name. Ok (Label name)
 naming _ = Err fault.OperandCount
 
 -- what a directive does on a line with this label and these operands
-unfoldable pub act_of : Directive → List ℕ → List (List Piece) → Result Act FaultKind
+unfoldable pub act_of : Directive → List ℕ → List (List Piece) → Result AssemblyAct FaultKind
 act_of directive.Text label operands = without (Enter (codes ".text")) operands
 act_of directive.Data label operands = without (Enter (codes ".data")) operands
 act_of directive.Sect label operands = entering operands
@@ -228,17 +228,17 @@ act_of directive.Ignored label operands = Ok Nothing
 -- ---- whole lines
 
 -- an instruction's line
-abbrev pub instructing : List ℕ → List (List Piece) → Result Act FaultKind
+abbrev pub instructing : List ℕ → List (List Piece) → Result AssemblyAct FaultKind
 instructing word operands =
     spelled word >>= λ s. operation_of s operands >>= λ o. Ok (Put (target.Instruction o.form) o.trees)
 
 -- what a line does whose first word is no directive
-abbrev pub act_without : Option Part → List (List Piece) → Result Act FaultKind
+abbrev pub act_without : Option Part → List (List Piece) → Result AssemblyAct FaultKind
 act_without None operands = Ok Nothing
 act_without (Some word) operands = instructing word.text operands
 
 -- what a line does by its directive, if it has one
-abbrev pub act_by : Option Directive → Parts → Result Act FaultKind
+abbrev pub act_by : Option Directive → Parts → Result AssemblyAct FaultKind
 act_by None parts = act_without parts.word (operands_of parts.pieces)
 act_by (Some d) parts = act_of d (unwrap_or parts.label []) (operands_of parts.pieces)
 

@@ -6,7 +6,7 @@ use Rattle.c25_meaning_assembly.specs.Addresses.{Sheet, sheet_of, words_of, relo
 use Rattle.c25_meaning_language.specs.ExpansionFault.{ExpansionFault, Faulty}
 use Rattle.c25_meaning_objects.specs.Module.{Contents, SectionBody, Uninitialised, Initialised, SectionData, SymbolData}
 use Rattle.c25_meaning_common.specs.Results.{◌>>=◌, fold_ok, told}
-use Rattle.c25_meaning_assembly.specs.Sections.{Definitions, Section, Content, Operands, Words, Zeros, Exported, Origin, Item, Progress, changed, imports, is_in, once, place}
+use Rattle.c25_meaning_assembly.specs.Sections.{Definitions, Section, Content, Operands, Words, Zeros, Exported, Origin, LaidContent, Progress, changed, imports, is_in, once, place}
 use Rattle.c25_meaning_language.specs.Value.{Table, value_named, start_of_text}
 use Rattle.c25_meaning_assembly.specs.declared.assembly.Target.{Target}
 use Rattle.c25_meaning_objects.specs.declared.object.LineMark.{LineMark}
@@ -82,11 +82,11 @@ abbrev pub at_origin : {A : Type 0} → Origin → Result A FaultKind → Result
 at_origin origin r = told (λ kind. Faulty origin.file origin.line kind) r
 
 -- one item more
-abbrev pub emitted : Definitions → List Section → Item → Result (List Section) ExpansionFault
+abbrev pub emitted : Definitions → List Section → LaidContent → Result (List Section) ExpansionFault
 emitted names sections item = at_origin item.origin (emit names item.section item.offset sections item.content)
 
 -- all items, line by line
-abbrev pub emit_all : Definitions → List Section → List Item → Result (List Section) ExpansionFault
+abbrev pub emit_all : Definitions → List Section → List LaidContent → Result (List Section) ExpansionFault
 emit_all names sections items = fold_ok (emitted names) sections items
 
 -- ---- the module

@@ -1,7 +1,7 @@
 -- How many words items have, and where each begins: behind those before it in its section (SPRU018, sections).
 use Rattle.std.specs.Prelude.{ℕ, ◌+◌, ◌==◌, List, [], ◌∷◌, length, if◌then◌else◌}
 use Rattle.c25_meaning_assembly.specs.OperandFields.{target_size}
-use Rattle.c25_meaning_assembly.specs.Sections.{Content, Exported, Item, Operands, Words, Zeros}
+use Rattle.c25_meaning_assembly.specs.Sections.{Content, Exported, LaidContent, Operands, Words, Zeros}
 
 -- how many words content has
 abbrev pub words_in : Content → ℕ
@@ -11,10 +11,10 @@ words_in (Zeros count) = count
 words_in (Exported names) = 0
 
 -- the words that an item has in a section
-abbrev pub part : ℕ → Item → ℕ
+abbrev pub part : ℕ → LaidContent → ℕ
 part k i = if i.section == k then words_in i.content else 0
 
 -- the words that items have in a section
-abbrev pub total : ℕ → List Item → ℕ
+abbrev pub total : ℕ → List LaidContent → ℕ
 total k [] = 0
 total k (i ∷ is) = part k i + total k is

@@ -5,7 +5,7 @@ use Rattle.std.specs.List.{position, find, list_any}
 use Rattle.std.specs.Ordering.{int_eq}
 use Rattle.std.specs.Str.{bytes_eq, is_utf8}
 use Rattle.c25_meaning_assembly.specs.OperandFields.{target_size}
-use Rattle.c25_meaning_assembly.specs.AssemblyLine.{Room, Act, Nothing, Enter, Reserve, Equate, Put, Load, Space, Declare, Export, Label, Registers, Statement}
+use Rattle.c25_meaning_assembly.specs.AssemblyLine.{Room, AssemblyAct, Nothing, Enter, Reserve, Equate, Put, Load, Space, Declare, Export, Label, Registers, Statement}
 use Rattle.c25_meaning_common.specs.Results.{◌>>=◌, fold_ok}
 use Rattle.c25_meaning_language.specs.Absolute.{number_by}
 use Rattle.c25_meaning_language.specs.Statement.{valued}
@@ -50,7 +50,7 @@ pub data Content : Type 0 where
   Exported : (names : List (List ℕ)) → Content
 
 -- content, the line that it is of, and where it begins
-pub record Item : Type 0 where
+pub record LaidContent : Type 0 where
   pub origin : Origin
   pub section : ℕ
   pub offset : ℕ
@@ -68,7 +68,7 @@ pub record Progress : Type 0 where
   pub exported : List (List ℕ)
   -- whether there was a `.mmregs`
   pub registers : Bool
-  pub items : List Item
+  pub items : List LaidContent
   -- the names of the files that hold instructions
   pub files : List (List ℕ)
 
@@ -166,15 +166,15 @@ of_kind name initialised p =
     if same_kind initialised (find (is_called name) p.sections) then Ok tt else Err fault.OperandForm
 
 -- the section of this number, or a new one, which comes last; there are at most 255
-abbrev pub opened_by : Option ℕ → List ℕ → Bool → Progress → Result (ℕ × Progress) FaultKind
-opened_by (Some i) name initialised p = Ok (i, p)
-opened_by None name initialised p =
+abbrev pub section_opened_by : Option ℕ → List ℕ → Bool → Progress → Result (ℕ × Progress) FaultKind
+section_opened_by (Some i) name initialised p = Ok (i, p)
+section_opened_by None name initialised p =
     if nat_le 255 (length p.sections) then Err fault.TooLarge
     else Ok (length p.sections, record p { sections = p.sections ++ empty_section name initialised ∷ [] })
 
 -- the number of the section of this name
-unfoldable pub opened : List ℕ → Bool → Progress → Result (ℕ × Progress) FaultKind
-opened name initialised p = opened_by (position (is_called name) p.sections) name initialised p
+unfoldable pub section_opened : List ℕ → Bool → Progress → Result (ℕ × Progress) FaultKind
+section_opened name initialised p = section_opened_by (position (is_called name) p.sections) name initialised p
 
 -- sections, this one changed, if it is there
 abbrev pub changed_by : (Section → Section) → List Section → ℕ → Option Section → List Section
@@ -276,7 +276,7 @@ block_allowed flag n = if flag && not (nat_le 1 n && nat_le n 128) then Err faul
 -- words for a name
 unfoldable pub reserve : List ℕ → List ℕ → ℕ → Bool → Progress → Result Progress FaultKind
 reserve section name n flag p =
-    opened section false p >>= λ o. grow o.0 n o.1 >>= λ q.
+    section_opened section false p >>= λ o. grow o.0 n o.1 >>= λ q.
     define name (place_in o.1.sections o.0) (block flag o.0 (size_at o.1.sections o.0) n q)
 
 -- ---- names
@@ -286,14 +286,14 @@ abbrev pub is_predefined : List ℕ → Bool
 is_predefined name = is_some (predefined name)
 
 -- a plain number
-abbrev pub absolute : ℕ → Value
-absolute n = record { base = base.Absolute; offset = pos n }
+abbrev pub value_of_number : ℕ → Value
+value_of_number n = record { base = base.Absolute; offset = pos n }
 
 -- the memory-mapped registers, by their data addresses (SPRU014, memory-mapped registers)
 abbrev pub register_names : Definitions
 register_names =
-    (codes "DRR", absolute 0) ∷ (codes "DXR", absolute 1) ∷ (codes "TIM", absolute 2)
-    ∷ (codes "PRD", absolute 3) ∷ (codes "IMR", absolute 4) ∷ (codes "GREG", absolute 5) ∷ []
+    (codes "DRR", value_of_number 0) ∷ (codes "DXR", value_of_number 1) ∷ (codes "TIM", value_of_number 2)
+    ∷ (codes "PRD", value_of_number 3) ∷ (codes "IMR", value_of_number 4) ∷ (codes "GREG", value_of_number 5) ∷ []
 
 -- a name and what it stands for
 abbrev pub define_pair : Progress → List ℕ × Value → Result Progress FaultKind
@@ -302,14 +302,14 @@ define_pair p pair = define pair.0 pair.1 p
 -- ---- the directives, each in the order of its faults
 
 -- what is looked at before the label is defined: a section of the other kind, then what is no expression
-abbrev pub allowed : Act → Progress → Result (Unit {0}) FaultKind
+abbrev pub allowed : AssemblyAct → Progress → Result (Unit {0}) FaultKind
 allowed (Enter section) p = of_kind section true p
 allowed (Reserve section name room) p = of_kind section false p >>= λ _. room >>= λ r. Ok tt
 allowed _ p = Ok tt
 
 -- `.text`, `.data`, `.sect`
 abbrev pub enter : List ℕ → Progress → Result Progress FaultKind
-enter section p = opened section true p >>= λ o. Ok (record o.1 { current = o.0 })
+enter section p = section_opened section true p >>= λ o. Ok (record o.1 { current = o.0 })
 
 -- so much room for a name: the count is looked at before the flag, what a block may have behind both
 abbrev pub reserve_room : List ℕ → List ℕ → Room → Progress → Result Progress FaultKind
@@ -359,7 +359,7 @@ unfoldable pub registers : Progress → Result Progress FaultKind
 registers p = if p.registers then Ok p else fold_ok define_pair (record p { registers = true }) register_names
 
 -- what a line does
-abbrev pub act : Origin → Act → Progress → Result Progress FaultKind
+abbrev pub act : Origin → AssemblyAct → Progress → Result Progress FaultKind
 act origin Nothing p = Ok p
 act origin (Enter section) p = enter section p
 act origin (Reserve section name room) p = reserve_count section name room p

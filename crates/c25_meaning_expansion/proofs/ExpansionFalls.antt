@@ -5,14 +5,14 @@ use Rattle.std.proofs.lemmas.Bool.Decides.{nat_tests}
 use Rattle.c25_meaning_language.specs.Value.{Table}
 use Rattle.c25_meaning_expansion.specs.Files.{Files}
 use Rattle.c25_meaning_expansion.specs.Rows.{Row}
-use Rattle.c25_meaning_expansion.specs.Acts.{Act}
-use Rattle.c25_meaning_expansion.specs.Expansion.{Item, Read, Close, Kind, Copied, Expanded, Turn, Scope, Mode, Reading, Acting, InMacro, InLoop, Config, Rewriting, Gives, Goes, Finishes, Faults, Misses}
+use Rattle.c25_meaning_expansion.specs.Acts.{ExpansionAct}
+use Rattle.c25_meaning_expansion.specs.Expansion.{LineOrEnd, Read, Close, Kind, Copied, Expanded, Turn, Scope, Mode, Reading, Acting, InMacro, InLoop, Config, Rewriting, Gives, Goes, Finishes, Faults, Misses}
 use Rattle.c25_meaning_expansion.specs.ExpansionRules.{acts}
 use Rattle.c25_meaning_expansion.specs.ExpansionRuns.{read_by, is_empty, is_closed, back, ended, front, rewrite_by, rewrite, front_weight, mode_weight, weight}
 use Rattle.c25_meaning_expansion.specs.ExpansionBounds.{nested_of, pending, collecting, deepest, IsBounded}
 use Rattle.c25_meaning_expansion.proofs.ExpansionActs.{Comes, gives, goes, faults, misses, IsIdle, Acted, Never, acted, blocks_in, count_stays}
 use Rattle.c25_meaning_expansion.proofs.ExpansionLines.{Took, Takes, takes_read}
-use Rattle.c25_meaning_expansion.specs.declared.expansion.Place.{Place}
+use Rattle.c25_meaning_expansion.specs.declared.expansion.SourcePlace.{SourcePlace}
 
 -- less is left to rewrite, and what was in bounds is
 pub record Falls (c d : Config) : Type 0 where
@@ -28,7 +28,7 @@ After c (Finishes d) = d ≡ c
 After c (Faults place kind) = Unit {0}
 After c (Misses place name) = Unit {0}
 
-front_small : (items : List Item) → front_weight items ≤ 1
+front_small : (items : List LineOrEnd) → front_weight items ≤ 1
 front_small [] = omega arith
 front_small (Close ∷ items) = omega arith
 front_small (Read row ∷ items) = omega arith
@@ -44,7 +44,7 @@ idle = record { nested = refl; nothing_waits = refl; no_loop = refl }
 
 -- ---- a line whose label was given
 
-falls_acted : (place : Place) (act : Act) (c d : Config) → c.mode ≡ Acting place act → Acted (record c { mode = Reading }) d → Falls c d
+falls_acted : (place : SourcePlace) (act : ExpansionAct) (c d : Config) → c.mode ≡ Acting place act → Acted (record c { mode = Reading }) d → Falls c d
 falls_acted place act c d e h =
     let pends = ap pending e in
     let nested = ap nested_of e in
@@ -55,7 +55,7 @@ falls_acted place act c d e h =
       bounded = λ bounds. omega (arith, h, bounds);
     }
 
-after_acted : (place : Place) (act : Act) (c : Config) (r : Rewriting) → c.mode ≡ Acting place act → Comes (Acted (record c { mode = Reading })) Never r → After c r
+after_acted : (place : SourcePlace) (act : ExpansionAct) (c : Config) (r : Rewriting) → c.mode ≡ Acting place act → Comes (Acted (record c { mode = Reading })) Never r → After c r
 after_acted place act c _ e (goes {d = d} h) = falls_acted place act c d e h
 after_acted place act c _ e (gives h) = absurd h
 after_acted place act c _ e faults = tt
@@ -63,7 +63,7 @@ after_acted place act c _ e misses = tt
 
 -- ---- a line that is read
 
-falls_took : (row : Row) (rest : List Item) (c d : Config) → 0 < c.left → Took c.mode (record c { lines = rest; mode = Reading; left = c.left - 1 }) d → Falls c d
+falls_took : (row : Row) (rest : List LineOrEnd) (c d : Config) → 0 < c.left → Took c.mode (record c { lines = rest; mode = Reading; left = c.left - 1 }) d → Falls c d
 falls_took row rest c d some h =
     record {
       weighs_less = omega (arith, h, waiting c.mode, waiting d.mode, front_small d.lines);
@@ -71,7 +71,7 @@ falls_took row rest c d some h =
       bounded = λ bounds. omega (arith, h, bounds);
     }
 
-after_took : (row : Row) (rest : List Item) (c : Config) (r : Rewriting) → 0 < c.left → Takes c.mode (record c { lines = rest; mode = Reading; left = c.left - 1 }) r → After c r
+after_took : (row : Row) (rest : List LineOrEnd) (c : Config) (r : Rewriting) → 0 < c.left → Takes c.mode (record c { lines = rest; mode = Reading; left = c.left - 1 }) r → After c r
 after_took row rest c _ some (goes {d = d} h) = falls_took row rest c d some h
 after_took row rest c _ some (gives {d = d} h) = (falls_took row rest c d some h, omega (arith, h))
 after_took row rest c _ some faults = tt
@@ -79,7 +79,7 @@ after_took row rest c _ some misses = tt
 
 -- ---- an end
 
-after_back : (rest : List Item) (outer : List Scope) (c : Config) → front_weight c.lines ≡ 1 → c.outer ≡ outer → After c (back rest outer c)
+after_back : (rest : List LineOrEnd) (outer : List Scope) (c : Config) → front_weight c.lines ≡ 1 → c.outer ≡ outer → After c (back rest outer c)
 after_back rest [] c e same = refl
 after_back rest (f ∷ fs) c e same =
     let scopes = ap length same in
@@ -95,7 +95,7 @@ after_cond : (c : Config) (b : Bool) (x y : Rewriting) → (b ≡ true → After
 after_cond c true x y h k = h refl
 after_cond c false x y h k = k refl
 
-after_turn : (body : List Row) (more : ℕ) (rest : List Item) (c : Config) (b : Bool) → b ≡ (nat_lt 0 more && not (is_empty body)) → front_weight c.lines ≡ 1 →
+after_turn : (body : List Row) (more : ℕ) (rest : List LineOrEnd) (c : Config) (b : Bool) → b ≡ (nat_lt 0 more && not (is_empty body)) → front_weight c.lines ≡ 1 →
     After c (if b then Goes (record c { lines = map Read body ++ Close ∷ rest; scope = record { kind = Turn body (more - 1); last = c.scope.last; branches = [] } }) else back rest c.outer c)
 after_turn [] more rest c true e f = absurd (none (nat_lt 0 more) e)
   where
@@ -110,7 +110,7 @@ after_turn (row ∷ body) more rest c true e f =
     }
 after_turn body more rest c false e f = after_back rest c.outer c f refl
 
-after_ended : (kind : Kind) (rest : List Item) (c : Config) → front_weight c.lines ≡ 1 → After c (ended kind rest c)
+after_ended : (kind : Kind) (rest : List LineOrEnd) (c : Config) → front_weight c.lines ≡ 1 → After c (ended kind rest c)
 after_ended Copied rest c e = after_back rest c.outer c e refl
 after_ended Expanded rest c e = after_back rest c.outer c e refl
 after_ended (Turn body more) rest c e = after_turn body more rest c _ refl e
@@ -118,7 +118,7 @@ after_ended (Turn body more) rest c e = after_turn body more rest c _ refl e
 -- ---- any rewriting
 
 module _ (files : Files) (s : Table) where
-  after_front : (items : List Item) (c : Config) → c.lines ≡ items → After c (front files s items c)
+  after_front : (items : List LineOrEnd) (c : Config) → c.lines ≡ items → After c (front files s items c)
   after_front (Read row ∷ rest) c e = after_cond c (c.left == 0) _ (read_by files s row c.mode (record c { lines = rest; mode = Reading; left = c.left - 1 })) (λ _. tt)
       (λ some. after_took row rest c _ (grind (arith, nat_tests)) (takes_read files s row c.mode (record c { lines = rest; mode = Reading; left = c.left - 1 }) idle))
   after_front (Close ∷ rest) c e = after_cond c (is_closed c) (ended c.scope.kind rest c) _ (λ _. after_ended c.scope.kind rest c (ap front_weight e)) (λ _. tt)

@@ -4,13 +4,13 @@ use Rattle.c25_meaning_lines.specs.Line.{first_word}
 use Rattle.c25_meaning_language.specs.Value.{Table}
 use Rattle.c25_meaning_expansion.specs.Files.{Files}
 use Rattle.c25_meaning_expansion.specs.Rows.{Row}
-use Rattle.c25_meaning_expansion.specs.Acts.{Act, Macro, Order, order_of, call_of}
+use Rattle.c25_meaning_expansion.specs.Acts.{ExpansionAct, Macro, Order, order_of, call_of}
 use Rattle.c25_meaning_expansion.specs.Expansion.{Mode, InMacro, InLoop, Config, Rewriting, depth, with_branches}
 use Rattle.c25_meaning_expansion.specs.ExpansionRules.{acts, labelled, consumed, macro_of, calls, uses, directive_in, substituted_as, unless_long, used, resumes, takes_lines, enters, reads_elseif, skips_outer, skips_nested, skips, takes, reads_by, in_macro, in_loop}
 use Rattle.c25_meaning_expansion.specs.ExpansionRuns.{read_by}
 use Rattle.c25_meaning_expansion.specs.ExpansionBounds.{nested_of, pending, collecting, nesting, skipping}
 use Rattle.c25_meaning_expansion.proofs.ExpansionActs.{Comes, gives, goes, faults, misses, comes_if, comes_elseif, comes_else, IsIdle, Acted, Never, acted, blocks_in}
-use Rattle.c25_meaning_expansion.specs.declared.expansion.Place.{Place}
+use Rattle.c25_meaning_expansion.specs.declared.expansion.SourcePlace.{SourcePlace}
 use Rattle.c25_meaning_expansion.specs.declared.expansion.Branch.{Branch}
 use Rattle.c25_meaning_language.specs.declared.long_line.LongLine.{LongLine}
 use Rattle.c25_meaning_expansion.specs.declared.expansion.Directive.{Directive}
@@ -39,11 +39,11 @@ takes_acted m c _ misses = misses
 -- ---- lines that are used
 
 module _ (files : Files) (s : Table) (m : Mode) where
-  takes_labelled : (place : Place) (label : Option (List ℕ)) (act : Act) (c : Config) → IsIdle c.mode → Takes m c (labelled files s place label act c)
+  takes_labelled : (place : SourcePlace) (label : Option (List ℕ)) (act : ExpansionAct) (c : Config) → IsIdle c.mode → Takes m c (labelled files s place label act c)
   takes_labelled place None act c h = takes_acted m c (acts files s place act c) (acted files s place act c h)
   takes_labelled place (Some name) act c h = gives (omega arith)
 
-  takes_consumed : (place : Place) (order : Result Order FaultKind) (c : Config) → IsIdle c.mode → Takes m c (consumed files s place order c)
+  takes_consumed : (place : SourcePlace) (order : Result Order FaultKind) (c : Config) → IsIdle c.mode → Takes m c (consumed files s place order c)
   takes_consumed place (Err kind) c h = faults
   takes_consumed place (Ok order) c h = takes_labelled place order.label order.act c h
 
@@ -55,7 +55,7 @@ module _ (files : Files) (s : Table) (m : Mode) where
   takes_uses row (Some d) c h = takes_consumed row.place (order_of d row.text) c h
   takes_uses row None c h = takes_calls row (macro_of (first_word row.text) c.names) c h
 
-  takes_unless_long : (place : Place) (text : Result (List ℕ) LongLine) (next : List ℕ → Rewriting) (c : Config) → ((t : List ℕ) → Takes m c (next t)) → Takes m c (unless_long place text next)
+  takes_unless_long : (place : SourcePlace) (text : Result (List ℕ) LongLine) (next : List ℕ → Rewriting) (c : Config) → ((t : List ℕ) → Takes m c (next t)) → Takes m c (unless_long place text next)
   takes_unless_long place (Err e) next c h = faults
   takes_unless_long place (Ok text) next c h = h text
 

@@ -10,7 +10,7 @@ use Rattle.c25_meaning_language.specs.Operands.{operands_of, written_of}
 use Rattle.c25_meaning_language.specs.Tree.{Tree}
 use Rattle.c25_meaning_common.specs.Results.{◌>>=◌}
 use Rattle.c25_meaning_language.specs.Forms.{is_expression}
-use Rattle.c25_meaning_language.specs.Texts.{Texts}
+use Rattle.c25_meaning_language.specs.Texts.{SubstitutionTexts}
 use Rattle.c25_meaning_language.specs.Arguments.{arguments, assigned_text}
 use Rattle.c25_meaning_expansion.specs.Rows.{Row}
 use Rattle.c25_meaning_expansion.specs.declared.expansion.Directive.{Directive}
@@ -25,29 +25,29 @@ pub record Macro : Type 0 where
   pub body : List Row
 
 -- what a line asks for
-pub data Act : Type 0 where
-  If : (condition : Tree) → Act
-  ElseIf : (condition : Tree) → Act
-  Else : Act
-  EndIf : Act
+pub data ExpansionAct : Type 0 where
+  If : (condition : Tree) → ExpansionAct
+  ElseIf : (condition : Tree) → ExpansionAct
+  Else : ExpansionAct
+  EndIf : ExpansionAct
   -- the lines of a macro of this name and these parameters follow
-  Define : (name : List ℕ) (parameters : List (List ℕ)) → Act
+  Define : (name : List ℕ) (parameters : List (List ℕ)) → ExpansionAct
   -- the end of a macro or of a loop, where none is collected
-  Stray : Act
+  Stray : ExpansionAct
   -- the innermost expansion is left
-  Exit : Act
-  Loop : (count : Option Tree) → Act
-  Break : (condition : Option Tree) → Act
-  Assign : (text name : List ℕ) → Act
-  Evaluate : (expression : Tree) (name : List ℕ) → Act
-  Copy : (name : List ℕ) → Act
-  End : Act
-  Call : (body : List Row) (arguments : Texts) → Act
+  Exit : ExpansionAct
+  Loop : (count : Option Tree) → ExpansionAct
+  Break : (condition : Option Tree) → ExpansionAct
+  Assign : (text name : List ℕ) → ExpansionAct
+  Evaluate : (expression : Tree) (name : List ℕ) → ExpansionAct
+  Copy : (name : List ℕ) → ExpansionAct
+  End : ExpansionAct
+  Call : (body : List Row) (arguments : SubstitutionTexts) → ExpansionAct
 
 -- what a line asks for, and the label that becomes a line of its own before that
 pub record Order : Type 0 where
   pub label : Option (List ℕ)
-  pub act : Act
+  pub act : ExpansionAct
 
 -- ---- directives by their names
 
@@ -67,17 +67,17 @@ directive_of word = lookup (str_eq_ignore_ascii_case word) directives
 -- ---- operands
 
 -- no operand
-abbrev pub without : Act → List (List Piece) → Result Act FaultKind
+abbrev pub without : ExpansionAct → List (List Piece) → Result ExpansionAct FaultKind
 without act [] = Ok act
 without act (o ∷ os) = Err fault.OperandCount
 
 -- one operand, an expression
-abbrev pub with_condition : (Tree → Act) → List (List Piece) → Result Act FaultKind
+abbrev pub with_condition : (Tree → ExpansionAct) → List (List Piece) → Result ExpansionAct FaultKind
 with_condition act (o ∷ []) = expression_in o >>= λ e. Ok (act e)
 with_condition act _ = Err fault.OperandCount
 
 -- none, or one that is an expression
-abbrev pub with_option : (Option Tree → Act) → List (List Piece) → Result Act FaultKind
+abbrev pub with_option : (Option Tree → ExpansionAct) → List (List Piece) → Result ExpansionAct FaultKind
 with_option act [] = Ok (act None)
 with_option act (o ∷ []) = expression_in o >>= λ e. Ok (act (Some e))
 with_option act _ = Err fault.OperandCount
@@ -85,7 +85,7 @@ with_option act _ = Err fault.OperandCount
 -- ---- the directives with other operands
 
 -- `.macro`: parameters, at most 32
-abbrev pub definition_in : Parts → List (List Piece) → Result Act FaultKind
+abbrev pub definition_in : Parts → List (List Piece) → Result ExpansionAct FaultKind
 definition_in parts operands =
     names_in operands >>= λ names.
     if nat_lt 32 (length names) then Err fault.TooManyParameters else Ok (Define (unwrap_or parts.label []) names)
@@ -98,13 +98,13 @@ last_of_two (o ∷ p ∷ []) = Some p
 last_of_two (o ∷ p ∷ q ∷ os) = last_of_two (p ∷ q ∷ os)
 
 -- `.asg`: a text of any operands, and a name
-abbrev pub assignment_in : List ℕ → List (List Piece) → Result Act FaultKind
+abbrev pub assignment_in : List ℕ → List (List Piece) → Result ExpansionAct FaultKind
 assignment_in text operands =
     ok_or (last_of_two operands) fault.OperandCount >>= λ last.
     name_in last >>= λ name. Ok (Assign (assigned_text text) name)
 
 -- `.eval`: an expression and a name; what is of another form than asked for comes before what is no expression
-abbrev pub evaluation_in : List (List Piece) → Result Act FaultKind
+abbrev pub evaluation_in : List (List Piece) → Result ExpansionAct FaultKind
 evaluation_in (o ∷ p ∷ []) =
     if is_expression (written_of o)
     then (name_in p >>= λ name. expression_in o >>= λ e. Ok (Evaluate e name))
@@ -112,12 +112,12 @@ evaluation_in (o ∷ p ∷ []) =
 evaluation_in _ = Err fault.OperandCount
 
 -- `.copy`: a string
-abbrev pub copy_in : List (List Piece) → Result Act FaultKind
+abbrev pub copy_in : List (List Piece) → Result ExpansionAct FaultKind
 copy_in (o ∷ []) = string_in o >>= λ name. Ok (Copy name)
 copy_in _ = Err fault.OperandCount
 
 -- what a directive with these operands asks for
-unfoldable pub act_of : Directive → List ℕ → Parts → List (List Piece) → Result Act FaultKind
+unfoldable pub act_of : Directive → List ℕ → Parts → List (List Piece) → Result ExpansionAct FaultKind
 act_of directive.If text parts operands = with_condition If operands
 act_of directive.ElseIf text parts operands = with_condition ElseIf operands
 act_of directive.Else text parts operands = without Else operands

@@ -4,18 +4,18 @@ use Rattle.std.specs.Prelude.{ℕ, ◌+◌, List, [], ◌∷◌, ◌++◌, Bool,
 use Rattle.std.specs.List.{list_any}
 use Rattle.std.specs.Map.{lookup}
 use Rattle.std.specs.Str.{bytes_eq}
-use Rattle.c25_meaning_expansion.specs.Acts.{Act, Macro}
+use Rattle.c25_meaning_expansion.specs.Acts.{ExpansionAct, Macro}
 use Rattle.c25_meaning_expansion.specs.Rows.{Row}
 use Rattle.c25_meaning_language.specs.Fragments.{visible}
-use Rattle.c25_meaning_language.specs.Texts.{Named, Texts, with_name}
-use Rattle.c25_meaning_expansion.specs.declared.expansion.Place.{Place}
+use Rattle.c25_meaning_language.specs.Texts.{Named, SubstitutionTexts, with_name}
+use Rattle.c25_meaning_expansion.specs.declared.expansion.SourcePlace.{SourcePlace}
 use Rattle.c25_meaning_expansion.specs.declared.expansion.Branch.{Branch}
 use Rattle.c25_meaning_language.specs.declared.statement.FaultKind.{FaultKind}
 
 -- a line still to come, or the end of a copied file, of an expansion or of a turn of a loop
-pub data Item : Type 0 where
-  Read : (row : Row) → Item
-  Close : Item
+pub data LineOrEnd : Type 0 where
+  Read : (row : Row) → LineOrEnd
+  Close : LineOrEnd
 
 -- what the lines up to the next end are: a copied file, an expansion of a macro, or a turn of a loop, so many more to
 -- come
@@ -27,19 +27,19 @@ pub data Kind : Type 0 where
 -- a file, expansion or turn that is open: where its last line stands, and the `.if`s begun in it, the innermost first
 pub record Scope : Type 0 where
   pub kind : Kind
-  pub last : Place
+  pub last : SourcePlace
   pub branches : List Branch
 
 -- an expansion that is open: its number, and the texts of its parameters
 pub record Expansion : Type 0 where
   pub number : ℕ
-  pub arguments : Texts
+  pub arguments : SubstitutionTexts
 
 -- how the next line is looked at: read, or acted on after its label was given, or put into the body of a macro or of a
 -- loop, in which so many blocks of that kind are open
 pub data Mode : Type 0 where
   Reading : Mode
-  Acting : (place : Place) (act : Act) → Mode
+  Acting : (place : SourcePlace) (act : ExpansionAct) → Mode
   InMacro : (name : List ℕ) (parameters : List (List ℕ)) (body : List Row) (nested : ℕ) → Mode
   InLoop : (turns : ℕ) (body : List Row) (nested : ℕ) → Mode
 
@@ -47,7 +47,7 @@ pub data Mode : Type 0 where
 pub record Dictionary : Type 0 where
   pub macros : Named Macro
   -- those of `.asg` and `.eval`
-  pub texts : Texts
+  pub texts : SubstitutionTexts
   -- the open expansions, the innermost first
   pub expansions : List Expansion
   -- how many expansions there have been
@@ -55,7 +55,7 @@ pub record Dictionary : Type 0 where
 
 -- all that stands at a line
 pub record Config : Type 0 where
-  pub lines : List Item
+  pub lines : List LineOrEnd
   pub scope : Scope
   -- those in which it stands, the innermost first
   pub outer : List Scope
@@ -69,11 +69,11 @@ pub data Rewriting : Type 0 where
   Gives : (row : Row) (rest : Config) → Rewriting
   Goes : (rest : Config) → Rewriting
   Finishes : (rest : Config) → Rewriting
-  Faults : (place : Place) (kind : FaultKind) → Rewriting
-  Misses : (place : Place) (name : List ℕ) → Rewriting
+  Faults : (place : SourcePlace) (kind : FaultKind) → Rewriting
+  Misses : (place : SourcePlace) (name : List ℕ) → Rewriting
 
 -- a fault where the test holds
-abbrev pub unless : Bool → FaultKind → Place → Rewriting → Rewriting
+abbrev pub unless : Bool → FaultKind → SourcePlace → Rewriting → Rewriting
 unless test kind place next = if test then Faults place kind else next
 
 -- ---- open blocks
@@ -87,8 +87,8 @@ abbrev pub is_full : Config → Bool
 is_full c = nat_le 32 (depth c)
 
 -- these lines come next, and then an end
-abbrev pub opened : Kind → Place → List Row → Config → Config
-opened kind last rows c =
+abbrev pub source_opened : Kind → SourcePlace → List Row → Config → Config
+source_opened kind last rows c =
     record c { lines = map Read rows ++ Close ∷ c.lines; scope = record { kind = kind; last = last; branches = [] }; outer = c.scope ∷ c.outer }
 
 -- with these `.if`s in the innermost file, expansion or turn
@@ -96,7 +96,7 @@ abbrev pub with_branches : List Branch → Config → Config
 with_branches branches c = record c { scope = record { kind = c.scope.kind; last = c.scope.last; branches = branches } }
 
 -- the lines after the next end
-abbrev pub after_close : List Item → List Item
+abbrev pub after_close : List LineOrEnd → List LineOrEnd
 after_close [] = []
 after_close (Close ∷ items) = items
 after_close (Read row ∷ items) = after_close items
@@ -108,7 +108,7 @@ without_ended Copied names = names
 without_ended (Turn body more) names = names
 
 -- lines dropped through the end of the innermost file, expansion or turn that passes the test
-abbrev pub left_through : (Kind → Bool) → List Item → Scope → List Scope → Dictionary → Config → Option Config
+abbrev pub left_through : (Kind → Bool) → List LineOrEnd → Scope → List Scope → Dictionary → Config → Option Config
 left_through test lines scope [] names c = None
 left_through test lines scope (f ∷ fs) names c =
     if test scope.kind
@@ -138,7 +138,7 @@ abbrev pub macro_named : Dictionary → List ℕ → Option Macro
 macro_named names name = lookup (bytes_eq name) names.macros
 
 -- the arguments of the innermost expansion
-abbrev pub arguments_of : List Expansion → Texts
+abbrev pub arguments_of : List Expansion → SubstitutionTexts
 arguments_of [] = []
 arguments_of (e ∷ es) = e.arguments
 
@@ -164,6 +164,6 @@ abbrev pub assigned : List ℕ → List ℕ → Dictionary → Dictionary
 assigned name text names = assigned_by names.expansions name text names
 
 -- one expansion more, with these texts of its parameters
-abbrev pub called : Texts → Dictionary → Dictionary
+abbrev pub called : SubstitutionTexts → Dictionary → Dictionary
 called arguments names =
     record names { expansions = record { number = names.count + 1; arguments = arguments } ∷ names.expansions; count = names.count + 1 }

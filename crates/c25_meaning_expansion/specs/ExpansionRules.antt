@@ -31,11 +31,11 @@ use Rattle.c25_meaning_instructions.specs.Spellings.{spelling_of}
 use Rattle.c25_meaning_expansion.specs.Files.{Files, text_named}
 use Rattle.c25_meaning_expansion.specs.Rows.{Row, rows_of, last_place, file_number}
 use Rattle.c25_meaning_language.specs.Substitution.{substituted, substituted_before_comma, unsubstituted}
-use Rattle.c25_meaning_language.specs.Texts.{Texts, with_name}
-use Rattle.c25_meaning_expansion.specs.Acts.{Act, If, ElseIf, Else, EndIf, Define, Stray, Exit, Loop, Break, Assign, Evaluate, Copy, End, Call, Macro, Order, directive_of, order_of, call_of}
-use Rattle.c25_meaning_expansion.specs.Expansion.{Kind, Copied, Expanded, Turn, Reading, Acting, InMacro, InLoop, Dictionary, Config, Rewriting, Gives, Goes, Faults, Misses, unless, is_full, opened, with_branches, left_through, is_expansion, is_turn, stands_in, macro_named, seen, number_of, assigned, called}
+use Rattle.c25_meaning_language.specs.Texts.{SubstitutionTexts, with_name}
+use Rattle.c25_meaning_expansion.specs.Acts.{ExpansionAct, If, ElseIf, Else, EndIf, Define, Stray, Exit, Loop, Break, Assign, Evaluate, Copy, End, Call, Macro, Order, directive_of, order_of, call_of}
+use Rattle.c25_meaning_expansion.specs.Expansion.{Kind, Copied, Expanded, Turn, Reading, Acting, InMacro, InLoop, Dictionary, Config, Rewriting, Gives, Goes, Faults, Misses, unless, is_full, source_opened, with_branches, left_through, is_expansion, is_turn, stands_in, macro_named, seen, number_of, assigned, called}
 use Rattle.c25_meaning_language.specs.declared.value.Value.{Value}
-use Rattle.c25_meaning_expansion.specs.declared.expansion.Place.{Place}
+use Rattle.c25_meaning_expansion.specs.declared.expansion.SourcePlace.{SourcePlace}
 use Rattle.c25_meaning_expansion.specs.declared.expansion.Branch.{Branch}
 use Rattle.c25_meaning_expansion.specs.declared.expansion.Phase.{Phase}
 use Rattle.c25_meaning_expansion.specs.declared.expansion.Phase.TheVariants.{Seeking, Taking, Passing, ElseTaking, ElsePassing}
@@ -48,17 +48,17 @@ use Rattle.c25_meaning_language.specs.declared.statement.FaultKind.TheVariants a
 -- ---- values that are needed now
 
 -- an absolute number, or the fault
-abbrev pub absolute : Result Value FaultKind → Result ℤ FaultKind
-absolute value = value >>= λ v. number_by v.base v.offset
+abbrev pub absolute_number : Result Value FaultKind → Result ℤ FaultKind
+absolute_number value = value >>= λ v. number_by v.base v.offset
 
 -- what follows a number, or the fault
-abbrev pub with_number : Place → Result ℤ FaultKind → (ℤ → Rewriting) → Rewriting
+abbrev pub with_number : SourcePlace → Result ℤ FaultKind → (ℤ → Rewriting) → Rewriting
 with_number place (Ok number) next = next number
 with_number place (Err kind) next = Faults place kind
 
 -- what follows the number of an expression under the symbols so far: 22 to 25
-abbrev pub needed : Table → Place → Tree → (ℤ → Rewriting) → Rewriting
-needed s place e next = with_number place (absolute (valued s e)) next
+abbrev pub needed : Table → SourcePlace → Tree → (ℤ → Rewriting) → Rewriting
+needed s place e next = with_number place (absolute_number (valued s e)) next
 
 -- ---- conditional lines: `.elseif` and `.else` by the phase of the `.if` that they go on with
 --
@@ -78,7 +78,7 @@ takes_lines ElseTaking = true
 takes_lines ElsePassing = false
 
 -- `.elseif`, where `sought` follows a condition that is still sought
-abbrev pub elseif_in : Phase → Place → (Phase → Rewriting) → Rewriting → Rewriting
+abbrev pub elseif_in : Phase → SourcePlace → (Phase → Rewriting) → Rewriting → Rewriting
 elseif_in Seeking place next sought = sought
 elseif_in Taking place next sought = next Passing
 elseif_in Passing place next sought = next Passing
@@ -86,7 +86,7 @@ elseif_in ElseTaking place next sought = Faults place fault.StrayEnd
 elseif_in ElsePassing place next sought = Faults place fault.StrayEnd
 
 -- `.else`
-abbrev pub else_in : Phase → Place → (Phase → Rewriting) → Rewriting
+abbrev pub else_in : Phase → SourcePlace → (Phase → Rewriting) → Rewriting
 else_in Seeking place next = next ElseTaking
 else_in Taking place next = next ElsePassing
 else_in Passing place next = next ElsePassing
@@ -98,7 +98,7 @@ abbrev pub phase_of : ℤ → Phase
 phase_of number = if is_zero number then Seeking else Taking
 
 -- `.if`
-unfoldable pub begins_if : Table → Place → Tree → Config → Rewriting
+unfoldable pub begins_if : Table → SourcePlace → Tree → Config → Rewriting
 begins_if s place e c = needed s place e (λ number.
     unless (is_full c) fault.Depth place (Goes (with_branches (record { phase = phase_of number; nested = 0 } ∷ c.scope.branches) c)))
 
@@ -107,35 +107,35 @@ abbrev pub enters : Branch → List Branch → Config → Phase → Rewriting
 enters b bs c phase = Goes (with_branches (record b { phase = phase } ∷ bs) c)
 
 -- `.elseif`
-abbrev pub elseif_by : Table → Place → Tree → List Branch → Config → Rewriting
+abbrev pub elseif_by : Table → SourcePlace → Tree → List Branch → Config → Rewriting
 elseif_by s place e [] c = needed s place e (λ number. Faults place fault.StrayEnd)
 elseif_by s place e (b ∷ bs) c = elseif_in b.phase place (enters b bs c) (needed s place e (λ number. enters b bs c (phase_of number)))
 
 -- `.else`
-abbrev pub else_by : Place → List Branch → Config → Rewriting
+abbrev pub else_by : SourcePlace → List Branch → Config → Rewriting
 else_by place [] c = Faults place fault.StrayEnd
 else_by place (b ∷ bs) c = else_in b.phase place (enters b bs c)
 
 -- `.endif`
-abbrev pub endif_by : Place → List Branch → Config → Rewriting
+abbrev pub endif_by : SourcePlace → List Branch → Config → Rewriting
 endif_by place [] c = Faults place fault.StrayEnd
 endif_by place (b ∷ bs) c = Goes (with_branches bs c)
 
 -- ---- macros and loops
 
 -- `.macro`: a name that is none yet, and no mnemonic's
-unfoldable pub begins_macro : Place → List ℕ → List (List ℕ) → Config → Rewriting
+unfoldable pub begins_macro : SourcePlace → List ℕ → List (List ℕ) → Config → Rewriting
 begins_macro place name parameters c =
     unless (is_some (macro_named c.names name) || is_some (spelling_of name)) fault.Redefined place
     (Goes (record c { mode = InMacro name parameters [] 0 }))
 
 -- a call
-unfoldable pub begins_expansion : Place → List Row → Texts → Config → Rewriting
+unfoldable pub begins_expansion : SourcePlace → List Row → SubstitutionTexts → Config → Rewriting
 begins_expansion place body arguments c =
-    unless (is_full c) fault.Depth place (Goes (record (opened Expanded (last_place place body) body c) { names = called arguments c.names }))
+    unless (is_full c) fault.Depth place (Goes (record (source_opened Expanded (last_place place body) body c) { names = called arguments c.names }))
 
 -- the lines through the end of the innermost expansion or turn are dropped
-abbrev pub leaves : (Kind → Bool) → Place → Config → Rewriting
+abbrev pub leaves : (Kind → Bool) → SourcePlace → Config → Rewriting
 leaves test place c = elim (left_through test c.lines c.scope c.outer c.names c) [ None ↦ Faults place fault.StrayEnd | Some rest ↦ Goes rest ]
 
 -- how many turns a count asks for
@@ -144,46 +144,46 @@ turns_of (pos n) = n
 turns_of (negsuc n) = 0
 
 -- the lines of a loop of so many turns follow
-abbrev pub collects : Place → ℕ → Config → Rewriting
+abbrev pub collects : SourcePlace → ℕ → Config → Rewriting
 collects place turns c = unless (is_full c) fault.Depth place (Goes (record c { mode = InLoop turns [] 0 }))
 
 -- `.loop`: 1,024 turns without a count
-unfoldable pub begins_loop : Table → Place → Option Tree → Config → Rewriting
+unfoldable pub begins_loop : Table → SourcePlace → Option Tree → Config → Rewriting
 begins_loop s place None c = collects place 1024 c
 begins_loop s place (Some e) c = needed s place e (λ number. collects place (turns_of number) c)
 
 -- `.break` that may leave the innermost loop
-abbrev pub breaks_if : Bool → Place → Config → Rewriting
+abbrev pub breaks_if : Bool → SourcePlace → Config → Rewriting
 breaks_if true_so place c =
     unless (not (stands_in is_turn c)) fault.StrayEnd place (if true_so then leaves is_turn place c else Goes c)
 
 -- `.break`
-unfoldable pub breaks : Table → Place → Option Tree → Config → Rewriting
+unfoldable pub breaks : Table → SourcePlace → Option Tree → Config → Rewriting
 breaks s place None c = breaks_if true place c
 breaks s place (Some e) c = needed s place e (λ number. breaks_if (not (is_zero number)) place c)
 
 -- ---- texts and files
 
 -- `.eval`
-unfoldable pub evaluates : Table → Place → Tree → List ℕ → Config → Rewriting
+unfoldable pub evaluates : Table → SourcePlace → Tree → List ℕ → Config → Rewriting
 evaluates s place e name c = needed s place e (λ number. Goes (record c { names = assigned name (signed_decimal number) c.names }))
 
 -- `.copy` of the lines of a file
-abbrev pub copies_by : Option (List ℕ) → ℕ → Place → List ℕ → Config → Rewriting
+abbrev pub copies_by : Option (List ℕ) → ℕ → SourcePlace → List ℕ → Config → Rewriting
 copies_by None file place name c = Misses place name
 copies_by (Some text) file place name c =
-    unless (is_full c) fault.Depth place (Goes (opened Copied (last_place place (rows_of file text)) (rows_of file text) c))
+    unless (is_full c) fault.Depth place (Goes (source_opened Copied (last_place place (rows_of file text)) (rows_of file text) c))
 
 -- `.copy`
-unfoldable pub copies : Files → Place → List ℕ → Config → Rewriting
+unfoldable pub copies : Files → SourcePlace → List ℕ → Config → Rewriting
 copies files place name c = copies_by (text_named files name) (file_number files name) place name c
 
 -- `.end`: nothing comes any more, and no block is open
-unfoldable pub ends_all : Place → Config → Rewriting
+unfoldable pub ends_all : SourcePlace → Config → Rewriting
 ends_all place c = Goes (record c { lines = []; scope = record { kind = Copied; last = place; branches = [] }; outer = []; names = record c.names { expansions = [] } })
 
 -- what a line asks for is done
-unfoldable pub acts : Files → Table → Place → Act → Config → Rewriting
+unfoldable pub acts : Files → Table → SourcePlace → ExpansionAct → Config → Rewriting
 acts files s place (If e) c = begins_if s place e c
 acts files s place (ElseIf e) c = elseif_by s place e c.scope.branches c
 acts files s place Else c = else_by place c.scope.branches c
@@ -202,12 +202,12 @@ acts files s place (Call body arguments) c = begins_expansion place body argumen
 -- ---- lines that are used: neither skipped nor collected
 
 -- a line's label becomes a line, and what the line asks for is done after it
-abbrev pub labelled : Files → Table → Place → Option (List ℕ) → Act → Config → Rewriting
+abbrev pub labelled : Files → Table → SourcePlace → Option (List ℕ) → ExpansionAct → Config → Rewriting
 labelled files s place None act c = acts files s place act c
 labelled files s place (Some name) act c = Gives (record { place = place; text = name }) (record c { mode = Acting place act })
 
 -- a line that is consumed
-abbrev pub consumed : Files → Table → Place → Result Order FaultKind → Config → Rewriting
+abbrev pub consumed : Files → Table → SourcePlace → Result Order FaultKind → Config → Rewriting
 consumed files s place (Err kind) c = Faults place kind
 consumed files s place (Ok order) c = labelled files s place order.label order.act c
 
@@ -237,7 +237,7 @@ substituted_as (Some directive.Evaluate) names text = substituted_before_comma (
 substituted_as _ names text = substituted (seen names) (number_of names.expansions) text
 
 -- what follows a substituted line, unless it got too long
-abbrev pub unless_long : Place → Result (List ℕ) LongLine → (List ℕ → Rewriting) → Rewriting
+abbrev pub unless_long : SourcePlace → Result (List ℕ) LongLine → (List ℕ → Rewriting) → Rewriting
 unless_long place (Err e) next = Faults place fault.LongLine
 unless_long place (Ok text) next = next text
 
@@ -301,8 +301,8 @@ in_macro row (Some directive.EndMacro) name parameters body nested c =
 in_macro row _ name parameters body nested c = Goes (record c { mode = InMacro name parameters (body ++ row ∷ []) nested })
 
 -- the turns of a loop whose lines were collected
-abbrev pub turns_begin : Place → ℕ → List Row → Config → Rewriting
-turns_begin place turns body c = if turns == 0 then Goes c else Goes (opened (Turn body (turns - 1)) (last_place place body) body c)
+abbrev pub turns_begin : SourcePlace → ℕ → List Row → Config → Rewriting
+turns_begin place turns body c = if turns == 0 then Goes c else Goes (source_opened (Turn body (turns - 1)) (last_place place body) body c)
 
 -- a line of a loop's body: the end of the loop, or one more
 unfoldable pub in_loop : Row → Option Directive → ℕ → List Row → ℕ → Config → Rewriting

@@ -4,7 +4,7 @@ use Rattle.c25_meaning_lines.specs.Line.{first_word}
 use Rattle.c25_meaning_language.specs.Value.{Table}
 use Rattle.c25_meaning_expansion.specs.Files.{Files, text_named}
 use Rattle.c25_meaning_expansion.specs.Rows.{Row, rows_of, last_place, file_number}
-use Rattle.c25_meaning_expansion.specs.Expansion.{Item, Read, Close, Kind, Copied, Expanded, Turn, Scope, Mode, Reading, Acting, InMacro, InLoop, Config, Rewriting, Gives, Goes, Finishes, Faults, Misses, unless, without_ended}
+use Rattle.c25_meaning_expansion.specs.Expansion.{LineOrEnd, Read, Close, Kind, Copied, Expanded, Turn, Scope, Mode, Reading, Acting, InMacro, InLoop, Config, Rewriting, Gives, Goes, Finishes, Faults, Misses, unless, without_ended}
 use Rattle.c25_meaning_expansion.specs.ExpansionRules.{acts, directive_in, reads_by, in_macro, in_loop}
 use Rattle.c25_meaning_language.specs.declared.statement.FaultKind.TheVariants as fault
 
@@ -33,12 +33,12 @@ abbrev pub is_closed : Config → Bool
 is_closed c = is_reading c.mode && is_empty c.scope.branches
 
 -- what stood behind the end of the innermost file, expansion or turn
-abbrev pub back : List Item → List Scope → Config → Rewriting
+abbrev pub back : List LineOrEnd → List Scope → Config → Rewriting
 back rest [] c = Finishes c
 back rest (f ∷ fs) c = Goes (record c { lines = rest; scope = f; outer = fs; names = without_ended c.scope.kind c.names })
 
 -- the next turn of a loop that has one and has lines, or else what stood behind
-abbrev pub ended : Kind → List Item → Config → Rewriting
+abbrev pub ended : Kind → List LineOrEnd → Config → Rewriting
 ended (Turn body more) rest c =
     if nat_lt 0 more && not (is_empty body)
     then Goes (record c { lines = map Read body ++ Close ∷ rest; scope = record { kind = Turn body (more - 1); last = c.scope.last; branches = [] } })
@@ -51,7 +51,7 @@ abbrev pub closes : Rewriting → Config → Rewriting
 closes next c = if is_closed c then next else Faults c.scope.last fault.OpenBlock
 
 -- one rewriting of the front: a line is read, 200,000 at most, or an end is passed
-abbrev pub front : Files → Table → List Item → Config → Rewriting
+abbrev pub front : Files → Table → List LineOrEnd → Config → Rewriting
 front files s (Read row ∷ rest) c =
     unless (c.left == 0) fault.Lines row.place (read_by files s row c.mode (record c { lines = rest; mode = Reading; left = c.left - 1 }))
 front files s (Close ∷ rest) c = closes (ended c.scope.kind rest c) c
@@ -79,7 +79,7 @@ ComesTo files s old r = (n : ℕ) × (c : Config) × Leads files s n old c × (r
 
 -- how much rewriting is left at most: 6 for a line that may be read, since its label may be given before it is done (4),
 -- and it may open one file, expansion or turn (2)
-abbrev pub front_weight : List Item → ℕ
+abbrev pub front_weight : List LineOrEnd → ℕ
 front_weight [] = 1
 front_weight (Close ∷ items) = 1
 front_weight (Read row ∷ items) = 0

@@ -4,11 +4,11 @@ use Rattle.std.specs.List.{position_or_len}
 use Rattle.std.specs.Str.{bytes_eq}
 use Rattle.std.specs.Str.Lines.{lines}
 use Rattle.c25_meaning_expansion.specs.Files.{Files}
-use Rattle.c25_meaning_expansion.specs.declared.expansion.Place.{Place}
+use Rattle.c25_meaning_expansion.specs.declared.expansion.SourcePlace.{SourcePlace}
 
 -- a line: where it stands, and its text without its end
 pub record Row : Type 0 where
-  pub place : Place
+  pub place : SourcePlace
   pub text : List ℕ
 
 -- the lines of a file from one on; a line ends in LF or CRLF
@@ -21,7 +21,7 @@ abbrev pub rows_of : ℕ → List ℕ → List Row
 rows_of file text = rows_from file 1 (lines text)
 
 -- where the last of some lines stands, or else this place
-abbrev pub last_place : Place → List Row → Place
+abbrev pub last_place : SourcePlace → List Row → SourcePlace
 last_place place rows = elim (slice_get rows (length rows - 1)) [ None ↦ place | Some row ↦ row.place ]
 
 -- the number of the file of a name, in the order in which files were added

@@ -2,7 +2,7 @@
 
 /// Where a line stands.
 #[derive(Clone, Copy)]
-pub struct Place {
+pub struct SourcePlace {
     /// The number of its file, from 0 in the order in which the files were added.
     pub file: usize,
     /// The number of the line in that file, from 1.

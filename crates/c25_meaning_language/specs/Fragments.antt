@@ -13,15 +13,15 @@ use Rattle.c25_meaning_language.specs.declared.quoting.Quoting.TheVariants.{Outs
 -- ---- names
 
 -- the texts that names stand for
-abbrev pub Names : Type 0
-Names = List ℕ → Option (List ℕ)
+abbrev pub Replacements : Type 0
+Replacements = List ℕ → Option (List ℕ)
 
 -- what is seen inside an expansion: its arguments first, then the names of `.asg` and `.eval`
-abbrev pub visible : List (List ℕ × List ℕ) → List (List ℕ × List ℕ) → Names
+abbrev pub visible : List (List ℕ × List ℕ) → List (List ℕ × List ℕ) → Replacements
 visible arguments texts name = option_or (lookup (bytes_eq name) arguments) (lookup (bytes_eq name) texts)
 
 -- names set aside stand for nothing
-abbrev pub without : List (List ℕ) → Names → Names
+abbrev pub without : List (List ℕ) → Replacements → Replacements
 without aside names name = if list_any (bytes_eq name) aside then None else names name
 
 -- ---- a text in fragments
@@ -63,7 +63,7 @@ inside Throughout = Throughout
 inside Comment = Comment
 
 -- a whole name: `name?`, or one that stands for a text, or another
-abbrev pub whole_name : Names → List ℕ → Bool → Front
+abbrev pub whole_name : Replacements → List ℕ → Bool → Front
 whole_name names name true = record { fragment = Numbered name; size = length name + 1 }
 whole_name names name false = elim (names name) [
   | None ↦ record { fragment = Kept name; size = length name }
@@ -71,7 +71,7 @@ whole_name names name false = elim (names name) [
 ]
 
 -- outside quotes constants, names behind a dot and names are units
-abbrev pub unit : Names → List ℕ → Front
+abbrev pub unit : Replacements → List ℕ → Front
 unit names text =
     if is_digit (slice_index text 0) then kept (prefix_len is_letter_or_digit text) text
     else (if slice_index text 0 == 46 && begins_name (slice_index text 1) then kept (prefix_len goes_on_name (drop 1 text) + 1) text
@@ -79,12 +79,12 @@ unit names text =
     else character text))
 
 -- without forced substitution
-abbrev pub unforced : Names → Quoting → List ℕ → Front
+abbrev pub unforced : Replacements → Quoting → List ℕ → Front
 unforced names Outside text = unit names text
 unforced names _ text = character text
 
 -- forced substitution: a name between colons that stands for a text, with that text; a comment has none
-abbrev pub forced : Names → Quoting → List ℕ → Option (List ℕ × List ℕ)
+abbrev pub forced : Replacements → Quoting → List ℕ → Option (List ℕ × List ℕ)
 forced names Comment text = None
 forced names _ text = option_and_then (λ name. option_map (λ inner. (name, inner)) (names name)) (between_colons text)
 
@@ -94,14 +94,14 @@ forced_or (Some s) quoting other = record { fragment = Replaced s.0 s.1 (inside 
 forced_or None quoting other = other
 
 -- the fragment at the front of a text that is not empty
-unfoldable pub front : Names → Quoting → List ℕ → Front
+unfoldable pub front : Replacements → Quoting → List ℕ → Front
 front names quoting text = forced_or (forced names quoting text) quoting (unforced names quoting text)
 
 -- a text in fragments, where the last one still covers `skip` bytes. Three texts, where `k` alone stands for a text, `1`:
 --    LAC k     Kept " ", Kept "LAC", Kept " ", Replaced "k" "1" Outside
 --   :k:k5 k?   Replaced "k" "1" Outside, Kept "k5", Kept " ", Numbered "k"
 --   'k:k:      Kept "'", Kept "k", Replaced "k" "1" Throughout
-unfoldable pub fragments : Names → Quoting → ℕ → List ℕ → List Fragment
+unfoldable pub fragments : Replacements → Quoting → ℕ → List ℕ → List Fragment
 fragments names quoting skip [] = []
 fragments names quoting (suc skip) (b ∷ rest) = fragments names quoting skip rest
 fragments names quoting zero (b ∷ rest) =

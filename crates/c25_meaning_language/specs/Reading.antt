@@ -14,11 +14,11 @@ use Rattle.c25_meaning_language.specs.Tree.{Leaf, Tree, Single, Group, Unary, Bi
 
 -- a tree in postfix order is a list of these: a leaf, a pair of parentheses round the last tree, an operator
 -- before the last tree, an operator between the last two
-pub data Item : Type 0 where
-  Push : Leaf → Item
-  Wrap : Item
-  Apply : UnaryOperator → Item
-  Combine : BinaryOperator → Item
+pub data PostfixItem : Type 0 where
+  Push : Leaf → PostfixItem
+  Wrap : PostfixItem
+  Apply : UnaryOperator → PostfixItem
+  Combine : BinaryOperator → PostfixItem
 
 -- what is open before an operand: a parenthesis, a unary operator, or a left operand with its operator
 pub data Frame : Type 0 where
@@ -31,7 +31,7 @@ pub data Frame : Type 0 where
 pub record State : Type 0 where
   pub frames : List Frame
   pub current : Option Tree
-  pub items : List Item
+  pub items : List PostfixItem
 
 -- before the first token
 abbrev pub start : State
@@ -75,14 +75,14 @@ is_close sign.CloseParenthesis = true
 is_close _ = false
 
 -- an operand is whole: the unary operators right before it take it
-abbrev pub settle : List Frame → Tree → List Item → State
+abbrev pub settle : List Frame → Tree → List PostfixItem → State
 settle [] e is = record { frames = []; current = Some e; items = is }
 settle (Open ∷ fs) e is = record { frames = Open ∷ fs; current = Some e; items = is }
 settle (Pending op ∷ fs) e is = settle fs (Unary op e) (Apply op ∷ is)
 settle (After l op ∷ fs) e is = record { frames = After l op ∷ fs; current = Some e; items = is }
 
 -- the operators of this level or tighter that wait for their right operand take it, the innermost first
-abbrev pub reduced : ℕ → List Frame → Tree → List Item → State
+abbrev pub reduced : ℕ → List Frame → Tree → List PostfixItem → State
 reduced n [] e is = record { frames = []; current = Some e; items = is }
 reduced n (Open ∷ fs) e is = record { frames = Open ∷ fs; current = Some e; items = is }
 reduced n (Pending op ∷ fs) e is = record { frames = Pending op ∷ fs; current = Some e; items = is }
@@ -95,13 +95,13 @@ abbrev pub loosest : ℕ
 loosest = 8
 
 -- a sign where an operand has to come, by what it is
-abbrev pub opened : List Frame → List Item → Option UnaryOperator → Bool → Option State
-opened fs is (Some op) b = Some (record { frames = Pending op ∷ fs; current = None; items = is })
-opened fs is None true = Some (record { frames = Open ∷ fs; current = None; items = is })
-opened fs is None false = None
+abbrev pub operand_begun : List Frame → List PostfixItem → Option UnaryOperator → Bool → Option State
+operand_begun fs is (Some op) b = Some (record { frames = Pending op ∷ fs; current = None; items = is })
+operand_begun fs is None true = Some (record { frames = Open ∷ fs; current = None; items = is })
+operand_begun fs is None false = None
 
 -- an operator waits for its right operand
-abbrev pub waiting_by : BinaryOperator → List Frame → Option Tree → List Item → State
+abbrev pub waiting_by : BinaryOperator → List Frame → Option Tree → List PostfixItem → State
 waiting_by op fs (Some e) is = record { frames = After e op ∷ fs; current = None; items = is }
 waiting_by op fs None is = record { frames = fs; current = None; items = is }
 
@@ -110,7 +110,7 @@ abbrev pub waiting : BinaryOperator → State → State
 waiting op s = waiting_by op s.frames s.current s.items
 
 -- the innermost group ends
-abbrev pub closed_by : List Frame → Option Tree → List Item → Option State
+abbrev pub closed_by : List Frame → Option Tree → List PostfixItem → Option State
 closed_by (Open ∷ fs) (Some e) is = Some (settle fs (Group e) (Wrap ∷ is))
 closed_by _ _ is = None
 
@@ -119,15 +119,15 @@ abbrev pub closed : State → Option State
 closed s = closed_by s.frames s.current s.items
 
 -- a sign behind an operand, by what it is
-abbrev pub followed : List Frame → Tree → List Item → Option BinaryOperator → Bool → Option State
+abbrev pub followed : List Frame → Tree → List PostfixItem → Option BinaryOperator → Bool → Option State
 followed fs e is (Some op) b = Some (waiting op (reduced (level_of op) fs e is))
 followed fs e is None true = closed (reduced loosest fs e is)
 followed fs e is None false = None
 
 -- one token
-abbrev pub step_by : List Frame → Option Tree → List Item → Mark → Option State
+abbrev pub step_by : List Frame → Option Tree → List PostfixItem → Mark → Option State
 step_by fs None is (Operand l) = Some (settle fs (Single l) (Push l ∷ is))
-step_by fs None is (Signed s) = opened fs is (unary_of s) (is_open s)
+step_by fs None is (Signed s) = operand_begun fs is (unary_of s) (is_open s)
 step_by fs None is Stray = None
 step_by fs (Some e) is (Operand l) = None
 step_by fs (Some e) is (Signed s) = followed fs e is (binary_of s) (is_close s)
@@ -140,10 +140,10 @@ step s m = step_by s.frames s.current s.items m
 -- a tree, with its items in postfix order, the last first
 pub record Found : Type 0 where
   pub tree : Tree
-  pub items : List Item
+  pub items : List PostfixItem
 
 -- the tree, where nothing is open before it
-abbrev pub whole_by : List Frame → Option Tree → List Item → Option Found
+abbrev pub whole_by : List Frame → Option Tree → List PostfixItem → Option Found
 whole_by [] (Some e) is = Some (record { tree = e; items = is })
 whole_by _ _ is = None
 
@@ -152,7 +152,7 @@ abbrev pub whole : State → Option Found
 whole s = whole_by s.frames s.current s.items
 
 -- the tree behind the last token
-abbrev pub finished_by : List Frame → Option Tree → List Item → Option Found
+abbrev pub finished_by : List Frame → Option Tree → List PostfixItem → Option Found
 finished_by fs None is = None
 finished_by fs (Some e) is = whole (reduced loosest fs e is)
 

@@ -3,7 +3,7 @@
 use Rattle.std.specs.Prelude.{ℕ, zero, suc, ◌+◌, max, nat_le, if◌then◌else◌, List, [], ◌∷◌, ◌++◌, length, take, drop, Result, Ok, Err}
 use Rattle.std.specs.Fmt.{decimal}
 use Rattle.c25_meaning_lines.specs.Line.{is_comment_line}
-use Rattle.c25_meaning_language.specs.Fragments.{Names, without, Fragment, Kept, Numbered, Replaced, fragments}
+use Rattle.c25_meaning_language.specs.Fragments.{Replacements, without, Fragment, Kept, Numbered, Replaced, fragments}
 use Rattle.c25_meaning_language.specs.Quoting.{last_comma_len}
 use Rattle.c25_meaning_language.specs.declared.long_line.LongLine.{LongLine}
 use Rattle.c25_meaning_language.specs.declared.quoting.Quoting.{Quoting}
@@ -37,7 +37,7 @@ drafted_by replace number (Replaced name text quoting) = joined (record { text =
 
 -- a text that begins in this quoting: each text that replaces a name is substituted by itself with that name set
 -- aside, `depth` deep at most
-unfoldable pub drafted : ℕ → Names → ℕ → List (List ℕ) → Quoting → List ℕ → Draft
+unfoldable pub drafted : ℕ → Replacements → ℕ → List (List ℕ) → Quoting → List ℕ → Draft
 drafted zero names number aside quoting text = as_is []
 drafted (suc depth) names number aside quoting text =
     all_joined (drafted_by (λ name inner begins. drafted depth names number (aside ++ name ∷ []) begins inner) number)
@@ -54,7 +54,7 @@ abbrev pub measured : Draft → Result (List ℕ) LongLine
 measured d = if nat_le (max (length d.text) d.replacements) 1024 then Ok d.text else Err too_long
 
 -- a text of a line with all its replacements: each goes one deeper, so that deeper ones are too many
-abbrev pub rewritten : Names → ℕ → Quoting → List ℕ → Draft
+abbrev pub rewritten : Replacements → ℕ → Quoting → List ℕ → Draft
 rewritten names number quoting text = drafted 1025 names number [] quoting text
 
 -- a comment line is a comment from its first byte on
@@ -62,11 +62,11 @@ abbrev pub line_quoting : List ℕ → Quoting
 line_quoting line = if is_comment_line line then Comment else Outside
 
 -- a line with its names replaced in the expansion of this number (0 outside expansions), or LongLine where it gets too long
-abbrev pub substituted : Names → ℕ → List ℕ → Result (List ℕ) LongLine
+abbrev pub substituted : Replacements → ℕ → List ℕ → Result (List ℕ) LongLine
 substituted names number line = measured (rewritten names number (line_quoting line) line)
 
 -- a line of `.asg` or `.eval`: nothing is replaced from the last comma outside quotes and comment on
-abbrev pub substituted_before_comma : Names → ℕ → List ℕ → Result (List ℕ) LongLine
+abbrev pub substituted_before_comma : Replacements → ℕ → List ℕ → Result (List ℕ) LongLine
 substituted_before_comma names number line =
     measured (joined (rewritten names number Outside (take (last_comma_len line) line)) (as_is (drop (last_comma_len line) line)))
 

@@ -7,8 +7,8 @@ abbrev pub Named : Type 0 → Type 0
 Named A = List (List ℕ × A)
 
 -- names that stand for texts (SPRU018, macro language, substitution symbols)
-abbrev pub Texts : Type 0
-Texts = Named (List ℕ)
+abbrev pub SubstitutionTexts : Type 0
+SubstitutionTexts = Named (List ℕ)
 
 -- a name stands for something from now on: in the place of what it stood for, or as the last
 abbrev pub with_name : {A : Type 0} → Named A → List ℕ → A → Named A

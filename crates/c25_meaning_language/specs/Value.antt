@@ -29,9 +29,9 @@ is_zero (pos n) = n == 0
 is_zero (negsuc n) = false
 
 -- a shift count, 0 to 31
-abbrev pub count_of : ℤ → Option ℕ
-count_of (pos n) = if nat_lt n 32 then Some n else None
-count_of (negsuc n) = None
+abbrev pub shift_count : ℤ → Option ℕ
+shift_count (pos n) = if nat_lt n 32 then Some n else None
+shift_count (negsuc n) = None
 
 -- what a comparison gives
 abbrev pub truth : Bool → ℤ
@@ -44,8 +44,8 @@ number_of binary.Divide x y = if is_zero y then Err DivideByZero else in_range (
 number_of binary.Remainder x y = if is_zero y then Err DivideByZero else in_range (int_rem x y)
 number_of binary.Add x y = in_range (x +ℤ y)
 number_of binary.Subtract x y = in_range (x -ℤ y)
-number_of binary.ShiftLeft x y = ok_or (count_of y) ValueRange >>= λ n. in_range (x *ℤ pos (2 ^ n))
-number_of binary.ShiftRight x y = ok_or (count_of y) ValueRange >>= λ n. in_range (int_shr x n)
+number_of binary.ShiftLeft x y = ok_or (shift_count y) ValueRange >>= λ n. in_range (x *ℤ pos (2 ^ n))
+number_of binary.ShiftRight x y = ok_or (shift_count y) ValueRange >>= λ n. in_range (int_shr x n)
 number_of binary.Less x y = Ok (truth (int_lt x y))
 number_of binary.LessOrEqual x y = Ok (truth (not (int_lt y x)))
 number_of binary.Greater x y = Ok (truth (int_lt y x))
@@ -74,19 +74,19 @@ binary_value op x y = do
   Ok (record { base = base; offset = offset })
 
 -- the base, if it is that of a plain number
-abbrev pub absolute : Base → Result Base ValueFault
-absolute Absolute = Ok Absolute
-absolute _ = Err NotAbsolute
+abbrev pub absolute_base : Base → Result Base ValueFault
+absolute_base Absolute = Ok Absolute
+absolute_base _ = Err NotAbsolute
 
 -- an operator before a value
 abbrev pub unary_value : UnaryOperator → Value → Result Value ValueFault
 unary_value unary.Plus x = Ok x
 unary_value unary.Minus x = do
-  base ← absolute x.base
+  base ← absolute_base x.base
   offset ← in_range (neg_ℤ x.offset)
   Ok (record { base = base; offset = offset })
 unary_value unary.Complement x = do
-  base ← absolute x.base
+  base ← absolute_base x.base
   Ok (record { base = base; offset = neg_ℤ x.offset -ℤ pos 1 })
 
 -- a constant

@@ -6,7 +6,7 @@ use Rattle.std.proofs.lemmas.Bool.{eq-eqb, ne_eqb}
 use Rattle.c25_meaning_assembly.specs.Addresses.{Sheet, sheet_of, words_of, relocations_of}
 use Rattle.c25_meaning_assembly.specs.Emission.{extended, emit, emitted, emit_all, at_origin, is_here, table_at, with_sheet}
 use Rattle.c25_meaning_common.specs.Results.{◌>>=◌, fold_ok}
-use Rattle.c25_meaning_assembly.specs.Sections.{Definitions, Section, Content, Operands, Words, Zeros, Exported, Origin, Item, changed, changed_by}
+use Rattle.c25_meaning_assembly.specs.Sections.{Definitions, Section, Content, Operands, Words, Zeros, Exported, Origin, LaidContent, changed, changed_by}
 use Rattle.c25_meaning_objects.specs.declared.object.Relocation.{Relocation}
 use Rattle.c25_meaning_language.specs.declared.statement.FaultKind.{FaultKind}
 use Rattle.c25_meaning_language.specs.declared.statement.FaultKind.TheVariants as fault
@@ -21,7 +21,7 @@ pub record Made : Type 0 where
   pub relocations : List Relocation
 
 -- those of an item
-abbrev pub made_by : Definitions → Item → Content → Result Made FaultKind
+abbrev pub made_by : Definitions → LaidContent → Content → Result Made FaultKind
 made_by names i (Operands t trees) =
     sheet_of t (table_at names i.section i.offset) trees >>= λ s.
     Ok (record { section = i.section; offset = i.offset; words = words_of t s.numbers; relocations = relocations_of t i.section i.offset s.addresses })
@@ -31,7 +31,7 @@ made_by names i (Exported exported) =
     cond (list_all (is_here names) exported) (Ok (record { section = i.section; offset = i.offset; words = []; relocations = [] })) (Err fault.Undefined)
 
 -- items give these
-abbrev pub Give : Definitions → List Item → List Made → Type 0
+abbrev pub Give : Definitions → List LaidContent → List Made → Type 0
 Give names [] [] = Unit {0}
 Give names [] (m ∷ ms) = ⊥
 Give names (i ∷ is) [] = ⊥
@@ -122,7 +122,7 @@ told_ok : {A : Type 0} (origin : Origin) (r : Result A FaultKind) (x : A) → at
 told_ok origin (Ok y) x e = let q : y ≡ x = cc in ap Ok q
 told_ok origin (Err f) x e = absurd (cc)
 
-emit_made : (names : Definitions) (i : Item) (c : Content) (sections out : List Section) → emit names i.section i.offset sections c ≡ Ok out
+emit_made : (names : Definitions) (i : LaidContent) (c : Content) (sections out : List Section) → emit names i.section i.offset sections c ≡ Ok out
     → (m : Made) × (made_by names i c ≡ Ok m) × (m.section ≡ i.section) × (changed (extended m.words m.relocations) sections i.section ≡ out)
 emit_made names i (Operands t trees) sections out e =
     let s = bound (sheet_of t (table_at names i.section i.offset) trees) (λ s. Ok (with_sheet t i.section i.offset sections s)) out e in
@@ -137,7 +137,7 @@ emit_made names i (Exported exported) sections out e =
     (m, ap (λ b. cond b (Ok m) (Err fault.Undefined)) p.0, refl, changed_none sections i.section ∙ p.1)
 
 -- where all is emitted, the items give words and relocations, and these are in their sections
-pub all_emitted : (names : Definitions) (sections : List Section) (is : List Item) (out : List Section) → emit_all names sections is ≡ Ok out
+pub all_emitted : (names : Definitions) (sections : List Section) (is : List LaidContent) (out : List Section) → emit_all names sections is ≡ Ok out
     → (ms : List Made) × Give names is ms × (out ≡ filled_from 0 sections ms)
 all_emitted names sections [] out e = let q : sections ≡ out = cc in ([], tt, sym q ∙ sym (filled_none 0 sections))
 all_emitted names sections (i ∷ is) out e =

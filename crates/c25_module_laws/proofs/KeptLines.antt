@@ -4,7 +4,7 @@ use Rattle.std.specs.List.{AllByRecursion, list_any, find, slice_get}
 use Rattle.std.proofs.lemmas.Bool.{ltb-false, false≢true}
 use Rattle.c25_meaning_assembly.specs.OperandFields.{target_size}
 use Rattle.c25_meaning_assembly.specs.AssemblyLine as line
-use Rattle.c25_meaning_assembly.specs.AssemblyLine.{Act, Statement, read_statement}
+use Rattle.c25_meaning_assembly.specs.AssemblyLine.{AssemblyAct, Statement, read_statement}
 use Rattle.c25_meaning_assembly.specs.Emission.{at_origin}
 use Rattle.c25_meaning_expansion.specs.Expansion.{Config}
 use Rattle.c25_meaning_expansion.specs.ExpansionAnswers.{ExpandedLine, given_by, fault_by}
@@ -15,7 +15,7 @@ use Rattle.c25_meaning_objects.specs.Module.{each_fits}
 use Rattle.c25_meaning_sources.specs.ModuleOfSource.{Passed, no_lines, entry_of, origin_of, pass_line, passed, passed_by, passed_from, read_and_pass}
 use Rattle.c25_meaning_common.specs.Results.{◌>>=◌, fold_ok}
 use Rattle.c25_meaning_assembly.specs.Sections as meaning
-use Rattle.c25_meaning_assembly.specs.Sections.{Definitions, Section, Content, Operands, Words, Zeros, Exported, Origin, Item, Progress, changed, longer, with_block, with_mark, use_line, block, block_allowed, flag_in, is_in, are_distinct, once, all_once, stands, define, label, here, loaded_here, table, place_in, same_kind, of_kind, opened, grow, lay, with_item, size_at, size_by, is_called, count_in, reserve, reserve_room, register_names, define_pair, name_count, few, pass, allowed, act}
+use Rattle.c25_meaning_assembly.specs.Sections.{Definitions, Section, Content, Operands, Words, Zeros, Exported, Origin, LaidContent, Progress, changed, longer, with_block, with_mark, use_line, block, block_allowed, flag_in, is_in, are_distinct, once, all_once, stands, define, label, here, loaded_here, table, place_in, same_kind, of_kind, section_opened, grow, lay, with_item, size_at, size_by, is_called, count_in, reserve, reserve_room, register_names, define_pair, name_count, few, pass, allowed, act}
 use Rattle.c25_meaning_language.specs.Statement.{valued, form_row}
 use Rattle.c25_meaning_instructions.specs.Table.{size}
 use Rattle.c25_meaning_language.specs.Tree.{Tree}
@@ -50,10 +50,10 @@ sections_changed f sections i current same h = record {
 names_changed : (f : Section → Section) (sections : List Section) (i : ℕ) (names : Definitions) → AreNames (length sections) names → AreNames (length (changed f sections i)) names
 names_changed f sections i names h = subst (λ (n : ℕ). AreNames n names) (sym (length_changed f sections i)) h
 
-codes_changed : (f : Section → Section) (sections : List Section) (i : ℕ) (items : List Item) → ((s : Section) → head_of (f s) ≡ head_of s)
+codes_changed : (f : Section → Section) (sections : List Section) (i : ℕ) (items : List LaidContent) → ((s : Section) → head_of (f s) ≡ head_of s)
     → AllByRecursion (λ i. is_code (heads sections) i.section ≡ true) items → AllByRecursion (λ j. is_code (heads (changed f sections i)) j.section ≡ true) items
 codes_changed f sections i items same h =
-    subst (λ (hs : List Head). AllByRecursion (λ (j : Item). is_code hs j.section ≡ true) items) (sym (heads_changed f sections i same)) h
+    subst (λ (hs : List Head). AllByRecursion (λ (j : LaidContent). is_code hs j.section ≡ true) items) (sym (heads_changed f sections i same)) h
 
 grow_files : (i n : ℕ) (p q : Progress) → grow i n p ≡ Ok q → q.files ≡ p.files
 unfolding grow
@@ -140,11 +140,11 @@ offset_is p kept =
     omega (arith, a, b)
 
 -- an item at the current place
-abbrev laid_item : Origin → Content → Progress → Item
+abbrev laid_item : Origin → Content → Progress → LaidContent
 laid_item origin content p = record { origin = origin; section = p.current; offset = size_at p.sections p.current; content = content }
 
 -- one item more, whose mark is still to come
-record IsLaid (item : Item) (p q : Progress) : Type 0 where
+record IsLaid (item : LaidContent) (p q : Progress) : Type 0 where
   kept : AllBut p.items q
   items : q.items ≡ p.items ++ item ∷ []
   current : q.current ≡ p.current
@@ -183,8 +183,8 @@ lay_kept origin content n p q count good kept e =
                 relocations = h.relocations;
               });
           laid = laid_push (λ k. 0) p.items item kept.items.laid (offset_is p kept);
-          good = pushed (λ (i : Item). IsGoodContent i.content) p.items item kept.items.good good;
-          codes = codes_changed (longer n) p.sections c items (λ _. refl) (pushed (λ (i : Item). is_code (heads p.sections) i.section ≡ true) p.items item kept.items.codes kept.sections.code);
+          good = pushed (λ (i : LaidContent). IsGoodContent i.content) p.items item kept.items.good good;
+          codes = codes_changed (longer n) p.sections c items (λ _. refl) (pushed (λ (i : LaidContent). is_code (heads p.sections) i.section ≡ true) p.items item kept.items.codes kept.sections.code);
         };
         told = told_longer p.files p.sections c n kept.told;
       };
@@ -193,7 +193,7 @@ lay_kept origin content n p q count good kept e =
     })
 
 -- other items that have the same marks
-remarked : (old new : List Item) (p : Progress) → ((k : ℕ) → marks_in k old ≡ marks_in k new) → AllBut old p → AllBut new p
+remarked : (old new : List LaidContent) (p : Progress) → ((k : ℕ) → marks_in k old ≡ marks_in k new) → AllBut old p → AllBut new p
 remarked old new p same kept = record {
   sections = kept.sections;
   names = kept.names;
@@ -208,7 +208,7 @@ remarked old new p same kept = record {
 }
 
 -- an item without a mark
-unmarked : (item : Item) (p q : Progress) → mark_by item item.content ≡ [] → IsLaid item p q → AllKept q
+unmarked : (item : LaidContent) (p q : Progress) → mark_by item item.content ≡ [] → IsLaid item p q → AllKept q
 unmarked item p q none h =
     remarked p.items q.items q (λ k. sym (ap (marks_in k) h.items ∙ marks_same k p.items item none)) h.kept
 
@@ -324,7 +324,7 @@ declare_kept names p q symbols kept e =
 export_kept : (origin : Origin) (names : List (List ℕ)) (p q : Progress) → AllKept p → meaning.export origin names p ≡ Ok q → AllKept q
 export_kept origin names p q kept e =
     let c = p.current in
-    let item : Item = record { origin = origin; section = c; offset = size_at p.sections c; content = Exported names } in
+    let item : LaidContent = record { origin = origin; section = c; offset = size_at p.sections c; content = Exported names } in
     let made : Progress = record p { exported = all_once p.exported names; items = p.items ++ item ∷ [] } in
     let a = refused (list_any meaning.is_predefined names) fault.Defined made q e in
     subst AllKept a.1 (record {
@@ -346,8 +346,8 @@ export_kept origin names p q kept e =
               relocations = h.relocations;
             };
         laid = laid_push (λ k. 0) p.items item kept.items.laid (offset_is p kept);
-        good = pushed (λ (i : Item). IsGoodContent i.content) p.items item kept.items.good tt;
-        codes = pushed (λ (i : Item). is_code (heads p.sections) i.section ≡ true) p.items item kept.items.codes kept.sections.code;
+        good = pushed (λ (i : LaidContent). IsGoodContent i.content) p.items item kept.items.good tt;
+        codes = pushed (λ (i : LaidContent). is_code (heads p.sections) i.section ≡ true) p.items item kept.items.codes kept.sections.code;
       };
       told = kept.told;
     })
@@ -378,7 +378,7 @@ registers_kept p q kept e = on p.registers e
 
 enter_kept : (section : List ℕ) (p q : Progress) → IsSection section → same_kind true (find (is_called section) p.sections) ≡ true → AllKept p → meaning.enter section p ≡ Ok q → AllKept q
 enter_kept section p q name kind kept e =
-    let a = bound (opened section true p) (λ o. Ok (record o.1 { current = o.0 })) q e in
+    let a = bound (section_opened section true p) (λ o. Ok (record o.1 { current = o.0 })) q e in
     let made : Progress = record (a.0).1 { current = (a.0).0 } in
     let same : made ≡ q = let last = a.2 in cc in
     let o = opened_kept section true p a.0 name kind kept a.1 in
@@ -394,7 +394,7 @@ reserve_kept : (section name : List ℕ) (n : ℕ) (flag : Bool) (u : Unit {0}) 
     → block_allowed flag n ≡ Ok u → AllKept p → reserve section name n flag p ≡ Ok q → AllKept q
 unfolding reserve
 reserve_kept section name n flag u p q is symbol kind allowed kept e =
-    let a = bound (opened section false p) (λ o. grow o.0 n o.1 >>= λ r. define name (place_in o.1.sections o.0) (block flag o.0 (size_at o.1.sections o.0) n r)) q e in
+    let a = bound (section_opened section false p) (λ o. grow o.0 n o.1 >>= λ r. define name (place_in o.1.sections o.0) (block flag o.0 (size_at o.1.sections o.0) n r)) q e in
     let i = (a.0).0 in
     let r = (a.0).1 in
     let b = bound (grow i n r) (λ x. define name (place_in r.sections i) (block flag i (size_at r.sections i) n x)) q a.2 in
@@ -404,7 +404,7 @@ reserve_kept section name n flag u p q is symbol kind allowed kept e =
     (define_kept name (place_in r.sections i) (block flag i (size_at r.sections i) n b.0) q symbol (subst (λ (n : ℕ). IsGoodValue (IsInside n) (place_in r.sections i)) (sym g.1) good) g.0 b.2).0
 
 -- the section that an act names, if there is one, is of its kind
-abbrev KindFits : Act → List Section → Type 0
+abbrev KindFits : AssemblyAct → List Section → Type 0
 KindFits (line.Enter section) sections = same_kind true (find (is_called section) sections) ≡ true
 KindFits (line.Reserve section name room) sections = same_kind false (find (is_called section) sections) ≡ true
 KindFits line.Nothing sections = Unit {0}
@@ -417,7 +417,7 @@ KindFits (line.Export names) sections = Unit {0}
 KindFits (line.Label name) sections = Unit {0}
 KindFits line.Registers sections = Unit {0}
 
-kind_fits : (a : Act) (p : Progress) (u : Unit {0}) → allowed a p ≡ Ok u → KindFits a p.sections
+kind_fits : (a : AssemblyAct) (p : Progress) (u : Unit {0}) → allowed a p ≡ Ok u → KindFits a p.sections
 kind_fits (line.Enter section) p u e = (permitted (same_kind true (find (is_called section) p.sections)) tt fault.OperandForm u e).0
 kind_fits (line.Reserve section name room) p u e =
     let a = bound (of_kind section false p) (λ _. room >>= λ t. Ok tt) u e in
@@ -432,7 +432,7 @@ kind_fits (line.Export names) p u e = tt
 kind_fits (line.Label name) p u e = tt
 kind_fits line.Registers p u e = tt
 
-act_kept : (origin : Origin) (a : Act) (p q : Progress) → IsGoodAct a → KindFits a p.sections → AllKept p → act origin a p ≡ Ok q → AllKept q
+act_kept : (origin : Origin) (a : AssemblyAct) (p q : Progress) → IsGoodAct a → KindFits a p.sections → AllKept p → act origin a p ≡ Ok q → AllKept q
 act_kept origin line.Nothing p q good kind kept e = let same : p ≡ q = cc in subst AllKept same kept
 act_kept origin (line.Enter section) p q good kind kept e = enter_kept section p q good kind kept e
 act_kept origin (line.Reserve section name room) p q good kind kept e =

@@ -7,7 +7,7 @@ use Rattle.std.proofs.lemmas.Bool.Decides.{nat_tests}
 use Rattle.c25_meaning_language.specs.DirectiveOperands.{name_in, names_in, string_in, parts_in}
 use Rattle.c25_meaning_language.specs.Arguments.{folded, past_quote, before_quote, string_text}
 use Rattle.c25_meaning_assembly.specs.AssemblyLine as line
-use Rattle.c25_meaning_assembly.specs.AssemblyLine.{Act, Statement, statement_by, directive_in, read_statement, section_in, said_in, as_section, later_in, entering, reserving, reserving_in, some_names, expressions_in, with_expression, loading, without, act_of, act_without, act_by, instructing, parts_for, label_for, names_label, directive_of}
+use Rattle.c25_meaning_assembly.specs.AssemblyLine.{AssemblyAct, Statement, statement_by, directive_in, read_statement, section_in, said_in, as_section, later_in, entering, reserving, reserving_in, some_names, expressions_in, with_expression, loading, without, act_of, act_without, act_by, instructing, parts_for, label_for, names_label, directive_of}
 use Rattle.c25_meaning_common.specs.Bytes.{is_blank, is_field, is_letter, begins_name, goes_on_name, is_digit, is_letter_or_digit, is_plain}
 use Rattle.c25_meaning_lines.specs.Constant.{is_constant}
 use Rattle.c25_meaning_lines.specs.Lexeme.{name_of, constant_of, character_of, quoted_by, quoted_len, double_sign, single_sign, sign_by, dotted_of, lexeme}
@@ -290,7 +290,7 @@ strings_good (o ∷ os) words h e =
 -- ---- what a line does
 
 -- what holds of what a line does: its names are names, its operands as many as there may be, its words words
-abbrev pub IsGoodAct : Act → Type 0
+abbrev pub IsGoodAct : AssemblyAct → Type 0
 IsGoodAct line.Nothing = Unit {0}
 IsGoodAct (line.Enter section) = IsSection section
 IsGoodAct (line.Reserve section name room) = IsSection section × IsSymbol name
@@ -303,21 +303,21 @@ IsGoodAct (line.Export names) = Unit {0}
 IsGoodAct (line.Label name) = IsSymbol name
 IsGoodAct line.Registers = Unit {0}
 
-given : (a act : Act) → ◌≡◌ {A = Result Act FaultKind} (Ok a) (Ok act) → IsGoodAct a → IsGoodAct act
+given : (a act : AssemblyAct) → ◌≡◌ {A = Result AssemblyAct FaultKind} (Ok a) (Ok act) → IsGoodAct a → IsGoodAct act
 given a act e h = let q : a ≡ act = cc in subst IsGoodAct q h
 
-without_good : (a act : Act) (os : List (List Piece)) → IsGoodAct a → without a os ≡ Ok act → IsGoodAct act
+without_good : (a act : AssemblyAct) (os : List (List Piece)) → IsGoodAct a → without a os ≡ Ok act → IsGoodAct act
 without_good a act [] h e = given a act e h
 without_good a act (o ∷ os) h e = absurd (cc)
 
-entering_good : (os : List (List Piece)) (act : Act) → entering os ≡ Ok act → IsGoodAct act
+entering_good : (os : List (List Piece)) (act : AssemblyAct) → entering os ≡ Ok act → IsGoodAct act
 entering_good [] act e = absurd (cc)
 entering_good (o ∷ []) act e =
     let a = bound (section_in o) (λ section. Ok (line.Enter section)) act e in
     given (line.Enter a.0) act a.2 (section_good o a.0 a.1)
 entering_good (o ∷ p ∷ os) act e = absurd (cc)
 
-reserving_good : (os : List (List Piece)) (act : Act) → AreGood os → reserving os ≡ Ok act → IsGoodAct act
+reserving_good : (os : List (List Piece)) (act : AssemblyAct) → AreGood os → reserving os ≡ Ok act → IsGoodAct act
 reserving_good [] act h e = absurd (cc)
 reserving_good (o ∷ []) act h e = absurd (cc)
 reserving_good (o ∷ p ∷ []) act h e =
@@ -331,7 +331,7 @@ reserving_good (o ∷ p ∷ q ∷ []) act h e =
     given (line.Reserve _ a.0 (line.flagged b.0 c.0)) act c.2 (refl, name_good o a.0 h.0 a.1)
 reserving_good (o ∷ p ∷ q ∷ r ∷ os) act h e = absurd (cc)
 
-reserving_in_good : (label : List ℕ) (os : List (List Piece)) (act : Act) → IsSymbol label → reserving_in label os ≡ Ok act → IsGoodAct act
+reserving_in_good : (label : List ℕ) (os : List (List Piece)) (act : AssemblyAct) → IsSymbol label → reserving_in label os ≡ Ok act → IsGoodAct act
 reserving_in_good label [] act h e = absurd (cc)
 reserving_in_good label (o ∷ []) act h e = absurd (cc)
 reserving_in_good label (o ∷ p ∷ []) act h e =
@@ -340,7 +340,7 @@ reserving_in_good label (o ∷ p ∷ []) act h e =
     given (line.Reserve a.0 label (line.alone b.0)) act b.2 (section_good o a.0 a.1, h)
 reserving_in_good label (o ∷ p ∷ q ∷ os) act h e = absurd (cc)
 
-expression_good : (f : Tree → Act) (os : List (List Piece)) (act : Act) → ((e : Tree) → IsGoodAct (f e)) → with_expression f os ≡ Ok act → IsGoodAct act
+expression_good : (f : Tree → AssemblyAct) (os : List (List Piece)) (act : AssemblyAct) → ((e : Tree) → IsGoodAct (f e)) → with_expression f os ≡ Ok act → IsGoodAct act
 expression_good f [] act h e = absurd (cc)
 expression_good f (o ∷ []) act h e = let a = bound _ (λ t. Ok (f t)) act e in given (f a.0) act a.2 (h a.0)
 expression_good f (o ∷ p ∷ os) act h e = absurd (cc)
@@ -349,16 +349,16 @@ declaring_good : (os : List (List Piece)) (names : List (List ℕ)) → AreGood 
 declaring_good [] names h e = absurd (cc)
 declaring_good (o ∷ os) names h e = names_good (o ∷ os) names h e
 
-loading_good : (os : List (List Piece)) (act : Act) → AreGood os → loading os ≡ Ok act → IsGoodAct act
+loading_good : (os : List (List Piece)) (act : AssemblyAct) → AreGood os → loading os ≡ Ok act → IsGoodAct act
 loading_good [] act h e = absurd (cc)
 loading_good (o ∷ os) act h e = let a = bound (line.strings_in (o ∷ os)) (λ words. Ok (line.Load words)) act e in given (line.Load a.0) act a.2 (strings_good (o ∷ os) a.0 h a.1)
 
-naming_good : (os : List (List Piece)) (act : Act) → AreGood os → line.naming os ≡ Ok act → IsGoodAct act
+naming_good : (os : List (List Piece)) (act : AssemblyAct) → AreGood os → line.naming os ≡ Ok act → IsGoodAct act
 naming_good [] act h e = absurd (cc)
 naming_good (o ∷ []) act h e = let a = bound (name_in o) (λ name. Ok (line.Label name)) act e in given (line.Label a.0) act a.2 (name_good o a.0 h.0 a.1)
 naming_good (o ∷ p ∷ os) act h e = absurd (cc)
 
-act_good : (d : Directive) (label : List ℕ) (os : List (List Piece)) (act : Act) → (names_label (Some d) ≡ true → IsSymbol label) → AreGood os → act_of d label os ≡ Ok act → IsGoodAct act
+act_good : (d : Directive) (label : List ℕ) (os : List (List Piece)) (act : AssemblyAct) → (names_label (Some d) ≡ true → IsSymbol label) → AreGood os → act_of d label os ≡ Ok act → IsGoodAct act
 unfolding act_of
 act_good directive.Text label os act l h e = without_good _ act os refl e
 act_good directive.Data label os act l h e = without_good _ act os refl e
@@ -376,7 +376,7 @@ act_good directive.Label label os act l h e = naming_good os act h e
 act_good directive.Registers label os act l h e = without_good _ act os tt e
 act_good directive.Ignored label os act l h e = given line.Nothing act e tt
 
-instruction_good : (word : Option Part) (os : List (List Piece)) (act : Act) → act_without word os ≡ Ok act → IsGoodAct act
+instruction_good : (word : Option Part) (os : List (List Piece)) (act : AssemblyAct) → act_without word os ≡ Ok act → IsGoodAct act
 instruction_good None os act e = given line.Nothing act e tt
 instruction_good (Some word) os act e =
     let a = bound (spelled word.text) _ act e in
@@ -452,7 +452,7 @@ pub record IsGood (s : Statement) : Type 0 where
   pub label : IfSome s.label IsSymbol
   pub act : IsGoodAct s.act
 
-act_by_good : (d : Option Directive) (text : List ℕ) (p : Parts) (act : Act) → ArePartsGood text p → (names_label d ≡ true → IsSymbol (unwrap_or p.label [])) → act_by d p ≡ Ok act → IsGoodAct act
+act_by_good : (d : Option Directive) (text : List ℕ) (p : Parts) (act : AssemblyAct) → ArePartsGood text p → (names_label d ≡ true → IsSymbol (unwrap_or p.label [])) → act_by d p ≡ Ok act → IsGoodAct act
 act_by_good None text p act h l e = instruction_good p.word (operands_of p.pieces) act e
 act_by_good (Some d) text p act h l e = act_good d (unwrap_or p.label []) (operands_of p.pieces) act l (operands_good p.pieces h.pieces) e
 

@@ -10,7 +10,7 @@ use Rattle.c25_bits.specs.Cut.{fits32}
 use Rattle.c25_meaning_common.specs.Results.{◌>>=◌, told}
 use Rattle.c25_meaning_language.specs.Statement.{valued, value_fault}
 use Rattle.c25_meaning_language.specs.Tree.{Leaf, Constant, Name, Here, Tree, Single, Group, Unary, Binary}
-use Rattle.c25_meaning_language.specs.Value.{Table, in_range, is_zero, count_of, truth, number_of, base_of, binary_value, unary_value, absolute, plain_value, leaf_value, value_of, value_named}
+use Rattle.c25_meaning_language.specs.Value.{Table, in_range, is_zero, shift_count, truth, number_of, base_of, binary_value, unary_value, absolute_base, plain_value, leaf_value, value_of, value_named}
 use Rattle.c25_meaning_language.specs.declared.expression.UnaryOperator.{UnaryOperator}
 use Rattle.c25_meaning_language.specs.declared.expression.UnaryOperator.TheVariants as unary
 use Rattle.c25_meaning_language.specs.declared.expression.BinaryOperator.{BinaryOperator}
@@ -51,8 +51,8 @@ number_fits binary.Divide x y z e = divided (is_zero y) (int_div x y) z e
 number_fits binary.Remainder x y z e = divided (is_zero y) (int_rem x y) z e
 number_fits binary.Add x y z e = ranged (x +ℤ y) z e
 number_fits binary.Subtract x y z e = ranged (x -ℤ y) z e
-number_fits binary.ShiftLeft x y z e = let a = bound (ok_or (count_of y) fault.ValueRange) (λ n. in_range (x *ℤ pos (2 ^ n))) z e in ranged (x *ℤ pos (2 ^ a.0)) z a.2
-number_fits binary.ShiftRight x y z e = let a = bound (ok_or (count_of y) fault.ValueRange) (λ n. in_range (int_shr x n)) z e in ranged (int_shr x a.0) z a.2
+number_fits binary.ShiftLeft x y z e = let a = bound (ok_or (shift_count y) fault.ValueRange) (λ n. in_range (x *ℤ pos (2 ^ n))) z e in ranged (x *ℤ pos (2 ^ a.0)) z a.2
+number_fits binary.ShiftRight x y z e = let a = bound (ok_or (shift_count y) fault.ValueRange) (λ n. in_range (int_shr x n)) z e in ranged (int_shr x a.0) z a.2
 number_fits binary.Less x y z e = truth_fits (int_lt x y) z e
 number_fits binary.LessOrEqual x y z e = truth_fits (not (int_lt y x)) z e
 number_fits binary.Greater x y z e = truth_fits (int_lt y x) z e
@@ -77,11 +77,11 @@ abbrev pub IsGoodValue : (Base → Type 0) → Value → Type 0
 IsGoodValue B v = B v.base × FitsSigned w32 v.offset
 
 module _ (B : Base → Type 0) (none : B Absolute) where
-  absolute_base : (b a : Base) → absolute b ≡ Ok a → B a
-  absolute_base Absolute a e = subst B (same Absolute a e) none
-  absolute_base (Section n) a e = absurd (cc)
-  absolute_base (Loaded n) a e = absurd (cc)
-  absolute_base (External n) a e = absurd (cc)
+  absolute_base_good : (b a : Base) → absolute_base b ≡ Ok a → B a
+  absolute_base_good Absolute a e = subst B (same Absolute a e) none
+  absolute_base_good (Section n) a e = absurd (cc)
+  absolute_base_good (Loaded n) a e = absurd (cc)
+  absolute_base_good (External n) a e = absurd (cc)
 
   same_section : (s t : ℕ) (c : Base) → cond (eqb s t) (Ok Absolute) (Err fault.NotAbsolute) ≡ Ok c → B c
   same_section s t c e = let p = permitted (eqb s t) Absolute fault.NotAbsolute c e in subst B p.1 none
@@ -112,13 +112,13 @@ module _ (B : Base → Type 0) (none : B Absolute) where
   good_unary : (op : UnaryOperator) (x v : Value) → IsGoodValue B x → unary_value op x ≡ Ok v → IsGoodValue B v
   good_unary unary.Plus x v h e = same_value x v e h
   good_unary unary.Minus x v h e =
-      let a = bound (absolute x.base) _ v e in
+      let a = bound (absolute_base x.base) _ v e in
       let made : ℤ → Value = λ z. record { base = a.0; offset = z } in
       let b = bound (in_range (neg_ℤ x.offset)) (λ z. Ok (made z)) v a.2 in
-      same_value (made b.0) v b.2 (absolute_base x.base a.0 a.1, ranged (neg_ℤ x.offset) b.0 b.1)
+      same_value (made b.0) v b.2 (absolute_base_good x.base a.0 a.1, ranged (neg_ℤ x.offset) b.0 b.1)
   good_unary unary.Complement x v h e =
-      let a = bound (absolute x.base) _ v e in
-      same_value (record { base = a.0; offset = neg_ℤ x.offset -ℤ pos 1 }) v a.2 (absolute_base x.base a.0 a.1, complement_fits x.offset h.1)
+      let a = bound (absolute_base x.base) _ v e in
+      same_value (record { base = a.0; offset = neg_ℤ x.offset -ℤ pos 1 }) v a.2 (absolute_base_good x.base a.0 a.1, complement_fits x.offset h.1)
 
   good_binary : (op : BinaryOperator) (x y v : Value) → IsGoodValue B x → IsGoodValue B y → binary_value op x y ≡ Ok v → IsGoodValue B v
   good_binary op x y v g h e =

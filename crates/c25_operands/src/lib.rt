@@ -13,9 +13,9 @@ ghost use Rattle.c25_expr.specs.Pieces.{pieces_of};
 ghost use Rattle.c25_expr.specs.View.{tree_of};
 ghost use Rattle.c25_operands.specs.View.{text_of};
 
+use c25_expr::expression_reader::read_expr;
 use c25_expr::failure::expression_fault;
 use c25_expr::operands::written_of;
-use c25_expr::reading::read_expr;
 use c25_expr::tree::Expr;
 use c25_meaning_common::failure::Failure;
 use c25_meaning_language::statement::{FaultKind, Written};

@@ -3,7 +3,7 @@ use Rattle.std.proofs.Common.{◌≡◌, ℕ, zero, suc, Bool, true, false, cond
 use Rattle.std.specs.List.{flat_map, list_all, slice_get}
 use Rattle.c25_meaning_assembly.specs.Addresses.{Sheet, sheet_of}
 use Rattle.c25_meaning_assembly.specs.Emission.{at_origin, emit, emit_all, emitted, extended, is_here, lines_in, lines_of, table_at, with_sheet}
-use Rattle.c25_meaning_assembly.specs.Sections.{Content, Definitions, Exported, Item, Operands, Origin, Section, Words, Zeros, changed, changed_by}
+use Rattle.c25_meaning_assembly.specs.Sections.{Content, Definitions, Exported, LaidContent, Operands, Origin, Section, Words, Zeros, changed, changed_by}
 use Rattle.c25_meaning_common.specs.Results.{◌>>=◌, fold_ok}
 use Rattle.c25_meaning_language.specs.declared.statement.FaultKind.{FaultKind}
 use Rattle.c25_meaning_language.specs.declared.statement.FaultKind.TheVariants as fault
@@ -41,7 +41,7 @@ emit_keeps names section offset ss out (Exported exported) e = on (list_all (is_
     on true h = let same : ss ≡ out = cc in ap lines (sym same)
     on false h = absurd (cc)
 
-all_keep : (names : Definitions) (is : List Item) (ss out : List Section) → fold_ok (emitted names) ss is ≡ Ok out → lines out ≡ lines ss
+all_keep : (names : Definitions) (is : List LaidContent) (ss out : List Section) → fold_ok (emitted names) ss is ≡ Ok out → lines out ≡ lines ss
 all_keep names [] ss out e = let same : ss ≡ out = cc in ap lines (sym same)
 all_keep names (i ∷ is) ss out e = on (emit names i.section i.offset ss i.content) refl e (λ next. all_keep names is next out)
   where
@@ -51,6 +51,6 @@ all_keep names (i ∷ is) ss out e = on (emit names i.section i.offset ss i.cont
     on (Err f) was h go = absurd (cc)
 
 -- so their files and lines stay
-pub lines_stay : (names : Definitions) (is : List Item) (ss out : List Section) → emit_all names ss is ≡ Ok out → lines_in out ≡ lines_in ss
+pub lines_stay : (names : Definitions) (is : List LaidContent) (ss out : List Section) → emit_all names ss is ≡ Ok out → lines_in out ≡ lines_in ss
 unfolding lines
 lines_stay names is ss out e = ap lines_of (all_keep names is ss out e)

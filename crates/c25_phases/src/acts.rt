@@ -1,4 +1,5 @@
-//! The first phase: what one line does.
+//! The first phase: what one line does. The type of these methods, `Progress`, is in `progress.rt`, its
+//! other methods are in `first_phase.rt`.
 
 ghost use Rattle.std.specs.Prelude.{◌≡◌, ◌≤◌, ◌+◌, OnOk, IfOk};
 ghost use Rattle.std.specs.List.{list_any};
@@ -13,7 +14,7 @@ ghost use Rattle.c25_phases.specs.Sizes.{IsBlockSize, IsSize};
 ghost use Rattle.c25_phases.specs.View.{progress_of};
 
 use crate::counts::block_allowed;
-use crate::item::{Content, Item, Origin};
+use crate::item::{Content, LaidContent, Origin};
 use crate::progress::Progress;
 use crate::targets::target_size;
 use c25_expr::symbols::is_predefined;
@@ -23,7 +24,7 @@ use c25_meaning_common::failure::Failure;
 use c25_meaning_common::no_memory::NoMemory;
 use c25_meaning_language::statement::FaultKind;
 use c25_meaning_language::value::{Base, Value};
-use c25_statements::statement::{Act, Room, Statement};
+use c25_statements::statement::{AssemblyAct, Room, Statement};
 use std::alloc::Global;
 
 fn any_predefined(names: &[&str]) -> bool
@@ -59,12 +60,12 @@ impl<'a> Progress<'a> {
     }
 
     /// What is looked at before the label is defined.
-    fn allowed(&self, act: &Act<'_>) -> Result<(), FaultKind>
+    fn allowed(&self, act: &AssemblyAct<'_>) -> Result<(), FaultKind>
         ensures { result ≡ meaning.allowed (act_of act.now) (progress_of self.now) }
     {
         match act {
-            Act::Enter(section) => self.of_kind(section.as_str(), true),
-            Act::Reserve { section, room, .. } => {
+            AssemblyAct::Enter(section) => self.of_kind(section.as_str(), true),
+            AssemblyAct::Reserve { section, room, .. } => {
                 match self.of_kind(section.as_str(), false) {
                     Ok(()) => match room {
                         Ok(_) => Ok(()),
@@ -267,7 +268,7 @@ impl<'a> Progress<'a> {
         let names = copied(self.alloc, names)?;
         let section = self.current;
         let offset = self.sections.size_at(section);
-        self.items.push(Item {
+        self.items.push(LaidContent {
             origin,
             section,
             offset,
@@ -285,7 +286,7 @@ impl<'a> Progress<'a> {
     }
 
     fn define_register(&mut self, name: &str, number: u8) -> Result<(), Failure<FaultKind>>
-        ensures { Meets (λ _. progress_of self.new) (meaning.define name.now (meaning.absolute number) (progress_of self.old)) result }
+        ensures { Meets (λ _. progress_of self.new) (meaning.define name.now (meaning.value_of_number number) (progress_of self.old)) result }
     {
         let value = Value {
             base: Base::Absolute,
@@ -312,28 +313,28 @@ impl<'a> Progress<'a> {
     }
 
     /// What a line does.
-    fn act(&mut self, origin: Origin<'a>, act: Act<'_>) -> Result<(), Failure<FaultKind>>
+    fn act(&mut self, origin: Origin<'a>, act: AssemblyAct<'_>) -> Result<(), Failure<FaultKind>>
         ensures { Meets (λ _. progress_of self.new) (meaning.act (origin_of origin.entry) (act_of act.entry) (progress_of self.old)) result }
     {
         match act {
-            Act::Nothing => Ok(()),
-            Act::Enter(section) => self.enter(section.as_str()),
-            Act::Reserve {
+            AssemblyAct::Nothing => Ok(()),
+            AssemblyAct::Enter(section) => self.enter(section.as_str()),
+            AssemblyAct::Reserve {
                 section,
                 name,
                 room,
             } => self.reserve_count(section.as_str(), name, &room),
-            Act::Equate { name, value } => self.equate(name, &value),
-            Act::Put(target, operands) => self.put(origin, target, operands),
-            Act::Load(words) => {
+            AssemblyAct::Equate { name, value } => self.equate(name, &value),
+            AssemblyAct::Put(target, operands) => self.put(origin, target, operands),
+            AssemblyAct::Load(words) => {
                 let count = words.len();
                 self.lay(origin, Content::Words(words), count)
             }
-            Act::Space(bits) => self.space(origin, &bits),
-            Act::Declare(names) => self.declare(names.as_slice()),
-            Act::Export(names) => self.export(origin, names.as_slice()),
-            Act::Label(name) => self.name_loaded(name),
-            Act::Registers => self.name_registers(),
+            AssemblyAct::Space(bits) => self.space(origin, &bits),
+            AssemblyAct::Declare(names) => self.declare(names.as_slice()),
+            AssemblyAct::Export(names) => self.export(origin, names.as_slice()),
+            AssemblyAct::Label(name) => self.name_loaded(name),
+            AssemblyAct::Registers => self.name_registers(),
         }
     }
 

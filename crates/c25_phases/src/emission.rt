@@ -12,9 +12,9 @@ ghost use Rattle.c25_phases.specs.Names.{bytes_of_names};
 ghost use Rattle.c25_phases.specs.View.{content_of, fault_of, item_of};
 
 use crate::fault::AsmFault;
-use crate::item::{Content, Item};
-use crate::names::Names;
-use crate::phase::place;
+use crate::first_phase::place;
+use crate::item::{Content, LaidContent};
+use crate::names::DistinctNames;
 use crate::refusal::at_origin;
 use crate::sections::Sections;
 use crate::sheet::Sheet;
@@ -32,7 +32,7 @@ use std::alloc::Global;
 
 /// The declared names that stand for nothing, behind the others: other modules' names, each with its
 /// number among all.
-pub(crate) fn import_all(symbols: &mut Symbols, declared: &Names) -> Result<(), NoMemory>
+pub(crate) fn import_all(symbols: &mut Symbols, declared: &DistinctNames) -> Result<(), NoMemory>
     requires { name_count symbols.old.entries declared.now ≤ 65535 }
     ensures { OnOk result (symbols.new.entries ≡ emission.names_with symbols.old.entries declared.now) }
 {
@@ -181,7 +181,7 @@ fn emit(
     symbols: &mut Symbols,
     sections: &mut Sections<'_>,
     sheet: &mut Sheet,
-    item: &Item<'_>,
+    item: &LaidContent<'_>,
 ) -> Result<(), Failure<FaultKind>>
     ensures told { Meets (λ _. sections.new) (emission.emit symbols.old.entries item.now.section item.now.offset sections.old (content_of item.now.content)) result }
     ensures names { symbols.new.entries ≡ symbols.old.entries }
@@ -219,7 +219,7 @@ pub(crate) fn emit_all<'a>(
     symbols: &mut Symbols,
     sections: &mut Sections<'_>,
     sheet: &mut Sheet,
-    items: &[Item<'a>],
+    items: &[LaidContent<'a>],
 ) -> Result<(), Failure<AsmFault<'a>>>
     ensures told { MeetsBy fault_of (λ _. sections.new) (emission.emit_all symbols.old.entries sections.old (map item_of items.now)) result }
     ensures names { symbols.new.entries ≡ symbols.old.entries }

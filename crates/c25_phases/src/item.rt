@@ -39,7 +39,7 @@ pub(crate) enum Content {
 
 /// What waits, the line that it is of, and where it begins.
 #[derive(Drop)]
-pub(crate) struct Item<'a> {
+pub(crate) struct LaidContent<'a> {
     pub(crate) origin: Origin<'a>,
     pub(crate) section: u16,
     pub(crate) offset: u32,

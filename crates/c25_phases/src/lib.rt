@@ -3,19 +3,23 @@
 //! The first phase goes line by line, gives sections their sizes, marks and blocks, and names their
 //! values. The second one goes over the operands that waited for all names, and gives words and
 //! relocations. A module is of version 2: it tells each instruction's file and line.
+//!
+//! Both phases: `line_reader`, `item`, `targets`, `sheet`, `names`, `section`, `sections`, `fault`, `refusal`.
+//! The first: `progress`, `first_phase`, `acts`, `counts`, `lines`. The second: `emission`, and
+//! `making`, which ends it.
 #![tactic(auto)]
 
 mod acts;
 mod counts;
 mod emission;
 pub mod fault;
+mod first_phase;
 mod item;
+mod line_reader;
 mod lines;
 mod making;
 mod names;
-mod phase;
 mod progress;
-mod reading;
 mod refusal;
 mod section;
 mod sections;
@@ -23,7 +27,7 @@ mod sheet;
 mod targets;
 
 pub use item::Origin;
+pub use line_reader::read_and_pass;
 pub use making::finish;
 pub use progress::Progress;
-pub use reading::read_and_pass;
 pub use refusal::at_origin;

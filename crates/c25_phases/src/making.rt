@@ -9,7 +9,7 @@ ghost use Rattle.c25_phases.specs.View.{fault_of, progress_of};
 
 use crate::emission::{emit_all, import_all};
 use crate::fault::AsmFault;
-use crate::names::Names;
+use crate::names::DistinctNames;
 use crate::progress::Progress;
 use crate::sections::Sections;
 use crate::sheet::Sheet;
@@ -43,7 +43,12 @@ fn scope_of(is_global: bool) -> Scope
 }
 
 /// A symbol of the module.
-fn symbol_of(alloc: Global, exported: &Names, name: &str, value: Value) -> Result<Symbol, NoMemory>
+fn symbol_of(
+    alloc: Global,
+    exported: &DistinctNames,
+    name: &str,
+    value: Value,
+) -> Result<Symbol, NoMemory>
     ensures { IfOk result (λ y. symbol_data y ≡ emission.symbol_of exported.now (name.now, value)) }
 {
     let name_copy = String::from_str(alloc, name)?;
@@ -56,7 +61,11 @@ fn symbol_of(alloc: Global, exported: &Names, name: &str, value: Value) -> Resul
 }
 
 /// The symbols of the module.
-fn symbols_of(alloc: Global, symbols: &Symbols, exported: &Names) -> Result<Vec<Symbol>, NoMemory>
+fn symbols_of(
+    alloc: Global,
+    symbols: &Symbols,
+    exported: &DistinctNames,
+) -> Result<Vec<Symbol>, NoMemory>
     ensures { IfOk result (λ v. symbols_data v.items ≡ map (emission.symbol_of exported.now) symbols.now.entries) }
 {
     let mut all = Vec::new(alloc);
@@ -74,7 +83,7 @@ fn module_with(
     alloc: Global,
     sections: Sections<'_>,
     symbols: &Symbols,
-    exported: &Names,
+    exported: &DistinctNames,
 ) -> Result<Parts, NoMemory>
     requires { length (emission.lines_in sections).files ≤ 65535 }
     ensures { IfOk result (λ p. contents p ≡ emission.module_with sections.entry symbols.now.entries exported.now) }

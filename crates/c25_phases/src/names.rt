@@ -12,12 +12,12 @@ use std::marker::Model;
 
 /// Names, each once, in order.
 #[derive(Drop)]
-pub(crate) struct Names {
+pub(crate) struct DistinctNames {
     alloc: Global,
     names: IndexSet<String>,
 }
 
-impl Model for Names {
+impl Model for DistinctNames {
     ghost use Rattle.std.specs.Prelude.{◌≡◌, true, List, ℕ};
     ghost use Rattle.c25_meaning_assembly.specs.Sections.{are_distinct};
     ghost use Rattle.c25_phases.specs.Names.{bytes_of_names};
@@ -29,11 +29,11 @@ impl Model for Names {
     ghost invariant = { λ n. are_distinct (bytes_of_names n.names.keys) ≡ true };
 }
 
-impl Names {
-    pub(crate) fn new(alloc: Global) -> Names
+impl DistinctNames {
+    pub(crate) fn new(alloc: Global) -> DistinctNames
         ensures { result ≡ [] }
     {
-        Names {
+        DistinctNames {
             alloc,
             names: IndexSet::new(alloc),
         }

@@ -1,10 +1,11 @@
-//! What the lines so far have made.
+//! What the lines so far have made. Methods of `Progress`: `first_phase.rt` has what one line needs of
+//! names, counts and sections, `acts.rt` what it does.
 
 ghost use Rattle.std.specs.Prelude.{◌≡◌, length};
 ghost use Rattle.c25_meaning_assembly.specs.Sections.{imports};
 
-use crate::item::Item;
-use crate::names::Names;
+use crate::item::LaidContent;
+use crate::names::DistinctNames;
 use crate::sections::Sections;
 use c25_expr::symbols::Symbols;
 use std::alloc::Global;
@@ -18,16 +19,16 @@ pub struct Progress<'a> {
     pub current: u16,
     pub(crate) symbols: Symbols,
     /// The names of `.global` and `.ref`.
-    pub(crate) declared: Names,
+    pub(crate) declared: DistinctNames,
     /// How many of those stand for nothing.
     pub(crate) missing: usize,
     /// The names of `.global`, `.ref` and `.def`.
-    pub(crate) exported: Names,
+    pub(crate) exported: DistinctNames,
     /// Whether there was a `.mmregs`.
     pub(crate) registers: bool,
-    pub(crate) items: Vec<Item<'a>>,
+    pub(crate) items: Vec<LaidContent<'a>>,
     /// The names of the files that hold instructions.
-    pub(crate) files: Names,
+    pub(crate) files: DistinctNames,
     /// The number among these of the last instruction's file, so that most need no hash of it.
     pub(crate) recent: usize,
     ghost counted: { length (imports symbols.entries declared) ≡ missing },

@@ -10,11 +10,11 @@ use std::marker::Model;
 /// Different names, in order of first sight. To see whether one is among them takes the same time
 /// however many there are.
 #[derive(Drop)]
-pub(crate) struct Names<'a> {
+pub(crate) struct SeenNames<'a> {
     seen: IndexSet<&'a str>,
 }
 
-impl<'a> Model for Names<'a> {
+impl<'a> Model for SeenNames<'a> {
     ghost use Rattle.std.specs.Prelude.{List, ℕ, map};
 
     ghost Value = { List (List ℕ) };
@@ -22,12 +22,12 @@ impl<'a> Model for Names<'a> {
     ghost view = { λ n. map (λ k. k.now) n.seen.keys };
 }
 
-impl<'a> Names<'a> {
+impl<'a> SeenNames<'a> {
     /// No names.
     pub(crate) fn new(alloc: Global) -> Self
         ensures { result ≡ [] }
     {
-        Names {
+        SeenNames {
             seen: IndexSet::new(alloc),
         }
     }

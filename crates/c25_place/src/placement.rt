@@ -38,7 +38,7 @@ pub struct Place<'a> {
 
 /// The sections that have been placed, the words that they take, and those that they run at.
 #[derive(Drop)]
-struct Placed<'a> {
+struct PlacedSections<'a> {
     room: Room,
     runs: RunWords,
     places: Vec<Place<'a>>,
@@ -192,14 +192,14 @@ fn base_of(
     }
 }
 
-impl<'a> Placed<'a> {
+impl<'a> PlacedSections<'a> {
     /// No sections.
     fn new(alloc: Global) -> Result<Self, AllocError>
         ensures room { IfOk result (λ p. KnowsRoom p.room []) }
         ensures runs { IfOk result (λ p. KnowsRuns p.runs []) }
         ensures places { IfOk result (λ p. p.places.items ≡ []) }
     {
-        Ok(Placed {
+        Ok(PlacedSections {
             room: Room::new(alloc)?,
             runs: RunWords::new(alloc)?,
             places: Vec::new(alloc),
@@ -312,7 +312,7 @@ pub(crate) fn place_all<'a>(
         → ArePlacedOrRefused all (requests_view modules requests.now) result }
     ensures within { IfOk result (λ v. All IsWithin v.items) }
 {
-    let mut placed = Placed::new(alloc)?;
+    let mut placed = PlacedSections::new(alloc)?;
     for request in requests {
         match placed.place(alloc, ranges, blocks, request) {
             Ok(()) => {}

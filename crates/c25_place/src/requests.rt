@@ -12,7 +12,7 @@ ghost use Rattle.c25_place.specs.Outputs.{output_of, KnowsOutputs};
 ghost use Rattle.c25_place.specs.Requests.{is_due, request_by, unlisted, HasPages, HasNames};
 ghost use Rattle.c25_place.specs.View.{requests_view, request_view, sections_view, wanted_view};
 
-use crate::names::Names;
+use crate::names::SeenNames;
 use crate::outputs::{Output, Outputs};
 use c25_cmd::{Placing, Target};
 use c25_obj::Section;
@@ -116,10 +116,10 @@ fn push_listed<'a>(
 
 /// The names of the listed sections.
 #[tactic(auto, using(crate::proofs::Asked::names_more))]
-fn listed_names<'a>(alloc: Global, placings: &'a [Placing]) -> Result<Names<'a>, AllocError>
+fn listed_names<'a>(alloc: Global, placings: &'a [Placing]) -> Result<SeenNames<'a>, AllocError>
     ensures { IfOk result (λ names. HasNames names (map (λ p. p.name) (placings_of placings.now))) }
 {
-    let mut names = Names::new(alloc);
+    let mut names = SeenNames::new(alloc);
     for placing in placings {
         names.insert(&placing.name)?;
     }
@@ -131,7 +131,7 @@ fn listed_names<'a>(alloc: Global, placings: &'a [Placing]) -> Result<Names<'a>,
 fn push_unlisted<'a>(
     outputs: &Outputs<'_>,
     sections: &[&'a Section],
-    seen: &mut Names<'a>,
+    seen: &mut SeenNames<'a>,
     requests: &mut Vec<Request<'a>>,
 ) -> Result<(), AllocError>
     requires requests { HasPages requests.old.items }

@@ -1,6 +1,6 @@
 //! The whole rest of a reader, as bytes or as a text.
 #![tactic(auto)]
 
-mod reading;
+mod whole_input;
 
-pub use reading::{CannotRead, read_bytes, read_text};
+pub use whole_input::{CannotRead, read_bytes, read_text};

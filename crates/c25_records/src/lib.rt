@@ -6,8 +6,8 @@
 mod codes;
 mod fields;
 pub mod laws;
+mod module_reader;
 mod named_payloads;
 mod payloads;
-mod reading;
 
-pub use reading::read_module;
+pub use module_reader::read_module;

@@ -1,6 +1,6 @@
 //! Calls of the program, and what must come of them.
 
-use crate::reading::Reading;
+use crate::memory_reader::Reading;
 use crate::world::World;
 use anyhow::Result;
 use c25_tasks::run_words;

@@ -2,8 +2,8 @@
 //! nothing behind it.
 
 use crate::call::{Wanted, call, refuses, writes};
+use crate::memory_reader::{End, Reading};
 use crate::programs::{ASSEMBLED, BUILT, FILES, LINKED, text_of};
-use crate::reading::{End, Reading};
 use crate::world::{File, World};
 use anyhow::Result;
 

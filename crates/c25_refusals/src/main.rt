@@ -4,9 +4,9 @@
 
 mod call;
 mod disks;
+mod memory_reader;
 mod programs;
 mod readers;
-mod reading;
 mod sinks;
 mod world;
 

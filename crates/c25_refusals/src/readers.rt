@@ -1,8 +1,8 @@
 //! Files of each kind, and standard input, that are read badly: the file is told (8), and nothing else is done.
 
 use crate::call::{call, prints, refuses, writes};
+use crate::memory_reader::{End, Reading};
 use crate::programs::{FILES, INPUT, LINKED, text_of};
-use crate::reading::{End, Reading};
 use crate::world::{World, bytes_of};
 use anyhow::{Context, Result};
 

@@ -1,6 +1,6 @@
 //! Files in memory that are read and written as a case asks for.
 
-use crate::reading::{End, Reading};
+use crate::memory_reader::{End, Reading};
 use c25_disk::disk::{Disk, Refused};
 use std::alloc::Global;
 

@@ -10,7 +10,7 @@ use std::alloc::Global;
 
 /// The names of the files of a program.
 #[derive(Drop)]
-pub struct Names {
+pub struct ProgramFileNames {
     page0: String,
     page1: String,
     map: String,
@@ -19,7 +19,7 @@ pub struct Names {
 
 /// The texts of the files of a program.
 #[derive(Drop)]
-pub struct Texts {
+pub struct ProgramFileTexts {
     /// The Intel hex text of program memory.
     pub page0: String,
     /// The Intel hex text of data memory.
@@ -51,10 +51,10 @@ fn listing_names(alloc: Global, base: &str, count: usize) -> Result<Vec<String>,
 
 /// The names of the files behind a base: `BASE.p0.hex`, `BASE.p1.hex`, `BASE.map`, and those of so many
 /// listings.
-pub fn file_names(alloc: Global, base: &str, listings: usize) -> Result<Names, NoMemory>
+pub fn file_names(alloc: Global, base: &str, listings: usize) -> Result<ProgramFileNames, NoMemory>
     ensures { IfOk result (AreNames base.now listings) }
 {
-    Ok(Names {
+    Ok(ProgramFileNames {
         page0: format!(in alloc; "{base}.p0.hex")?,
         page1: format!(in alloc; "{base}.p1.hex")?,
         map: format!(in alloc; "{base}.map")?,
@@ -94,12 +94,12 @@ fn push_listings<'a>(
 /// texts, the map, and the listings.
 pub fn program_outputs<'a>(
     alloc: Global,
-    names: &'a Names,
-    texts: Texts,
+    names: &'a ProgramFileNames,
+    texts: ProgramFileTexts,
 ) -> Result<Vec<Output<'a>>, NoMemory>
     ensures { (base : List ℕ) → AreNames base texts.listings.len names.entry.now → IfOk result (λ outputs. map contents_of outputs.items ≡ files_of base texts) }
 {
-    let Texts {
+    let ProgramFileTexts {
         page0,
         page1,
         map,

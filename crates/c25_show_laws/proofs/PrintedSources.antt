@@ -20,7 +20,7 @@ use Rattle.c25_meaning_objects.specs.declared.object.ModuleMark.{ModuleMark}
 use Rattle.c25_meaning_assembly.specs.AssemblyLine.{Put}
 use Rattle.c25_meaning_assembly.specs.Emission.{finished, module_with}
 use Rattle.c25_meaning_assembly.specs.OperandFields.{target_size}
-use Rattle.c25_meaning_assembly.specs.Sections.{Item, Origin, Progress, is_file_name, is_line_number, pass, table}
+use Rattle.c25_meaning_assembly.specs.Sections.{LaidContent, Origin, Progress, is_file_name, is_line_number, pass, table}
 use Rattle.c25_meaning_sources.specs.ModuleOfSource.{Assembled, Passed, assembled, completed, entry_of, no_lines, origin_of, pass_line, passed, passed_by, passed_from}
 use Rattle.c25_expansion_laws.specs.ExpansionLaws.{IsPlain}
 use Rattle.c25_expansion_laws.proofs.PlainLines.{behind_lines, finishes_empty, first_plain}
@@ -95,7 +95,7 @@ module _ (files : Files) (number : ℕ) (text : List ℕ) (good : is_file_name (
   record Made (a : Passed) (ws : List ℕ) : Type 0 where
     pub marks : List ModuleMark
     pub origins : List Origin
-    pub items : List Item
+    pub items : List LaidContent
     pub names : List (List ℕ)
     pub used : IsUsed (file_name files number) names
     pub is : a.progress ≡ standing (length ws) marks origins items names
@@ -173,7 +173,7 @@ from_start files name ps h quiet =
     ∙ ap (λ ls. Some (behind_lines files (table (no_lines).progress) (file_number files name) (source_of ps) (rows_from (file_number files name) 1 ls) 200000)) (source_lines ps quiet)
 
 -- the module of what lines have made
-completed_as : (a : Passed) (n : ℕ) (marks : List ModuleMark) (origins : List Origin) (items : List Item) (names : List (List ℕ)) (ws : List ℕ) → a.progress ≡ standing n marks origins items names → Emits items ws
+completed_as : (a : Passed) (n : ℕ) (marks : List ModuleMark) (origins : List Origin) (items : List LaidContent) (names : List (List ℕ)) (ws : List ℕ) → a.progress ≡ standing n marks origins items names → Emits items ws
     → completed a ≡ Ok (record { contents = module_with (filled (text_section n marks origins) ws ∷ []) [] []; entries = a.entries })
 unfolding finished
 completed_as a n marks origins items names ws is emits =

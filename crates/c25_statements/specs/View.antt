@@ -11,8 +11,8 @@ use Rattle.c25_expr.specs.View.{tree_of}
 use Rattle.c25_expr.specs.declared.tree.Expr.{Expr}
 use Rattle.c25_statements.specs.declared.statement.Operation.{Operation}
 use Rattle.c25_statements.specs.declared.statement.Room.{Room}
-use Rattle.c25_statements.specs.declared.statement.Act.{Act}
-use Rattle.c25_statements.specs.declared.statement.Act.TheVariants as act
+use Rattle.c25_statements.specs.declared.statement.AssemblyAct.{AssemblyAct}
+use Rattle.c25_statements.specs.declared.statement.AssemblyAct.TheVariants as act
 use Rattle.c25_statements.specs.declared.statement.Statement.{Statement}
 use Rattle.c25_statements.specs.declared.trees.Trees.{Trees}
 
@@ -33,9 +33,9 @@ abbrev pub operation_of : Operation → line.Operation
 operation_of o = record { form = o.form; trees = trees_of o.trees.items }
 
 -- a count, or what is wrong with it
-abbrev pub count_of : Result Expr FaultKind → Result Tree FaultKind
-count_of (Ok e) = Ok (tree_of e)
-count_of (Err f) = Err f
+abbrev pub count_tree : Result Expr FaultKind → Result Tree FaultKind
+count_tree (Ok e) = Ok (tree_of e)
+count_tree (Err f) = Err f
 
 -- a count and a flag
 abbrev pub room_of : Room → says.Room
@@ -47,7 +47,7 @@ room_in (Ok r) = Ok (room_of r)
 room_in (Err f) = Err f
 
 -- what a line does
-abbrev pub act_of : Act → says.Act
+abbrev pub act_of : AssemblyAct → says.AssemblyAct
 act_of act.Nothing = says.Nothing
 act_of (act.Enter section) = says.Enter (string_bytes section)
 act_of (act.Reserve section name room) = says.Reserve (string_bytes section) name.now (room_in room)

@@ -8,7 +8,7 @@ ghost use Rattle.c25_statements.specs.View.{act_of};
 
 use crate::operands::{alone, expressions_in, flagged, later_in, some, some_names};
 use crate::sections::section_in;
-use crate::statement::Act;
+use crate::statement::AssemblyAct;
 use crate::strings::strings_in;
 use c25_meaning_assembly::assembly::{Directive, Target};
 use c25_meaning_common::failure::Failure;
@@ -18,7 +18,10 @@ use c25_text::tokens::Token;
 use std::alloc::Global;
 
 /// A directive that takes no operand.
-fn without<'a>(act: Act<'a>, operands: &[&[Token<'_>]]) -> Result<Act<'a>, Failure<FaultKind>>
+fn without<'a>(
+    act: AssemblyAct<'a>,
+    operands: &[&[Token<'_>]],
+) -> Result<AssemblyAct<'a>, Failure<FaultKind>>
     ensures { Meets act_of (says.without (act_of act.entry) (operands_view operands.now)) result }
 {
     match operands {
@@ -32,19 +35,22 @@ fn entering_named<'a>(
     alloc: Global,
     section: &str,
     operands: &[&[Token<'_>]],
-) -> Result<Act<'a>, Failure<FaultKind>>
+) -> Result<AssemblyAct<'a>, Failure<FaultKind>>
     ensures { Meets act_of (says.without (says.Enter section.now) (operands_view operands.now)) result }
 {
     let section = String::from_str(alloc, section)?;
-    without(Act::Enter(section), operands)
+    without(AssemblyAct::Enter(section), operands)
 }
 
 /// `.sect`
-fn entering<'a>(alloc: Global, operands: &[&[Token<'_>]]) -> Result<Act<'a>, Failure<FaultKind>>
+fn entering<'a>(
+    alloc: Global,
+    operands: &[&[Token<'_>]],
+) -> Result<AssemblyAct<'a>, Failure<FaultKind>>
     ensures { Meets act_of (says.entering (operands_view operands.now)) result }
 {
     match operands {
-        [operand] => Ok(Act::Enter(section_in(alloc, operand)?)),
+        [operand] => Ok(AssemblyAct::Enter(section_in(alloc, operand)?)),
         _ => Err(Failure::Fault(FaultKind::OperandCount)),
     }
 }
@@ -54,14 +60,14 @@ fn reserving_pair<'a>(
     alloc: Global,
     name: &[Token<'a>],
     count: &[Token<'_>],
-) -> Result<Act<'a>, Failure<FaultKind>>
+) -> Result<AssemblyAct<'a>, Failure<FaultKind>>
     ensures { Meets act_of (steps.reserving_pair (pieces_of name.now) (pieces_of count.now)) result }
 {
     match name_in(name) {
         Ok(name) => {
             let count = later_in(alloc, count)?;
             let section = String::from_str(alloc, ".bss")?;
-            Ok(Act::Reserve {
+            Ok(AssemblyAct::Reserve {
                 section,
                 name,
                 room: alone(count),
@@ -77,7 +83,7 @@ fn reserving_flagged<'a>(
     name: &[Token<'a>],
     count: &[Token<'_>],
     flag: &[Token<'_>],
-) -> Result<Act<'a>, Failure<FaultKind>>
+) -> Result<AssemblyAct<'a>, Failure<FaultKind>>
     ensures { Meets act_of (steps.reserving_flagged (pieces_of name.now) (pieces_of count.now) (pieces_of flag.now)) result }
 {
     match name_in(name) {
@@ -85,7 +91,7 @@ fn reserving_flagged<'a>(
             let count = later_in(alloc, count)?;
             let flag = later_in(alloc, flag)?;
             let section = String::from_str(alloc, ".bss")?;
-            Ok(Act::Reserve {
+            Ok(AssemblyAct::Reserve {
                 section,
                 name,
                 room: flagged(count, flag),
@@ -96,7 +102,10 @@ fn reserving_flagged<'a>(
 }
 
 /// `.bss`
-fn reserving<'a>(alloc: Global, operands: &[&[Token<'a>]]) -> Result<Act<'a>, Failure<FaultKind>>
+fn reserving<'a>(
+    alloc: Global,
+    operands: &[&[Token<'a>]],
+) -> Result<AssemblyAct<'a>, Failure<FaultKind>>
     ensures { Meets act_of (says.reserving (operands_view operands.now)) result }
 {
     match operands {
@@ -112,12 +121,12 @@ fn reserving_pair_in<'a>(
     name: &'a str,
     section: &[Token<'_>],
     count: &[Token<'_>],
-) -> Result<Act<'a>, Failure<FaultKind>>
+) -> Result<AssemblyAct<'a>, Failure<FaultKind>>
     ensures { Meets act_of (steps.reserving_pair_in name.now (pieces_of section.now) (pieces_of count.now)) result }
 {
     let section = section_in(alloc, section)?;
     let count = later_in(alloc, count)?;
-    Ok(Act::Reserve {
+    Ok(AssemblyAct::Reserve {
         section,
         name,
         room: alone(count),
@@ -129,7 +138,7 @@ fn reserving_in<'a>(
     alloc: Global,
     name: &'a str,
     operands: &[&[Token<'_>]],
-) -> Result<Act<'a>, Failure<FaultKind>>
+) -> Result<AssemblyAct<'a>, Failure<FaultKind>>
     ensures { Meets act_of (says.reserving_in name.now (operands_view operands.now)) result }
 {
     match operands {
@@ -139,11 +148,14 @@ fn reserving_in<'a>(
 }
 
 /// `.space`
-fn spacing<'a>(alloc: Global, operands: &[&[Token<'_>]]) -> Result<Act<'a>, Failure<FaultKind>>
+fn spacing<'a>(
+    alloc: Global,
+    operands: &[&[Token<'_>]],
+) -> Result<AssemblyAct<'a>, Failure<FaultKind>>
     ensures { Meets act_of (says.with_expression says.Space (operands_view operands.now)) result }
 {
     match operands {
-        [operand] => Ok(Act::Space(expression_in(alloc, operand)?)),
+        [operand] => Ok(AssemblyAct::Space(expression_in(alloc, operand)?)),
         _ => Err(Failure::Fault(FaultKind::OperandCount)),
     }
 }
@@ -153,35 +165,38 @@ fn equating<'a>(
     alloc: Global,
     name: &'a str,
     operands: &[&[Token<'_>]],
-) -> Result<Act<'a>, Failure<FaultKind>>
+) -> Result<AssemblyAct<'a>, Failure<FaultKind>>
     ensures { Meets act_of (says.with_expression (says.Equate name.now) (operands_view operands.now)) result }
 {
     match operands {
         [operand] => {
             let value = expression_in(alloc, operand)?;
-            Ok(Act::Equate { name, value })
+            Ok(AssemblyAct::Equate { name, value })
         }
         _ => Err(Failure::Fault(FaultKind::OperandCount)),
     }
 }
 
 /// `.string`
-fn loading<'a>(alloc: Global, operands: &[&[Token<'_>]]) -> Result<Act<'a>, Failure<FaultKind>>
+fn loading<'a>(
+    alloc: Global,
+    operands: &[&[Token<'_>]],
+) -> Result<AssemblyAct<'a>, Failure<FaultKind>>
     ensures { Meets act_of (says.loading (operands_view operands.now)) result }
 {
     match some(operands) {
-        Ok(()) => Ok(Act::Load(strings_in(alloc, operands)?)),
+        Ok(()) => Ok(AssemblyAct::Load(strings_in(alloc, operands)?)),
         Err(fault) => Err(Failure::Fault(fault)),
     }
 }
 
 /// `.label`
-fn naming<'a>(operands: &[&[Token<'a>]]) -> Result<Act<'a>, Failure<FaultKind>>
+fn naming<'a>(operands: &[&[Token<'a>]]) -> Result<AssemblyAct<'a>, Failure<FaultKind>>
     ensures { Meets act_of (says.naming (operands_view operands.now)) result }
 {
     match operands {
         [operand] => match name_in(operand) {
-            Ok(name) => Ok(Act::Label(name)),
+            Ok(name) => Ok(AssemblyAct::Label(name)),
             Err(fault) => Err(Failure::Fault(fault)),
         },
         _ => Err(Failure::Fault(FaultKind::OperandCount)),
@@ -193,10 +208,10 @@ fn putting<'a>(
     alloc: Global,
     target: Target,
     operands: &[&[Token<'_>]],
-) -> Result<Act<'a>, Failure<FaultKind>>
+) -> Result<AssemblyAct<'a>, Failure<FaultKind>>
     ensures { Meets act_of (steps.putting target (operands_view operands.now)) result }
 {
-    Ok(Act::Put(target, expressions_in(alloc, operands)?))
+    Ok(AssemblyAct::Put(target, expressions_in(alloc, operands)?))
 }
 
 /// What a directive does on a line with this label and these operands.
@@ -206,7 +221,7 @@ pub(crate) fn act_of<'a>(
     directive: Directive,
     label: &'a str,
     operands: &[&[Token<'a>]],
-) -> Result<Act<'a>, Failure<FaultKind>>
+) -> Result<AssemblyAct<'a>, Failure<FaultKind>>
     ensures { Meets act_of (says.act_of directive label.now (operands_view operands.now)) result }
 {
     match directive {
@@ -220,10 +235,10 @@ pub(crate) fn act_of<'a>(
         Directive::Characters => loading(alloc, operands),
         Directive::Space => spacing(alloc, operands),
         Directive::Set => equating(alloc, label, operands),
-        Directive::Global => Ok(Act::Declare(some_names(alloc, operands)?)),
-        Directive::Def => Ok(Act::Export(some_names(alloc, operands)?)),
+        Directive::Global => Ok(AssemblyAct::Declare(some_names(alloc, operands)?)),
+        Directive::Def => Ok(AssemblyAct::Export(some_names(alloc, operands)?)),
         Directive::Label => naming(operands),
-        Directive::Registers => without(Act::Registers, operands),
-        Directive::Ignored => Ok(Act::Nothing),
+        Directive::Registers => without(AssemblyAct::Registers, operands),
+        Directive::Ignored => Ok(AssemblyAct::Nothing),
     }
 }

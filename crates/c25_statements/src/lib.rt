@@ -8,12 +8,12 @@ pub mod forms;
 mod names;
 mod operands;
 mod operations;
-mod reading;
 mod sections;
 mod shapes;
 pub mod statement;
+mod statement_reader;
 mod strings;
 mod trees;
 
 pub use operations::{operation_of, spelled};
-pub use reading::read_statement;
+pub use statement_reader::read_statement;

@@ -6,7 +6,7 @@ ghost use Rattle.c25_meaning_assembly.specs.AssemblyLine as says;
 ghost use Rattle.c25_meaning_common.specs.Results.{Meets};
 ghost use Rattle.c25_expr.specs.Pieces.{pieces_of, operands_view};
 ghost use Rattle.c25_expr.specs.View.{tree_of};
-ghost use Rattle.c25_statements.specs.View.{texts_of, trees_of, count_of, room_in};
+ghost use Rattle.c25_statements.specs.View.{texts_of, trees_of, count_tree, room_in};
 
 use crate::statement::Room;
 use crate::trees::exprs_of;
@@ -23,7 +23,7 @@ pub(crate) fn later_in(
     alloc: Global,
     operand: &[Token<'_>],
 ) -> Result<Result<Expr, FaultKind>, Failure<FaultKind>>
-    ensures { Meets count_of (says.later_in (pieces_of operand.now)) result }
+    ensures { Meets count_tree (says.later_in (pieces_of operand.now)) result }
 {
     match written_of(operand) {
         Written::Expression => match tree_in(alloc, operand) {
@@ -37,7 +37,7 @@ pub(crate) fn later_in(
 
 /// A count alone.
 pub(crate) fn alone(count: Result<Expr, FaultKind>) -> Result<Room, FaultKind>
-    ensures { room_in result ≡ says.alone (count_of count) }
+    ensures { room_in result ≡ says.alone (count_tree count) }
 {
     match count {
         Ok(count) => Ok(Room { count, flag: None }),
@@ -50,7 +50,7 @@ pub(crate) fn flagged(
     count: Result<Expr, FaultKind>,
     flag: Result<Expr, FaultKind>,
 ) -> Result<Room, FaultKind>
-    ensures { room_in result ≡ says.flagged (count_of count) (count_of flag) }
+    ensures { room_in result ≡ says.flagged (count_tree count) (count_tree flag) }
 {
     match (count, flag) {
         (Ok(count), Ok(flag)) => Ok(Room {

@@ -22,7 +22,7 @@ pub struct Room {
 
 /// What a line does.
 #[derive(Drop)]
-pub enum Act<'a> {
+pub enum AssemblyAct<'a> {
     /// Nothing: it has no first word, or a directive without effect.
     Nothing,
     /// The lines behind it go on in an initialised section.
@@ -59,5 +59,5 @@ pub enum Act<'a> {
 #[derive(Drop)]
 pub struct Statement<'a> {
     pub label: Option<&'a str>,
-    pub act: Act<'a>,
+    pub act: AssemblyAct<'a>,
 }

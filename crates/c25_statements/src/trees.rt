@@ -6,8 +6,8 @@ ghost use Rattle.c25_expr.specs.Pieces.{pieces_of, operands_view};
 ghost use Rattle.c25_meaning_common.specs.Results.{Meets};
 ghost use Rattle.c25_statements.specs.View.{trees_of, so_far};
 
+use c25_expr::expression_reader::read_expr;
 use c25_expr::operands::written_of;
-use c25_expr::reading::read_expr;
 use c25_expr::tree::Expr;
 use c25_meaning_common::failure::Failure;
 use c25_meaning_language::expression::ExpressionFault;

@@ -4,7 +4,7 @@ use Rattle.std.proofs.lemmas.List.{take_all, take-append-le, drop_all, drop-appe
 use Rattle.std.specs.Str.{IsUtf8, IsCharBoundary}
 use Rattle.std.proofs.lemmas.Str.{IsCharBoundary-from_drop}
 use Rattle.c25_meaning_language.specs.Quoting.{behind}
-use Rattle.c25_meaning_language.specs.Fragments.{Names, without, Fragment, Kept, front}
+use Rattle.c25_meaning_language.specs.Fragments.{Replacements, without, Fragment, Kept, front}
 use Rattle.c25_meaning_language.specs.Substitution.{as_is, joined, rewritten}
 use Rattle.c25_meaning_language.specs.declared.quoting.Quoting.{Quoting}
 use Rattle.c25_meaning_language.specs.declared.quoting.Quoting.TheVariants.{Outside, Within, Throughout, Comment}
@@ -12,18 +12,18 @@ use Rattle.c25_substitution.proofs.Kept.{kept_front, comment_stays}
 use Rattle.c25_substitution.proofs.Writing.{step, part, joined_assoc, drafted-empty}
 
 -- a blank is a fragment of its own
-first_blank : (names : Names) (q : Quoting) (xs : List ℕ) → (Kept (32 ∷ []) ≡ (front names q (32 ∷ xs)).fragment) × (1 ≡ (front names q (32 ∷ xs)).size)
+first_blank : (names : Replacements) (q : Quoting) (xs : List ℕ) → (Kept (32 ∷ []) ≡ (front names q (32 ∷ xs)).fragment) × (1 ≡ (front names q (32 ∷ xs)).size)
 unfolding front
 first_blank names Outside xs = (refl, refl)
 first_blank names (Within quote) xs = (refl, refl)
 first_blank names Throughout xs = (refl, refl)
 first_blank names Comment xs = (refl, refl)
 
-blank_front : (names : Names) (q : Quoting) (xs : List ℕ) → 0 < length xs → 32 ≡ get_or xs 0 0 → (Kept (32 ∷ []) ≡ (front names q xs).fragment) × (1 ≡ (front names q xs).size)
+blank_front : (names : Replacements) (q : Quoting) (xs : List ℕ) → 0 < length xs → 32 ≡ get_or xs 0 0 → (Kept (32 ∷ []) ≡ (front names q xs).fragment) × (1 ≡ (front names q xs).size)
 blank_front names q [] more is = absurd (omega arith)
 blank_front names q (x ∷ xs) more is = subst (λ y. (Kept (32 ∷ []) ≡ (front names q (y ∷ xs)).fragment) × (1 ≡ (front names q (y ∷ xs)).size)) is (first_blank names q xs)
 
-module _ (names : Names) (begins : Quoting) (text : List ℕ) where
+module _ (names : Replacements) (begins : Quoting) (text : List ℕ) where
   -- what stands before the rest stays as it is
   abbrev pub IsKeptTo : Quoting → List ℕ → Type 0
   IsKeptTo q rest = (before : List ℕ) × (before ++ rest ≡ text) × ((number : ℕ) → rewritten names number begins text ≡ joined (as_is before) (rewritten names number q rest))

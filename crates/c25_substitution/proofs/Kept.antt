@@ -4,7 +4,7 @@ use Rattle.std.specs.List.{prefix_len, take_while}
 use Rattle.std.specs.Prelude.{slice_index}
 use Rattle.std.proofs.lemmas.List.Sums.{prefix_len-le-length}
 use Rattle.c25_meaning_common.specs.Bytes.{is_digit, is_letter_or_digit, begins_name, goes_on_name}
-use Rattle.c25_meaning_language.specs.Fragments.{Names, without, Fragment, Kept, Numbered, Replaced, Front, is_beyond_ascii, kept, character, whole_name, unit, unforced, forced, forced_or, front, fragments}
+use Rattle.c25_meaning_language.specs.Fragments.{Replacements, without, Fragment, Kept, Numbered, Replaced, Front, is_beyond_ascii, kept, character, whole_name, unit, unforced, forced, forced_or, front, fragments}
 use Rattle.c25_meaning_language.specs.Substitution.{Draft, as_is, joined, all_joined, drafted_by, drafted, rewritten}
 use Rattle.c25_meaning_language.specs.declared.quoting.Quoting.{Quoting}
 use Rattle.c25_meaning_language.specs.declared.quoting.Quoting.TheVariants.{Outside, Within, Throughout, Comment}
@@ -27,7 +27,7 @@ by_option : (name text : List ℕ) (o : Option (List ℕ)) → name ++ drop (len
 by_option name text None h = h
 by_option name text (Some inner) h = tt
 
-of_name : (names : Names) (name text : List ℕ) (numbered : Bool) → name ++ drop (length name) text ≡ text → IsCutBy (whole_name names name numbered) text
+of_name : (names : Replacements) (name text : List ℕ) (numbered : Bool) → name ++ drop (length name) text ≡ text → IsCutBy (whole_name names name numbered) text
 of_name names name text true h = tt
 of_name names name text false h = by_option name text (names name) h
 
@@ -43,7 +43,7 @@ of_word text =
     let n : ℕ = prefix_len goes_on_name text in
     ap (λ k. take n text ++ drop k text) (length-take-le n text (prefix_len-le-length goes_on_name text)) ∙ take-append-drop n text
 
-of_unit : (names : Names) (text : List ℕ) → IsCutBy (unit names text) text
+of_unit : (names : Replacements) (text : List ℕ) → IsCutBy (unit names text) text
 of_unit names text =
     let name : List ℕ = take_while goes_on_name text in
     let numbered : Bool = slice_index text (prefix_len goes_on_name text) == 63 in
@@ -59,7 +59,7 @@ of_unit names text =
     (by_test dot dotted last text (of_kept (prefix_len goes_on_name (drop 1 text) + 1) text)
     (by_test begins whole (character text) text (of_name names name text numbered (of_word text)) one))
 
-of_unforced : (names : Names) (q : Quoting) (text : List ℕ) → IsCutBy (unforced names q text) text
+of_unforced : (names : Replacements) (q : Quoting) (text : List ℕ) → IsCutBy (unforced names q text) text
 of_unforced names Outside text = of_unit names text
 of_unforced names (Within quote) text = of_kept (max (prefix_len is_beyond_ascii text) 1) text
 of_unforced names Throughout text = of_kept (max (prefix_len is_beyond_ascii text) 1) text
@@ -69,15 +69,15 @@ of_forced : (q : Quoting) (other : Front) (text : List ℕ) (o : Option (List �
 of_forced q other text None k = k
 of_forced q other text (Some s) k = tt
 
-cuts : (names : Names) (q : Quoting) (text : List ℕ) → IsCutBy (front names q text) text
+cuts : (names : Replacements) (q : Quoting) (text : List ℕ) → IsCutBy (front names q text) text
 unfolding front
 cuts names q text = of_forced q (unforced names q text) text (forced names q text) (of_unforced names q text)
 
 -- a fragment that is kept, and what follows
-pub kept_front : (names : Names) (q : Quoting) (text kept : List ℕ) (p : Fragment) → p ≡ Kept kept → p ≡ (front names q text).fragment → kept ++ drop (front names q text).size text ≡ text
+pub kept_front : (names : Replacements) (q : Quoting) (text kept : List ℕ) (p : Fragment) → p ≡ Kept kept → p ≡ (front names q text).fragment → kept ++ drop (front names q text).size text ≡ text
 kept_front names q text kept p k e = subst (λ x. IsCut x text (drop (front names q text).size text)) (sym e ∙ k) (cuts names q text)
 
-comment_fragments : (replace : List ℕ → List ℕ → Quoting → Draft) (number : ℕ) (names : Names) (k : ℕ) (text : List ℕ) → all_joined (drafted_by replace number) (fragments names Comment k text) ≡ as_is (drop k text)
+comment_fragments : (replace : List ℕ → List ℕ → Quoting → Draft) (number : ℕ) (names : Replacements) (k : ℕ) (text : List ℕ) → all_joined (drafted_by replace number) (fragments names Comment k text) ≡ as_is (drop k text)
 unfolding fragments front
 comment_fragments replace number names zero [] = refl
 comment_fragments replace number names (suc k) [] = refl
@@ -88,10 +88,10 @@ comment_fragments replace number names zero (b ∷ rest) =
     ap (joined (as_is (take n (b ∷ rest)))) (comment_fragments replace number names (n - 1) rest)
     ∙ ap (λ k. as_is (take n (b ∷ rest) ++ drop k (b ∷ rest))) e ∙ ap as_is (take-append-drop n (b ∷ rest))
 
-drafted_comment : (d : ℕ) (names : Names) (number : ℕ) (aside : List (List ℕ)) (text : List ℕ) → drafted (suc d) names number aside Comment text ≡ as_is text
+drafted_comment : (d : ℕ) (names : Replacements) (number : ℕ) (aside : List (List ℕ)) (text : List ℕ) → drafted (suc d) names number aside Comment text ≡ as_is text
 unfolding drafted
 drafted_comment d names number aside text = comment_fragments (λ name inner begins. drafted d names number (aside ++ name ∷ []) begins inner) number (without aside names) 0 text
 
 -- a comment stays as it is
-pub comment_stays : (names : Names) (number : ℕ) (text : List ℕ) → rewritten names number Comment text ≡ as_is text
+pub comment_stays : (names : Replacements) (number : ℕ) (text : List ℕ) → rewritten names number Comment text ≡ as_is text
 comment_stays names number text = drafted_comment 1024 names number [] text

@@ -2,7 +2,7 @@
 use Rattle.std.proofs.Common.{◌≡◌, ℕ, zero, suc, ◌-◌, ◌<◌, ◌≤◌, List, [], ◌∷◌, ◌++◌, length, get_or, drop, refl, ap, sym, subst, ◌∙◌, arith, append_assoc, append-nil, add_assoc, length-append}
 use Rattle.std.proofs.lemmas.List.{length-drop}
 use Rattle.c25_meaning_language.specs.Quoting.{behind}
-use Rattle.c25_meaning_language.specs.Fragments.{Names, without, Fragment, front, fragments}
+use Rattle.c25_meaning_language.specs.Fragments.{Replacements, without, Fragment, front, fragments}
 use Rattle.c25_meaning_language.specs.Substitution.{Draft, as_is, joined, all_joined, drafted_by, drafted}
 use Rattle.c25_meaning_language.specs.declared.long_line.LongLine.{LongLine}
 use Rattle.c25_meaning_common.specs.declared.failure.Failure.{Failure}
@@ -41,14 +41,14 @@ pub third_refused : (old a b c : Draft) (e : Failure LongLine) → old ≡ joine
 third_refused old a b c e so_far h = subst (λ w. Refuses w e) (joined_assoc a b c) (subst (λ o. Refuses (joined o c) e) (so_far ∙ ap (λ o. joined o b) (nothing-joined a)) h)
 
 -- a fragment that covers more bytes
-fragments-skip : (names : Names) (q : Quoting) (k : ℕ) (text : List ℕ) → fragments names q k text ≡ fragments names q 0 (drop k text)
+fragments-skip : (names : Replacements) (q : Quoting) (k : ℕ) (text : List ℕ) → fragments names q k text ≡ fragments names q 0 (drop k text)
 unfolding fragments
 fragments-skip names q zero text = refl
 fragments-skip names q (suc k) [] = refl
 fragments-skip names q (suc k) (b ∷ text) = fragments-skip names q k text
 
 -- the first fragment, and those of the rest
-fragments-first : (names : Names) (q : Quoting) (text : List ℕ) → 0 < length text → 0 < (front names q text).size →
+fragments-first : (names : Replacements) (q : Quoting) (text : List ℕ) → 0 < length text → 0 < (front names q text).size →
     fragments names q 0 text ≡ (front names q text).fragment ∷ fragments names (behind (get_or text 0 0) q) 0 (drop (front names q text).size text)
 unfolding fragments
 fragments-first names q [] h s = absurd (omega arith)
@@ -57,12 +57,12 @@ fragments-first names q (b ∷ rest) h s =
     let e : suc (size - 1) ≡ size = omega (arith, s) in
     ap (λ ps. (front names q (b ∷ rest)).fragment ∷ ps) (fragments-skip names (behind b q) (size - 1) rest ∙ ap (λ k. fragments names (behind b q) 0 (drop k (b ∷ rest))) e)
 
-pub drafted-empty : (d : ℕ) (names : Names) (number : ℕ) (aside : List (List ℕ)) (q : Quoting) → drafted d names number aside q [] ≡ as_is []
+pub drafted-empty : (d : ℕ) (names : Replacements) (number : ℕ) (aside : List (List ℕ)) (q : Quoting) → drafted d names number aside q [] ≡ as_is []
 unfolding drafted fragments
 drafted-empty zero names number aside q = refl
 drafted-empty (suc d) names number aside q = refl
 
-drafted-first : (d : ℕ) (names : Names) (number : ℕ) (aside : List (List ℕ)) (q : Quoting) (text : List ℕ) → 0 < length text → 0 < (front (without aside names) q text).size →
+drafted-first : (d : ℕ) (names : Replacements) (number : ℕ) (aside : List (List ℕ)) (q : Quoting) (text : List ℕ) → 0 < length text → 0 < (front (without aside names) q text).size →
     drafted (suc d) names number aside q text
     ≡ joined (drafted_by (λ name inner begins. drafted d names number (aside ++ name ∷ []) begins inner) number (front (without aside names) q text).fragment)
     (drafted (suc d) names number aside (behind (get_or text 0 0) q) (drop (front (without aside names) q text).size text))
@@ -71,7 +71,7 @@ drafted-first d names number aside q text h s =
     ap (all_joined (drafted_by (λ name inner begins. drafted d names number (aside ++ name ∷ []) begins inner) number)) (fragments-first (without aside names) q text h s)
 
 -- at the depth of the code: one less for each name set aside
-module _ (names : Names) (number : ℕ) (level : ℕ) (aside : List (List ℕ)) where
+module _ (names : Replacements) (number : ℕ) (level : ℕ) (aside : List (List ℕ)) where
   abbrev pub whole : Quoting → List ℕ → Draft
   whole q text = drafted (1025 - level) names number aside q text
 

@@ -1,7 +1,7 @@
 -- What the types of substitution stand for.
 use Rattle.std.specs.Prelude.{◌≡◌, ◌<◌, ◌≤◌, ℕ, max, List, [], ◌∷◌, length, Option, Some, None, Result, Ok, Err}
 use Rattle.std.specs.String.{string_bytes}
-use Rattle.c25_meaning_language.specs.Fragments.{Names, visible, without}
+use Rattle.c25_meaning_language.specs.Fragments.{Replacements, visible, without}
 use Rattle.c25_meaning_language.specs.Substitution.{Draft, as_is, drafted, drafted_by, joined, rewritten}
 use Rattle.c25_meaning_language.specs.Fragments as meaning
 use Rattle.c25_meaning_language.specs.declared.long_line.LongLine.{LongLine}
@@ -15,7 +15,7 @@ use Rattle.c25_substitution.specs.declared.change.Change.{Change}
 use Rattle.c25_meaning_language.specs.declared.quoting.Quoting.{Quoting}
 
 -- what names stand for
-abbrev pub names_of : Visible → Names
+abbrev pub names_of : Visible → Replacements
 names_of v = visible (elim v.arguments [ None ↦ [] | Some arguments ↦ arguments.now ]) v.texts.now
 
 -- a fragment of a text
@@ -25,13 +25,13 @@ fragment_of (Numbered name) = meaning.Numbered name.now
 fragment_of (Replaced name text quoting) = meaning.Replaced name.now text.now quoting
 
 -- what a text becomes that is first changed so: what stands before stays, and no name is set aside
-abbrev pub changed : Names → ℕ → Change → Draft
+abbrev pub changed : Replacements → ℕ → Change → Draft
 changed names number c =
     joined (as_is c.front.now)
     (joined (drafted_by (λ name inner begins. drafted 1024 names number (name ∷ []) begins inner) number (fragment_of c.fragment)) (rewritten names number c.quoting c.rest.now))
 
 -- where a text that begins in this quoting is first changed, if it is at all
-abbrev pub IsFirstChange : Names → Quoting → List ℕ → Option Change → Type 0
+abbrev pub IsFirstChange : Replacements → Quoting → List ℕ → Option Change → Type 0
 IsFirstChange names quoting text None = (number : ℕ) → rewritten names number quoting text ≡ as_is text
 IsFirstChange names quoting text (Some c) = (number : ℕ) → rewritten names number quoting text ≡ changed names number c
 

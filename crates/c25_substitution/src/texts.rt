@@ -14,12 +14,12 @@ use std::marker::Model;
 
 /// Names and the texts that they stand for, in order of first sight.
 #[derive(Drop)]
-pub struct Texts {
+pub struct SubstitutionTexts {
     alloc: Global,
     entries: IndexMap<String, String>,
 }
 
-impl Model for Texts {
+impl Model for SubstitutionTexts {
     ghost use Rattle.std.specs.Prelude.{List, ℕ};
     ghost use Rattle.c25_substitution.specs.Pairs.{pairs};
 
@@ -28,12 +28,12 @@ impl Model for Texts {
     ghost view = { λ t. pairs t.entries.entries };
 }
 
-impl Texts {
+impl SubstitutionTexts {
     /// No names.
     pub fn new(alloc: Global) -> Self
         ensures { result ≡ [] }
     {
-        Texts {
+        SubstitutionTexts {
             alloc,
             entries: IndexMap::new(alloc),
         }

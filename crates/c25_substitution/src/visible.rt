@@ -5,14 +5,14 @@ ghost use Rattle.std.specs.Option.{option_map};
 ghost use Rattle.c25_substitution.specs.View.{names_of};
 
 use crate::parameters::Arguments;
-use crate::texts::Texts;
+use crate::texts::SubstitutionTexts;
 
 /// What names stand for at a line: the arguments of the innermost expansion are seen first, if there
 /// is one, then the names of `.asg` and `.eval`.
 #[derive(Clone, Copy)]
 pub struct Visible<'a> {
     pub arguments: Option<&'a Arguments>,
-    pub texts: &'a Texts,
+    pub texts: &'a SubstitutionTexts,
 }
 
 impl<'a> Visible<'a> {

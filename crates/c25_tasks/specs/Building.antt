@@ -7,7 +7,7 @@ use Rattle.c25_disk.specs.Held.{Held, Stay}
 use Rattle.c25_meaning_expansion.specs.Files.{Files}
 use Rattle.c25_report.specs.ProgramFiles.{files_of}
 use Rattle.c25_report.specs.declared.ending.Ending.{Ending}
-use Rattle.c25_report.specs.declared.texts.Texts.{Texts}
+use Rattle.c25_report.specs.declared.texts.ProgramFileTexts.{ProgramFileTexts}
 use Rattle.c25_tasks.specs.Files.{AfterOptional, AfterSources, ComesTo}
 use Rattle.c25_tasks.specs.Tells.{IsReportOf, IsShortOf, Wrote, Writes}
 use Rattle.c25_tasks.specs.declared.notes.Notes.{Notes}
@@ -25,7 +25,7 @@ BuildsFrom held names command answer = AfterSources held names (λ given. AfterO
 -- ---- files
 
 -- the texts of what was built
-abbrev pub texts_in : Built → Texts
+abbrev pub texts_in : Built → ProgramFileTexts
 texts_in built = record { page0 = built.linked.page0.text; page1 = built.linked.page1.text; map = built.linked.map; listings = built.listings }
 
 -- what is written of what was built, unless memory runs out before; where there is nothing, nothing is written

@@ -46,17 +46,17 @@ pub(crate) fn notes_for<'a>(
 
 /// A line of a file, by its number.
 #[derive(Clone, Copy)]
-struct Place<'a> {
+struct NotedLine<'a> {
     file: &'a str,
     line: usize,
 }
 
 /// A line of the file of this name, if there is one.
-fn at_line<'a>(file: Option<&'a str>, line: usize) -> Option<Place<'a>>
+fn at_line<'a>(file: Option<&'a str>, line: usize) -> Option<NotedLine<'a>>
     ensures { option_map (λ place. (place.file.now, place.line)) result ≡ at_line (text_of file.entry) line }
 {
     match file {
-        Some(file) => Some(Place { file, line }),
+        Some(file) => Some(NotedLine { file, line }),
         None => None,
     }
 }
@@ -66,7 +66,7 @@ fn place_of<'a>(
     refusal: &'a Refusal<String>,
     files: RunFiles<'a>,
     script: Option<&'a str>,
-) -> Option<Place<'a>>
+) -> Option<NotedLine<'a>>
     ensures { option_map (λ place. (place.file.now, place.line)) result ≡ place_of files.entry script.entry refusal.entry.now }
 {
     match refusal {

@@ -11,13 +11,13 @@ use c25_chain::linked::Linked;
 use c25_chain::page::Page;
 use c25_disk::Output;
 use c25_meaning_common::no_memory::NoMemory;
-use c25_report::texts::{Names, Texts, program_outputs};
+use c25_report::texts::{ProgramFileNames, ProgramFileTexts, program_outputs};
 use std::alloc::Global;
 
 /// The files that are written of a program: both hex texts, the map, and the listings.
 pub(crate) fn outputs_of<'a>(
     alloc: Global,
-    names: &'a Names,
+    names: &'a ProgramFileNames,
     built: Built,
 ) -> Result<Vec<Output<'a>>, NoMemory>
     ensures { (base : List ℕ) → AreNames base built.listings.len names.entry.now → IfOk result (λ outputs. map contents_of outputs.items ≡ files_of base (texts_in built)) }
@@ -31,7 +31,7 @@ pub(crate) fn outputs_of<'a>(
     } = linked;
     let Page { text: page0, .. } = page0;
     let Page { text: page1, .. } = page1;
-    let texts = Texts {
+    let texts = ProgramFileTexts {
         page0,
         page1,
         map,
@@ -43,7 +43,7 @@ pub(crate) fn outputs_of<'a>(
 /// The same, and behind them a file of the symbols.
 pub(crate) fn outputs_with_symbols<'a>(
     alloc: Global,
-    names: &'a Names,
+    names: &'a ProgramFileNames,
     file: &'a str,
     told: BuiltWithSymbols,
 ) -> Result<Vec<Output<'a>>, NoMemory>

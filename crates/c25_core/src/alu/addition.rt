@@ -2,7 +2,7 @@
 
 ghost use Rattle.std.specs.Prelude.{◌≡◌, ◌+ℤ◌, ◌-ℤ◌, ℤ, pos, unsigned_abs};
 ghost use Rattle.c25_bits.specs.Cut.{signed};
-ghost use Rattle.c25_meaning_arithmetic.specs.Arithmetic.{absolute, difference, negated, sum, with_total};
+ghost use Rattle.c25_meaning_arithmetic.specs.Arithmetic.{absolute_value, difference, negated, sum, with_total};
 ghost use Rattle.c25_core.specs.Total.{IsTotal};
 
 use c25_meaning_arithmetic::accumulator::Acc;
@@ -115,9 +115,9 @@ pub(crate) fn subtract(acc: Acc, amount: u32, ovm: bool) -> Acc
 
 /// The accumulator after `ABS`: its absolute value, and C 0. 80000000h has none in 32 signed bits,
 /// so there OV is set, and with `ovm` the value is 7FFFFFFFh.
-#[tactic(auto, unfolding(c25_meaning_arithmetic::specs::Arithmetic::absolute))]
-pub(crate) fn absolute(acc: Acc, ovm: bool) -> Acc
-    ensures { result ≡ absolute acc ovm }
+#[tactic(auto, unfolding(c25_meaning_arithmetic::specs::Arithmetic::absolute_value))]
+pub(crate) fn absolute_value(acc: Acc, ovm: bool) -> Acc
+    ensures { result ≡ absolute_value acc ovm }
 {
     kept(acc, total_absolute(acc.value), false, ovm)
 }

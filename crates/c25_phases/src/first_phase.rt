@@ -1,0 +1,326 @@
+//! The first phase: names, counts and sections. The type of these methods, `Progress`, is in
+//! `progress.rt`, its other methods are in `acts.rt`.
+
+ghost use Rattle.std.specs.Prelude.{◌≡◌, ◌≤◌, ◌<◌, ◌+◌, Ok, OnOk, IfOk};
+ghost use Rattle.std.specs.Option.{option_map};
+ghost use Rattle.c25_meaning_common.specs.Results.{Meets};
+ghost use Rattle.c25_meaning_assembly.specs.Sections as meaning;
+ghost use Rattle.c25_meaning_language.specs.Statement.{valued};
+ghost use Rattle.c25_expr.specs.View.{tree_of};
+ghost use Rattle.c25_phases.specs.Sizes.{IsBlockSize, content_size};
+ghost use Rattle.c25_phases.specs.Origins.{origin_of, source_line};
+ghost use Rattle.c25_phases.specs.Steps.{marked};
+ghost use Rattle.c25_phases.specs.View.{content_of, progress_of, symbols_of};
+
+use crate::counts::{count_of, flag_of, is_file_name, is_line_number};
+use crate::item::{Content, LaidContent, Origin, SourceLine};
+use crate::names::DistinctNames;
+use crate::progress::Progress;
+use crate::section::Section;
+use crate::sections::Sections;
+use crate::sheet::valued;
+use c25_expr::symbols::{Defined, Symbols};
+use c25_expr::tree::Expr;
+use c25_meaning_common::failure::Failure;
+use c25_meaning_common::no_memory::NoMemory;
+use c25_meaning_language::statement::FaultKind;
+use c25_meaning_language::value::{Base, Value};
+use c25_meaning_objects::object::{Block, ModuleMark};
+use std::alloc::Global;
+
+/// How many words a section can have.
+const MOST_WORDS: u32 = 65_536;
+
+/// How many sections a module can have.
+const MOST_SECTIONS: usize = 255;
+
+/// How many names can be defined or declared.
+const MOST_NAMES: usize = 65_535;
+
+/// How many files can hold instructions.
+const MOST_FILES: usize = 65_535;
+
+/// A place behind so many words of a section.
+pub(crate) fn place(section: u16, offset: u32) -> Value
+    requires { offset ≤ 65536 }
+    ensures { result ≡ meaning.place section offset }
+{
+    Value {
+        base: Base::Section(section),
+        offset: offset as i32,
+    }
+}
+
+impl<'a> Progress<'a> {
+    /// Before the first line: an empty `.text`.
+    pub fn new(alloc: Global) -> Result<Progress<'a>, NoMemory>
+        ensures { IfOk result (λ p. progress_of p ≡ meaning.start) }
+    {
+        let mut sections = Sections::new(alloc);
+        sections.push(Section::new(alloc, ".text", true)?)?;
+        Ok(Progress {
+            alloc,
+            sections,
+            current: 0,
+            symbols: Symbols::new(alloc),
+            declared: DistinctNames::new(alloc),
+            missing: 0,
+            exported: DistinctNames::new(alloc),
+            registers: false,
+            items: Vec::new(alloc),
+            files: DistinctNames::new(alloc),
+            recent: 0,
+        })
+    }
+
+    /// How many words a section has so far; 0 where there is none of this number.
+    pub fn size_at(&self, section: u16) -> u32
+        ensures value { result ≡ meaning.size_at (progress_of self.now).sections section }
+        ensures bound { result ≤ 65536 }
+    {
+        self.sections.size_at(section)
+    }
+
+    /// The place behind the words of a section.
+    pub(crate) fn place_in(&self, section: u16) -> Value
+        ensures { result ≡ meaning.place_in (progress_of self.now).sections section }
+    {
+        place(section, self.sections.size_at(section))
+    }
+
+    /// The place where the words of the next line are loaded.
+    pub(crate) fn loaded_here(&self) -> Value
+        ensures { result ≡ meaning.loaded_here (progress_of self.now) }
+    {
+        Value {
+            base: Base::Loaded(self.current),
+            offset: self.sections.size_at(self.current) as i32,
+        }
+    }
+
+    /// The place where the next line begins.
+    pub(crate) fn here(&self) -> Value
+        ensures { result ≡ meaning.here (progress_of self.now) }
+    {
+        self.place_in(self.current)
+    }
+
+    /// `$` stands for the place where the next line begins.
+    pub fn move_here(&mut self)
+        ensures here { symbols_of self.new ≡ meaning.table (progress_of self.old) }
+        ensures same { progress_of self.new ≡ progress_of self.old }
+    {
+        let here = self.here();
+        self.symbols.set_here(here);
+    }
+
+    /// What names stand for so far, and `$`.
+    pub fn symbols(&self) -> &Symbols
+        ensures { result.now ≡ symbols_of self.now }
+    {
+        &self.symbols
+    }
+
+    /// A name that stands for nothing yet stands for a value from now on.
+    #[tactic(auto, using(crate::proofs::Declared::define_counts), unfolding(c25_meaning_assembly::specs::Sections::define))]
+    pub(crate) fn define(&mut self, name: &str, value: Value) -> Result<(), Failure<FaultKind>>
+        ensures { Meets (λ _. progress_of self.new) (meaning.define name.now value (progress_of self.old)) result }
+    {
+        if self.symbols.get(name).is_some() {
+            return Err(Failure::Fault(FaultKind::Defined));
+        }
+        let is_declared = self.declared.has(name);
+        match self.symbols.define(name, value) {
+            Ok(()) => {
+                if is_declared {
+                    self.missing -= 1;
+                }
+                Ok(())
+            }
+            Err(Failure::NoMemory(error)) => Err(error.into()),
+            Err(Failure::Fault(Defined)) => Err(Failure::Fault(FaultKind::Defined)),
+        }
+    }
+
+    /// The value of an expression that is needed now.
+    pub(crate) fn valued(&mut self, expr: &Expr) -> Result<Value, FaultKind>
+        ensures value { result ≡ valued (meaning.table (progress_of self.old)) (tree_of expr.now) }
+        ensures same { progress_of self.new ≡ progress_of self.old }
+    {
+        self.move_here();
+        valued(&self.symbols, expr)
+    }
+
+    /// A count that is needed now.
+    #[tactic(auto, unfolding(c25_meaning_assembly::specs::Sections::count_in))]
+    pub(crate) fn count_in(&mut self, expr: &Expr) -> Result<u32, FaultKind>
+        ensures value { result ≡ meaning.count_in (meaning.table (progress_of self.old)) (tree_of expr.now) }
+        ensures same { progress_of self.new ≡ progress_of self.old }
+    {
+        match self.valued(expr) {
+            Ok(value) => count_of(value),
+            Err(fault) => Err(fault),
+        }
+    }
+
+    /// Whether a flag is set, which is needed now.
+    pub(crate) fn flag_in(&mut self, flag: &Option<Expr>) -> Result<bool, FaultKind>
+        ensures value { result ≡ meaning.flag_in (meaning.table (progress_of self.old)) (option_map tree_of flag.now) }
+        ensures same { progress_of self.new ≡ progress_of self.old }
+    {
+        match flag {
+            Some(expr) => match self.valued(expr) {
+                Ok(value) => flag_of(value),
+                Err(fault) => Err(fault),
+            },
+            None => Ok(false),
+        }
+    }
+
+    /// The number of the section of a name; a new one comes last.
+    #[tactic(auto, unfolding(c25_meaning_assembly::specs::Sections::section_opened))]
+    pub(crate) fn open(&mut self, name: &str, initialised: bool) -> Result<u16, Failure<FaultKind>>
+        ensures { Meets (λ i. (i, progress_of self.new)) (meaning.section_opened name.now initialised (progress_of self.old)) result }
+    {
+        if let Some(number) = self.sections.position(name) {
+            return Ok(number as u16);
+        }
+        let number = self.sections.len();
+        if number >= MOST_SECTIONS {
+            return Err(Failure::Fault(FaultKind::TooLarge));
+        }
+        let section = Section::new(self.alloc, name, initialised)?;
+        self.sections.push(section)?;
+        Ok(number as u16)
+    }
+
+    /// So many words more in a section.
+    #[tactic(auto, unfolding(c25_meaning_assembly::specs::Sections::grow))]
+    pub(crate) fn grow(&mut self, section: u16, words: usize) -> Result<(), Failure<FaultKind>>
+        ensures told { Meets (λ _. progress_of self.new) (meaning.grow section words (progress_of self.old)) result }
+        ensures room { OnOk result (meaning.size_at (progress_of self.old).sections section + words ≤ 65536) }
+    {
+        let size = self.sections.size_at(section);
+        if words > (MOST_WORDS - size) as usize {
+            return Err(Failure::Fault(FaultKind::TooLarge));
+        }
+        self.sections.lengthen(section, words as u32);
+        Ok(())
+    }
+
+    /// Content of so many words at the current place.
+    #[tactic(auto, unfolding(c25_meaning_assembly::specs::Sections::lay, c25_meaning_assembly::specs::Sections::grow))]
+    pub(crate) fn lay(
+        &mut self,
+        origin: Origin<'a>,
+        content: Content,
+        words: usize,
+    ) -> Result<(), Failure<FaultKind>>
+        requires { content_size content ≡ words }
+        ensures told { Meets (λ _. progress_of self.new) (meaning.lay (origin_of origin.entry) (content_of content) words (progress_of self.old)) result }
+        ensures room { OnOk result (meaning.size_at (progress_of self.old).sections (progress_of self.old).current + words ≤ 65536) }
+    {
+        let section = self.current;
+        let offset = self.sections.size_at(section);
+        self.grow(section, words)?;
+        self.items.push(LaidContent {
+            origin,
+            section,
+            offset,
+            content,
+        })?;
+        Ok(())
+    }
+
+    /// A file that holds an instruction.
+    fn use_file(&mut self, name: &str) -> Result<(), Failure<FaultKind>>
+        ensures { Meets (λ _. progress_of self.new) (meaning.use_file name.now (progress_of self.old)) result }
+    {
+        if self.files.is_at(self.recent, name) {
+            return Ok(());
+        }
+        if let Some(number) = self.files.position(name) {
+            self.recent = number;
+            return Ok(());
+        }
+        let number = self.files.len();
+        if number >= MOST_FILES || !is_file_name(name) {
+            return Err(Failure::Fault(FaultKind::TooLarge));
+        }
+        self.files.add(name)?;
+        self.recent = number;
+        Ok(())
+    }
+
+    /// The line of an instruction.
+    #[tactic(auto, unfolding(c25_meaning_assembly::specs::Sections::use_line))]
+    fn use_line(&mut self, origin: Origin<'a>) -> Result<SourceLine<'a>, Failure<FaultKind>>
+        ensures told { Meets (λ _. progress_of self.new) (meaning.use_line (origin_of origin.entry) (progress_of self.old)) result }
+        ensures line { IfOk result (λ l. source_line l ≡ origin_of origin.entry) }
+    {
+        if !is_line_number(origin.line) {
+            return Err(Failure::Fault(FaultKind::TooLarge));
+        }
+        self.use_file(origin.file)?;
+        Ok(SourceLine {
+            file: origin.file,
+            line: origin.line as u32,
+        })
+    }
+
+    /// An instruction of so many words marks where it begins.
+    pub(crate) fn mark(
+        &mut self,
+        origin: Origin<'a>,
+        section: u16,
+        offset: u16,
+        words: u8,
+    ) -> Result<(), Failure<FaultKind>>
+        ensures { Meets (λ _. progress_of self.new) (marked (origin_of origin.entry) (record { section = section; offset = offset; size = words }) (progress_of self.old)) result }
+    {
+        let line = self.use_line(origin)?;
+        let mark = ModuleMark {
+            section,
+            offset,
+            size: words,
+        };
+        self.sections.mark(section, line, mark)?;
+        Ok(())
+    }
+
+    /// Words that have to lie in one page are a block.
+    pub(crate) fn block(
+        &mut self,
+        flag: bool,
+        section: u16,
+        offset: u32,
+        words: usize,
+    ) -> Result<(), NoMemory>
+        requires within { offset + words ≤ 65536 }
+        requires size { IsBlockSize flag words }
+        ensures { OnOk result (progress_of self.new ≡ meaning.block flag section offset words (progress_of self.old)) }
+    {
+        if !flag {
+            return Ok(());
+        }
+        let block = Block {
+            section,
+            offset: offset as u16,
+            size: words as u8,
+        };
+        self.sections.block(section, block)
+    }
+
+    /// At most 65,535 names.
+    pub(crate) fn few(&self) -> Result<(), FaultKind>
+        ensures told { result ≡ meaning.few (progress_of self.now) }
+        ensures few { IfOk result (λ _. meaning.name_count (progress_of self.now).names (progress_of self.now).declared ≤ 65535) }
+    {
+        let defined = self.symbols.len();
+        if defined > MOST_NAMES || self.missing > MOST_NAMES - defined {
+            Err(FaultKind::TooLarge)
+        } else {
+            Ok(())
+        }
+    }
+}
