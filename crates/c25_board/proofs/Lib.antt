@@ -9,6 +9,7 @@ pub mod RunsFound
 pub mod RunsTo
 pub mod SamplePorts
 pub mod SamplesTaken
+pub mod Streaks
 pub mod Timing
 pub mod Zeros
 mod Lent

@@ -2,3 +2,4 @@ pub mod Settle
 pub mod Advanced
 pub mod Prepared
 pub mod Alone
+pub mod Steady
