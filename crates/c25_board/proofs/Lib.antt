@@ -1,4 +1,5 @@
 pub mod Begins
+pub mod Entries
 pub mod Behind
 pub mod Kept
 pub mod KeptCopies
