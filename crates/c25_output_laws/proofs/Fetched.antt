@@ -3,7 +3,7 @@ use Rattle.std.proofs.Common.{◌≡◌, ℕ, ◌+◌, ◌%◌, ◌^◌, ◌==�
 use Rattle.c25_meaning_image.specs.declared.mark.RunMark.{RunMark}
 use Rattle.c25_meaning_instructions.specs.declared.insn.Insn.{Insn}
 use Rattle.c25_meaning_processor.specs.State.{World, holds, program_at}
-use Rattle.c25_meaning_processor.specs.WordStep.{IsFetched, IsFetchedBy, IsFound, loaded_words, mark_found}
+use Rattle.c25_meaning_processor.specs.WordStep.{IsFetchedBy, IsFound, loaded_words}
 use Rattle.c25_output_laws.proofs.Apart.{program_apart}
 use Rattle.c25_output_laws.specs.Behind.{world_behind}
 
@@ -22,9 +22,6 @@ module _ (o : List (ℕ × ℕ)) where
   found_before cnf w pc i None h = record { marked = h.marked; clear = h.clear; reads = h.reads }
   found_before cnf w pc i (Some m) h = record { size_is = h.size_is; held = sym (holds_apart w m.run (loaded_words w m)) ∙ h.held; reads = h.reads }
 
-  by_mark : (cnf : Bool) (w : World) (pc : ℕ) (m : Option RunMark) (i : Option Insn) → IsFetchedBy cnf w pc m i → IsFetchedBy cnf (world_behind o w) pc m i
-  by_mark cnf w pc m None h = λ i found. h i (found_before cnf w pc i m found)
-  by_mark cnf w pc m (Some i) h = found_behind cnf w pc i m h
-
-  pub fetched_behind : (cnf : Bool) (w : World) (pc : ℕ) (i : Option Insn) → IsFetched cnf w pc i → IsFetched cnf (world_behind o w) pc i
-  fetched_behind cnf w pc i h = by_mark cnf w pc (mark_found cnf w pc) i h
+  pub fetched_behind : (cnf : Bool) (w : World) (pc : ℕ) (m : Option RunMark) (i : Option Insn) → IsFetchedBy cnf w pc m i → IsFetchedBy cnf (world_behind o w) pc m i
+  fetched_behind cnf w pc m None h = λ i found. h i (found_before cnf w pc i m found)
+  fetched_behind cnf w pc m (Some i) h = found_behind cnf w pc i m h
