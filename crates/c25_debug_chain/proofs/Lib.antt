@@ -1,4 +1,3 @@
 pub mod Agreed
 pub mod Debugged
-pub mod Inspected
 pub mod Scripted
