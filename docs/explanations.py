@@ -34,7 +34,7 @@ GROUPS = {
     "Samples, schedule, script": ("run_files", None, None, None),
     "Objects": ("objects", "Object", "c25_meaning_objects", "object.ObjectFault"),
     "Maps and hex texts": ("written_texts", "Hex", "c25_meaning_intel_hex", "hex_fault.HexFault"),
-    "Files and memory": ("files", "File", "c25_disk", "fault.FileFaultKind"),
+    "Files and memory": ("files", "File", "c25_disk", "fault.FileFault"),
 }
 # The faults that are variants of `AnyFault` themselves.
 ALONE = {"NoMemory": "Memory", "BadMap": "Map", "BadSchedule": "Schedule", "BadSamples": "Samples", "BadCommand": "Script"}

@@ -152,6 +152,11 @@ def wrong_tables(all_crates):
             yield f"{ARCHITECTURE}: {title} {'has ' + it + ', which is no crate' if it in found else 'lacks ' + it}"
 
 
+def files_in(folder):
+    """The files of a folder and of those in it, by their ways from it."""
+    return sorted(os.path.relpath(os.path.join(at, file), folder) for at, _, files in os.walk(folder) for file in files)
+
+
 def wrong_places(all_crates):
     """What "Where a rule lives" names that is not there, and what it lacks."""
     lines = section("Where a rule lives")
@@ -163,16 +168,16 @@ def wrong_places(all_crates):
             if file.endswith((".rt", ".antt", ".py")) and whole != "specs":
                 folder = whole or folder
                 found.add(f"{folder}/{file}")
-            elif re.fullmatch(r"c25\w*/(src|specs|data)", it):
+            elif re.fullmatch(r"c25\w*/(src(/\w+)?|specs|data)", it):
                 folder = it
         if all(re.fullmatch(r"c25\w*/src", it) for it in spans(row[0])) and ".rt`" not in row[-1]:
-            found |= {f"{it}/{file}" for it in spans(row[0]) for file in os.listdir(f"crates/{it}")}
+            found |= {f"{it}/{file}" for it in spans(row[0]) for file in files_in(f"crates/{it}")}
         words |= set(re.findall(r"\.?[\w]+", " ".join(row)))
     for it in sorted(it for it in found if not os.path.isfile(f"crates/{it}") and not os.path.isfile(it)):
         yield f"{ARCHITECTURE}: Where a rule lives names {it}, which is not there"
     for name in all_crates:
         folder = f"crates/{name}/src"
-        files = sorted(os.listdir(folder)) if os.path.isfile(f"{folder}/lib.rt") else []
+        files = files_in(folder) if os.path.isfile(f"{folder}/lib.rt") else []
         for file in files:
             alone = len(files) == 1
             if (alone or file not in ("lib.rt", "tests.rt")) and f"{name}/src/{file}" not in found:

@@ -235,11 +235,15 @@ def is_run(told):
 
 
 def note_of(files, told):
-    """What `--explain` tells of an example's fault: the line where it is, if it is told of one that is there, and what it means."""
+    """What `--explain` tells of an example's fault: the line where it is, if it is told of one that is there, or that a file is not
+    there, and what it means."""
     place, fault = told.rsplit(": ", 1)
     file, _, number = place.rpartition(":")
-    lines = files.get(file, [])
-    shown = "%s: %s\n" % (place, lines[int(number) - 1]) if number.isdigit() and 0 < int(number) <= len(lines) else ""
+    lines, shown = files.get(file, []), ""
+    if number.isdigit() and 0 < int(number) <= len(lines):
+        shown = "%s: %s\n" % (place, lines[int(number) - 1])
+    elif fault == "8 CannotRead" and place not in files:
+        shown = "%s: it cannot be opened\n" % place
     return shown + notes()[fault.split()[0]]
 
 

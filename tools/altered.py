@@ -6,8 +6,9 @@ usage: python3 tools/altered.py PROGRAM [--seed S] [--first K] [--count N] [--ke
 Run K of a seed is always the same: it takes a call of the gate's examples (tools/cases.py; objects are those of the cases), alters
 one to three of its files or its words, and looks at what the program does. Each run must end by itself, within 2 seconds of
 processor time, with status 0, 1, 2 or 3; with status 1 nothing stands on standard output and one line `PLACE: NUMBER Name` on
-standard error, and nothing is written; with status 0 or 3 nothing stands on standard error. What does not is kept in FOLDER as a
-folder with its files and `words`, and told; status 1 then. A folder of this form can be compared with another program's answers.
+standard error, behind which only `--explain` tells more, and nothing is written; with status 0 or 3 nothing stands on standard error
+but the three lines of `--regs`. What does not is kept in FOLDER as a folder with its files and `words`, and told; status 1 then. A
+folder of this form can be compared with another program's answers.
 
 --make FOLDER writes the runs as such folders, and runs nothing.
 """
@@ -24,7 +25,8 @@ import cases
 from refused_memory import write_files
 
 SECONDS = 2
-LINE = re.compile(rb"[^\n]*: [0-9]+ [A-Za-z0-9]+\n\Z")
+LINE = re.compile(rb"[^\n]*: ([0-9]+) [A-Za-z0-9]+\n((?s:.*)\nExample: c25 explain \1\n)?\Z")
+REGISTERS = re.compile(rb"PC [^\n]*\nAR [^\n]*\n[0-9A-F]{4} [^\n]*\n\Z")
 MANY = re.compile(rb"[0-9]{7,}")
 NUMBERS = [b"0", b"1", b"-1", b"255", b"256", b"7FFFh", b"0FFFFh", b"10000h", b"65535", b"65536", b"99999", b"2147483647", b"2147483648",
            b"4294967295", b"4294967296", b"99999999999999999999"]
@@ -142,7 +144,7 @@ def wrong(status, output, errors, written, seconds):
         return "%.1f s" % seconds
     if status == 1 and (output or written or not LINE.match(errors)):
         return "a fault with %d bytes on standard output, files %s, and %r" % (len(output), written, errors[:100])
-    if status in (0, 3) and errors:
+    if status in (0, 3) and errors and not REGISTERS.match(errors):
         return "status %d with %r" % (status, errors[:100])
     return None
 

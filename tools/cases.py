@@ -77,7 +77,8 @@ def groups():
         for name in sorted(os.listdir(top)):
             path = os.path.join(top, name)
             found["%s/%s" % (part, name)] = session_calls(path) if os.path.isdir(path) else packed_calls(path)
-    found["faults.cases"] = packed_calls(os.path.join(DATA, "faults.cases"))
+    for name in ("faults.cases", "explained.cases"):
+        found[name] = packed_calls(os.path.join(DATA, name))
     for name in sorted(os.listdir(os.path.join(DATA, "random"))):
         found["random/" + name] = packed_calls(os.path.join(DATA, "random", name))
     return found

@@ -9,7 +9,8 @@ run with every request granted, and then again for each of its requests with tha
 where there are more than N requests (400), for the first N/2 and N/2 of the others, evenly spread. Every run must come to one of
 
   told   status 1, `memory: 9 NoMemory` on standard error, nothing on standard output, and no file written or changed
-  full   the status, the outputs and the files of the run with every request granted: the request could be done without
+  full   the status, the outputs and the files of the run with every request granted: the request could be done without, or only
+         what `--explain` tells behind a fault's line is less: nothing, or what a fault means without the line that is shown
 
 It prints a row for each group, then what was neither, and ends with status 1 if anything was. PROGRAM must be linked dynamically;
 `cc` makes the library that refuses (tools/refuse.c), in a temporary folder.
@@ -40,6 +41,12 @@ class Answer:
 
     def same(self, other):
         return (self.status, self.output, self.errors, self.written) == (other.status, other.output, other.errors, other.written)
+
+    def explains_less(self, other):
+        """Whether it is the other answer, a fault, but for a note that is not there or shows no line."""
+        line, _, note = other.errors.partition(b"\n")
+        less = (line + b"\n", line + b"\n" + note.partition(b"\n")[2])
+        return (self.status, self.output, self.written) == (1, b"", {}) and other.status == 1 and self.errors in less
 
     def is_told(self):
         return (self.status, self.output, self.errors, self.written) == (1, b"", TOLD, {})
@@ -113,7 +120,8 @@ def swept(sweep, name, calls, most, rest):
             answer = sweep.run(call, number, full.requests * 2 if rest else number)
             tally[2] += 1
             # (a call may itself be told of memory by nothing: where the whole is a fault, that fault is the full answer)
-            kind = 4 if answer.same(full) else 3 if answer.is_told() else 5
+            enough = answer.same(full) or "--explain" in call.words and answer.explains_less(full)
+            kind = 4 if enough else 3 if answer.is_told() else 5
             tally[kind] += 1
             if kind == 5:
                 lines.append("%s, request %d: %s" % (call.name, number, answer))

@@ -10,8 +10,6 @@ pub mod memory;
 pub mod program;
 mod registers;
 mod steps;
-#[cfg(test)]
-mod tests;
 mod words;
 
 pub use breakpoints::{push_cleared, push_set};

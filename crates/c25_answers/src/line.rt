@@ -46,26 +46,13 @@ pub(crate) fn met(steps: u32, pc: u16) -> ArrayString<MOST_BYTES>
     line
 }
 
-/// The name of a stop.
-fn name_of(stop: Stop) -> &'static str
-    ensures name { result.now ≡ stop_name stop }
-    ensures short { length result.now ≤ 9 }
-{
-    match stop {
-        Stop::OutOfCode => "OutOfCode",
-        Stop::CodeWrite => "CodeWrite",
-        Stop::BadRepeat => "BadRepeat",
-        Stop::PortDry => "PortDry",
-    }
-}
-
 /// A step stopped.
 pub(crate) fn left(steps: u32, stop: Stop) -> ArrayString<MOST_BYTES>
     ensures { result.bytes ≡ codes "left " ++ decimal steps ++ codes " " ++ stop_name stop ++ codes "\n" }
 {
     let mut line = counted("left ", steps);
     line.push_str(" ");
-    line.push_str(name_of(stop));
+    line.push_str(stop.name());
     line.push_str("\n");
     line
 }

@@ -2,9 +2,8 @@
 use denote.Ref.{Bor}
 use Rattle.std.proofs.Common.{◌≡◌, ℕ, zero, suc, ◌<◌, List, Option, Some, None, Result, Ok, Err, refl, sym, ap, ◌∙◌, arith, subst}
 use Rattle.std.specs.Option.{option_map}
-use Rattle.c25_macro.specs.Expander.{Expansion, IsNext, Stage, Stands, Absent, Failed, begun_at, shown, IsNextAt, IsFailure, Tells, TellsFault, missing_of, left_of}
+use Rattle.c25_macro.specs.Expander.{ExpandFault, Expansion, IsNext, Stage, Stands, Absent, Failed, begun_at, shown, IsNextAt, IsFailure, Tells, TellsFault, missing_of, left_of}
 use Rattle.c25_macro.specs.declared.answer.ExpLine.{ExpLine}
-use Rattle.c25_macro.specs.declared.answer.ExpandFault.{ExpandFault}
 use Rattle.c25_meaning_expansion.specs.Expansion.{Config, Rewriting, Gives, Goes, Finishes, Faults, Misses}
 use Rattle.c25_meaning_expansion.specs.ExpansionAnswers.{ExpandedLine, given_by, fault_by}
 use Rattle.c25_meaning_language.specs.ExpansionFault.{ExpansionFault, Faulty, Missing}
@@ -122,14 +121,15 @@ on_fault files c s a n f is h =
 
 told_fault : (A : Type 0) (f : ExpansionFault) (e : ExpandFault) (missing : Option (Bor (List ℕ))) (g : Failure AsmFault)
     → TellsFault f e → option_map (λ n. n.now) missing ≡ missing_of (Failed (Fault f)) → IsToldBy missing e g → FailsBy {A = A} fault_of (Err f) g
-told_fault A (Faulty file line kind) e None (Fault (Line file' line' kind')) t m is =
-    ap Err (ap (λ x. Faulty x line kind) (sym t.0 ∙ sym is.0) ∙ ap (λ x. Faulty file'.now x kind) (sym t.1 ∙ sym is.1) ∙ ap (λ x. Faulty file'.now line' x) (sym t.2 ∙ sym is.2))
+told_fault A (Faulty file line kind) e None (Fault (Line told)) t m is =
+    ap Err (ap (λ x. Faulty x line kind) (sym t.0) ∙ ap (λ x. Faulty e.place.file.now x kind) (sym t.1) ∙ ap (λ x. Faulty e.place.file.now e.place.line x) (sym t.2)
+    ∙ ap (λ (x : ExpandFault). Faulty x.place.file.now x.place.line x.fault) (sym is))
 told_fault A (Faulty file line kind) e None (Fault (NoFile file' line' name')) t m is = absurd is
 told_fault A (Faulty file line kind) e None (NoMemory n) t m is = absurd is
 told_fault A (Faulty file line kind) e (Some name) g t m is = absurd (cc)
 told_fault A (Missing file line name) e None g t m is = absurd (cc)
 told_fault A (Missing file line name) e (Some n) (NoMemory x) t m is = tt
-told_fault A (Missing file line name) e (Some n) (Fault (Line file' line' kind')) t m is = absurd is
+told_fault A (Missing file line name) e (Some n) (Fault (Line told)) t m is = absurd is
 told_fault A (Missing file line name) e (Some n) (Fault (NoFile file' line' name')) t m is =
     let same : n.now ≡ name = cc in
     ap Err (ap (λ x. Missing x line name) (sym t.0 ∙ sym is.0) ∙ ap (λ x. Missing file'.now x name) (sym t.1 ∙ sym is.1) ∙ ap (λ x. Missing file'.now line' x) (sym same ∙ sym is.2))

@@ -2,7 +2,7 @@
 use Rattle.std.specs.Prelude.{◌≡◌, ℕ, List, Option, Some, None}
 use Rattle.std.specs.String.{string_bytes}
 use denote.Ref.{Bor}
-use Rattle.c25_macro.specs.declared.answer.ExpandFault.{ExpandFault}
+use Rattle.c25_macro.specs.Expander.{ExpandFault}
 use Rattle.c25_meaning_common.specs.declared.failure.Failure.{Failure}
 use Rattle.c25_meaning_common.specs.declared.failure.Failure.TheVariants.{NoMemory, Fault}
 use Rattle.c25_phases.specs.declared.fault.AsmFault.{AsmFault}
@@ -10,14 +10,14 @@ use Rattle.c25_phases.specs.declared.fault.AsmFault.TheVariants.{Line, NoFile}
 
 -- a line is wrong, as why the source is refused
 abbrev pub IsWrongLine : ExpandFault → Failure AsmFault → Type 0
-IsWrongLine f (Fault (Line file line kind)) = (file.now ≡ f.file.now) × (line ≡ f.line) × (kind ≡ f.kind)
+IsWrongLine f (Fault (Line told)) = told ≡ f
 IsWrongLine f (Fault (NoFile file line text)) = ⊥
 IsWrongLine f (NoMemory n) = ⊥
 
 -- a file of this name is not there, as why the source is refused
 abbrev pub IsNoFile : List ℕ → ExpandFault → Failure AsmFault → Type 0
-IsNoFile name f (Fault (Line file line kind)) = ⊥
-IsNoFile name f (Fault (NoFile file line text)) = (file.now ≡ f.file.now) × (line ≡ f.line) × (string_bytes text ≡ name)
+IsNoFile name f (Fault (Line told)) = ⊥
+IsNoFile name f (Fault (NoFile file line text)) = (file.now ≡ f.place.file.now) × (line ≡ f.place.line) × (string_bytes text ≡ name)
 IsNoFile name f (NoMemory n) = Unit {0}
 
 -- a fault of expansion, as why the source is refused; `missing` is the name of the file that is not there

@@ -28,8 +28,8 @@ fn no_file<'a>(alloc: Global, fault: ExpandFault<'a>, name: &str) -> Failure<Asm
 {
     match String::from_str(alloc, name) {
         Ok(name) => Failure::Fault(AsmFault::NoFile {
-            file: fault.file,
-            line: fault.line,
+            file: fault.place.file,
+            line: fault.place.line,
             name,
         }),
         Err(error) => Failure::NoMemory(NoMemory::from(error)),
@@ -40,11 +40,7 @@ fn no_file<'a>(alloc: Global, fault: ExpandFault<'a>, name: &str) -> Failure<Asm
 fn wrong_line<'a>(fault: ExpandFault<'a>) -> Failure<AsmFault<'a>>
     ensures { IsWrongLine fault.entry result }
 {
-    Failure::Fault(AsmFault::Line {
-        file: fault.file,
-        line: fault.line,
-        kind: fault.kind,
-    })
+    Failure::Fault(AsmFault::Line(fault))
 }
 
 /// Why expansion gives no line, as why the source has no module.

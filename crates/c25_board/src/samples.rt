@@ -7,30 +7,10 @@ ghost use Rattle.c25_meaning_common.specs.Results.{MeetsBy};
 use crate::ports::Feed;
 use c25_items::{LineFormat, decimal_of, hexadecimal_of, read_items};
 use c25_meaning_common::failure::Failure;
-use c25_meaning_stimulus::sample::Sample;
+use c25_meaning_common::placed::Placed;
+use c25_meaning_stimulus::sample::{BadSamples, Sample};
 use std::alloc::Global;
-use std::error::Error;
-use std::fmt;
 use std::marker::Model;
-
-/// The first line of a text, counted from 1, whose words are no sample (91).
-#[derive(Clone, Copy, Debug)]
-pub struct BadSamples {
-    pub line: usize,
-}
-
-impl fmt::Display for BadSamples {
-    ghost use Rattle.std.specs.Prelude.{Some, codes};
-    ghost use Rattle.c25_meaning_common.specs.Faults.{line_text};
-
-    ghost output = { λ bad. Some (line_text bad.line (codes "BadSamples")) };
-
-    fn fmt<W: fmt::Write>(&self, f: &mut fmt::Formatter<W>) -> fmt::Result {
-        write!(f, "line {}: BadSamples", self.line)
-    }
-}
-
-impl Error for BadSamples {}
 
 /// How many input ports there are.
 const PORTS: usize = 16;
@@ -113,8 +93,6 @@ impl LineFormat for SampleLines {
 
     ghost item_of = { sample_of };
 
-    ghost line_of = { λ f. f.line };
-
     fn item(_before: &[Sample], words: &[&[u8]]) -> Option<Sample> {
         match words {
             [port, word] => {
@@ -126,14 +104,17 @@ impl LineFormat for SampleLines {
         }
     }
 
-    fn fault(line: usize) -> BadSamples {
-        BadSamples { line }
+    fn fault() -> BadSamples {
+        BadSamples
     }
 }
 
 /// The samples of a text, or the first line that is neither blank nor a sample.
-pub fn read_samples(alloc: Global, text: &str) -> Result<Samples, Failure<BadSamples>>
-    ensures { MeetsBy (λ f. f.line) (λ x. x) (samples_of text.now) result }
+pub fn read_samples(
+    alloc: Global,
+    text: &str,
+) -> Result<Samples, Failure<Placed<usize, BadSamples>>>
+    ensures { MeetsBy (λ f. f.place) (λ x. x) (samples_of text.now) result }
 {
     let samples = read_items::<SampleLines>(alloc, text)?;
     Ok(Samples::new(samples))

@@ -6,32 +6,11 @@ ghost use Rattle.c25_meaning_common.specs.Results.{MeetsBy};
 
 use c25_items::{LineFormat, decimal_of, is_word, read_items};
 use c25_meaning_common::failure::Failure;
+use c25_meaning_common::placed::Placed;
 use c25_meaning_processor::lines::Lines;
-use c25_meaning_stimulus::schedule::{Entry, Event};
+use c25_meaning_stimulus::schedule::{BadSchedule, Entry, Event};
 use std::alloc::Global;
-use std::error::Error;
-use std::fmt;
 use std::marker::Model;
-
-/// The first line of a text, counted from 1, whose words are no entry, or whose step is less than the
-/// one before (90).
-#[derive(Clone, Copy, Debug)]
-pub struct BadSchedule {
-    pub line: usize,
-}
-
-impl fmt::Display for BadSchedule {
-    ghost use Rattle.std.specs.Prelude.{Some, codes};
-    ghost use Rattle.c25_meaning_common.specs.Faults.{line_text};
-
-    ghost output = { λ bad. Some (line_text bad.line (codes "BadSchedule")) };
-
-    fn fmt<W: fmt::Write>(&self, f: &mut fmt::Formatter<W>) -> fmt::Result {
-        write!(f, "line {}: BadSchedule", self.line)
-    }
-}
-
-impl Error for BadSchedule {}
 
 /// Events by steps that do not fall. Contracts see it as the list of its entries.
 #[derive(Drop)]
@@ -103,8 +82,6 @@ impl LineFormat for EntryLines {
 
     ghost item_of = { entry_of };
 
-    ghost line_of = { λ f. f.line };
-
     fn item(before: &[Entry], words: &[&[u8]]) -> Option<Entry> {
         match words {
             [step, event] => {
@@ -120,15 +97,18 @@ impl LineFormat for EntryLines {
         }
     }
 
-    fn fault(line: usize) -> BadSchedule {
-        BadSchedule { line }
+    fn fault() -> BadSchedule {
+        BadSchedule
     }
 }
 
 /// The schedule of a text, or the first line that is neither blank nor an entry at a step that may
 /// follow the one before.
-pub fn read_schedule(alloc: Global, text: &str) -> Result<Schedule, Failure<BadSchedule>>
-    ensures { MeetsBy (λ f. f.line) (λ x. x) (schedule_of text.now) result }
+pub fn read_schedule(
+    alloc: Global,
+    text: &str,
+) -> Result<Schedule, Failure<Placed<usize, BadSchedule>>>
+    ensures { MeetsBy (λ f. f.place) (λ x. x) (schedule_of text.now) result }
 {
     let entries = read_items::<EntryLines>(alloc, text)?;
     Ok(Schedule { entries })

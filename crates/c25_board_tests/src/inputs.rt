@@ -3,10 +3,12 @@
 
 use bitflags::Flags;
 use c25_board::ports::Feed;
-use c25_board::samples::{BadSamples, Samples, read_samples};
-use c25_board::schedule::{BadSchedule, Schedule, read_schedule};
+use c25_board::samples::{Samples, read_samples};
+use c25_board::schedule::{Schedule, read_schedule};
 use c25_meaning_common::failure::Failure;
-use c25_meaning_stimulus::schedule::Event;
+use c25_meaning_common::placed::Placed;
+use c25_meaning_stimulus::sample::BadSamples;
+use c25_meaning_stimulus::schedule::{BadSchedule, Event};
 use std::alloc::{AllocError, Global};
 use std::process::Abort;
 use std::test::Fail;
@@ -52,7 +54,7 @@ fn show_samples(alloc: Global, samples: &mut Samples) -> Result<String, AllocErr
 fn samples_told(alloc: Global, text: &str) -> Result<String, Fail> {
     match read_samples(alloc, text) {
         Ok(mut samples) => Ok(show_samples(alloc, &mut samples)?),
-        Err(Failure::Fault(BadSamples { line })) => Ok(format!(in alloc; "bad {line}")?),
+        Err(Failure::Fault(placed)) => Ok(format!(in alloc; "bad {}", placed.place)?),
         Err(Failure::NoMemory(error)) => Err(error.into()),
     }
 }
@@ -77,7 +79,7 @@ fn show_schedule(alloc: Global, schedule: &Schedule) -> Result<String, AllocErro
 fn schedule_told(alloc: Global, text: &str) -> Result<String, Fail> {
     match read_schedule(alloc, text) {
         Ok(schedule) => Ok(show_schedule(alloc, &schedule)?),
-        Err(Failure::Fault(BadSchedule { line })) => Ok(format!(in alloc; "bad {line}")?),
+        Err(Failure::Fault(placed)) => Ok(format!(in alloc; "bad {}", placed.place)?),
         Err(Failure::NoMemory(error)) => Err(error.into()),
     }
 }
@@ -155,15 +157,21 @@ fn ports_take_in_turn(rt: HostRuntime) -> Result<(), Fail> {
 
 #[test]
 fn refusals_are_printed(rt: HostRuntime) -> Result<(), Fail> {
-    let samples = Failure::Fault(BadSamples { line: 3 });
+    let samples = Failure::Fault(Placed {
+        place: 3usize,
+        fault: BadSamples,
+    });
     assert_eq!(rt;
         format!(in rt.alloc(); "{samples}")?.as_str(),
-        "line 3: BadSamples"
+        "3: BadSamples"
     );
-    let schedule = Failure::Fault(BadSchedule { line: 12 });
+    let schedule = Failure::Fault(Placed {
+        place: 12usize,
+        fault: BadSchedule,
+    });
     assert_eq!(rt;
         format!(in rt.alloc(); "{schedule}")?.as_str(),
-        "line 12: BadSchedule"
+        "12: BadSchedule"
     );
     Ok(())
 }

@@ -3,5 +3,3 @@
 
 mod bits;
 pub mod breakpoints;
-#[cfg(test)]
-mod tests;

@@ -9,7 +9,8 @@ use Rattle.c25_meaning_placing.specs.MapText.{IsMapOf}
 use Rattle.c25_meaning_objects.specs.Module.{Contents}
 use Rattle.c25_meaning_placing.specs.Place.{Place}
 use Rattle.c25_meaning_common.specs.Results.{told}
-use Rattle.c25_meaning_commands.specs.declared.command_fault.FaultyCommand.{FaultyCommand}
+use Rattle.c25_meaning_common.specs.declared.placed.Placed.{Placed}
+use Rattle.c25_meaning_commands.specs.declared.command_fault.CommandFault.{CommandFault}
 use Rattle.c25_chain.specs.Linked.{AreTexts, HasTextsOf, IsLinked, Texts, places_of, texts_of}
 use Rattle.c25_chain.specs.declared.fault.Refusal.{Refusal}
 use Rattle.c25_chain.specs.declared.fault.Refusal.TheVariants.{Command}
@@ -53,6 +54,6 @@ is_linked modules text command image l read program places h =
 -- a text that spells a command, by what is told of it
 pub told_command : (text : List ℕ) (command : CommandData) → told {F = Refusal (List ℕ)} Command (command_of text) ≡ Ok command → command_of text ≡ Ok command
 told_command text command h = by_result (command_of text) h where
-  by_result : (r : Result CommandData FaultyCommand) → told {F = Refusal (List ℕ)} Command r ≡ Ok command → r ≡ Ok command
+  by_result : (r : Result CommandData (Placed ℕ CommandFault)) → told {F = Refusal (List ℕ)} Command r ≡ Ok command → r ≡ Ok command
   by_result (Ok c) e = let same : c ≡ command = cc in ap Ok same
   by_result (Err f) e = absurd cc

@@ -11,7 +11,8 @@ use Rattle.c25_meaning_objects.specs.Module.{Contents}
 use Rattle.c25_meaning_placing.specs.Place.{Place}
 use Rattle.c25_meaning_common.specs.Results.{told}
 use Rattle.c25_meaning_common.specs.declared.failure.Failure.TheVariants as failure
-use Rattle.c25_meaning_placing.specs.declared.link_fault.FaultyLink.{FaultyLink}
+use Rattle.c25_meaning_common.specs.declared.placed.Placed.{Placed}
+use Rattle.c25_meaning_placing.specs.declared.link_fault.LinkFault.{LinkFault}
 use Rattle.c25_chain.specs.Refusal.{Fault, refusal_of}
 use Rattle.c25_chain.specs.declared.fault.Refusal.{Refusal}
 use Rattle.c25_chain.specs.declared.fault.Refusal.TheVariants.{Command, Link}
@@ -60,7 +61,7 @@ pub record HasTextsOf (image : ImageData) (l : Linked) : Type 0 where
 
 -- the refusal of linking, as the chain tells it
 pub record IsLinkRefusal (modules : List Contents) (command : CommandData) (r : Refusal (List ℕ)) : Type 0 where
-  pub faulty : FaultyLink (List ℕ)
+  pub faulty : Placed (List ℕ) LinkFault
   pub told_as : r ≡ Link faulty
   pub refused : IsRefusal modules command faulty
 

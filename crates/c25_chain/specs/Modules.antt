@@ -11,7 +11,7 @@ use Rattle.c25_chain.specs.declared.fault.Refusal.TheVariants.{Source, NoFile}
 
 -- why a source has no module, as the chain tells it
 abbrev pub asm_refusal : ExpansionFault → Refusal (List ℕ)
-asm_refusal (Faulty file line kind) = Source file line kind
+asm_refusal (Faulty file line kind) = Source (record { place = record { file = file; line = line }; fault = kind })
 asm_refusal (Missing file line name) = NoFile file line name
 
 -- the module and the listing of a source among these files, or why there are none

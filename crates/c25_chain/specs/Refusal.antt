@@ -2,6 +2,7 @@
 use Rattle.std.specs.Prelude.{◌≡◌, ℕ, List, String}
 use Rattle.std.specs.String.{string_bytes}
 use Rattle.std.specs.declared.alloc.Global.{Global}
+use Rattle.c25_meaning_common.specs.declared.placed.Placed.{Placed}
 use Rattle.c25_disk.specs.declared.fault.FileFault.{FileFault}
 use Rattle.c25_meaning_common.specs.declared.failure.Failure.{Failure}
 use Rattle.c25_meaning_common.specs.declared.failure.Failure.TheVariants as failure
@@ -14,14 +15,14 @@ abbrev pub Fault : Type 0
 Fault = Failure (Refusal (String Global))
 
 -- what is wrong with a file, by the bytes of its name
-abbrev pub file_fault_of : FileFault (String Global) → FileFault (List ℕ)
-file_fault_of f = record { file = string_bytes f.file; kind = f.kind }
+abbrev pub file_fault_of : Placed (String Global) FileFault → Placed (List ℕ) FileFault
+file_fault_of f = record { place = string_bytes f.place; fault = f.fault }
 
 -- a refusal with the bytes of its names
 abbrev pub refusal_of : Refusal (String Global) → Refusal (List ℕ)
-refusal_of (Source file line kind) = Source (string_bytes file) line kind
+refusal_of (Source f) = Source (record { place = record { file = string_bytes f.place.file; line = f.place.line }; fault = f.fault })
 refusal_of (NoFile file line name) = NoFile (string_bytes file) line (string_bytes name)
-refusal_of (Object file fault) = Object (string_bytes file) fault
+refusal_of (Object f) = Object (record { place = string_bytes f.place; fault = f.fault })
 refusal_of (Command faulty) = Command faulty
 refusal_of (Link faulty) = Link (place.refusal_of faulty)
 refusal_of (Hex placed) = Hex placed

@@ -20,10 +20,11 @@ use crate::page::Page;
 use crate::ready::Ready;
 use crate::run::{Done, run_linked};
 use c25_board::board::Outcome;
-use c25_board::samples::{BadSamples, Samples, read_samples};
-use c25_board::schedule::{BadSchedule, Schedule, read_schedule};
+use c25_board::samples::{Samples, read_samples};
+use c25_board::schedule::{Schedule, read_schedule};
 use c25_macro::files::Files;
 use c25_meaning_common::failure::Failure;
+use c25_meaning_common::placed::Placed;
 use c25_meaning_processor::registers::Regs;
 use std::alloc::Global;
 
@@ -58,7 +59,9 @@ pub fn samples_in(alloc: Global, text: &str) -> Result<Samples, Fault>
     match read_samples(alloc, text) {
         Ok(samples) => Ok(samples),
         Err(Failure::NoMemory(error)) => Err(error.into()),
-        Err(Failure::Fault(BadSamples { line })) => Err(Failure::Fault(Refusal::Samples { line })),
+        Err(Failure::Fault(Placed { place: line, .. })) => {
+            Err(Failure::Fault(Refusal::Samples { line }))
+        }
     }
 }
 
@@ -69,7 +72,7 @@ pub fn schedule_in(alloc: Global, text: &str) -> Result<Schedule, Fault>
     match read_schedule(alloc, text) {
         Ok(schedule) => Ok(schedule),
         Err(Failure::NoMemory(error)) => Err(error.into()),
-        Err(Failure::Fault(BadSchedule { line })) => {
+        Err(Failure::Fault(Placed { place: line, .. })) => {
             Err(Failure::Fault(Refusal::Schedule { line }))
         }
     }

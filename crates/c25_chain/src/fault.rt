@@ -1,55 +1,55 @@
 //! Why the chain refuses.
 
 use c25_disk::fault::FileFault;
-use c25_meaning_commands::command_fault::FaultyCommand;
+use c25_meaning_commands::command_fault::CommandFault;
 use c25_meaning_common::failure::Failure;
-use c25_meaning_intel_hex::hex_fault::PlacedHexFault;
+use c25_meaning_common::placed::{FileLine, Placed};
+use c25_meaning_intel_hex::hex_fault::HexFault;
 use c25_meaning_language::statement::FaultKind;
 use c25_meaning_objects::object::ObjectFault;
-use c25_meaning_placing::link_fault::FaultyLink;
+use c25_meaning_placing::link_fault::LinkFault;
+use c25_meaning_stimulus::sample::BadSamples;
+use c25_meaning_stimulus::schedule::BadSchedule;
+use c25_meaning_stimulus::script::BadCommand;
+use std::fmt;
+use thiserror::Error;
 
 /// Why there is no answer, memory aside. The code has names as texts, the definitions as lists of
 /// bytes.
-#[derive(Drop)]
+#[derive(Debug, Drop, Error)]
+#[error_bound(Name: fmt::Display)]
 pub enum Refusal<Name> {
     /// A line of a source is wrong (10 to 13, 20 to 26, 31 to 36, 38, 50 to 56).
-    Source {
-        file: Name,
-        line: usize,
-        kind: FaultKind,
-    },
+    #[error("{0}")]
+    Source(Placed<FileLine<Name>, FaultKind>),
     /// A line of a source asks for a file of this name that is not there (30); at line 0 it is the
     /// source itself.
-    NoFile {
-        file: Name,
-        line: usize,
-        name: Name,
-    },
+    #[error("{file}:{line}: {}", FaultKind::NoFile)]
+    NoFile { file: Name, line: usize, name: Name },
     /// The bytes of an object file are those of no module (40 to 45).
-    Object {
-        file: Name,
-        fault: ObjectFault,
-    },
+    #[error("{0}")]
+    Object(Placed<Name, ObjectFault>),
     /// A line of the command file is wrong (60 to 63).
-    Command(FaultyCommand),
+    #[error("command:{0}")]
+    Command(Placed<usize, CommandFault>),
     /// The modules cannot be linked (70 to 76 and 78): the symbol or section that it is told with.
-    Link(FaultyLink<Name>),
+    #[error("link:{0}")]
+    Link(Placed<Name, LinkFault>),
     /// A line of a hex text is wrong (80 to 89).
-    Hex(PlacedHexFault),
+    #[error("hex:{0}")]
+    Hex(Placed<usize, HexFault>),
     /// A line of the schedule is wrong (90).
-    Schedule {
-        line: usize,
-    },
+    #[error("schedule:{line}: {}", BadSchedule)]
+    Schedule { line: usize },
     /// A line of the samples is wrong (91).
-    Samples {
-        line: usize,
-    },
+    #[error("samples:{line}: {}", BadSamples)]
+    Samples { line: usize },
     /// A line of a debugger's script is wrong (95).
-    Script {
-        line: usize,
-    },
+    #[error("script:{line}: {}", BadCommand)]
+    Script { line: usize },
     /// A file that cannot be written (7) or read (8), or that is a source a second time (37).
-    File(FileFault<Name>),
+    #[error("{0}")]
+    File(Placed<Name, FileFault>),
 }
 
 /// Why there is no answer.

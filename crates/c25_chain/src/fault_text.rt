@@ -1,41 +1,60 @@
 //! The line that says why the chain refuses.
 
 ghost use Rattle.std.specs.Prelude.{◌≡◌, ◌++◌, IfOk, codes, string_bytes};
+ghost use Rattle.c25_meaning_common.specs.Faults.{numbered, placed_text};
+ghost use Rattle.c25_meaning_commands.specs.Faults.{command_text};
+ghost use Rattle.c25_meaning_intel_hex.specs.Faults.{hex_text};
 ghost use Rattle.c25_meaning_language.specs.Faults.{numbered_name};
-ghost use Rattle.c25_meaning_common.specs.Faults.{placed_text};
-ghost use Rattle.c25_chain.specs.FaultText.{at_file, command_text, fault_text, hex_text, link_line, object_text, refusal_text};
+ghost use Rattle.c25_meaning_objects.specs.Faults.{object_text};
+ghost use Rattle.c25_chain.specs.FaultText.{at_file, fault_text, link_line, refusal_text};
 ghost use Rattle.c25_chain.specs.Refusal.{refusal_of};
 
 use crate::fault::{Fault, Refusal};
-use crate::fault_numbers::{command_number, hex_number, link_number, object_number, source_number};
-use c25_disk::fault::FileFaultKind;
+use c25_disk::fault::FileFault;
 use c25_meaning_commands::command_fault::CommandFault;
 use c25_meaning_common::failure::Failure;
 use c25_meaning_common::no_memory::NoMemory;
+use c25_meaning_common::placed::Placed;
 use c25_meaning_intel_hex::hex_fault::HexFault;
 use c25_meaning_language::statement::FaultKind;
 use c25_meaning_objects::object::ObjectFault;
 use c25_meaning_placing::link_fault::LinkFault;
+use c25_meaning_stimulus::sample::BadSamples;
+use c25_meaning_stimulus::schedule::BadSchedule;
+use c25_meaning_stimulus::script::BadCommand;
 use std::alloc::Global;
+
+/// What is wrong with a line of a text of this name.
+fn at_line(
+    alloc: Global,
+    name: &str,
+    line: usize,
+    number: u8,
+    fault: &str,
+) -> Result<String, NoMemory>
+    ensures { IfOk result (λ text. string_bytes text ≡ placed_text name.now line (numbered number fault.now)) }
+{
+    Ok(format!(in alloc; "{name}:{line}: {number} {fault}")?)
+}
 
 /// What is wrong with a line of a source.
 fn at_source_line(
     alloc: Global,
     name: &str,
     line: usize,
-    kind: FaultKind,
+    fault: FaultKind,
 ) -> Result<String, NoMemory>
-    ensures { IfOk result (λ text. string_bytes text ≡ placed_text name.now line (numbered_name kind)) }
+    ensures { IfOk result (λ text. string_bytes text ≡ placed_text name.now line (numbered_name fault)) }
 {
-    let number = source_number(kind);
-    Ok(format!(in alloc; "{name}:{line}: {number} {kind}")?)
+    at_line(alloc, name, line, fault.number(), fault.name())
 }
 
 /// What is wrong with the bytes of an object file.
 fn at_object(alloc: Global, name: &str, fault: ObjectFault) -> Result<String, NoMemory>
     ensures { IfOk result (λ text. string_bytes text ≡ name.now ++ codes ": " ++ object_text fault) }
 {
-    let number = object_number(fault);
+    let number = fault.number();
+    let fault = fault.name();
     Ok(format!(in alloc; "{name}: {number} {fault}")?)
 }
 
@@ -43,15 +62,15 @@ fn at_object(alloc: Global, name: &str, fault: ObjectFault) -> Result<String, No
 fn at_command_line(alloc: Global, line: usize, fault: CommandFault) -> Result<String, NoMemory>
     ensures { IfOk result (λ text. string_bytes text ≡ placed_text (codes "command") line (command_text fault)) }
 {
-    let number = command_number(fault);
-    Ok(format!(in alloc; "command:{line}: {number} {fault}")?)
+    at_line(alloc, "command", line, fault.number(), fault.name())
 }
 
 /// Why modules cannot be linked.
 fn at_link(alloc: Global, name: &str, fault: LinkFault) -> Result<String, NoMemory>
     ensures { IfOk result (λ text. string_bytes text ≡ link_line name.now fault) }
 {
-    let number = link_number(fault);
+    let number = fault.number();
+    let fault = fault.name();
     Ok(format!(in alloc; "link:{name}: {number} {fault}")?)
 }
 
@@ -59,22 +78,55 @@ fn at_link(alloc: Global, name: &str, fault: LinkFault) -> Result<String, NoMemo
 fn at_hex_line(alloc: Global, line: usize, fault: HexFault) -> Result<String, NoMemory>
     ensures { IfOk result (λ text. string_bytes text ≡ placed_text (codes "hex") line (hex_text fault)) }
 {
-    let number = hex_number(fault);
-    Ok(format!(in alloc; "hex:{line}: {number} {fault}")?)
+    at_line(alloc, "hex", line, fault.number(), fault.name())
 }
 
-/// What is wrong with a line of a text of one item a line.
-fn at_line(alloc: Global, name: &str, line: usize, fault: &str) -> Result<String, NoMemory>
-    ensures { IfOk result (λ text. string_bytes text ≡ placed_text name.now line fault.now) }
+/// What is wrong with a line of the schedule.
+fn at_schedule_line(alloc: Global, line: usize) -> Result<String, NoMemory>
+    ensures { IfOk result (λ text. string_bytes text ≡ placed_text (codes "schedule") line (numbered 90 (codes "BadSchedule"))) }
 {
-    Ok(format!(in alloc; "{name}:{line}: {fault}")?)
+    at_line(
+        alloc,
+        "schedule",
+        line,
+        BadSchedule.number(),
+        BadSchedule.name(),
+    )
+}
+
+/// What is wrong with a line of the samples.
+fn at_samples_line(alloc: Global, line: usize) -> Result<String, NoMemory>
+    ensures { IfOk result (λ text. string_bytes text ≡ placed_text (codes "samples") line (numbered 91 (codes "BadSamples"))) }
+{
+    at_line(
+        alloc,
+        "samples",
+        line,
+        BadSamples.number(),
+        BadSamples.name(),
+    )
+}
+
+/// What is wrong with a line of a debugger's script.
+fn at_script_line(alloc: Global, line: usize) -> Result<String, NoMemory>
+    ensures { IfOk result (λ text. string_bytes text ≡ placed_text (codes "script") line (numbered 95 (codes "BadCommand"))) }
+{
+    at_line(
+        alloc,
+        "script",
+        line,
+        BadCommand.number(),
+        BadCommand.name(),
+    )
 }
 
 /// What is wrong with a file.
-fn at_file(alloc: Global, name: &str, kind: FileFaultKind) -> Result<String, NoMemory>
-    ensures { IfOk result (λ text. string_bytes text ≡ at_file name.now kind) }
+fn at_file(alloc: Global, name: &str, fault: FileFault) -> Result<String, NoMemory>
+    ensures { IfOk result (λ text. string_bytes text ≡ at_file name.now fault) }
 {
-    Ok(format!(in alloc; "{name}: {kind}")?)
+    let number = fault.number();
+    let fault = fault.name();
+    Ok(format!(in alloc; "{name}: {number} {fault}")?)
 }
 
 /// A refusal's line.
@@ -82,20 +134,22 @@ fn write_refusal(alloc: Global, refusal: &Refusal<String>) -> Result<String, NoM
     ensures { IfOk result (λ text. string_bytes text ≡ refusal_text (refusal_of refusal.now)) }
 {
     match refusal {
-        Refusal::Source { file, line, kind } => at_source_line(alloc, file.as_str(), *line, *kind),
+        Refusal::Source(Placed { place, fault }) => {
+            at_source_line(alloc, place.file.as_str(), place.line, *fault)
+        }
         Refusal::NoFile {
             file,
             line,
             name: _,
         } => at_source_line(alloc, file.as_str(), *line, FaultKind::NoFile),
-        Refusal::Object { file, fault } => at_object(alloc, file.as_str(), *fault),
-        Refusal::Command(faulty) => at_command_line(alloc, faulty.line, faulty.fault),
-        Refusal::Link(faulty) => at_link(alloc, faulty.name.as_str(), faulty.fault),
-        Refusal::Hex(placed) => at_hex_line(alloc, placed.line, placed.fault),
-        Refusal::Schedule { line } => at_line(alloc, "schedule", *line, "90 BadSchedule"),
-        Refusal::Samples { line } => at_line(alloc, "samples", *line, "91 BadSamples"),
-        Refusal::Script { line } => at_line(alloc, "script", *line, "95 BadCommand"),
-        Refusal::File(fault) => at_file(alloc, fault.file.as_str(), fault.kind),
+        Refusal::Object(Placed { place, fault }) => at_object(alloc, place.as_str(), *fault),
+        Refusal::Command(Placed { place, fault }) => at_command_line(alloc, *place, *fault),
+        Refusal::Link(Placed { place, fault }) => at_link(alloc, place.as_str(), *fault),
+        Refusal::Hex(Placed { place, fault }) => at_hex_line(alloc, *place, *fault),
+        Refusal::Schedule { line } => at_schedule_line(alloc, *line),
+        Refusal::Samples { line } => at_samples_line(alloc, *line),
+        Refusal::Script { line } => at_script_line(alloc, *line),
+        Refusal::File(Placed { place, fault }) => at_file(alloc, place.as_str(), *fault),
     }
 }
 

@@ -4,7 +4,6 @@
 pub mod built;
 pub mod chain;
 pub mod fault;
-mod fault_numbers;
 mod fault_text;
 pub mod laws;
 pub mod linked;

@@ -42,7 +42,8 @@ fn push_outcome(out: &mut String, outcome: Outcome, steps: u32) -> Result<(), No
             Ok(())
         }
         Outcome::Left(_, stop) => {
-            write!(out, "left {steps} {stop}\n")?;
+            let name = stop.name();
+            write!(out, "left {steps} {name}\n")?;
             Ok(())
         }
         Outcome::SinkFault(_) => {

@@ -15,17 +15,21 @@ pub use c25_asm::listing::Listing;
 use c25_macro::files::Files;
 use c25_meaning_common::failure::Failure;
 use c25_meaning_common::no_memory::NoMemory;
+use c25_meaning_common::placed::{FileLine, Placed};
 use c25_meaning_language::statement::FaultKind;
 use c25_obj::{Module, write_module};
 use c25_records::read_module;
 use std::alloc::Global;
 
 /// A wrong line of a file.
-fn wrong_line(alloc: Global, file: &str, line: usize, kind: FaultKind) -> Fault
-    ensures { IsRefusedAs (refusal.Source file.now line kind) result }
+fn wrong_line(alloc: Global, file: &str, line: usize, fault: FaultKind) -> Fault
+    ensures { IsRefusedAs (refusal.Source (record { place = record { file = file.now; line = line }; fault = fault })) result }
 {
     match String::from_str(alloc, file) {
-        Ok(file) => Failure::Fault(Refusal::Source { file, line, kind }),
+        Ok(file) => {
+            let place = FileLine { file, line };
+            Failure::Fault(Refusal::Source(Placed { place, fault }))
+        }
         Err(error) => Failure::NoMemory(NoMemory::from(error)),
     }
 }
@@ -45,7 +49,9 @@ fn refused(alloc: Global, fault: AsmFault<'_>) -> Fault
     ensures { IsRefusedAs (asm_refusal (fault_of fault.entry)) result }
 {
     match fault {
-        AsmFault::Line { file, line, kind } => wrong_line(alloc, file, line, kind),
+        AsmFault::Line(Placed { place, fault }) => {
+            wrong_line(alloc, place.file, place.line, fault)
+        }
         AsmFault::NoFile { file, line, name } => no_file(alloc, file, line, name),
     }
 }

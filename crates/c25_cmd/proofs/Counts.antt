@@ -9,7 +9,8 @@ use Rattle.c25_meaning_commands.specs.declared.command_token.Keyword.TheVariants
 use Rattle.c25_meaning_commands.specs.declared.command_token.Want.{Want}
 use Rattle.c25_meaning_commands.specs.declared.command_token.Want.TheVariants as want
 use Rattle.c25_meaning_commands.specs.declared.command_fault.CommandFault.TheVariants.{Syntax, Twice, RangeSize, RangeOverlap}
-use Rattle.c25_meaning_commands.specs.declared.command_fault.PlacedFault.{PlacedFault}
+use Rattle.c25_meaning_common.specs.declared.placed.Placed.{Placed}
+use Rattle.c25_meaning_commands.specs.declared.command_fault.CommandFault.{CommandFault}
 use Rattle.c25_meaning_commands.specs.Command.{RangeData, PlacingData, CommandData}
 use Rattle.c25_meaning_commands.specs.CommandTokens.{Token}
 use Rattle.c25_meaning_commands.specs.CommandGrammar.{Reading, fault_at, fault_if, passes, begins, wanted, past, repeated, up_to, CountIsEnough, number_of_kind, number_at, page_number_at, setting_at}
@@ -28,10 +29,10 @@ abbrev Leaves : {A : Type 0} → ℕ → Reading A → Type 0
 Leaves n r = IfOk r (λ x. length x.1 ≤ n)
 
 -- the same of readings that give the tokens behind them alone
-abbrev TakesRest : ℕ → Result (List Token) PlacedFault → Type 0
+abbrev TakesRest : ℕ → Result (List Token) (Placed ℕ CommandFault) → Type 0
 TakesRest n r = IfOk r (λ ts. length ts < n)
 
-abbrev LeavesRest : ℕ → Result (List Token) PlacedFault → Type 0
+abbrev LeavesRest : ℕ → Result (List Token) (Placed ℕ CommandFault) → Type 0
 LeavesRest n r = IfOk r (λ ts. length ts ≤ n)
 
 -- ---- single tokens

@@ -12,8 +12,7 @@ use Rattle.c25_meaning_commands.specs.declared.command_token.Want.{Want}
 use Rattle.c25_meaning_commands.specs.declared.command_token.Want.TheVariants as want
 use Rattle.c25_meaning_commands.specs.declared.command_fault.CommandFault.{CommandFault}
 use Rattle.c25_meaning_commands.specs.declared.command_fault.CommandFault.TheVariants.{Syntax, Twice, RangeSize, RangeOverlap}
-use Rattle.c25_meaning_commands.specs.declared.command_fault.FaultyCommand.{FaultyCommand}
-use Rattle.c25_meaning_commands.specs.declared.command_fault.PlacedFault.{PlacedFault}
+use Rattle.c25_meaning_common.specs.declared.placed.Placed.{Placed}
 use Rattle.c25_meaning_commands.specs.Command.{RangeData, IsRange, PlacingData, CommandData, HasWord, AreApart, AreOthers, Pairwise, IsCommand, nothing}
 use Rattle.c25_meaning_commands.specs.CommandTokens.{Token, tokens}
 use Rattle.c25_meaning_commands.specs.CommandGrammar.{Reading, fault_if, begins, wanted, past, repeated, up_to, number_at, page_number_at, setting_at}
@@ -263,7 +262,7 @@ command_kept ts =
     bound (λ x. IsCommand x.0) _ (up_to want.End part_in nothing ts) _
     (up_to_keeps IsCommand want.End part_in part_kept nothing ts (record { ranges = tt; apart = tt; sections = tt; pages = tt })) (λ parts kept. kept)
 
-of_text : (as_other : PlacedFault → FaultyCommand) (r : Result CommandData PlacedFault) (command : CommandData) → IfOk r IsCommand → told as_other r ≡ Ok command → IsCommand command
+of_text : (as_other : Placed ℕ CommandFault → Placed ℕ CommandFault) (r : Result CommandData (Placed ℕ CommandFault)) (command : CommandData) → IfOk r IsCommand → told as_other r ≡ Ok command → IsCommand command
 of_text as_other (Ok found) command kept e = let same : found ≡ command = cc in subst IsCommand same kept
 of_text as_other (Err f) command kept e = absurd cc
 

@@ -4,7 +4,8 @@ use Rattle.c25_meaning_commands.specs.declared.command_token.Want.{Want}
 use Rattle.c25_meaning_commands.specs.CommandTokens.{Token}
 use Rattle.c25_meaning_commands.specs.CommandGrammar.{Reading, repeated, begins}
 use Rattle.c25_meaning_common.specs.Results.{Fails}
-use Rattle.c25_meaning_commands.specs.declared.command_fault.PlacedFault.{PlacedFault}
+use Rattle.c25_meaning_common.specs.declared.placed.Placed.{Placed}
+use Rattle.c25_meaning_commands.specs.declared.command_fault.CommandFault.{CommandFault}
 use Rattle.c25_meaning_common.specs.declared.failure.Failure.{Failure}
 use Rattle.c25_meaning_common.specs.declared.failure.Failure.TheVariants.{NoMemory, Fault}
 
@@ -34,7 +35,7 @@ module _ {S : Type 0} (last : Want) (one : S → List Token → Reading S) where
       let one_step : repeated last one (count - i) s ts ≡ repeated last one (count - (i + 1)) s' ts' = rw (k, h, step) refl in
       sym one_step ∙ so_far
 
-  pub fails : (e : Failure PlacedFault) (count i : ℕ) (s : S) (ts : List Token) (total : Reading S) → i < count → begins last ts ≡ false
+  pub fails : (e : Failure (Placed ℕ CommandFault)) (count i : ℕ) (s : S) (ts : List Token) (total : Reading S) → i < count → begins last ts ≡ false
       → Fails (one s ts) e → repeated last one (count - i) s ts ≡ total → Fails total e
   unfolding repeated
   fails (NoMemory n) count i s ts total lt h step so_far = tt

@@ -6,9 +6,13 @@ ghost use Rattle.c25_meaning_common.specs.Results.{Meets};
 ghost use Rattle.c25_cmd.specs.View.{token_of, tokens_of};
 
 use crate::token::Token;
-use c25_meaning_commands::command_fault::{CommandFault, PlacedFault};
+use c25_meaning_commands::command_fault::CommandFault;
 use c25_meaning_commands::command_token::{Keyword, Kind, Sign, Want};
 use c25_meaning_common::failure::Failure;
+use c25_meaning_common::placed::Placed;
+
+/// A refused growth, or a fault at the byte where a token begins.
+pub(crate) type Refused = Failure<Placed<usize, CommandFault>>;
 
 fn passes(want: Want, kind: Kind) -> bool
     ensures { result ≡ passes want kind }
@@ -25,14 +29,14 @@ fn passes(want: Want, kind: Kind) -> bool
 }
 
 /// A fault at the first token.
-fn fault_at(fault: CommandFault, tokens: &[Token]) -> PlacedFault
+fn fault_at(fault: CommandFault, tokens: &[Token]) -> Placed<usize, CommandFault>
     ensures { result ≡ fault_at fault (tokens_of tokens.now) }
 {
     let place = match tokens {
         [] => 0,
         [token, ..] => token.place,
     };
-    PlacedFault { fault, place }
+    Placed { place, fault }
 }
 
 /// Whether the first token is this.
@@ -47,10 +51,7 @@ pub(crate) fn begins(want: Want, tokens: &[Token]) -> bool
 
 /// A token that must stand here, and those behind it.
 #[tactic(auto, unfolding(c25_meaning_commands::specs::CommandGrammar::wanted))]
-pub(crate) fn wanted(
-    want: Want,
-    tokens: &[Token],
-) -> Result<(&Token, &[Token]), Failure<PlacedFault>>
+pub(crate) fn wanted(want: Want, tokens: &[Token]) -> Result<(&Token, &[Token]), Refused>
     ensures { Meets (λ x. (token_of x.0.now, tokens_of x.1.now)) (wanted want (tokens_of tokens.now)) result }
 {
     match tokens {
@@ -80,7 +81,7 @@ fn number_of_kind(kind: Kind) -> Option<u32>
 
 /// A number that must stand here, and the tokens behind it.
 #[tactic(auto, unfolding(c25_meaning_commands::specs::CommandGrammar::number_at))]
-pub(crate) fn number_at(tokens: &[Token]) -> Result<(u32, &[Token]), Failure<PlacedFault>>
+pub(crate) fn number_at(tokens: &[Token]) -> Result<(u32, &[Token]), Refused>
     ensures { Meets (λ x. (x.0, tokens_of x.1.now)) (number_at (tokens_of tokens.now)) result }
 {
     match tokens {
@@ -93,11 +94,7 @@ pub(crate) fn number_at(tokens: &[Token]) -> Result<(u32, &[Token]), Failure<Pla
 }
 
 /// Refuses where the test holds.
-pub(crate) fn fault_if(
-    test: bool,
-    fault: CommandFault,
-    tokens: &[Token],
-) -> Result<(), Failure<PlacedFault>>
+pub(crate) fn fault_if(test: bool, fault: CommandFault, tokens: &[Token]) -> Result<(), Refused>
     ensures { Meets (λ x. x) (fault_if test fault (tokens_of tokens.now)) result }
 {
     if test {
@@ -109,7 +106,7 @@ pub(crate) fn fault_if(
 
 /// The number of a page: 0 or 1.
 #[tactic(auto, unfolding(c25_meaning_commands::specs::CommandGrammar::page_number_at))]
-pub(crate) fn page_number_at(tokens: &[Token]) -> Result<(u8, &[Token]), Failure<PlacedFault>>
+pub(crate) fn page_number_at(tokens: &[Token]) -> Result<(u8, &[Token]), Refused>
     ensures given { Meets (λ x. (x.0, tokens_of x.1.now)) (page_number_at (tokens_of tokens.now)) result }
     ensures low { IfOk result (λ x. x.0 ≤ 1) }
 {
@@ -120,10 +117,7 @@ pub(crate) fn page_number_at(tokens: &[Token]) -> Result<(u8, &[Token]), Failure
 
 /// `keyword =`: the tokens behind it.
 #[tactic(auto, unfolding(c25_meaning_commands::specs::CommandGrammar::setting_at))]
-pub(crate) fn setting_at(
-    keyword: Keyword,
-    tokens: &[Token],
-) -> Result<&[Token], Failure<PlacedFault>>
+pub(crate) fn setting_at(keyword: Keyword, tokens: &[Token]) -> Result<&[Token], Refused>
     ensures { Meets (λ x. tokens_of x.now) (setting_at keyword (tokens_of tokens.now)) result }
 {
     let (_, tokens) = wanted(Want::Keyword(keyword), tokens)?;

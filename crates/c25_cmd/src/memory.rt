@@ -10,17 +10,18 @@ ghost use Rattle.c25_meaning_common.specs.Results.{Meets};
 ghost use Rattle.c25_cmd.specs.View.{tokens_of, range_of, ranges_of};
 
 use crate::command::MemoryRange;
-use crate::grammar::{begins, fault_if, number_at, page_number_at, past, setting_at, wanted};
+use crate::grammar::{
+    Refused, begins, fault_if, number_at, page_number_at, past, setting_at, wanted,
+};
 use crate::ranges::{PAGE_WORDS, Ranges, no_ranges, shares_word, take_name, take_range};
 use crate::token::Token;
-use c25_meaning_commands::command_fault::{CommandFault, PlacedFault};
+use c25_meaning_commands::command_fault::CommandFault;
 use c25_meaning_commands::command_token::{Keyword, Sign, Want};
-use c25_meaning_common::failure::Failure;
 use std::alloc::Global;
 
 /// The page of the ranges from here on.
 #[tactic(auto, unfolding(c25_meaning_commands::specs::CommandMemory::page_at))]
-fn page_at(page: u8, tokens: &[Token]) -> Result<(u8, &[Token]), Failure<PlacedFault>>
+fn page_at(page: u8, tokens: &[Token]) -> Result<(u8, &[Token]), Refused>
     requires { page ≤ 1 }
     ensures given { Meets (λ x. (x.0, tokens_of x.1.now)) (page_at page (tokens_of tokens.now)) result }
     ensures low { IfOk result (λ x. x.0 ≤ 1) }
@@ -35,7 +36,7 @@ fn page_at(page: u8, tokens: &[Token]) -> Result<(u8, &[Token]), Failure<PlacedF
 
 /// One word in parentheses, if they are there, which counts for nothing.
 #[tactic(auto, unfolding(c25_meaning_commands::specs::CommandMemory::attributes_at))]
-fn attributes_at(tokens: &[Token]) -> Result<&[Token], Failure<PlacedFault>>
+fn attributes_at(tokens: &[Token]) -> Result<&[Token], Refused>
     ensures { Meets (λ x. tokens_of x.now) (attributes_at (tokens_of tokens.now)) result }
 {
     if !begins(Want::Sign(Sign::OpenParenthesis), tokens) {
@@ -53,7 +54,7 @@ fn extent_at<'t>(
     page: u8,
     ranges: &Ranges<'_>,
     tokens: &'t [Token],
-) -> Result<((u32, u32), &'t [Token]), Failure<PlacedFault>>
+) -> Result<((u32, u32), &'t [Token]), Refused>
     requires page { page ≤ 1 }
     requires known { KnowsWords ranges.now.taken.items (ranges_of ranges.now.list.items) }
     ensures given { Meets (λ x. (x.0, tokens_of x.1.now)) (extent_at page (ranges_of ranges.now.list.items) (tokens_of tokens.now)) result }
@@ -81,7 +82,7 @@ fn range_at<'a>(
     page: u8,
     ranges: &mut Ranges<'a>,
     tokens: &'a [Token],
-) -> Result<(MemoryRange, &'a [Token]), Failure<PlacedFault>>
+) -> Result<(MemoryRange, &'a [Token]), Refused>
     requires page { page ≤ 1 }
     requires named { HasRangeNames (λ k. k.0) (λ k. k.1.now) ranges.old.names (ranges_of ranges.old.list.items) }
     requires known { KnowsWords ranges.old.taken.items (ranges_of ranges.old.list.items) }
@@ -116,7 +117,7 @@ fn add_range<'a>(
     page: u8,
     ranges: &mut Ranges<'a>,
     tokens: &'a [Token],
-) -> Result<(u8, &'a [Token]), Failure<PlacedFault>>
+) -> Result<(u8, &'a [Token]), Refused>
     requires page { page ≤ 1 }
     requires named { HasRangeNames (λ k. k.0) (λ k. k.1.now) ranges.old.names (ranges_of ranges.old.list.items) }
     requires known { KnowsWords ranges.old.taken.items (ranges_of ranges.old.list.items) }
@@ -134,10 +135,7 @@ fn add_range<'a>(
 }
 
 /// The ranges up to the brace that closes them.
-fn ranges_at(
-    alloc: Global,
-    tokens: &[Token],
-) -> Result<((u8, Vec<MemoryRange>), &[Token]), Failure<PlacedFault>>
+fn ranges_at(alloc: Global, tokens: &[Token]) -> Result<((u8, Vec<MemoryRange>), &[Token]), Refused>
     ensures { Meets (λ x. ((x.0.0, ranges_of x.0.1.items), tokens_of x.1.now))
         (repeated (want.Sign sign.CloseBrace) more_ranges (length tokens.now) (0, []) (tokens_of tokens.now)) result }
 {
@@ -160,7 +158,7 @@ fn ranges_at(
 pub(crate) fn memory_at(
     alloc: Global,
     tokens: &[Token],
-) -> Result<(Vec<MemoryRange>, &[Token]), Failure<PlacedFault>>
+) -> Result<(Vec<MemoryRange>, &[Token]), Refused>
     ensures { Meets (λ x. (ranges_of x.0.items, tokens_of x.1.now)) (memory_at (tokens_of tokens.now)) result }
 {
     let (_, tokens) = wanted(Want::Sign(Sign::OpenBrace), tokens)?;

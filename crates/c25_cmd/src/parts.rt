@@ -10,13 +10,12 @@ ghost use Rattle.c25_meaning_common.specs.Results.{Meets};
 ghost use Rattle.c25_cmd.specs.View.{tokens_of, command_data};
 
 use crate::command::Command;
-use crate::grammar::{begins, fault_if, past, wanted};
+use crate::grammar::{Refused, begins, fault_if, past, wanted};
 use crate::memory::memory_at;
 use crate::sections::sections_at;
 use crate::token::Token;
-use c25_meaning_commands::command_fault::{CommandFault, PlacedFault};
+use c25_meaning_commands::command_fault::CommandFault;
 use c25_meaning_commands::command_token::{Keyword, Want};
-use c25_meaning_common::failure::Failure;
 use std::alloc::Global;
 
 /// `-e name`.
@@ -25,7 +24,7 @@ fn entry_in<'a>(
     alloc: Global,
     command: &mut Command,
     tokens: &'a [Token],
-) -> Result<&'a [Token], Failure<PlacedFault>>
+) -> Result<&'a [Token], Refused>
     ensures { Meets (λ x. (command_data command.new, tokens_of x.now)) (entry_in (command_data command.old) (tokens_of tokens.now)) result }
 {
     let (word, rest) = wanted(Want::Name, tokens)?;
@@ -42,7 +41,7 @@ fn memory_in<'a>(
     alloc: Global,
     command: &mut Command,
     tokens: &'a [Token],
-) -> Result<&'a [Token], Failure<PlacedFault>>
+) -> Result<&'a [Token], Refused>
     requires { begins (want.Keyword keyword.Memory) (tokens_of tokens.now) ≡ true }
     ensures { Meets (λ x. (command_data command.new, tokens_of x.now)) (memory_in (command_data command.old) (tokens_of tokens.now)) result }
 {
@@ -58,7 +57,7 @@ fn sections_in<'a>(
     alloc: Global,
     command: &mut Command,
     tokens: &'a [Token],
-) -> Result<&'a [Token], Failure<PlacedFault>>
+) -> Result<&'a [Token], Refused>
     requires { begins (want.Keyword keyword.Sections) (tokens_of tokens.now) ≡ true }
     ensures { Meets (λ x. (command_data command.new, tokens_of x.now)) (sections_in (command_data command.old) (tokens_of tokens.now)) result }
 {
@@ -74,7 +73,7 @@ fn part_in<'a>(
     alloc: Global,
     command: &mut Command,
     tokens: &'a [Token],
-) -> Result<&'a [Token], Failure<PlacedFault>>
+) -> Result<&'a [Token], Refused>
     ensures { Meets (λ x. (command_data command.new, tokens_of x.now)) (part_in (command_data command.old) (tokens_of tokens.now)) result }
 {
     if begins(Want::Keyword(Keyword::Memory), tokens) {
@@ -87,7 +86,7 @@ fn part_in<'a>(
 }
 
 /// The parts up to the end.
-fn parts_at(alloc: Global, tokens: &[Token]) -> Result<(Command, &[Token]), Failure<PlacedFault>>
+fn parts_at(alloc: Global, tokens: &[Token]) -> Result<(Command, &[Token]), Refused>
     ensures { Meets (λ x. (command_data x.0, tokens_of x.1.now)) (repeated want.End part_in (length tokens.now) nothing (tokens_of tokens.now)) result }
 {
     let mut command = Command {
@@ -108,7 +107,7 @@ fn parts_at(alloc: Global, tokens: &[Token]) -> Result<(Command, &[Token]), Fail
 
 /// The command that the tokens spell.
 #[tactic(auto, unfolding(c25_meaning_commands::specs::CommandText::command_at))]
-pub(crate) fn command_at(alloc: Global, tokens: &[Token]) -> Result<Command, Failure<PlacedFault>>
+pub(crate) fn command_at(alloc: Global, tokens: &[Token]) -> Result<Command, Refused>
     ensures { Meets command_data (command_at (tokens_of tokens.now)) result }
 {
     let (command, rest) = parts_at(alloc, tokens)?;

@@ -12,8 +12,9 @@ use crate::bytes::front;
 use crate::command::Command;
 use crate::lexer::tokens;
 use crate::parts::command_at;
-use c25_meaning_commands::command_fault::FaultyCommand;
+use c25_meaning_commands::command_fault::CommandFault;
 use c25_meaning_common::failure::Failure;
+use c25_meaning_common::placed::Placed;
 use std::alloc::Global;
 
 fn line_feeds(text: &[u8]) -> usize
@@ -56,7 +57,10 @@ fn line_at(text: &str, place: usize) -> usize
 /// name; behind a range's length `RangeSize` and then `RangeOverlap`, both at that number; `Syntax` at
 /// the first word or sign that cannot stand where it is, or at the last line where the text ends too
 /// soon.
-pub fn read_command(alloc: Global, text: &str) -> Result<Command, Failure<FaultyCommand>>
+pub fn read_command(
+    alloc: Global,
+    text: &str,
+) -> Result<Command, Failure<Placed<usize, CommandFault>>>
     // It is the command that the text spells, or its first fault.
     ensures read { Meets command_data (command_of text.now) result }
 
@@ -67,9 +71,9 @@ pub fn read_command(alloc: Global, text: &str) -> Result<Command, Failure<Faulty
     match command_at(alloc, found.as_slice()) {
         Ok(command) => Ok(command),
         Err(Failure::NoMemory(error)) => Err(error.into()),
-        Err(Failure::Fault(first)) => Err(Failure::Fault(FaultyCommand {
+        Err(Failure::Fault(first)) => Err(Failure::Fault(Placed {
+            place: line_at(text, first.place),
             fault: first.fault,
-            line: line_at(text, first.place),
         })),
     }
 }

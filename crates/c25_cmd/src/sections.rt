@@ -12,17 +12,16 @@ ghost use Rattle.c25_meaning_common.specs.Results.{Meets};
 ghost use Rattle.c25_cmd.specs.View.{tokens_of, target_of, placing_of, placings_of};
 
 use crate::command::{Placing, Target};
-use crate::grammar::{begins, fault_if, number_at, page_number_at, past, wanted};
+use crate::grammar::{Refused, begins, fault_if, number_at, page_number_at, past, wanted};
 use crate::token::Token;
-use c25_meaning_commands::command_fault::{CommandFault, PlacedFault};
+use c25_meaning_commands::command_fault::CommandFault;
 use c25_meaning_commands::command_token::{Keyword, Sign, Want};
-use c25_meaning_common::failure::Failure;
 use std::alloc::{AllocError, Global};
 use std::collections::BTreeSet;
 
 /// `*(name)` or nothing.
 #[tactic(auto, unfolding(c25_meaning_commands::specs::CommandSections::input_at))]
-fn input_at<'a>(name: &str, tokens: &'a [Token]) -> Result<&'a [Token], Failure<PlacedFault>>
+fn input_at<'a>(name: &str, tokens: &'a [Token]) -> Result<&'a [Token], Refused>
     ensures { Meets (λ x. tokens_of x.now) (input_at name.now (tokens_of tokens.now)) result }
 {
     if !begins(Want::Sign(Sign::Star), tokens) {
@@ -38,7 +37,7 @@ fn input_at<'a>(name: &str, tokens: &'a [Token]) -> Result<&'a [Token], Failure<
 
 /// The braces and what stands in them, if they are there.
 #[tactic(auto, unfolding(c25_meaning_commands::specs::CommandSections::contents_at))]
-fn contents_at<'a>(name: &str, tokens: &'a [Token]) -> Result<&'a [Token], Failure<PlacedFault>>
+fn contents_at<'a>(name: &str, tokens: &'a [Token]) -> Result<&'a [Token], Refused>
     ensures { Meets (λ x. tokens_of x.now) (contents_at name.now (tokens_of tokens.now)) result }
 {
     if !begins(Want::Sign(Sign::OpenBrace), tokens) {
@@ -51,7 +50,7 @@ fn contents_at<'a>(name: &str, tokens: &'a [Token]) -> Result<&'a [Token], Failu
 
 /// A range's name or an address.
 #[tactic(auto, unfolding(c25_meaning_commands::specs::CommandSections::place_at))]
-fn place_at(alloc: Global, tokens: &[Token]) -> Result<(Target, &[Token]), Failure<PlacedFault>>
+fn place_at(alloc: Global, tokens: &[Token]) -> Result<(Target, &[Token]), Refused>
     ensures { Meets (λ x. (target_of x.0, tokens_of x.1.now)) (place_at (tokens_of tokens.now)) result }
 {
     if begins(Want::Name, tokens) {
@@ -67,7 +66,7 @@ fn place_at(alloc: Global, tokens: &[Token]) -> Result<(Target, &[Token]), Failu
 
 /// `> T`, `load = T`, `load > T` or nothing.
 #[tactic(auto, unfolding(c25_meaning_commands::specs::CommandSections::target_at))]
-fn target_at(alloc: Global, tokens: &[Token]) -> Result<(Target, &[Token]), Failure<PlacedFault>>
+fn target_at(alloc: Global, tokens: &[Token]) -> Result<(Target, &[Token]), Refused>
     ensures { Meets (λ x. (target_of x.0, tokens_of x.1.now)) (target_at (tokens_of tokens.now)) result }
 {
     if begins(Want::Sign(Sign::Greater), tokens) {
@@ -83,7 +82,7 @@ fn target_at(alloc: Global, tokens: &[Token]) -> Result<(Target, &[Token]), Fail
 
 /// `PAGE n` or nothing.
 #[tactic(auto, unfolding(c25_meaning_commands::specs::CommandSections::section_page_at))]
-fn page_at(tokens: &[Token]) -> Result<(Option<u8>, &[Token]), Failure<PlacedFault>>
+fn page_at(tokens: &[Token]) -> Result<(Option<u8>, &[Token]), Refused>
     ensures { Meets (λ x. (x.0, tokens_of x.1.now)) (section_page_at (tokens_of tokens.now)) result }
 {
     if !begins(Want::Keyword(Keyword::Page), tokens) {
@@ -95,7 +94,7 @@ fn page_at(tokens: &[Token]) -> Result<(Option<u8>, &[Token]), Failure<PlacedFau
 
 /// `run = number` and a comma that may be left out, or nothing.
 #[tactic(auto, unfolding(c25_meaning_commands::specs::CommandSections::run_at))]
-fn run_at(tokens: &[Token]) -> Result<(Option<u32>, &[Token]), Failure<PlacedFault>>
+fn run_at(tokens: &[Token]) -> Result<(Option<u32>, &[Token]), Refused>
     ensures { Meets (λ x. (x.0, tokens_of x.1.now)) (run_at (tokens_of tokens.now)) result }
 {
     if !begins(Want::Keyword(Keyword::Run), tokens) {
@@ -113,7 +112,7 @@ fn placing_at<'a>(
     alloc: Global,
     name: &str,
     tokens: &'a [Token],
-) -> Result<(Placing, &'a [Token]), Failure<PlacedFault>>
+) -> Result<(Placing, &'a [Token]), Refused>
     ensures given { Meets (λ x. (placing_of x.0, tokens_of x.1.now)) (placing_at name.now (tokens_of tokens.now)) result }
     ensures name { IfOk result (λ x. string_bytes x.0.name ≡ name.now) }
 {
@@ -156,7 +155,7 @@ fn add_placing<'a>(
     alloc: Global,
     sections: &mut Sections<'a>,
     tokens: &'a [Token],
-) -> Result<&'a [Token], Failure<PlacedFault>>
+) -> Result<&'a [Token], Refused>
     requires { HasNames (λ k. k.now) sections.old.names (placings_of sections.old.list.items) }
     ensures given { Meets (λ x. (placings_of sections.new.list.items, tokens_of x.now))
         (more_placings (placings_of sections.old.list.items) (tokens_of tokens.now)) result }
@@ -172,10 +171,7 @@ fn add_placing<'a>(
 }
 
 /// The sections up to the brace that closes them.
-fn placings_at(
-    alloc: Global,
-    tokens: &[Token],
-) -> Result<(Vec<Placing>, &[Token]), Failure<PlacedFault>>
+fn placings_at(alloc: Global, tokens: &[Token]) -> Result<(Vec<Placing>, &[Token]), Refused>
     ensures { Meets (λ x. (placings_of x.0.items, tokens_of x.1.now))
         (repeated (want.Sign sign.CloseBrace) more_placings (length tokens.now) [] (tokens_of tokens.now)) result }
 {
@@ -199,7 +195,7 @@ fn placings_at(
 pub(crate) fn sections_at(
     alloc: Global,
     tokens: &[Token],
-) -> Result<(Vec<Placing>, &[Token]), Failure<PlacedFault>>
+) -> Result<(Vec<Placing>, &[Token]), Refused>
     ensures { Meets (λ x. (placings_of x.0.items, tokens_of x.1.now)) (sections_at (tokens_of tokens.now)) result }
 {
     let (_, tokens) = wanted(Want::Sign(Sign::OpenBrace), tokens)?;

@@ -5,7 +5,7 @@ ghost use Rattle.c25_bits.specs.Cut.{cut, signed};
 ghost use Rattle.c25_meaning_arithmetic.specs.Arithmetic.{scaled};
 ghost use Rattle.c25_meaning_processor.specs.Effect.{become, minus, minus_high, minus_product, plus, plus_high, plus_product, product_word, word_product};
 
-use c25_alu::{add, product, scaled, shifted_product, subtract};
+use crate::alu::{add, product, scaled, shifted_product, subtract};
 use c25_meaning_arithmetic::accumulator::Acc;
 use c25_meaning_processor::registers::Registers;
 

@@ -8,33 +8,18 @@ ghost use Rattle.c25_core.specs.Sink.{HasFailed};
 
 use c25_meaning_image::mark::RunMark;
 use c25_meaning_processor::stop::Stop;
-use std::error::Error;
-use std::fmt;
+use thiserror::Error;
 
 /// Why a step was not done. Core and bus are then as before it, the sink's count of failures apart.
-#[derive(Clone, Copy, PartialEq, Debug)]
+#[derive(Clone, Copy, PartialEq, Debug, Error)]
 pub enum Halt {
     /// The code was left.
+    #[error("the code was left: {0}")]
     Stop(Stop),
     /// The sink failed to take a word in this very step.
+    #[error("the sink failed")]
     Sink,
 }
-
-impl fmt::Display for Halt {
-    ghost use Rattle.std.specs.Prelude.{Some};
-    ghost use Rattle.c25_core.specs.HaltText.{halt_text};
-
-    ghost output = { λ halt. Some (halt_text halt) };
-
-    fn fmt<W: fmt::Write>(&self, f: &mut fmt::Formatter<W>) -> fmt::Result {
-        match self {
-            Halt::Stop(stop) => write!(f, "the code was left: {stop}"),
-            Halt::Sink => f.write_str("the sink failed"),
-        }
-    }
-}
-
-impl Error for Halt {}
 
 /// What a step did.
 #[derive(Clone, Copy, PartialEq, Debug)]
@@ -46,20 +31,9 @@ pub enum Tick {
 }
 
 /// The sink did not take a word.
-#[derive(Clone, Copy, Debug)]
+#[derive(Clone, Copy, Debug, Error)]
+#[error("the sink failed")]
 pub struct SinkFailed;
-
-impl fmt::Display for SinkFailed {
-    ghost use Rattle.std.specs.Prelude.{Some, codes};
-
-    ghost output = { λ _. Some (codes "the sink failed") };
-
-    fn fmt<W: fmt::Write>(&self, f: &mut fmt::Formatter<W>) -> fmt::Result {
-        f.write_str("the sink failed")
-    }
-}
-
-impl Error for SinkFailed {}
 
 /// Data and program memory, the places of the instructions, and ports. Block B0 is always at data
 /// addresses 200h to 2FFh here: the processor itself finds it where CNF puts it.

@@ -3,6 +3,7 @@
 
 mod accumulator;
 mod advance;
+mod alu;
 mod ar_mem;
 mod bit;
 mod bus;

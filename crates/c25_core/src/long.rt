@@ -5,7 +5,7 @@ ghost use Rattle.c25_meaning_processor.specs.Effect.{long_effect};
 ghost use Rattle.c25_meaning_instructions.specs.Table.{high_limit};
 
 use crate::accumulator::{become_scaled, minus_scaled, plus_scaled};
-use c25_alu::shift_left;
+use crate::alu::shift_left;
 use c25_meaning_instructions::mnemonic::LongName;
 use c25_meaning_processor::registers::Registers;
 

@@ -13,12 +13,12 @@ use crate::accumulator::{
     become_scaled, bit_of, high_half, low_half, minus_high, minus_natural, minus_product,
     minus_scaled, plus_high, plus_natural, plus_product, plus_scaled, product_word, word_product,
 };
+use crate::alu::{scaled, subc};
 use crate::bus::{Bus, Halt};
 use crate::memory::{read_data, read_program, store_program, write_data};
 use crate::operand::{address_of, settle, without_next};
 use crate::stack::{pop, push};
 use crate::status::{load_st0, load_st1, st0, st1};
-use c25_alu::{scaled, subc};
 use c25_meaning_instructions::insn::Addr;
 use c25_meaning_instructions::mnemonic::MemName;
 use c25_meaning_processor::registers::{DataPage, Registers};

@@ -5,12 +5,12 @@ ghost use Rattle.c25_meaning_processor.specs.Effect.{compares, norm_effect, oper
 ghost use Rattle.c25_meaning_arithmetic.specs.Arithmetic.{normalized};
 
 use crate::accumulator::{low_half, minus_product, plus_product, product_word};
+use crate::alu::{
+    absolute, negate, norm, rotate_left, rotate_right, shift_left_once, shift_right_once,
+};
 use crate::operand::{change_ar, current};
 use crate::stack::{call, pop, push};
 use crate::status::shift_of_number;
-use c25_alu::{
-    absolute, negate, norm, rotate_left, rotate_right, shift_left_once, shift_right_once,
-};
 use c25_meaning_instructions::insn::{Change, PlainOperand};
 use c25_meaning_instructions::mnemonic::PlainName;
 use c25_meaning_processor::registers::Registers;

@@ -7,10 +7,10 @@ ghost use Rattle.c25_meaning_processor.specs.State.{data_at};
 ghost use Rattle.c25_meaning_instructions.specs.Table.{AddrInRange, shift_limit};
 
 use crate::accumulator::{become_scaled, high_half, low_half, minus_scaled, plus_scaled};
+use crate::alu::shift_left;
 use crate::bus::Bus;
 use crate::memory::{read_data, write_data};
 use crate::operand::{address_of, settle};
-use c25_alu::shift_left;
 use c25_meaning_instructions::insn::Addr;
 use c25_meaning_instructions::mnemonic::ShiftedName;
 use c25_meaning_processor::registers::Registers;

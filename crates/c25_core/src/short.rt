@@ -5,8 +5,8 @@ ghost use Rattle.c25_meaning_processor.specs.Effect.{short_effect};
 ghost use Rattle.c25_meaning_instructions.specs.Table.{ShortInRange};
 
 use crate::accumulator::{minus_natural, plus_natural, signed_word};
+use crate::alu::product;
 use crate::mem::repeat;
-use c25_alu::product;
 use c25_meaning_instructions::mnemonic::ShortName;
 use c25_meaning_processor::registers::{DataPage, Registers};
 

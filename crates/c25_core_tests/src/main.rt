@@ -69,6 +69,8 @@ fn main(rt: HostRuntime) -> Result<()> {
 }
 
 #[cfg(test)]
+mod arithmetic;
+#[cfg(test)]
 mod programs;
 #[cfg(test)]
 mod tests;

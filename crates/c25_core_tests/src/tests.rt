@@ -16,24 +16,11 @@ use c25_meaning_processor::stop::Stop;
 use std::process::Abort;
 use std::test::Fail;
 
-/// The carry in ST1, and OV and OVM in ST0.
-const C: u16 = 0x200;
-
+/// OV in ST0.
 const OV: u16 = 0x1000;
 
-const OVM: u16 = 0x800;
-
-/// The state of these 32 bits in the accumulator.
-fn with_acc(high: u16, low: u16) -> State {
-    State {
-        acc_high: high,
-        acc_low: low,
-        ..State::new()
-    }
-}
-
 /// The registers after an instruction in a state, with this word at data address 40h.
-fn after(
+pub fn after(
     rt: &(impl Abort + AllocGlobal),
     state: &State,
     word: u16,
@@ -59,48 +46,6 @@ fn mpya_adds_the_old_product(rt: HostRuntime) -> Result<(), Fail> {
     };
     let regs = after(&rt, &state, 3, &mem(MemName::Mpya, 0x40))?;
     assert_eq!(rt; (regs.acc, regs.p), (5, 6));
-    Ok(())
-}
-
-#[test]
-fn sixteen_steps_of_subc_divide(rt: HostRuntime) -> Result<(), Fail> {
-    let mut bench = Bench::new(rt.alloc())?;
-    let next = bench.place_insn(0x100, &Insn::Short(ShortName::Rptk, 0, 15))?;
-    bench.place_insn(next, &mem(MemName::Subc, 0x40))?;
-    bench.set_data(0x40, 7);
-    let mut core = with_acc(0, 41).make(&mut bench, 0x100)?;
-    for _ in 0..17 {
-        assert_eq!(rt; core.step(Lines::empty(), true, &mut bench), Ok(Tick::Ran));
-    }
-    assert!(rt; core.settled());
-    assert_eq!(rt; (core.regs().acc, core.regs().pc), (0x0006_0005, 0x102));
-    Ok(())
-}
-
-#[test]
-fn subc_overflows_without_saturating(rt: HostRuntime) -> Result<(), Fail> {
-    let regs = after(&rt, &with_acc(0x8000, 0), 1, &mem(MemName::Subc, 0x40))?;
-    assert_eq!(rt; (regs.acc, regs.st0 & OV, regs.st1 & C), (0, OV, C));
-    Ok(())
-}
-
-#[test]
-fn carry_of_neg_addh_and_subh(rt: HostRuntime) -> Result<(), Fail> {
-    let no_carry = State {
-        st1: 0x07F0 - C,
-        ..State::new()
-    };
-    let neg = Insn::Plain(PlainName::Neg, PlainOperand::Nothing);
-    let regs = after(&rt, &no_carry, 0, &neg)?;
-    assert_eq!(rt; (regs.acc, regs.st1 & C), (0, C));
-    let regs = after(&rt, &State::new(), 1, &mem(MemName::Addh, 0x40))?;
-    assert_eq!(rt; (regs.acc, regs.st1 & C), (0x0001_0000, C));
-    let state = State {
-        acc_high: 1,
-        ..no_carry
-    };
-    let regs = after(&rt, &state, 1, &mem(MemName::Subh, 0x40))?;
-    assert_eq!(rt; (regs.acc, regs.st1 & C), (0, 0));
     Ok(())
 }
 
@@ -213,29 +158,6 @@ fn a_branch_is_not_repeated(rt: HostRuntime) -> Result<(), Fail> {
 }
 
 #[test]
-fn sums_saturate_under_ovm(rt: HostRuntime) -> Result<(), Fail> {
-    let addk = Insn::Short(ShortName::Addk, 0, 1);
-    let mut state = with_acc(0x7FFF, 0xFFFF);
-    let regs = after(&rt, &state, 0, &addk)?;
-    assert_eq!(rt;
-        (regs.acc, regs.st0 & OV, regs.st1 & C),
-        (0x8000_0000, OV, 0)
-    );
-    state.st0 = 0x0600 + OVM;
-    let regs = after(&rt, &state, 0, &addk)?;
-    assert_eq!(rt;
-        (regs.acc, regs.st0 & OV, regs.st1 & C),
-        (0x7FFF_FFFF, OV, 0)
-    );
-    let regs = after(&rt, &State::new(), 0, &Insn::Short(ShortName::Subk, 0, 1))?;
-    assert_eq!(rt;
-        (regs.acc, regs.st0 & OV, regs.st1 & C),
-        (0xFFFF_FFFF, 0, 0)
-    );
-    Ok(())
-}
-
-#[test]
 fn reversed_carry_orders_a_transform(rt: HostRuntime) -> Result<(), Fail> {
     let mut bench = Bench::new(rt.alloc())?;
     let change = Addr::Indirect(Change::ReverseAdd, None);
@@ -253,20 +175,6 @@ fn reversed_carry_orders_a_transform(rt: HostRuntime) -> Result<(), Fail> {
         assert_eq!(rt; core.step(Lines::empty(), true, &mut bench), Ok(Tick::Ran));
         assert_eq!(rt; core.regs().ar[1], want);
     }
-    Ok(())
-}
-
-#[test]
-fn the_shifted_product_keeps_its_sign(rt: HostRuntime) -> Result<(), Fail> {
-    let state = State {
-        p_high: 0xFFFF,
-        p_low: 0xFFC0,
-        st1: 0x03F3,
-        ..State::new()
-    };
-    let pac = Insn::Plain(PlainName::Pac, PlainOperand::Nothing);
-    let regs = after(&rt, &state, 0, &pac)?;
-    assert_eq!(rt; regs.acc, 0xFFFF_FFFF);
     Ok(())
 }
 

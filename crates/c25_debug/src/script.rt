@@ -6,30 +6,10 @@ ghost use Rattle.c25_meaning_common.specs.Results.{MeetsBy};
 
 use c25_items::{LineFormat, decimal_of, hexadecimal_of, is_word, read_items};
 use c25_meaning_common::failure::Failure;
-use c25_meaning_stimulus::script::Cmd;
+use c25_meaning_common::placed::Placed;
+use c25_meaning_stimulus::script::{BadCommand, Cmd};
 use std::alloc::Global;
-use std::error::Error;
-use std::fmt;
 use std::marker::Model;
-
-/// The first line of a text, counted from 1, whose words are no command (95).
-#[derive(Clone, Copy, Debug)]
-pub struct BadCommand {
-    pub line: usize,
-}
-
-impl fmt::Display for BadCommand {
-    ghost use Rattle.std.specs.Prelude.{Some, codes};
-    ghost use Rattle.c25_meaning_common.specs.Faults.{line_text};
-
-    ghost output = { λ bad. Some (line_text bad.line (codes "BadCommand")) };
-
-    fn fmt<W: fmt::Write>(&self, f: &mut fmt::Formatter<W>) -> fmt::Result {
-        write!(f, "line {}: BadCommand", self.line)
-    }
-}
-
-impl Error for BadCommand {}
 
 /// The commands of a script, in order; no `data` and no `prog` goes on past the memory. Contracts see
 /// it as their list.
@@ -143,8 +123,6 @@ impl LineFormat for CommandLines {
 
     ghost item_of = { script_command_of };
 
-    ghost line_of = { λ f. f.line };
-
     fn item(_before: &[Cmd], words: &[&[u8]]) -> Option<Cmd> {
         match words {
             [word] => plain_command(word),
@@ -154,14 +132,14 @@ impl LineFormat for CommandLines {
         }
     }
 
-    fn fault(line: usize) -> BadCommand {
-        BadCommand { line }
+    fn fault() -> BadCommand {
+        BadCommand
     }
 }
 
 /// The script of a text, or the first line that is neither blank nor a command.
-pub fn read_script(alloc: Global, text: &str) -> Result<Script, Failure<BadCommand>>
-    ensures { MeetsBy (λ f. f.line) (λ x. x) (script_of text.now) result }
+pub fn read_script(alloc: Global, text: &str) -> Result<Script, Failure<Placed<usize, BadCommand>>>
+    ensures { MeetsBy (λ f. f.place) (λ x. x) (script_of text.now) result }
 {
     let commands = read_items::<CommandLines>(alloc, text)?;
     Ok(Script { commands })

@@ -6,8 +6,9 @@ ghost use Rattle.c25_meaning_common.specs.Results.{MeetsBy, told};
 ghost use Rattle.c25_meaning_stimulus.specs.Script.{script_of};
 
 use c25_chain::fault::{Fault, Refusal};
-use c25_debug::script::{BadCommand, Script, read_script};
+use c25_debug::script::{Script, read_script};
 use c25_meaning_common::failure::Failure;
+use c25_meaning_common::placed::Placed;
 use std::alloc::Global;
 
 /// The script of a text.
@@ -17,6 +18,8 @@ pub(crate) fn script_in(alloc: Global, text: &str) -> Result<Script, Fault>
     match read_script(alloc, text) {
         Ok(script) => Ok(script),
         Err(Failure::NoMemory(error)) => Err(error.into()),
-        Err(Failure::Fault(BadCommand { line })) => Err(Failure::Fault(Refusal::Script { line })),
+        Err(Failure::Fault(Placed { place: line, .. })) => {
+            Err(Failure::Fault(Refusal::Script { line }))
+        }
     }
 }

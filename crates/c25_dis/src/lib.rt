@@ -9,8 +9,6 @@ mod notes;
 mod reading;
 mod section;
 mod standing;
-#[cfg(test)]
-mod tests;
 mod words;
 
 pub use module::disassemble_module;

@@ -3,8 +3,9 @@ use Rattle.std.proofs.Common.{◌≡◌, ◌∙◌, sym, ap, ℕ, ◌+◌, ◌<�
 use Rattle.std.proofs.lemmas.List.{map-append, map_more, drop_more, drop_all, take-append-drop}
 use Rattle.c25_meaning_expansion.specs.Files.{Files}
 use Rattle.c25_meaning_common.specs.declared.failure.Failure.{Failure}
+use Rattle.c25_meaning_common.specs.declared.placed.Placed.{Placed}
 use Rattle.c25_disk.specs.declared.fault.FileFault.{FileFault}
-use Rattle.c25_disk.specs.declared.fault.FileFaultKind.TheVariants.{CannotWrite}
+use Rattle.c25_disk.specs.declared.fault.FileFault.TheVariants.{CannotWrite}
 use Rattle.std.specs.Prelude.{String}
 use Rattle.std.specs.declared.alloc.Global.{Global}
 use Rattle.c25_disk.specs.Held.{Adds, IsOfFile, Stay}
@@ -32,7 +33,7 @@ adds_all a b outputs i high done =
     in
     subst (λ xs. Adds a b (map contents_of xs)) all done
 
-pub unwritten : (a b c : Option Files) (outputs : List Output) (i : ℕ) (d output : Output) (fault : Failure (FileFault (String Global))) → i < length outputs → output ≡ get_or outputs i d → Adds a b (map contents_of (take i outputs)) → Stay b c → IsOfFile output.name.now CannotWrite fault → IsUnwritten a c outputs fault
+pub unwritten : (a b c : Option Files) (outputs : List Output) (i : ℕ) (d output : Output) (fault : Failure (Placed (String Global) FileFault)) → i < length outputs → output ≡ get_or outputs i d → Adds a b (map contents_of (take i outputs)) → Stay b c → IsOfFile output.name.now CannotWrite fault → IsUnwritten a c outputs fault
 unwritten a b c outputs i d output fault low at first stay is =
     let parts : outputs ≡ take i outputs ++ output ∷ drop (i + 1) outputs =
     sym (take-append-drop i outputs) ∙ ap (λ rest. take i outputs ++ rest) (drop_more outputs i d low ∙ ap (λ (o : Output). o ∷ drop (i + 1) outputs) (sym at))

@@ -6,11 +6,12 @@ use Rattle.std.specs.Prelude.{Result, Ok, Err, String}
 use Rattle.std.specs.declared.alloc.Global.{Global}
 use Rattle.c25_meaning_expansion.specs.Files.{Files}
 use Rattle.c25_meaning_common.specs.declared.failure.Failure.{Failure}
+use Rattle.c25_meaning_common.specs.declared.placed.Placed.{Placed}
 use Rattle.c25_disk.specs.declared.fault.FileFault.{FileFault}
 use Rattle.c25_disk.specs.Held.{Held, AddsSource, ReadsSources, IsOfFile, source_fault}
 
 abbrev pub Answer : Type 0
-Answer = Result Files (Failure (FileFault (String Global)))
+Answer = Result Files (Failure (Placed (String Global) FileFault))
 
 -- the names from a place on
 abbrev pub rest_of : List (Bor (List ℕ)) → ℕ → List (List ℕ)
@@ -31,7 +32,7 @@ step held names files after i d answer low added reads =
 pub completes_more : (held : Held) (names : List (Bor (List ℕ))) (files after : Files) (i : ℕ) (d : Bor (List ℕ)) → i < length names → AddsSource held files after (get_or names i d).now (Ok tt) → Completes held names files i → Completes held names after (i + 1)
 completes_more held names files after i d low added so_far answer reads = so_far answer (step held names files after i d answer low added reads)
 
-pub ends_refused : (held : Held) (names : List (Bor (List ℕ))) (files : Files) (i : ℕ) (d : Bor (List ℕ)) (fault : Failure (FileFault (String Global))) → i < length names → IsOfFile (get_or names i d).now (source_fault files (get_or names i d).now) fault → Completes held names files i → ReadsSources held [] (map (λ name. name.now) names) (Err fault)
+pub ends_refused : (held : Held) (names : List (Bor (List ℕ))) (files : Files) (i : ℕ) (d : Bor (List ℕ)) (fault : Failure (Placed (String Global) FileFault)) → i < length names → IsOfFile (get_or names i d).now (source_fault files (get_or names i d).now) fault → Completes held names files i → ReadsSources held [] (map (λ name. name.now) names) (Err fault)
 ends_refused held names files i d fault low refused so_far =
     so_far (Err fault) (subst (λ xs. ReadsSources held files (map (λ name. name.now) xs) (Err fault)) (sym (drop_more names i d low)) (inl (refused, tt)))
 

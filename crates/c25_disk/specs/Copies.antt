@@ -8,8 +8,9 @@ use Rattle.c25_meaning_common.specs.declared.failure.Failure.TheVariants.{NoMemo
 use Rattle.c25_disk.specs.Held.{Held, AreAsHeld, IsAllOf}
 use Rattle.c25_disk.specs.declared.attempts.Turn.{Turn}
 use Rattle.c25_disk.specs.declared.attempts.Turn.TheVariants.{Answered, Lacks}
+use Rattle.c25_meaning_common.specs.declared.placed.Placed.{Placed}
 use Rattle.c25_disk.specs.declared.fault.FileFault.{FileFault}
-use Rattle.c25_disk.specs.declared.fault.FileFaultKind.TheVariants.{CannotRead}
+use Rattle.c25_disk.specs.declared.fault.FileFault.TheVariants.{CannotRead}
 use Rattle.c25_disk.specs.declared.work.CopyFault.{CopyFault}
 use Rattle.c25_disk.specs.declared.work.CopyFault.TheVariants.{File, Work}
 
@@ -22,7 +23,7 @@ abbrev pub Lacking : Files → Option (List ℕ) → List ℕ → Type 0
 Lacking files asked name = (asked ≡ Some name) × (is_some (text_named files name) ≡ false)
 
 -- a file's fault, as the work's
-abbrev pub IsFileFault : {F : Type 0} → Failure (FileFault (String Global)) → Failure (CopyFault F) → Type 0
+abbrev pub IsFileFault : {F : Type 0} → Failure (Placed (String Global) FileFault) → Failure (CopyFault F) → Type 0
 IsFileFault (NoMemory n) (NoMemory m) = Unit {0}
 IsFileFault (NoMemory n) (Fault g) = ⊥
 IsFileFault (Fault f) (NoMemory m) = ⊥
@@ -51,13 +52,13 @@ IsEnd comes_to missing files (Ok a) = comes_to (Ok a)
 IsEnd comes_to missing files (Err (NoMemory n)) = Unit {0}
 IsEnd comes_to missing files (Err (Fault (Work f))) = comes_to (Err (Fault f)) × IsThere files (missing f)
 IsEnd {A} {F} comes_to missing files (Err (Fault (File g))) =
-    (g.kind ≡ CannotRead) × ((f : F) × comes_to (Err (Fault f)) × Lacking files (missing f) (string_bytes g.file))
+    (g.fault ≡ CannotRead) × ((f : F) × comes_to (Err (Fault f)) × Lacking files (missing f) (string_bytes g.place))
 
 -- a file is read and joins these, or cannot be read (8)
 abbrev pub AddsCopy : {F : Type 0} → Held → Files → Files → List ℕ → Result (Unit {0}) (Failure (CopyFault F)) → Type 0
 AddsCopy held files after name (Ok done) = (text : List ℕ) × IsAllOf (held name) text × (after ≡ files ++ (name, text) ∷ [])
 AddsCopy held files after name (Err (NoMemory n)) = Unit {0}
-AddsCopy held files after name (Err (Fault (File g))) = (string_bytes g.file ≡ name) × (g.kind ≡ CannotRead)
+AddsCopy held files after name (Err (Fault (File g))) = (string_bytes g.place ≡ name) × (g.fault ≡ CannotRead)
 AddsCopy held files after name (Err (Fault (Work f))) = ⊥
 
 -- files that were given, and behind them so many at most that were copied from a disk

@@ -7,9 +7,9 @@ use Rattle.c25_meaning_expansion.specs.Files.{Files, text_named}
 pub use Rattle.c25_reading.specs.Whole.{IsAllOf}
 use Rattle.c25_meaning_common.specs.declared.failure.Failure.{Failure}
 use Rattle.c25_meaning_common.specs.declared.failure.Failure.TheVariants.{NoMemory, Fault}
+use Rattle.c25_meaning_common.specs.declared.placed.Placed.{Placed}
 use Rattle.c25_disk.specs.declared.fault.FileFault.{FileFault}
-use Rattle.c25_disk.specs.declared.fault.FileFaultKind.{FileFaultKind}
-use Rattle.c25_disk.specs.declared.fault.FileFaultKind.TheVariants.{CannotRead, FileTwice}
+use Rattle.c25_disk.specs.declared.fault.FileFault.TheVariants.{CannotRead, FileTwice}
 
 -- the bytes of files by their names, where they are known
 abbrev pub Held : Type 0
@@ -30,22 +30,22 @@ abbrev pub AreAsHeld : Held → Files → Type 0
 AreAsHeld held files = All (λ file. IsAllOf (held file.0) file.1) files
 
 -- this is wrong with the file of this name, unless memory ran out
-abbrev pub IsOfFile : List ℕ → FileFaultKind → Failure (FileFault (String Global)) → Type 0
+abbrev pub IsOfFile : List ℕ → FileFault → Failure (Placed (String Global) FileFault) → Type 0
 IsOfFile name kind (NoMemory n) = Unit {0}
-IsOfFile name kind (Fault f) = (string_bytes f.file ≡ name) × (f.kind ≡ kind)
+IsOfFile name kind (Fault f) = (string_bytes f.place ≡ name) × (f.fault ≡ kind)
 
 -- what is wrong with a file that is to be a source behind these: it is one of them (37), or else it cannot be read (8)
-abbrev pub source_fault : Files → List ℕ → FileFaultKind
+abbrev pub source_fault : Files → List ℕ → FileFault
 source_fault files name = if is_some (text_named files name) then FileTwice else CannotRead
 
 -- a file's text joins these under its name, or why not
-abbrev pub AddsSource : Held → Files → Files → List ℕ → Result (Unit {0}) (Failure (FileFault (String Global))) → Type 0
+abbrev pub AddsSource : Held → Files → Files → List ℕ → Result (Unit {0}) (Failure (Placed (String Global) FileFault)) → Type 0
 AddsSource held files after name (Ok done) =
     (text : List ℕ) × IsAllOf (held name) text × (is_some (text_named files name) ≡ false) × (after ≡ files ++ (name, text) ∷ [])
 AddsSource held files after name (Err failure) = IsOfFile name (source_fault files name) failure
 
 -- the sources of names, read one by one behind these, or the first that is refused
-abbrev pub ReadsSources : Held → Files → List (List ℕ) → Result Files (Failure (FileFault (String Global))) → Type 0
+abbrev pub ReadsSources : Held → Files → List (List ℕ) → Result Files (Failure (Placed (String Global) FileFault)) → Type 0
 ReadsSources held files [] result = result ≡ Ok files
 ReadsSources held files (name ∷ names) result =
     IfErr result (IsOfFile name (source_fault files name)) × IfOk result (λ _. ⊥)

@@ -4,8 +4,9 @@ use Rattle.std.specs.declared.alloc.Global.{Global}
 use Rattle.c25_meaning_common.specs.declared.failure.Failure.{Failure}
 use Rattle.c25_meaning_expansion.specs.Files.{Files}
 use Rattle.c25_disk.specs.Held.{Adds, IsOfFile}
+use Rattle.c25_meaning_common.specs.declared.placed.Placed.{Placed}
 use Rattle.c25_disk.specs.declared.fault.FileFault.{FileFault}
-use Rattle.c25_disk.specs.declared.fault.FileFaultKind.TheVariants.{CannotWrite}
+use Rattle.c25_disk.specs.declared.fault.FileFault.TheVariants.{CannotWrite}
 use Rattle.c25_disk.specs.declared.writing.Output.{Output}
 
 -- a file's name and its bytes
@@ -20,6 +21,6 @@ pub record EndsBefore (old new : Option Files) (files : Files) (file : List ℕ 
   pub written : Adds old new before
 
 -- the first that cannot be written is told (7), unless memory ran out then
-abbrev pub IsUnwritten : Option Files → Option Files → List Output → Failure (FileFault (String Global)) → Type 0
+abbrev pub IsUnwritten : Option Files → Option Files → List Output → Failure (Placed (String Global) FileFault) → Type 0
 IsUnwritten old new outputs failure =
     (file : List ℕ × List ℕ) × EndsBefore old new (map contents_of outputs) file × IsOfFile file.0 CannotWrite failure

@@ -1,12 +1,13 @@
 //! Files that are no texts.
 
 ghost use Rattle.std.specs.Prelude.{◌≡◌, IfErr, IfOk};
-ghost use Rattle.c25_disk.specs.declared.fault.FileFaultKind.TheVariants as kind;
+ghost use Rattle.c25_disk.specs.declared.fault.FileFault.TheVariants as kind;
 ghost use Rattle.c25_disk.specs.Held.{IsAllOf, IsOfFile};
 
 use crate::disk::{Disk, Refused};
 use crate::fault::{FileFault, unread};
 use c25_meaning_common::failure::Failure;
+use c25_meaning_common::placed::Placed;
 use c25_reading::{CannotRead, read_bytes};
 use std::alloc::Global;
 
@@ -29,7 +30,7 @@ pub fn read_binary<D: Disk>(
     alloc: Global,
     disk: &D,
     name: &str,
-) -> Result<Vec<u8>, Failure<FileFault<String>>>
+) -> Result<Vec<u8>, Failure<Placed<String, FileFault>>>
     ensures bytes { IfOk result (λ bytes. IsAllOf (D.bytes_of disk.now name.now) bytes.items) }
     ensures fault { IfErr result (IsOfFile name.now kind.CannotRead) }
 {

@@ -6,18 +6,19 @@ ghost use Rattle.c25_disk.specs.Copies.{AddsCopy, EndsOver, IsEnd, IsFileFault};
 
 use crate::attempts::{Turn, attempt};
 use crate::disk::Disk;
-use crate::fault::{FileFault, FileFaultKind, fault_of_file};
+use crate::fault::{FileFault, fault_of_file};
 use crate::sources::add_source;
 use crate::work::{CopyFault, Work};
 use c25_files::files::Files;
 use c25_meaning_common::failure::Failure;
+use c25_meaning_common::placed::Placed;
 use std::alloc::Global;
 
 /// So many files may be copied.
 const COPIES: usize = 256;
 
 /// A file's fault as the work's.
-fn file_fault<F>(failure: Failure<FileFault<String>>) -> Failure<CopyFault<F>>
+fn file_fault<F>(failure: Failure<Placed<String, FileFault>>) -> Failure<CopyFault<F>>
     ensures { IsFileFault failure result }
 {
     match failure {
@@ -53,7 +54,7 @@ fn last_attempt<W: Work>(
     match attempt(alloc, files, work)? {
         Turn::Answered(answer) => Ok(answer),
         Turn::Lacks(name) => {
-            let failure = fault_of_file(alloc, name.as_str(), FileFaultKind::CannotRead);
+            let failure = fault_of_file(alloc, name.as_str(), FileFault::CannotRead);
             Err(file_fault(failure))
         }
     }

@@ -4,9 +4,11 @@ ghost use Rattle.std.specs.Prelude.{◌≡◌, ◌∷◌, [], Some, IfOk, IfSome
 ghost use Rattle.c25_disk.specs.Held.{Adds, Stay};
 
 use std::io::Read;
+use thiserror::Error;
 
 /// The system refuses to open or to write a file.
-#[derive(Clone, Copy, PartialEq, Debug)]
+#[derive(Clone, Copy, PartialEq, Debug, Error)]
+#[error("the system refuses")]
 pub struct Refused;
 
 /// Files by their names.

@@ -2,17 +2,19 @@
 
 ghost use Rattle.std.specs.Prelude.{◌≡◌, IfOk, string_bytes};
 ghost use Rattle.c25_disk.specs.Held.{IsOfFile};
-ghost use Rattle.c25_disk.specs.declared.fault.FileFaultKind.TheVariants as kind;
+ghost use Rattle.c25_disk.specs.declared.fault.FileFault.TheVariants as file;
 
 use c25_meaning_common::failure::Failure;
 use c25_meaning_common::no_memory::NoMemory;
+use c25_meaning_common::placed::Placed;
 use c25_reading::CannotRead;
 use std::alloc::Global;
-use std::fmt;
+use thiserror::Error;
 
-/// What is wrong with a file.
-#[derive(Clone, Copy, Debug)]
-pub enum FileFaultKind {
+/// What is wrong with a file. It is placed at the file's name.
+#[derive(Clone, Copy, Debug, Error)]
+#[error("{}", self.name())]
+pub enum FileFault {
     /// It cannot be written (7).
     CannotWrite,
     /// It cannot be opened or read, has more than 16,777,216 bytes or is not UTF-8, or it is the 257th
@@ -22,39 +24,42 @@ pub enum FileFaultKind {
     FileTwice,
 }
 
-impl fmt::Display for FileFaultKind {
-    ghost use Rattle.std.specs.Prelude.{Some};
-    ghost use Rattle.c25_disk.specs.FaultNames.{numbered_name};
+impl FileFault {
+    ghost use Rattle.c25_disk.specs.FaultNames.{file_fault_name, file_fault_number};
 
-    ghost output = { λ kind. Some (numbered_name kind) };
-
-    fn fmt<W: fmt::Write>(&self, f: &mut fmt::Formatter<W>) -> fmt::Result {
+    /// The number that it is told by.
+    pub fn number(&self) -> u8
+        ensures { result ≡ file_fault_number self.now }
+    {
         match self {
-            FileFaultKind::CannotWrite => f.write_str("7 CannotWrite"),
-            FileFaultKind::CannotRead => f.write_str("8 CannotRead"),
-            FileFaultKind::FileTwice => f.write_str("37 FileTwice"),
+            FileFault::CannotWrite => 7,
+            FileFault::CannotRead => 8,
+            FileFault::FileTwice => 37,
         }
     }
-}
 
-/// The file of this name, and what is wrong with it. The code has names as texts, the definitions as
-/// lists of bytes.
-#[derive(Debug, Drop)]
-pub struct FileFault<Name> {
-    pub file: Name,
-    pub kind: FileFaultKind,
+    /// The name that it is told by.
+    pub fn name(&self) -> &'static str
+        ensures { result.now ≡ file_fault_name self.now }
+    {
+        match self {
+            FileFault::CannotWrite => "CannotWrite",
+            FileFault::CannotRead => "CannotRead",
+            FileFault::FileTwice => "FileTwice",
+        }
+    }
 }
 
 /// Tells what is wrong with a file, unless memory runs out.
 pub(crate) fn fault_of_file(
     alloc: Global,
     name: &str,
-    kind: FileFaultKind,
-) -> Failure<FileFault<String>>
-    ensures { IsOfFile name.now kind result }
+    fault: FileFault,
+) -> Failure<Placed<String, FileFault>>
+    ensures { IsOfFile name.now fault result }
 {
     match String::from_str(alloc, name) {
-        Ok(file) => Failure::Fault(FileFault { file, kind }),
+        Ok(place) => Failure::Fault(Placed { place, fault }),
         Err(error) => Failure::NoMemory(NoMemory::from(error)),
     }
 }
@@ -64,11 +69,11 @@ pub(crate) fn unread(
     alloc: Global,
     name: &str,
     failure: Failure<CannotRead>,
-) -> Failure<FileFault<String>>
-    ensures { IsOfFile name.now kind.CannotRead result }
+) -> Failure<Placed<String, FileFault>>
+    ensures { IsOfFile name.now file.CannotRead result }
 {
     match failure {
         Failure::NoMemory(error) => Failure::NoMemory(error),
-        Failure::Fault(CannotRead) => fault_of_file(alloc, name, FileFaultKind::CannotRead),
+        Failure::Fault(CannotRead) => fault_of_file(alloc, name, FileFault::CannotRead),
     }
 }

@@ -3,13 +3,14 @@
 ghost use Rattle.std.specs.Prelude.{◌≡◌, [], IfErr, IfOk, OnOk, false, is_some, map, string_bytes};
 ghost use Rattle.c25_meaning_expansion.specs.Files.{text_named};
 ghost use Rattle.c25_files.specs.Added.{AddsAll};
-ghost use Rattle.c25_disk.specs.declared.fault.FileFaultKind.TheVariants as kind;
+ghost use Rattle.c25_disk.specs.declared.fault.FileFault.TheVariants as kind;
 ghost use Rattle.c25_disk.specs.Held.{AddsSource, IsAllOf, IsOfFile, ReadsSources};
 
 use crate::disk::{Disk, Refused};
-use crate::fault::{FileFault, FileFaultKind, fault_of_file, unread};
+use crate::fault::{FileFault, fault_of_file, unread};
 use c25_files::files::{AddFault, Files};
 use c25_meaning_common::failure::Failure;
+use c25_meaning_common::placed::Placed;
 use c25_reading::{CannotRead, read_text};
 use std::alloc::Global;
 
@@ -32,7 +33,7 @@ pub fn read_file<D: Disk>(
     alloc: Global,
     disk: &D,
     name: &str,
-) -> Result<String, Failure<FileFault<String>>>
+) -> Result<String, Failure<Placed<String, FileFault>>>
     ensures text { IfOk result (λ text. IsAllOf (D.bytes_of disk.now name.now) (string_bytes text)) }
     ensures fault { IfErr result (IsOfFile name.now kind.CannotRead) }
 {
@@ -73,11 +74,11 @@ pub(crate) fn add_source<D: Disk>(
     disk: &D,
     files: &mut Files,
     name: &str,
-) -> Result<(), Failure<FileFault<String>>>
+) -> Result<(), Failure<Placed<String, FileFault>>>
     ensures { AddsSource (D.bytes_of disk.now) files.old files.new name.now result }
 {
     if is_among(files, name) {
-        return Err(fault_of_file(alloc, name, FileFaultKind::FileTwice));
+        return Err(fault_of_file(alloc, name, FileFault::FileTwice));
     }
     match add_file(disk, files, name) {
         Ok(()) => Ok(()),
@@ -92,7 +93,7 @@ pub fn read_sources<D: Disk>(
     alloc: Global,
     disk: &D,
     names: &[&str],
-) -> Result<Files, Failure<FileFault<String>>>
+) -> Result<Files, Failure<Placed<String, FileFault>>>
     ensures { ReadsSources (D.bytes_of disk.now) [] (map (λ name. name.now) names.now) result }
 {
     let mut files = Files::new(alloc);

@@ -6,7 +6,10 @@ ghost use Rattle.std.specs.Option.{option_map};
 use crate::fault::FileFault;
 use c25_files::files::Files;
 use c25_meaning_common::failure::Failure;
+use c25_meaning_common::placed::Placed;
 use std::alloc::Global;
+use std::fmt;
+use thiserror::Error;
 
 /// Work over the texts of files. It may ask for one that is not there.
 pub trait Work {
@@ -35,10 +38,13 @@ pub trait Work {
 }
 
 /// Why work over files that may be copied has no answer.
-#[derive(Drop)]
+#[derive(Debug, Drop, Error)]
+#[error_bound(F: fmt::Display)]
 pub enum CopyFault<F> {
     /// The file that the work asks for cannot be had.
-    File(FileFault<String>),
+    #[error(transparent)]
+    File(Placed<String, FileFault>),
     /// The work's own fault, which asks for no file that is not there.
+    #[error(transparent)]
     Work(F),
 }

@@ -5,8 +5,9 @@ ghost use Rattle.c25_disk.specs.Held.{Adds};
 ghost use Rattle.c25_disk.specs.Written.{contents_of, IsUnwritten};
 
 use crate::disk::{Disk, Refused};
-use crate::fault::{FileFault, FileFaultKind, fault_of_file};
+use crate::fault::{FileFault, fault_of_file};
 use c25_meaning_common::failure::Failure;
+use c25_meaning_common::placed::Placed;
 use std::alloc::Global;
 
 /// A file to be written, and all that it is to have.
@@ -23,7 +24,7 @@ pub fn write_outputs<D: Disk>(
     alloc: Global,
     disk: &mut D,
     outputs: &[Output<'_>],
-) -> Result<(), Failure<FileFault<String>>>
+) -> Result<(), Failure<Placed<String, FileFault>>>
     ensures written { OnOk result (Adds (D.written disk.old) (D.written disk.new) (map contents_of outputs.now)) }
     ensures fault { IfErr result (IsUnwritten (D.written disk.old) (D.written disk.new) outputs.now) }
 {
@@ -31,7 +32,7 @@ pub fn write_outputs<D: Disk>(
         match disk.write(output.name, &output.bytes) {
             Ok(()) => {}
             Err(Refused) => {
-                return Err(fault_of_file(alloc, output.name, FileFaultKind::CannotWrite));
+                return Err(fault_of_file(alloc, output.name, FileFault::CannotWrite));
             }
         }
     }

@@ -3,8 +3,7 @@
 ghost use Rattle.std.specs.Prelude.{◌≡◌, None, Some, string_bytes, option_map};
 ghost use Rattle.c25_disk_tests.specs.declared.copies.Stop.TheVariants.{Lacks, At};
 
-use crate::reading::shelf_of;
-use c25_disk::fault::FileFault;
+use crate::reading::{line_of, shelf_of};
 use c25_disk::with_copies;
 use c25_disk::work::{CopyFault, Work};
 use c25_files::files::Files;
@@ -69,9 +68,7 @@ fn told(alloc: Global, names: &[&str]) -> Result<String, Fail> {
     match with_copies(alloc, &shelf, Files::new(alloc), &work) {
         Ok(text) => Ok(text),
         Err(Failure::NoMemory(error)) => Err(error.into()),
-        Err(Failure::Fault(CopyFault::File(FileFault { file, kind }))) => {
-            Ok(format!(in alloc; "{file}: {kind}")?)
-        }
+        Err(Failure::Fault(CopyFault::File(placed))) => Ok(line_of(alloc, &placed)?),
         Err(Failure::Fault(CopyFault::Work(Stop::Lacks(name)))) => {
             Ok(format!(in alloc; "lacks {name}")?)
         }

@@ -5,7 +5,8 @@ use crate::shelf::{Counting, Shelf};
 use c25_disk::fault::FileFault;
 use c25_disk::{CannotRead, Output, read_file, read_sources, read_text, write_outputs};
 use c25_meaning_common::failure::Failure;
-use std::alloc::Global;
+use c25_meaning_common::placed::Placed;
+use std::alloc::{AllocError, Global};
 use std::cell::Cell;
 use std::io::Read;
 use std::process::Abort;
@@ -92,10 +93,21 @@ fn what_fails_or_is_no_text_cannot_be_read(rt: HostRuntime) -> Result<(), Fail> 
     Ok(())
 }
 
+/// Where a fault is, its number and its name.
+pub(crate) fn line_of(
+    alloc: Global,
+    placed: &Placed<String, FileFault>,
+) -> Result<String, AllocError> {
+    let place = placed.place.as_str();
+    let number = placed.fault.number();
+    let name = placed.fault.name();
+    format!(in alloc; "{place}: {number} {name}")
+}
+
 /// An answer is refused with this line.
 fn is_told<T>(
     rt: &(impl Abort + AllocGlobal),
-    answer: Result<T, Failure<FileFault<String>>>,
+    answer: Result<T, Failure<Placed<String, FileFault>>>,
     line: &str,
 ) -> Result<(), Fail>
 where
@@ -104,8 +116,8 @@ where
     match answer {
         Ok(_) => Err(Fail::from("it was not refused")),
         Err(Failure::NoMemory(error)) => Err(error.into()),
-        Err(Failure::Fault(FileFault { file, kind })) => {
-            let told = format!(in rt.alloc(); "{file}: {kind}")?;
+        Err(Failure::Fault(placed)) => {
+            let told = line_of(rt.alloc(), &placed)?;
             assert_eq!(rt; told.as_str(), line);
             Ok(())
         }

@@ -1,25 +1,18 @@
 -- What an explanation is of, what it says as a whole, and which numbers have one.
 use Rattle.std.specs.Prelude.{◌≡◌, ℕ, List, ◌++◌, Option, Some, None, codes}
 use Rattle.std.specs.Borrow.{Bor}
-use Rattle.c25_chain.specs.FaultText.{command_number, hex_number, link_number, numbered, object_number}
-use Rattle.c25_disk.specs.declared.fault.FileFaultKind.{FileFaultKind}
-use Rattle.c25_disk.specs.declared.fault.FileFaultKind.TheVariants.{CannotWrite, CannotRead, FileTwice}
-use Rattle.c25_meaning_commands.specs.Faults.{command_name}
-use Rattle.c25_meaning_intel_hex.specs.Faults.{hex_name}
+use Rattle.c25_disk.specs.FaultNames.{file_fault_name, file_fault_number}
+use Rattle.c25_meaning_commands.specs.Faults.{command_name, command_number}
+use Rattle.c25_meaning_common.specs.Faults.{numbered}
+use Rattle.c25_meaning_intel_hex.specs.Faults.{hex_name, hex_number}
 use Rattle.c25_meaning_language.specs.Faults.{fault_name, fault_number}
-use Rattle.c25_meaning_objects.specs.Faults.{object_name}
-use Rattle.c25_meaning_placing.specs.Faults.{link_name}
+use Rattle.c25_meaning_objects.specs.Faults.{object_name, object_number}
+use Rattle.c25_meaning_placing.specs.Faults.{link_name, link_number}
 use Rattle.c25_explain.specs.declared.fault.AnyFault.{AnyFault}
 use Rattle.c25_explain.specs.declared.fault.AnyFault.TheVariants.{Memory, Source, Object, Command, Link, Map, Hex, Schedule, Samples, Script, File}
 use Rattle.c25_explain.specs.declared.parts.Explanation.{Explanation}
 
 -- ---- faults
-
--- the number of a file's fault
-abbrev pub file_number : FileFaultKind → ℕ
-file_number CannotWrite = 7
-file_number CannotRead = 8
-file_number FileTwice = 37
 
 -- the number of a fault
 abbrev pub number_of : AnyFault → ℕ
@@ -33,13 +26,7 @@ number_of (Hex fault) = hex_number fault
 number_of Schedule = 90
 number_of Samples = 91
 number_of Script = 95
-number_of (File kind) = file_number kind
-
--- the name of a file's fault
-abbrev pub file_name : FileFaultKind → List ℕ
-file_name CannotWrite = codes "CannotWrite"
-file_name CannotRead = codes "CannotRead"
-file_name FileTwice = codes "FileTwice"
+number_of (File fault) = file_fault_number fault
 
 -- the name of a fault
 abbrev pub name_of : AnyFault → List ℕ
@@ -53,7 +40,7 @@ name_of (Hex fault) = hex_name fault
 name_of Schedule = codes "BadSchedule"
 name_of Samples = codes "BadSamples"
 name_of Script = codes "BadCommand"
-name_of (File kind) = file_name kind
+name_of (File fault) = file_fault_name fault
 
 -- its number and its name, as a fault's line ends with them
 abbrev pub heading : AnyFault → List ℕ

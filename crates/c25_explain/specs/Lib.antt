@@ -1,3 +1,2 @@
 pub mod Explanation
-pub mod Lines
 pub mod Note

@@ -1,22 +1,33 @@
--- What the note of a fault is: a line that is shown, and what the fault means.
-use Rattle.std.specs.Prelude.{◌≡◌, ℕ, ◌==◌, List, [], ◌++◌, Option, Some, None, codes, option_map}
+-- What the note of a fault is: what is shown, and what the fault means.
+use Rattle.std.specs.Prelude.{◌≡◌, ℕ, ◌==◌, List, [], ◌++◌, Option, codes, option_map}
 use Rattle.std.specs.Fmt.{decimal}
 use Rattle.std.specs.List.{find}
 use Rattle.c25_meaning_common.specs.Faults.{placed_text}
 use Rattle.c25_meaning_expansion.specs.Rows.{rows_of}
 use Rattle.c25_explain.specs.Explanation.{IsExplanationOf}
 use Rattle.c25_explain.specs.declared.fault.AnyFault.{AnyFault}
-use Rattle.c25_explain.specs.declared.note.ShownLine.{ShownLine}
+use Rattle.c25_explain.specs.declared.note.Shown.{Shown}
+use Rattle.c25_explain.specs.declared.note.Shown.TheVariants as shown
+use Rattle.c25_explain.specs.declared.note.Shown.TheVariants.{Nothing, Line}
+use Rattle.c25_explain.specs.declared.note.Unread.{Unread}
+use Rattle.c25_explain.specs.declared.note.Unread.TheVariants.{NotOpened, NotRead, NotUtf8}
 use Rattle.c25_explain.specs.declared.parts.Explanation.{Explanation}
 
 -- the text of the line of this number, if there is one
 abbrev pub line_of : List ℕ → ℕ → Option (List ℕ)
 line_of text number = option_map (λ row. row.text) (find (λ row. row.place.line == number) (rows_of 0 text))
 
--- a line as it is shown, if one is: its file, its number and its text
-abbrev pub shown_text : Option ShownLine → List ℕ
-shown_text None = []
-shown_text (Some line) = placed_text line.file.now line.number line.text.now ++ codes "\n"
+-- why a file cannot be read, as it is shown
+abbrev pub unread_text : List ℕ → Unread → List ℕ
+unread_text file NotOpened = file ++ codes ": it cannot be opened\n"
+unread_text file NotRead = file ++ codes ": a read of it fails, or it has more than 16,777,216 bytes\n"
+unread_text file (NotUtf8 line) = placed_text file line (codes "the first line that is not UTF-8") ++ codes "\n"
+
+-- what a note shows: nothing, a line with its file and its number, or why a file cannot be read
+abbrev pub shown_text : Shown → List ℕ
+shown_text Nothing = []
+shown_text (Line file number text) = placed_text file.now number text.now ++ codes "\n"
+shown_text (shown.Unread file why) = unread_text file.now why
 
 -- what a fault means and what to do
 abbrev pub lesson : Explanation → List ℕ
@@ -30,6 +41,6 @@ example_line number = codes "Example: c25 explain " ++ decimal number
 abbrev pub note_with : (shown meant example : List ℕ) → List ℕ
 note_with shown meant example = shown ++ codes "\n" ++ meant ++ codes "\n" ++ example ++ codes "\n"
 
--- a note of this fault that shows this line
-abbrev pub IsNoteOf : AnyFault → Option ShownLine → List ℕ → Type 0
-IsNoteOf fault line note = (e : Explanation) × IsExplanationOf fault e × (note ≡ note_with (shown_text line) (lesson e) (example_line e.number))
+-- a note of this fault that shows this
+abbrev pub IsNoteOf : AnyFault → Shown → List ℕ → Type 0
+IsNoteOf fault shown note = (e : Explanation) × IsExplanationOf fault e × (note ≡ note_with (shown_text shown) (lesson e) (example_line e.number))

@@ -1,6 +1,6 @@
 //! Faults without where they are told.
 
-use c25_disk::fault::FileFaultKind;
+use c25_disk::fault::FileFault;
 use c25_meaning_commands::command_fault::CommandFault;
 use c25_meaning_intel_hex::hex_fault::HexFault;
 use c25_meaning_language::statement::FaultKind;
@@ -31,5 +31,5 @@ pub enum AnyFault {
     /// Of a line of a debugger's script (95).
     Script,
     /// Of a file (7, 8, 37).
-    File(FileFaultKind),
+    File(FileFault),
 }

@@ -2,7 +2,7 @@
 
 ghost use Rattle.c25_explain.specs.Explanation.{IsExplanationOf};
 ghost use Rattle.c25_explain.specs.declared.fault.AnyFault.TheVariants.{File, Memory};
-ghost use Rattle.c25_disk.specs.declared.fault.FileFaultKind.TheVariants as fault;
+ghost use Rattle.c25_disk.specs.declared.fault.FileFault.TheVariants as fault;
 
 use crate::parts::Explanation;
 

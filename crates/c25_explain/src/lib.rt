@@ -7,7 +7,6 @@ mod expansion;
 pub mod explanation;
 pub mod fault;
 mod files;
-pub mod laws;
 mod linking;
 pub mod note;
 mod numbers;
@@ -15,7 +14,5 @@ mod objects;
 pub mod parts;
 mod run_files;
 mod source_lines;
-#[cfg(test)]
-mod tests;
 mod texts;
 mod written_texts;

@@ -3,7 +3,7 @@
 ghost use Rattle.std.specs.Option.{option_map};
 ghost use Rattle.std.specs.Prelude.{◌≡◌, ◌++◌, IfOk, codes, string_bytes};
 ghost use Rattle.c25_meaning_common.specs.Faults.{placed_text};
-ghost use Rattle.c25_explain.specs.Note.{IsNoteOf, example_line, lesson, line_of, note_with, shown_text};
+ghost use Rattle.c25_explain.specs.Note.{IsNoteOf, example_line, lesson, line_of, note_with, shown_text, unread_text};
 
 use crate::fault::AnyFault;
 use crate::parts::Explanation;
@@ -25,13 +25,32 @@ pub fn line_of(text: &str, number: usize) -> Option<&str>
     None
 }
 
-/// A line of a file that is shown.
+/// Why a file cannot be read.
 #[derive(Clone, Copy, Debug)]
-pub struct ShownLine<'a> {
-    pub file: &'a str,
-    /// Its number, from 1 on.
-    pub number: usize,
-    pub text: &'a str,
+pub enum Unread {
+    /// It cannot be opened.
+    NotOpened,
+    /// A read of it fails, or it has more than 16,777,216 bytes.
+    NotRead,
+    /// It is not UTF-8, first in the line of this number.
+    NotUtf8 { line: usize },
+}
+
+/// What a note shows before it explains.
+#[derive(Clone, Copy, Debug)]
+pub enum Shown<'a> {
+    Nothing,
+    /// The line of this number of a file, without its end.
+    Line {
+        file: &'a str,
+        number: usize,
+        text: &'a str,
+    },
+    /// Why a file cannot be read.
+    Unread {
+        file: &'a str,
+        why: Unread,
+    },
 }
 
 /// A line of a file as it is shown.
@@ -41,13 +60,29 @@ fn placed_line(alloc: Global, file: &str, number: usize, text: &str) -> Result<S
     Ok(format!(in alloc; "{file}:{number}: {text}\n")?)
 }
 
-/// What is shown of a line, if one is.
-fn shown_line(alloc: Global, line: Option<ShownLine<'_>>) -> Result<String, NoMemory>
-    ensures { IfOk result (λ text. string_bytes text ≡ shown_text line.entry) }
+/// Why a file cannot be read, as it is shown.
+fn unread_line(alloc: Global, file: &str, why: Unread) -> Result<String, NoMemory>
+    ensures { IfOk result (λ line. string_bytes line ≡ unread_text file.now why) }
 {
-    match line {
-        Some(ShownLine { file, number, text }) => placed_line(alloc, file, number, text),
-        None => Ok(String::new(alloc)),
+    match why {
+        Unread::NotOpened => Ok(format!(in alloc; "{file}: it cannot be opened\n")?),
+        Unread::NotRead => Ok(format!(in alloc;
+            "{file}: a read of it fails, or it has more than 16,777,216 bytes\n"
+        )?),
+        Unread::NotUtf8 { line } => {
+            placed_line(alloc, file, line, "the first line that is not UTF-8")
+        }
+    }
+}
+
+/// What a note shows.
+fn shown_line(alloc: Global, shown: Shown<'_>) -> Result<String, NoMemory>
+    ensures { IfOk result (λ text. string_bytes text ≡ shown_text shown.entry) }
+{
+    match shown {
+        Shown::Nothing => Ok(String::new(alloc)),
+        Shown::Line { file, number, text } => placed_line(alloc, file, number, text),
+        Shown::Unread { file, why } => unread_line(alloc, file, why),
     }
 }
 
@@ -74,17 +109,13 @@ fn note_with(alloc: Global, shown: &str, lesson: &str, example: &str) -> Result<
     Ok(format!(in alloc; "{shown}\n{lesson}\n{example}\n")?)
 }
 
-/// The note of a fault, in whole lines: the line of a file where it is told, if that is known, what the
-/// fault means, what to do, and where its example is.
-pub fn explained(
-    alloc: Global,
-    fault: AnyFault,
-    line: Option<ShownLine<'_>>,
-) -> Result<String, NoMemory>
-    ensures { IfOk result (λ note. IsNoteOf fault line.entry (string_bytes note)) }
+/// The note of a fault, in whole lines: what is shown, what the fault means, what to do, and where its
+/// example is.
+pub fn explained(alloc: Global, fault: AnyFault, shown: Shown<'_>) -> Result<String, NoMemory>
+    ensures { IfOk result (λ note. IsNoteOf fault shown.entry (string_bytes note)) }
 {
     let explanation = explanation_of(fault);
-    let shown = shown_line(alloc, line)?;
+    let shown = shown_line(alloc, shown)?;
     let lesson = lesson(alloc, &explanation)?;
     let example = example_line(alloc, explanation.number)?;
     note_with(alloc, shown.as_str(), lesson.as_str(), example.as_str())

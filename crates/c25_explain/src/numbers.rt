@@ -3,7 +3,7 @@
 ghost use Rattle.c25_explain.specs.Explanation.{IsFaultOf};
 
 use crate::fault::AnyFault;
-use c25_disk::fault::FileFaultKind;
+use c25_disk::fault::FileFault;
 use c25_meaning_commands::command_fault::CommandFault;
 use c25_meaning_intel_hex::hex_fault::HexFault;
 use c25_meaning_language::statement::FaultKind;
@@ -15,8 +15,8 @@ pub(crate) fn fault_of(number: u8) -> Option<AnyFault>
     ensures { IsFaultOf number result }
 {
     match number {
-        7 => Some(AnyFault::File(FileFaultKind::CannotWrite)),
-        8 => Some(AnyFault::File(FileFaultKind::CannotRead)),
+        7 => Some(AnyFault::File(FileFault::CannotWrite)),
+        8 => Some(AnyFault::File(FileFault::CannotRead)),
         9 => Some(AnyFault::Memory),
         10 => Some(AnyFault::Source(FaultKind::BadLabel)),
         11 => Some(AnyFault::Source(FaultKind::BadConstant)),
@@ -36,7 +36,7 @@ pub(crate) fn fault_of(number: u8) -> Option<AnyFault>
         34 => Some(AnyFault::Source(FaultKind::Lines)),
         35 => Some(AnyFault::Source(FaultKind::TooManyParameters)),
         36 => Some(AnyFault::Source(FaultKind::Redefined)),
-        37 => Some(AnyFault::File(FileFaultKind::FileTwice)),
+        37 => Some(AnyFault::File(FileFault::FileTwice)),
         38 => Some(AnyFault::Source(FaultKind::LongLine)),
         40 => Some(AnyFault::Object(ObjectFault::BadMagic)),
         41 => Some(AnyFault::Object(ObjectFault::BadVersion)),

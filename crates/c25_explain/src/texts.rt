@@ -8,7 +8,7 @@ use crate::parts::Explanation;
 use crate::{
     command_file, expansion, files, linking, objects, run_files, source_lines, written_texts,
 };
-use c25_disk::fault::FileFaultKind;
+use c25_disk::fault::FileFault;
 use c25_meaning_commands::command_fault::CommandFault;
 use c25_meaning_intel_hex::hex_fault::HexFault;
 use c25_meaning_language::statement::FaultKind;
@@ -110,13 +110,13 @@ fn hex_explanation(fault: HexFault) -> Explanation
 }
 
 /// That of a fault of a file.
-fn file_explanation(kind: FileFaultKind) -> Explanation
+fn file_explanation(kind: FileFault) -> Explanation
     ensures { IsExplanationOf (File kind) result }
 {
     match kind {
-        FileFaultKind::CannotWrite => files::cannot_write(),
-        FileFaultKind::CannotRead => files::cannot_read(),
-        FileFaultKind::FileTwice => files::file_twice(),
+        FileFault::CannotWrite => files::cannot_write(),
+        FileFault::CannotRead => files::cannot_read(),
+        FileFault::FileTwice => files::file_twice(),
     }
 }
 

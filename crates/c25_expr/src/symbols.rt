@@ -8,25 +8,24 @@ use c25_meaning_common::failure::Failure;
 use c25_meaning_language::value::{Base, Value};
 use indexmap::IndexMap;
 use std::alloc::Global;
-use std::error::Error;
-use std::fmt;
 use std::marker::Model;
+use thiserror::Error;
 
 /// A name stands for something already (26).
-#[derive(Clone, Copy, PartialEq, Debug)]
+#[derive(Clone, Copy, PartialEq, Debug, Error)]
+#[error("{}", self.name())]
 pub struct Defined;
 
-impl fmt::Display for Defined {
-    ghost use Rattle.std.specs.Prelude.{Some, codes};
+impl Defined {
+    ghost use Rattle.std.specs.Prelude.{◌≡◌, codes};
 
-    ghost output = { λ _. Some (codes "Defined") };
-
-    fn fmt<W: fmt::Write>(&self, f: &mut fmt::Formatter<W>) -> fmt::Result {
-        f.write_str("Defined")
+    /// The name that it is told by.
+    pub fn name(&self) -> &'static str
+        ensures { result.now ≡ codes "Defined" }
+    {
+        "Defined"
     }
 }
-
-impl Error for Defined {}
 
 /// What names stand for, in order of definition, and the current place. The names `AR0` to `AR7` and
 /// `PA0` to `PA15` stand for their numbers and are not among those that were defined.

@@ -28,8 +28,17 @@ pub fn value(expr: &Expr, symbols: &Symbols) -> Result<Value, ValueFault>
     if expr.items.len() <= FEW {
         value_over(expr, symbols, &mut ArrayVec::<Value, FEW>::new())
     } else {
-        value_over(expr, symbols, &mut ArrayVec::<Value, DEEPEST>::new())
+        value_of_many(expr, symbols)
     }
+}
+
+/// The same of an expression of any number of items. A function of its own, whose room is filled only
+/// where it is called: inlined, it would be filled for each expression.
+#[inline(never)]
+fn value_of_many(expr: &Expr, symbols: &Symbols) -> Result<Value, ValueFault>
+    ensures { result ≡ value_of (value_named symbols.now) symbols.now.here (tree_of expr.now) }
+{
+    value_over(expr, symbols, &mut ArrayVec::<Value, DEEPEST>::new())
 }
 
 /// The same, over room for the operands that wait, the last last.

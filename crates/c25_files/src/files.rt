@@ -14,29 +14,29 @@ use c25_meaning_common::no_memory::NoMemory;
 use c25_reading::{CannotRead, read_text};
 use indexmap::IndexMap;
 use std::alloc::Global;
-use std::error::Error;
-use std::fmt;
 use std::io::Read;
 use std::marker::Model;
+use thiserror::Error;
 
 /// The name is there already (37).
-#[derive(Clone, Copy, PartialEq, Debug)]
+#[derive(Clone, Copy, PartialEq, Debug, Error)]
+#[error("{}", self.name())]
 pub struct FileTwice;
 
-impl fmt::Display for FileTwice {
-    ghost use Rattle.std.specs.Prelude.{Some, codes};
+impl FileTwice {
+    ghost use Rattle.std.specs.Prelude.{◌≡◌, codes};
 
-    ghost output = { λ _. Some (codes "FileTwice") };
-
-    fn fmt<W: fmt::Write>(&self, f: &mut fmt::Formatter<W>) -> fmt::Result {
-        f.write_str("FileTwice")
+    /// The name that it is told by.
+    pub fn name(&self) -> &'static str
+        ensures { result.now ≡ codes "FileTwice" }
+    {
+        "FileTwice"
     }
 }
 
-impl Error for FileTwice {}
-
 /// Why the text of a reader is not added.
-#[derive(Clone, Copy, PartialEq, Debug)]
+#[derive(Clone, Copy, PartialEq, Debug, Error)]
+#[error("{}", self.name())]
 pub enum AddFault {
     /// The name is there already (37).
     FileTwice,
@@ -44,21 +44,20 @@ pub enum AddFault {
     CannotRead,
 }
 
-impl fmt::Display for AddFault {
-    ghost use Rattle.std.specs.Prelude.{Some};
+impl AddFault {
+    ghost use Rattle.std.specs.Prelude.{◌≡◌};
     ghost use Rattle.c25_files.specs.FaultNames.{fault_name};
 
-    ghost output = { λ fault. Some (fault_name fault) };
-
-    fn fmt<W: fmt::Write>(&self, f: &mut fmt::Formatter<W>) -> fmt::Result {
+    /// The name that it is told by.
+    pub fn name(&self) -> &'static str
+        ensures { result.now ≡ fault_name self.now }
+    {
         match self {
-            AddFault::FileTwice => f.write_str("FileTwice"),
-            AddFault::CannotRead => f.write_str("CannotRead"),
+            AddFault::FileTwice => "FileTwice",
+            AddFault::CannotRead => "CannotRead",
         }
     }
 }
-
-impl Error for AddFault {}
 
 /// Texts by their names, in the order in which they were added. Names are compared byte by byte.
 #[derive(Drop)]

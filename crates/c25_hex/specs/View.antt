@@ -3,7 +3,7 @@ use Rattle.std.specs.Prelude.{ℕ, Bool, if◌then◌else◌, List, [], ◌∷�
 use Rattle.c25_meaning_common.specs.declared.failure.Failure.{Failure}
 use Rattle.c25_meaning_common.specs.declared.failure.Failure.TheVariants.{NoMemory, Fault}
 use Rattle.c25_meaning_intel_hex.specs.declared.hex_fault.HexFault.{HexFault}
-use Rattle.c25_meaning_intel_hex.specs.declared.hex_fault.PlacedHexFault.{PlacedHexFault}
+use Rattle.c25_meaning_common.specs.declared.placed.Placed.{Placed}
 use Rattle.c25_meaning_intel_hex.specs.Hex.{HexState}
 use Rattle.c25_hex.specs.Cells.{cells_map}
 use Rattle.c25_hex.specs.declared.kind.Kind.{Kind}
@@ -34,6 +34,6 @@ abbrev pub stretch_text : Bool → text.Stretch → List ℕ
 stretch_text set s = text.text_of ((if text.needs_base set s then text.base_line ∷ [] else []) ++ text.data_line s ∷ [])
 
 -- a line's failure, with the number of the line
-abbrev pub at_line : Failure HexFault → ℕ → Failure PlacedHexFault
+abbrev pub at_line : Failure HexFault → ℕ → Failure (Placed ℕ HexFault)
 at_line (NoMemory n) line = NoMemory n
-at_line (Fault f) line = Fault (record { fault = f; line = line })
+at_line (Fault f) line = Fault (record { place = line; fault = f })

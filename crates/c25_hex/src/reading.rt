@@ -11,8 +11,9 @@ use crate::state::Reader;
 use crate::words::words_of;
 use c25_meaning_common::failure::Failure;
 use c25_meaning_common::no_memory::NoMemory;
+use c25_meaning_common::placed::Placed;
 use c25_meaning_image::word_map::WordMap;
-use c25_meaning_intel_hex::hex_fault::{HexFault, PlacedHexFault};
+use c25_meaning_intel_hex::hex_fault::HexFault;
 use std::alloc::Global;
 
 fn none_given(alloc: Global) -> Result<Vec<Option<u8>>, NoMemory>
@@ -38,17 +39,17 @@ fn start(alloc: Global) -> Result<Reader, NoMemory>
 }
 
 /// The failure of a line, with the number of the line.
-fn at_line(failure: Failure<HexFault>, line: usize) -> Failure<PlacedHexFault>
+fn at_line(failure: Failure<HexFault>, line: usize) -> Failure<Placed<usize, HexFault>>
     ensures { result ≡ at_line failure line }
 {
     match failure {
         Failure::NoMemory(error) => Failure::NoMemory(error),
-        Failure::Fault(fault) => Failure::Fault(PlacedHexFault { fault, line }),
+        Failure::Fault(fault) => Failure::Fault(Placed { place: line, fault }),
     }
 }
 
 /// The bytes that the lines give.
-fn bytes_given(alloc: Global, text: &str) -> Result<Reader, Failure<PlacedHexFault>>
+fn bytes_given(alloc: Global, text: &str) -> Result<Reader, Failure<Placed<usize, HexFault>>>
     ensures { Meets (λ r. cells_map r.bytes.items) (spec.bytes_given text.now) result }
 {
     let mut reader = start(alloc)?;
@@ -61,9 +62,9 @@ fn bytes_given(alloc: Global, text: &str) -> Result<Reader, Failure<PlacedHexFau
         }
     }
     if !reader.ended {
-        return Err(Failure::Fault(PlacedHexFault {
+        return Err(Failure::Fault(Placed {
+            place: number,
             fault: HexFault::NoEnd,
-            line: number,
         }));
     }
     Ok(reader)
@@ -78,7 +79,7 @@ fn bytes_given(alloc: Global, text: &str) -> Result<Reader, Failure<PlacedHexFau
 /// `AfterEnd`, `BadStart`, `BadDigit`, `BadCount` (of the digits), `BadSum`, `BadKind`, `BadCount`
 /// (of the kind), `AddressRange`, `Twice`; at the end line `OddWord`; and `NoEnd` at the last line,
 /// or at line 0 of a text without lines. It refuses for want of memory too.
-pub fn read_hex(alloc: Global, text: &str) -> Result<WordMap, Failure<PlacedHexFault>>
+pub fn read_hex(alloc: Global, text: &str) -> Result<WordMap, Failure<Placed<usize, HexFault>>>
     ensures found { IfOk result (λ words. spec.SpellsWords text.now words) }
     ensures refused { IfErr result (λ e. Fails (spec.bytes_given text.now) e) }
 {

@@ -71,6 +71,6 @@ fn faults_are_printed(rt: HostRuntime) -> Result<(), Fail> {
         Ok(_) => String::from_str(rt.alloc(), "ok")?,
         Err(failure) => failure.to_string(rt.alloc())?,
     };
-    assert_eq!(rt; told.as_str(), "line 2: AfterEnd");
+    assert_eq!(rt; told.as_str(), "2: AfterEnd");
     Ok(())
 }

@@ -2,8 +2,9 @@
 
 use crate::command_cases::CASES;
 use c25_cmd::{Command, Target, read_command};
-use c25_meaning_commands::command_fault::{CommandFault, FaultyCommand};
+use c25_meaning_commands::command_fault::CommandFault;
 use c25_meaning_common::failure::Failure;
+use c25_meaning_common::placed::Placed;
 use std::alloc::{AllocError, Global};
 use std::test::Fail;
 
@@ -19,15 +20,6 @@ fn unmasked(alloc: Global, text: &str) -> Result<String, AllocError> {
         })?;
     }
     Ok(out)
-}
-
-fn number_of(fault: CommandFault) -> u8 {
-    match fault {
-        CommandFault::Syntax => 60,
-        CommandFault::RangeOverlap => 61,
-        CommandFault::RangeSize => 62,
-        CommandFault::Twice => 63,
-    }
 }
 
 /// The ranges, as the cases have them.
@@ -77,9 +69,9 @@ fn answer(alloc: Global, text: &str) -> Result<String, Fail> {
     let mut out = String::new(alloc);
     match read_command(alloc, text) {
         Err(Failure::NoMemory(error)) => return Err(error.into()),
-        Err(Failure::Fault(FaultyCommand { fault, line })) => {
-            let number = number_of(fault);
-            out.push_str(&format!(in alloc; "{number} {line}")?)?;
+        Err(Failure::Fault(Placed { place, fault })) => {
+            let number = fault.number();
+            out.push_str(&format!(in alloc; "{number} {place}")?)?;
         }
         Ok(command) => {
             if let Some(name) = &command.entry {
@@ -120,9 +112,9 @@ fn stray_characters_are_told_in_their_lines(rt: HostRuntime) {
             Err(error) => Some(error),
             Ok(_) => None,
         };
-        let wanted = Failure::Fault(FaultyCommand {
+        let wanted = Failure::Fault(Placed {
+            place: *line,
             fault: CommandFault::Syntax,
-            line: *line,
         });
         assert_eq!(rt; told, Some(wanted), "{text:?}");
     }
@@ -151,7 +143,7 @@ fn errors_have_a_text(rt: HostRuntime) -> Result<(), Fail> {
     match read_command(rt.alloc(), "\nMEMORY MEMORY") {
         Err(error) => {
             let text = format!(in rt.alloc(); "{error}")?;
-            assert_eq!(rt; text.as_str(), "line 2: Syntax");
+            assert_eq!(rt; text.as_str(), "2: Syntax");
         }
         Ok(_) => return Err("no fault")?,
     }

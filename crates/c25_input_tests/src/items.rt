@@ -2,6 +2,7 @@
 
 use c25_items::{LineFormat, decimal_of, hexadecimal_of, is_word, read_items};
 use c25_meaning_common::failure::Failure;
+use c25_meaning_common::placed::Placed;
 use std::test::Fail;
 
 #[test]
@@ -50,11 +51,9 @@ impl LineFormat for Counts {
 
     type Item = usize;
 
-    type Fault = usize;
+    type Fault = &'static str;
 
     ghost item_of = { λ before words. if nat_le (length words) 3 then Some (length words) else None };
-
-    ghost line_of = { λ line. line };
 
     fn item(_before: &[usize], words: &[&[u8]]) -> Option<usize> {
         if words.len() <= 3 {
@@ -64,8 +63,8 @@ impl LineFormat for Counts {
         }
     }
 
-    fn fault(line: usize) -> usize {
-        line
+    fn fault() -> &'static str {
+        "TooManyWords"
     }
 }
 
@@ -74,6 +73,12 @@ fn lines_are_counted_from_one(rt: HostRuntime) -> Result<(), Fail> {
     let counts = read_items::<Counts>(rt.alloc(), "a b\r\n\n \t\n c\td  e ")?;
     assert_eq!(rt; counts.as_slice(), [2, 3].as_slice());
     let faulty = read_items::<Counts>(rt.alloc(), "a\r\n\nb\n a b c d\na b c d");
-    assert_eq!(rt; faulty.err(), Some(Failure::Fault(4)));
+    assert_eq!(rt;
+        faulty.err(),
+        Some(Failure::Fault(Placed {
+            place: 4,
+            fault: "TooManyWords"
+        }))
+    );
     Ok(())
 }

@@ -1,9 +1,10 @@
 //! Scripts. The texts are written a case a line: what reading it answers, `|`, and the text as
 //! `spelled` reads it.
 
-use c25_debug::script::{BadCommand, Script, read_script};
+use c25_debug::script::{Script, read_script};
 use c25_meaning_common::failure::Failure;
-use c25_meaning_stimulus::script::Cmd;
+use c25_meaning_common::placed::Placed;
+use c25_meaning_stimulus::script::{BadCommand, Cmd};
 use std::alloc::{AllocError, Global};
 use std::test::Fail;
 
@@ -53,7 +54,7 @@ fn show(alloc: Global, script: &Script) -> Result<String, AllocError> {
 fn told(alloc: Global, text: &str) -> Result<String, Fail> {
     match read_script(alloc, text) {
         Ok(script) => Ok(show(alloc, &script)?),
-        Err(Failure::Fault(BadCommand { line })) => Ok(format!(in alloc; "bad {line}")?),
+        Err(Failure::Fault(placed)) => Ok(format!(in alloc; "bad {}", placed.place)?),
         Err(Failure::NoMemory(error)) => Err(error.into()),
     }
 }
@@ -80,10 +81,13 @@ fn scripts_without_commands_are_empty(rt: HostRuntime) -> Result<(), Fail> {
 
 #[test]
 fn refusals_are_printed(rt: HostRuntime) -> Result<(), Fail> {
-    let refusal = Failure::Fault(BadCommand { line: 7 });
+    let refusal = Failure::Fault(Placed {
+        place: 7usize,
+        fault: BadCommand,
+    });
     assert_eq!(rt;
         format!(in rt.alloc(); "{refusal}")?.as_str(),
-        "line 7: BadCommand"
+        "7: BadCommand"
     );
     Ok(())
 }

@@ -1,34 +1,31 @@
 //! Items, one a line.
 
-ghost use Rattle.std.specs.Prelude.{◌≡◌, ℕ, List, [], Some, None, map, IfOk, if◌then◌else◌};
+ghost use Rattle.std.specs.Prelude.{◌≡◌, List, [], Some, None, map, IfOk, if◌then◌else◌};
 ghost use Rattle.c25_meaning_common.specs.Items.{ItemOf, items, items_of, with_line, line_words};
 ghost use Rattle.c25_meaning_common.specs.Results.{MeetsBy};
 
 use crate::words::{line_words, lines_of};
 use c25_meaning_common::failure::Failure;
 use c25_meaning_common::no_memory::NoMemory;
+use c25_meaning_common::placed::Placed;
 use std::alloc::Global;
 
 /// What the lines of a text are read as.
 pub trait LineFormat {
     type Item: Copy;
-    /// What is told of the first faulty line of a text.
+    /// What is told of a line that is faulty.
     type Fault;
 
     /// The item that the words of a line are behind the items before it, if they are one.
     ghost item_of: { ItemOf Self.Item };
-
-    /// The number of the line that a fault tells.
-    ghost line_of: { Self.Fault → ℕ };
 
     /// The item that the words of a line are behind the items before it. It is None where they are
     /// no item.
     fn item(before: &[Self::Item], words: &[&[u8]]) -> Option<Self::Item>
         ensures { result ≡ item_of before.now (map (λ w. w.now) words.now) };
 
-    /// The fault of a line, counted from 1.
-    fn fault(line: usize) -> Self::Fault
-        ensures { line_of result ≡ line };
+    /// What is told of a line that is faulty.
+    fn fault() -> Self::Fault;
 }
 
 /// Adds the item of a line that is not blank, and tells whether it was one.
@@ -53,25 +50,31 @@ fn add_line<F: LineFormat>(
 }
 
 /// The items of lines.
-fn items_in<F: LineFormat>(alloc: Global, lines: &[&str]) -> Result<Vec<F::Item>, Failure<F::Fault>>
-    ensures { MeetsBy F.line_of (λ v. v.items) (items F.item_of [] 1 (map (λ l. l.now) lines.now)) result }
+fn items_in<F: LineFormat>(
+    alloc: Global,
+    lines: &[&str],
+) -> Result<Vec<F::Item>, Failure<Placed<usize, F::Fault>>>
+    ensures { MeetsBy (λ f. f.place) (λ v. v.items) (items F.item_of [] 1 (map (λ l. l.now) lines.now)) result }
 {
     let mut items = Vec::new(alloc);
     for (index, line) in lines.iter().enumerate() {
         let fine = add_line::<F>(alloc, &mut items, line.as_bytes())?;
         if !fine {
-            return Err(Failure::Fault(F::fault(index + 1)));
+            return Err(Failure::Fault(Placed {
+                place: index + 1,
+                fault: F::fault(),
+            }));
         }
     }
     Ok(items)
 }
 
-/// The items of a text, one a line that is not blank, or its first faulty line.
+/// The items of a text, one a line that is not blank, or its first faulty line, counted from 1.
 pub fn read_items<F: LineFormat>(
     alloc: Global,
     text: &str,
-) -> Result<Vec<F::Item>, Failure<F::Fault>>
-    ensures { MeetsBy F.line_of (λ v. v.items) (items_of F.item_of text.now) result }
+) -> Result<Vec<F::Item>, Failure<Placed<usize, F::Fault>>>
+    ensures { MeetsBy (λ f. f.place) (λ v. v.items) (items_of F.item_of text.now) result }
 {
     let lines = lines_of(alloc, text)?;
     items_in::<F>(alloc, lines.as_slice())

@@ -4,8 +4,6 @@
 mod first;
 mod passage;
 mod rows;
-#[cfg(test)]
-mod tests;
 
 pub use first::count_lines;
 pub use passage::Passage;

@@ -13,7 +13,8 @@ use Rattle.c25_meaning_objects.specs.Module.{Contents, IsModule, body_size}
 use Rattle.c25_meaning_placing.specs.Place.{Place, size_of_parts}
 use Rattle.c25_meaning_common.specs.declared.failure.Failure.{Failure}
 use Rattle.c25_meaning_common.specs.declared.failure.Failure.TheVariants.{NoMemory, Fault}
-use Rattle.c25_meaning_placing.specs.declared.link_fault.FaultyLink.{FaultyLink}
+use Rattle.c25_meaning_common.specs.declared.placed.Placed.{Placed}
+use Rattle.c25_meaning_placing.specs.declared.link_fault.LinkFault.{LinkFault}
 use Rattle.c25_meaning_placing.proofs.Parts.{part_in_place, one_part}
 use Rattle.c25_place.specs.Placement.{IsWithin}
 use Rattle.c25_place.specs.View.{place_view, places_view}
@@ -91,7 +92,7 @@ all_modules modules are = λ i d lt. are i (get_or modules i d) (slice_get-get_o
 
 -- ---- what linking answers
 
-pub links : (modules : List Contents) (command : CommandData) (places : List Place) (result : Result ImageData (Failure (FaultyLink (String Global)))) → names_checked modules command.entry ≡ Ok tt → IsGoodMap modules command places → LinksAt modules places command.entry result → Links modules command result
+pub links : (modules : List Contents) (command : CommandData) (places : List Place) (result : Result ImageData (Failure (Placed (String Global) LinkFault))) → names_checked modules command.entry ≡ Ok tt → IsGoodMap modules command places → LinksAt modules places command.entry result → Links modules command result
 links modules command places (Ok image) names good h = record {
   places = places;
   names = names;

@@ -7,12 +7,13 @@ use Rattle.c25_meaning_objects.specs.Module.{Contents}
 use Rattle.c25_meaning_placing.specs.Place.{Place}
 use Rattle.c25_meaning_common.specs.declared.failure.Failure.{Failure}
 use Rattle.c25_meaning_common.specs.declared.failure.Failure.TheVariants.{NoMemory, Fault}
-use Rattle.c25_meaning_placing.specs.declared.link_fault.FaultyLink.{FaultyLink}
+use Rattle.c25_meaning_common.specs.declared.placed.Placed.{Placed}
+use Rattle.c25_meaning_placing.specs.declared.link_fault.LinkFault.{LinkFault}
 use Rattle.c25_meaning_placing.specs.declared.link_fault.LinkFault.TheVariants.{RelocRange}
 use Rattle.c25_place.specs.View.{refusal_of}
 
 -- the program, or the first refusal, unless memory ran out
-abbrev pub Links : List Contents → CommandData → Result ImageData (Failure (FaultyLink (String Global))) → Type 0
+abbrev pub Links : List Contents → CommandData → Result ImageData (Failure (Placed (String Global) LinkFault)) → Type 0
 Links modules command (Ok image) = IsProgram modules command image
 Links modules command (Err (NoMemory n)) = Unit {0}
 Links modules command (Err (Fault f)) = IsRefusal modules command (refusal_of f)
@@ -28,7 +29,7 @@ pub record IsImageAt (modules : List Contents) (places : List Place) (entry : Op
   pub described : image.described ≡ map_of modules entry places
 
 -- that, or the first field that does not take its value
-abbrev pub LinksAt : List Contents → List Place → Option (List ℕ) → Result ImageData (Failure (FaultyLink (String Global))) → Type 0
+abbrev pub LinksAt : List Contents → List Place → Option (List ℕ) → Result ImageData (Failure (Placed (String Global) LinkFault)) → Type 0
 LinksAt modules places entry (Ok image) = IsImageAt modules places entry image
 LinksAt modules places entry (Err (NoMemory n)) = Unit {0}
 LinksAt modules places entry (Err (Fault f)) = refused_with RelocRange (first_spilled modules places) ≡ Err (refusal_of f)

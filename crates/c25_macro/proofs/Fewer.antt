@@ -7,9 +7,8 @@ use Rattle.c25_meaning_expansion.specs.ExpansionAnswers.{ExpandedLine, given_by}
 use Rattle.c25_meaning_expansion.specs.ExpansionRuns.{first}
 use Rattle.c25_meaning_common.specs.declared.failure.Failure.{Failure}
 use Rattle.c25_meaning_expansion.proofs.ExpansionFirst.{first_giving}
-use Rattle.c25_macro.specs.Expander.{Stage, Stands, Absent, Failed, shown, IsNextAt, left_of}
+use Rattle.c25_macro.specs.Expander.{ExpandFault, Stage, Stands, Absent, Failed, shown, IsNextAt, left_of}
 use Rattle.c25_macro.specs.declared.answer.ExpLine.{ExpLine}
-use Rattle.c25_macro.specs.declared.answer.ExpandFault.{ExpandFault}
 
 same : {A : Type 0} (x y : A) → Some x ≡ Some y → x ≡ y
 same x y e = cc

@@ -8,11 +8,14 @@ use Rattle.c25_meaning_expansion.specs.ExpansionBounds.{IsBounded}
 use Rattle.c25_meaning_expansion.specs.ExpansionRuns.{first, start_of}
 use Rattle.c25_meaning_expansion.specs.Files.{Files}
 use Rattle.c25_meaning_language.specs.Value.{Table}
+use Rattle.std.specs.Borrow.{Bor}
 use Rattle.c25_meaning_common.specs.declared.failure.Failure.{Failure}
 use Rattle.c25_meaning_common.specs.declared.failure.Failure.TheVariants.{NoMemory, Fault}
+use Rattle.c25_meaning_common.specs.declared.placed.FileLine.{FileLine}
+use Rattle.c25_meaning_common.specs.declared.placed.Placed.{Placed}
+use Rattle.c25_meaning_language.specs.declared.statement.FaultKind.{FaultKind}
 use Rattle.c25_meaning_language.specs.declared.statement.FaultKind.TheVariants as fault
 use Rattle.c25_macro.specs.declared.answer.ExpLine.{ExpLine}
-use Rattle.c25_macro.specs.declared.answer.ExpandFault.{ExpandFault}
 
 -- where an expansion stands: at a configuration, before the first line of a module that is not there, or behind a failure
 pub data Stage : Type 0 where
@@ -39,10 +42,14 @@ begun files name = record { files = files; name = name; stage = begun_at (start_
 abbrev pub shown : ExpLine → ExpandedLine
 shown l = record { file = l.file.now; line = l.line; text = cow_str_bytes l.text }
 
+-- a fault, and the line of a file where it is
+abbrev pub ExpandFault : Type 0
+ExpandFault = Placed (FileLine (Bor (List ℕ))) FaultKind
+
 -- what is told of a fault
 abbrev pub TellsFault : ExpansionFault → ExpandFault → Type 0
-TellsFault (Faulty file line kind) f = (f.file.now ≡ file) × (f.line ≡ line) × (f.kind ≡ kind)
-TellsFault (Missing file line name) f = (f.file.now ≡ file) × (f.line ≡ line) × (f.kind ≡ fault.NoFile)
+TellsFault (Faulty file line kind) f = (f.place.file.now ≡ file) × (f.place.line ≡ line) × (f.fault ≡ kind)
+TellsFault (Missing file line name) f = (f.place.file.now ≡ file) × (f.place.line ≡ line) × (f.fault ≡ fault.NoFile)
 
 -- what is told of a failure
 abbrev pub Tells : Failure ExpansionFault → Failure ExpandFault → Type 0

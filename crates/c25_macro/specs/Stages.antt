@@ -8,9 +8,8 @@ use Rattle.c25_meaning_common.specs.declared.failure.Failure.{Failure}
 use Rattle.c25_meaning_common.specs.declared.failure.Failure.TheVariants.{NoMemory, Fault}
 use Rattle.c25_macro.specs.Config.{config}
 use Rattle.c25_macro.specs.Expander as exp
-use Rattle.c25_macro.specs.Expander.{begun_at, Tells}
+use Rattle.c25_macro.specs.Expander.{ExpandFault, begun_at, Tells}
 use Rattle.c25_macro.specs.declared.answer.ExpLine.{ExpLine}
-use Rattle.c25_macro.specs.declared.answer.ExpandFault.{ExpandFault}
 use Rattle.c25_macro.specs.declared.refusal.Refusal.{Refusal}
 use Rattle.c25_macro.specs.declared.refusal.Refusal.TheVariants as refusal
 use Rattle.c25_macro.specs.declared.stage.Stage.{Stage}
@@ -28,7 +27,7 @@ stage_of files name stage.Before = begun_at (start_of files name)
 stage_of files name (stage.Standing s) = exp.Stands (config s.state.value)
 stage_of files name stage.NoModule = exp.Failed (Fault (Missing name 0 name))
 stage_of files name (stage.NoMemory n) = exp.Failed (NoMemory n)
-stage_of files name (stage.Faulty f) = exp.Failed (Fault (Faulty f.file.now f.line f.kind))
+stage_of files name (stage.Faulty f) = exp.Failed (Fault (Faulty f.place.file.now f.place.line f.fault))
 stage_of files name (stage.Missing file line wanted) = exp.Failed (Fault (Missing file.now line (string_bytes wanted)))
 
 -- the stage is behind this refusal, and the answer tells it

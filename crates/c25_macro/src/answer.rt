@@ -1,9 +1,8 @@
 //! What an expander answers.
 
+use c25_meaning_common::placed::{FileLine, Placed};
 use c25_meaning_language::statement::FaultKind;
 use std::borrow::CowStr;
-use std::error::Error;
-use std::fmt;
 
 /// A line of an expansion.
 #[derive(Drop)]
@@ -16,25 +15,6 @@ pub struct ExpLine<'a> {
     pub text: CowStr<'a>,
 }
 
-/// The line of this number in this file is wrong, or a file that it asks for is not there (10 to 13,
-/// 20 to 25, 30 to 36, 38, 51, 52); line 0 where the module itself is not there (30).
-#[derive(Clone, Copy, Debug)]
-pub struct ExpandFault<'a> {
-    pub file: &'a str,
-    pub line: usize,
-    pub kind: FaultKind,
-}
-
-impl fmt::Display for ExpandFault<'_> {
-    ghost use Rattle.std.specs.Prelude.{Some};
-    ghost use Rattle.c25_meaning_language.specs.Faults.{fault_name};
-    ghost use Rattle.c25_meaning_common.specs.Faults.{placed_text};
-
-    ghost output = { λ fault. Some (placed_text fault.file.now fault.line (fault_name fault.kind)) };
-
-    fn fmt<W: fmt::Write>(&self, f: &mut fmt::Formatter<W>) -> fmt::Result {
-        write!(f, "{}:{}: {}", self.file, self.line, self.kind)
-    }
-}
-
-impl Error for ExpandFault<'_> {}
+/// A line is wrong, or a file that it asks for is not there (10 to 13, 20 to 25, 30 to 36, 38, 51, 52);
+/// it is line 0 where the module itself is not there (30).
+pub type ExpandFault<'a> = Placed<FileLine<&'a str>, FaultKind>;

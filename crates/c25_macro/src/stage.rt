@@ -17,6 +17,7 @@ use c25_expr::symbols::Symbols;
 use c25_files::files::Files;
 use c25_meaning_common::failure::Failure;
 use c25_meaning_common::no_memory::NoMemory;
+use c25_meaning_common::placed::{FileLine, Placed};
 use c25_meaning_expansion::expansion::Place;
 use c25_meaning_language::statement::FaultKind;
 use std::alloc::Global;
@@ -59,12 +60,11 @@ fn show<'a>(files: &'a Files, given: Line<'a>) -> ExpLine<'a>
 
 /// A file that the line of this number in this file asks for is not there.
 fn no_file(file: &str, line: usize) -> ExpandFault<'_>
-    ensures { result ≡ record { file = file.entry; line = line; kind = FaultKind.NoFile } }
+    ensures { result ≡ record { place = record { file = file.entry; line = line }; fault = FaultKind.NoFile } }
 {
-    ExpandFault {
-        file,
-        line,
-        kind: FaultKind::NoFile,
+    Placed {
+        place: FileLine { file, line },
+        fault: FaultKind::NoFile,
     }
 }
 
@@ -75,9 +75,11 @@ fn refuse<'a>(files: &'a Files, name: &'a str, failure: Failure<Refusal>) -> (St
     match failure {
         Failure::NoMemory(error) => (Stage::NoMemory(error), Err(Failure::NoMemory(error))),
         Failure::Fault(Refusal::Faulty { place, kind }) => {
-            let file = files.name(place.file);
-            let line = place.line;
-            let fault = ExpandFault { file, line, kind };
+            let place = FileLine {
+                file: files.name(place.file),
+                line: place.line,
+            };
+            let fault = Placed { place, fault: kind };
             (Stage::Faulty(fault), Err(Failure::Fault(fault)))
         }
         Failure::Fault(Refusal::Missing { place, name }) => {

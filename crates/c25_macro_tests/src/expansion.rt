@@ -11,7 +11,7 @@ use std::test::Fail;
 /// The line for which the next answer of an expansion tells a missing file.
 fn faulty_line(expander: &mut Expander<'_>, symbols: &Symbols) -> Option<usize> {
     match expander.next_line(symbols) {
-        Err(Failure::Fault(fault)) if fault.kind == FaultKind::NoFile => Some(fault.line),
+        Err(Failure::Fault(placed)) if placed.fault == FaultKind::NoFile => Some(placed.place.line),
         _ => None,
     }
 }

@@ -1,25 +1,33 @@
 //! Why a text is not read as a map.
 
-use std::error::Error;
-use std::fmt;
+use thiserror::Error;
 
 /// Why a text is not read as a map. The number is that of the fault lines.
-#[derive(Clone, Copy, Debug)]
+#[derive(Clone, Copy, Debug, Error)]
+#[error("{}", self.name())]
 pub enum MapFault {
     /// The text is that of no map (77).
     BadMap,
 }
 
-impl fmt::Display for MapFault {
-    ghost use Rattle.std.specs.Prelude.{Some, codes};
+impl MapFault {
+    ghost use Rattle.std.specs.Prelude.{◌≡◌, codes};
 
-    ghost output = { λ _. Some (codes "BadMap") };
-
-    fn fmt<W: fmt::Write>(&self, f: &mut fmt::Formatter<W>) -> fmt::Result {
+    /// The number that it is told by.
+    pub fn number(&self) -> u8
+        ensures { result ≡ 77 }
+    {
         match self {
-            MapFault::BadMap => f.write_str("BadMap"),
+            MapFault::BadMap => 77,
+        }
+    }
+
+    /// The name that it is told by.
+    pub fn name(&self) -> &'static str
+        ensures { result.now ≡ codes "BadMap" }
+    {
+        match self {
+            MapFault::BadMap => "BadMap",
         }
     }
 }
-
-impl Error for MapFault {}

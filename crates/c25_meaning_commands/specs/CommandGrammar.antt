@@ -12,21 +12,21 @@ use Rattle.c25_meaning_commands.specs.declared.command_token.Want.{Want}
 use Rattle.c25_meaning_commands.specs.declared.command_token.Want.TheVariants as want
 use Rattle.c25_meaning_commands.specs.declared.command_fault.CommandFault.{CommandFault}
 use Rattle.c25_meaning_commands.specs.declared.command_fault.CommandFault.TheVariants.{Syntax}
-use Rattle.c25_meaning_commands.specs.declared.command_fault.PlacedFault.{PlacedFault}
+use Rattle.c25_meaning_common.specs.declared.placed.Placed.{Placed}
 use Rattle.c25_meaning_commands.specs.CommandTokens.{Token}
 use Rattle.c25_meaning_common.specs.Results.{◌>>=◌}
 
 -- a value and the tokens behind it
 abbrev pub Reading : Type 0 → Type 0
-Reading A = Result (A × List Token) PlacedFault
+Reading A = Result (A × List Token) (Placed ℕ CommandFault)
 
 -- a fault at the first token
-abbrev pub fault_at : CommandFault → List Token → PlacedFault
-fault_at fault [] = record { fault = fault; place = 0 }
-fault_at fault (t ∷ ts) = record { fault = fault; place = t.place }
+abbrev pub fault_at : CommandFault → List Token → Placed ℕ CommandFault
+fault_at fault [] = record { place = 0; fault = fault }
+fault_at fault (t ∷ ts) = record { place = t.place; fault = fault }
 
 -- a fault where the test holds
-abbrev pub fault_if : Bool → CommandFault → List Token → Result (Unit {0}) PlacedFault
+abbrev pub fault_if : Bool → CommandFault → List Token → Result (Unit {0}) (Placed ℕ CommandFault)
 fault_if test fault ts = if test then Err (fault_at fault ts) else Ok tt
 
 -- the number of a sign among the signs
@@ -119,7 +119,7 @@ page_number_at ts = do
   Ok n
 
 -- `keyword =`: the tokens behind it
-unfoldable pub setting_at : Keyword → List Token → Result (List Token) PlacedFault
+unfoldable pub setting_at : Keyword → List Token → Result (List Token) (Placed ℕ CommandFault)
 setting_at k ts = do
   key ← wanted (want.Keyword k) ts
   equals ← wanted (want.Sign sign.Equals) key.1

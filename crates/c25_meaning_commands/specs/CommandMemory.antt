@@ -7,7 +7,8 @@ use Rattle.c25_meaning_commands.specs.declared.command_token.Sign.TheVariants as
 use Rattle.c25_meaning_commands.specs.declared.command_token.Keyword.TheVariants as keyword
 use Rattle.c25_meaning_commands.specs.declared.command_token.Want.TheVariants as want
 use Rattle.c25_meaning_commands.specs.declared.command_fault.CommandFault.TheVariants.{RangeOverlap, RangeSize, Twice}
-use Rattle.c25_meaning_commands.specs.declared.command_fault.PlacedFault.{PlacedFault}
+use Rattle.c25_meaning_common.specs.declared.placed.Placed.{Placed}
+use Rattle.c25_meaning_commands.specs.declared.command_fault.CommandFault.{CommandFault}
 use Rattle.c25_meaning_commands.specs.CommandTokens.{Token}
 use Rattle.c25_meaning_commands.specs.CommandGrammar.{Reading, fault_if, begins, wanted, past, up_to, number_at, page_number_at, setting_at}
 use Rattle.c25_meaning_common.specs.Results.{◌>>=◌}
@@ -21,7 +22,7 @@ page_at page ts = if begins (want.Keyword keyword.Page) ts then (do
   Ok (n.0, colon.1)) else Ok (page, ts)
 
 -- one word in parentheses, if they are there: the tokens behind it
-unfoldable pub attributes_at : List Token → Result (List Token) PlacedFault
+unfoldable pub attributes_at : List Token → Result (List Token) (Placed ℕ CommandFault)
 attributes_at ts = if begins (want.Sign sign.OpenParenthesis) ts then (do
   word ← wanted want.AnyWord (drop 1 ts)
   close ← wanted (want.Sign sign.CloseParenthesis) word.1

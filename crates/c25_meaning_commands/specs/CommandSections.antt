@@ -7,14 +7,15 @@ use Rattle.c25_meaning_commands.specs.declared.command_token.Sign.TheVariants as
 use Rattle.c25_meaning_commands.specs.declared.command_token.Keyword.TheVariants as keyword
 use Rattle.c25_meaning_commands.specs.declared.command_token.Want.TheVariants as want
 use Rattle.c25_meaning_commands.specs.declared.command_fault.CommandFault.TheVariants.{Syntax, Twice}
-use Rattle.c25_meaning_commands.specs.declared.command_fault.PlacedFault.{PlacedFault}
+use Rattle.c25_meaning_common.specs.declared.placed.Placed.{Placed}
+use Rattle.c25_meaning_commands.specs.declared.command_fault.CommandFault.{CommandFault}
 use Rattle.c25_meaning_commands.specs.CommandTokens.{Token}
 use Rattle.c25_meaning_commands.specs.CommandGrammar.{Reading, fault_if, begins, wanted, past, up_to, number_at, page_number_at}
 use Rattle.c25_meaning_common.specs.Results.{◌>>=◌}
 use Rattle.c25_meaning_commands.specs.Command.{TargetData, Anywhere, InRange, At, PlacingData}
 
 -- `*(name)` with the section's own name, or nothing: the tokens behind it
-unfoldable pub input_at : List ℕ → List Token → Result (List Token) PlacedFault
+unfoldable pub input_at : List ℕ → List Token → Result (List Token) (Placed ℕ CommandFault)
 input_at name ts = if begins (want.Sign sign.Star) ts then (do
   paren ← wanted (want.Sign sign.OpenParenthesis) (drop 1 ts)
   word ← wanted want.Name paren.1
@@ -23,7 +24,7 @@ input_at name ts = if begins (want.Sign sign.Star) ts then (do
   Ok close.1) else Ok ts
 
 -- the braces and what stands in them, if they are there: the tokens behind them
-unfoldable pub contents_at : List ℕ → List Token → Result (List Token) PlacedFault
+unfoldable pub contents_at : List ℕ → List Token → Result (List Token) (Placed ℕ CommandFault)
 contents_at name ts = if begins (want.Sign sign.OpenBrace) ts then (do
   inner ← input_at name (drop 1 ts)
   close ← wanted (want.Sign sign.CloseBrace) inner

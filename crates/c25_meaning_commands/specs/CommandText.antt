@@ -5,8 +5,8 @@ use Rattle.std.specs.Str.{bytes_eq}
 use Rattle.c25_meaning_commands.specs.declared.command_token.Keyword.TheVariants as keyword
 use Rattle.c25_meaning_commands.specs.declared.command_token.Want.TheVariants as want
 use Rattle.c25_meaning_commands.specs.declared.command_fault.CommandFault.TheVariants.{Syntax, Twice}
-use Rattle.c25_meaning_commands.specs.declared.command_fault.PlacedFault.{PlacedFault}
-use Rattle.c25_meaning_commands.specs.declared.command_fault.FaultyCommand.{FaultyCommand}
+use Rattle.c25_meaning_common.specs.declared.placed.Placed.{Placed}
+use Rattle.c25_meaning_commands.specs.declared.command_fault.CommandFault.{CommandFault}
 use Rattle.c25_meaning_commands.specs.CommandTokens.{Token, tokens, line_at}
 use Rattle.c25_meaning_commands.specs.CommandGrammar.{Reading, fault_if, begins, wanted, up_to}
 use Rattle.c25_meaning_common.specs.Results.{◌>>=◌, told}
@@ -45,11 +45,11 @@ part_in command ts =
     else entry_in command ts)
 
 -- the command that the tokens spell
-unfoldable pub command_at : List Token → Result CommandData PlacedFault
+unfoldable pub command_at : List Token → Result CommandData (Placed ℕ CommandFault)
 command_at ts = do
   parts ← up_to want.End part_in nothing ts
   Ok parts.0
 
 -- the command that a text spells; a fault is told with the line of its token
-abbrev pub command_of : List ℕ → Result CommandData FaultyCommand
-command_of text = told (λ f. record { fault = f.fault; line = line_at text f.place }) (command_at (tokens text))
+abbrev pub command_of : List ℕ → Result CommandData (Placed ℕ CommandFault)
+command_of text = told (λ f. record { place = line_at text f.place; fault = f.fault }) (command_at (tokens text))

@@ -1,10 +1,11 @@
 //! What is wrong with a command file of the linker.
 
-use std::error::Error;
-use std::fmt;
+use thiserror::Error;
 
-/// Why a command file is refused. The numbers are those of the fault lines.
-#[derive(Clone, Copy, PartialEq, Debug)]
+/// Why a command file is refused. It is placed at a line, counted from 1, and before that at the byte
+/// where the token begins that it is told at, counted from 0. The numbers are those of the fault lines.
+#[derive(Clone, Copy, PartialEq, Debug, Error)]
+#[error("{}", self.name())]
 pub enum CommandFault {
     /// A word or sign that cannot stand where it is, or a text that ends too soon (60).
     Syntax,
@@ -17,50 +18,31 @@ pub enum CommandFault {
     Twice,
 }
 
-impl fmt::Display for CommandFault {
-    ghost use Rattle.std.specs.Prelude.{Some};
-    ghost use Rattle.c25_meaning_commands.specs.Faults.{command_name};
+impl CommandFault {
+    ghost use Rattle.std.specs.Prelude.{◌≡◌};
+    ghost use Rattle.c25_meaning_commands.specs.Faults.{command_name, command_number};
 
-    ghost output = { λ fault. Some (command_name fault) };
-
-    fn fmt<W: fmt::Write>(&self, f: &mut fmt::Formatter<W>) -> fmt::Result {
+    /// The number that it is told by.
+    pub fn number(&self) -> u8
+        ensures { result ≡ command_number self.now }
+    {
         match self {
-            CommandFault::Syntax => f.write_str("Syntax"),
-            CommandFault::RangeOverlap => f.write_str("RangeOverlap"),
-            CommandFault::RangeSize => f.write_str("RangeSize"),
-            CommandFault::Twice => f.write_str("Twice"),
+            CommandFault::Syntax => 60,
+            CommandFault::RangeOverlap => 61,
+            CommandFault::RangeSize => 62,
+            CommandFault::Twice => 63,
+        }
+    }
+
+    /// The name that it is told by.
+    pub fn name(&self) -> &'static str
+        ensures { result.now ≡ command_name self.now }
+    {
+        match self {
+            CommandFault::Syntax => "Syntax",
+            CommandFault::RangeOverlap => "RangeOverlap",
+            CommandFault::RangeSize => "RangeSize",
+            CommandFault::Twice => "Twice",
         }
     }
 }
-
-impl Error for CommandFault {}
-
-/// A fault, and where in the text the token begins that it is told at, counted in bytes from 0.
-#[derive(Clone, Copy)]
-pub struct PlacedFault {
-    pub fault: CommandFault,
-    pub place: usize,
-}
-
-/// A fault, and the number of the line where it is told, counted from 1.
-#[derive(Clone, Copy, PartialEq, Debug)]
-pub struct FaultyCommand {
-    pub fault: CommandFault,
-    pub line: usize,
-}
-
-impl fmt::Display for FaultyCommand {
-    ghost use Rattle.std.specs.Prelude.{Some};
-    ghost use Rattle.c25_meaning_commands.specs.Faults.{command_name};
-    ghost use Rattle.c25_meaning_common.specs.Faults.{line_text};
-
-    ghost output = { λ faulty. Some (line_text faulty.line (command_name faulty.fault)) };
-
-    fn fmt<W: fmt::Write>(&self, f: &mut fmt::Formatter<W>) -> fmt::Result {
-        let fault = self.fault;
-        let line = self.line;
-        write!(f, "line {line}: {fault}")
-    }
-}
-
-impl Error for FaultyCommand {}

@@ -4,33 +4,21 @@ ghost use Rattle.c25_meaning_common.specs.Results.{IsNoMemory};
 
 use crate::no_memory::NoMemory;
 use std::alloc::{AllocError, AllocFailed};
-use std::error::Error;
 use std::fmt;
+use thiserror::Error;
 
 /// A refused growth, or a fault of what the call was given. Each crate's faults are its own; `?`
 /// turns the allocator's refusals into this, whatever the fault is.
-#[derive(PartialEq, Debug, Drop)]
+#[derive(PartialEq, Debug, Drop, Error)]
+#[error_bound(F: fmt::Display)]
 pub enum Failure<F> {
     /// A growth was refused (9).
+    #[error(transparent)]
     NoMemory(NoMemory),
     /// What was given is faulty.
+    #[error(transparent)]
     Fault(F),
 }
-
-impl<F: fmt::Display> fmt::Display for Failure<F> {
-    ghost use Rattle.c25_meaning_common.specs.Faults.{failure_text};
-
-    ghost output = { λ failure. failure_text F.output failure };
-
-    fn fmt<W: fmt::Write>(&self, f: &mut fmt::Formatter<W>) -> fmt::Result {
-        match self {
-            Failure::NoMemory(error) => write!(f, "{error}"),
-            Failure::Fault(fault) => write!(f, "{fault}"),
-        }
-    }
-}
-
-impl<F: fmt::Display + fmt::Debug + Drop> Error for Failure<F> {}
 
 impl<F> From<NoMemory> for Failure<F> {
     ghost from_gives = { λ _ failure. IsNoMemory failure };

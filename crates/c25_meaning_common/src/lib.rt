@@ -4,4 +4,5 @@
 
 pub mod failure;
 pub mod no_memory;
+pub mod placed;
 pub mod relocation;

@@ -10,7 +10,7 @@ use Rattle.c25_meaning_common.specs.Bytes.{is_blank}
 use Rattle.c25_meaning_common.specs.Results.{◌>>=◌, told}
 use Rattle.hex.specs.Hex.{decode_of, is_hex_digit}
 use Rattle.c25_meaning_intel_hex.specs.declared.hex_fault.HexFault.{HexFault}
-use Rattle.c25_meaning_intel_hex.specs.declared.hex_fault.PlacedHexFault.{PlacedHexFault}
+use Rattle.c25_meaning_common.specs.declared.placed.Placed.{Placed}
 use Rattle.c25_meaning_intel_hex.specs.declared.hex_fault.HexFault.TheVariants.{BadStart, BadDigit, BadCount, BadSum, BadKind, OddWord, Twice, NoEnd, AfterEnd, AddressRange}
 
 -- how far a text has been read: the base, the bytes given so far by their addresses, and whether the end line was met
@@ -95,12 +95,12 @@ after_line s line =
 -- ---- the text
 
 -- a line as it is read, its fault with the number of the line
-abbrev pub numbered : {A : Type 0} → ℕ → Result A HexFault → Result A PlacedHexFault
-numbered n read = told (λ f. record { fault = f; line = n }) read
+abbrev pub numbered : {A : Type 0} → ℕ → Result A HexFault → Result A (Placed ℕ HexFault)
+numbered n read = told (λ f. record { place = n; fault = f }) read
 
 -- after n lines: the bytes given in the end, or the first fault and its line
-unfoldable pub after_lines : ℕ → HexState → List (List ℕ) → Result (map.FinMap nat_cmp ℕ) PlacedHexFault
-after_lines n s [] = if s.ended then Ok s.bytes else Err (record { fault = NoEnd; line = n })
+unfoldable pub after_lines : ℕ → HexState → List (List ℕ) → Result (map.FinMap nat_cmp ℕ) (Placed ℕ HexFault)
+after_lines n s [] = if s.ended then Ok s.bytes else Err (record { place = n; fault = NoEnd })
 after_lines n s (line ∷ rest) = numbered (n + 1) (after_line s line) >>= λ t. after_lines (n + 1) t rest
 
 -- before the first line
@@ -108,7 +108,7 @@ abbrev pub start : HexState
 start = record { base = 0; bytes = map.empty; ended = false }
 
 -- the bytes that a text gives by their addresses, or its first fault and the line of it; lines end in LF or CRLF, and the last may lack its end
-abbrev pub bytes_given : List ℕ → Result (map.FinMap nat_cmp ℕ) PlacedHexFault
+abbrev pub bytes_given : List ℕ → Result (map.FinMap nat_cmp ℕ) (Placed ℕ HexFault)
 bytes_given text = after_lines 0 start (lines text)
 
 -- the word of two bytes, the high one first

@@ -1,11 +1,11 @@
 //! What is wrong with a hex text.
 
-use std::error::Error;
-use std::fmt;
+use thiserror::Error;
 
-/// Why a line, or the text, is not Intel hex of 16-bit words. The numbers are those of the
-/// fault lines.
-#[derive(Clone, Copy, Debug)]
+/// Why a line, or the text, is not Intel hex of 16-bit words. It is placed at the number of a line: from
+/// 1, or 0 where a text without lines has no end. The numbers are those of the fault lines.
+#[derive(Clone, Copy, Debug, Error)]
+#[error("{}", self.name())]
 pub enum HexFault {
     /// A line that is not blank does not begin with `:` (80).
     BadStart,
@@ -30,48 +30,43 @@ pub enum HexFault {
     AddressRange,
 }
 
-impl fmt::Display for HexFault {
-    ghost use Rattle.std.specs.Prelude.{Some};
-    ghost use Rattle.c25_meaning_intel_hex.specs.Faults.{hex_name};
+impl HexFault {
+    ghost use Rattle.std.specs.Prelude.{◌≡◌};
+    ghost use Rattle.c25_meaning_intel_hex.specs.Faults.{hex_name, hex_number};
 
-    ghost output = { λ fault. Some (hex_name fault) };
-
-    fn fmt<W: fmt::Write>(&self, f: &mut fmt::Formatter<W>) -> fmt::Result {
+    /// The number that it is told by.
+    pub fn number(&self) -> u8
+        ensures { result ≡ hex_number self.now }
+    {
         match self {
-            HexFault::BadStart => f.write_str("BadStart"),
-            HexFault::BadDigit => f.write_str("BadDigit"),
-            HexFault::BadCount => f.write_str("BadCount"),
-            HexFault::BadSum => f.write_str("BadSum"),
-            HexFault::BadKind => f.write_str("BadKind"),
-            HexFault::OddWord => f.write_str("OddWord"),
-            HexFault::Twice => f.write_str("Twice"),
-            HexFault::NoEnd => f.write_str("NoEnd"),
-            HexFault::AfterEnd => f.write_str("AfterEnd"),
-            HexFault::AddressRange => f.write_str("AddressRange"),
+            HexFault::BadStart => 80,
+            HexFault::BadDigit => 81,
+            HexFault::BadCount => 82,
+            HexFault::BadSum => 83,
+            HexFault::BadKind => 84,
+            HexFault::OddWord => 85,
+            HexFault::Twice => 86,
+            HexFault::NoEnd => 87,
+            HexFault::AfterEnd => 88,
+            HexFault::AddressRange => 89,
+        }
+    }
+
+    /// The name that it is told by.
+    pub fn name(&self) -> &'static str
+        ensures { result.now ≡ hex_name self.now }
+    {
+        match self {
+            HexFault::BadStart => "BadStart",
+            HexFault::BadDigit => "BadDigit",
+            HexFault::BadCount => "BadCount",
+            HexFault::BadSum => "BadSum",
+            HexFault::BadKind => "BadKind",
+            HexFault::OddWord => "OddWord",
+            HexFault::Twice => "Twice",
+            HexFault::NoEnd => "NoEnd",
+            HexFault::AfterEnd => "AfterEnd",
+            HexFault::AddressRange => "AddressRange",
         }
     }
 }
-
-impl Error for HexFault {}
-
-/// The first fault of a text, and where it is.
-#[derive(Clone, Copy, Debug)]
-pub struct PlacedHexFault {
-    pub fault: HexFault,
-    /// The number of its line: from 1, or 0 where a text without lines has no end.
-    pub line: usize,
-}
-
-impl fmt::Display for PlacedHexFault {
-    ghost use Rattle.std.specs.Prelude.{Some};
-    ghost use Rattle.c25_meaning_intel_hex.specs.Faults.{hex_name};
-    ghost use Rattle.c25_meaning_common.specs.Faults.{line_text};
-
-    ghost output = { λ placed. Some (line_text placed.line (hex_name placed.fault)) };
-
-    fn fmt<W: fmt::Write>(&self, f: &mut fmt::Formatter<W>) -> fmt::Result {
-        write!(f, "line {}: {}", self.line, self.fault)
-    }
-}
-
-impl Error for PlacedHexFault {}

@@ -1,6 +1,6 @@
 -- The numbers and names of a source's faults.
-use Rattle.std.specs.Prelude.{ℕ, List, ◌++◌, codes}
-use Rattle.std.specs.Fmt.{decimal}
+use Rattle.std.specs.Prelude.{ℕ, List, codes}
+use Rattle.c25_meaning_common.specs.Faults.{numbered}
 use Rattle.c25_meaning_language.specs.declared.statement.FaultKind.{FaultKind}
 use Rattle.c25_meaning_language.specs.declared.statement.FaultKind.TheVariants as fault
 use Rattle.c25_meaning_lines.specs.declared.line.LineFault.TheVariants as line
@@ -66,4 +66,4 @@ fault_name fault.BadBlock = codes "BadBlock"
 
 -- the number of a fault and its name, as a fault's line has them
 abbrev pub numbered_name : FaultKind → List ℕ
-numbered_name kind = decimal (fault_number kind) ++ codes " " ++ fault_name kind
+numbered_name kind = numbered (fault_number kind) (fault_name kind)

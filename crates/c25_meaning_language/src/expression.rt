@@ -1,7 +1,6 @@
 //! Operators of expressions.
 
-use std::error::Error;
-use std::fmt;
+use thiserror::Error;
 
 /// An operator before its operand.
 #[derive(Clone, Copy)]
@@ -33,7 +32,8 @@ pub enum BinaryOperator {
 }
 
 /// Why tokens are no expression that is read.
-#[derive(Clone, Copy, PartialEq, Debug)]
+#[derive(Clone, Copy, PartialEq, Debug, Error)]
+#[error("{}", self.name())]
 pub enum ExpressionFault {
     /// The tokens are no expression (20).
     BadExpression,
@@ -41,19 +41,18 @@ pub enum ExpressionFault {
     TooDeep,
 }
 
-impl fmt::Display for ExpressionFault {
-    ghost use Rattle.std.specs.Prelude.{Some};
+impl ExpressionFault {
+    ghost use Rattle.std.specs.Prelude.{◌≡◌};
     ghost use Rattle.c25_meaning_language.specs.Faults.{fault_name};
     ghost use Rattle.c25_meaning_language.specs.Statement.{expression_fault};
 
-    ghost output = { λ fault. Some (fault_name (expression_fault fault)) };
-
-    fn fmt<W: fmt::Write>(&self, f: &mut fmt::Formatter<W>) -> fmt::Result {
+    /// The name that it is told by.
+    pub fn name(&self) -> &'static str
+        ensures { result.now ≡ fault_name (expression_fault self.now) }
+    {
         match self {
-            ExpressionFault::BadExpression => f.write_str("BadExpression"),
-            ExpressionFault::TooDeep => f.write_str("TooDeep"),
+            ExpressionFault::BadExpression => "BadExpression",
+            ExpressionFault::TooDeep => "TooDeep",
         }
     }
 }
-
-impl Error for ExpressionFault {}

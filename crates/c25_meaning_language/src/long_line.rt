@@ -1,20 +1,21 @@
 //! A line that substitution makes too long.
 
-use std::error::Error;
-use std::fmt;
+use thiserror::Error;
 
 /// A line would have more than 1,024 bytes, or take more than 1,024 replacements (38).
-#[derive(Clone, Copy, Debug)]
+#[derive(Clone, Copy, Debug, Error)]
+#[error("{}", self.name())]
 pub struct LongLine;
 
-impl fmt::Display for LongLine {
-    ghost use Rattle.std.specs.Prelude.{Some, codes};
+impl LongLine {
+    ghost use Rattle.std.specs.Prelude.{◌≡◌};
+    ghost use Rattle.c25_meaning_language.specs.Faults.{fault_name};
+    ghost use Rattle.c25_meaning_language.specs.declared.statement.FaultKind.TheVariants as kind;
 
-    ghost output = { λ _. Some (codes "LongLine") };
-
-    fn fmt<W: fmt::Write>(&self, f: &mut fmt::Formatter<W>) -> fmt::Result {
-        write!(f, "LongLine")
+    /// The name that it is told by.
+    pub fn name(&self) -> &'static str
+        ensures { result.now ≡ fault_name kind.LongLine }
+    {
+        "LongLine"
     }
 }
-
-impl Error for LongLine {}

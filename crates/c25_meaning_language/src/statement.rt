@@ -6,8 +6,7 @@ use c25_meaning_instructions::mnemonic::{
     ArMemName, BitName, JumpName, LongMemName, LongName, MemName, PlainName, PortName, ShiftedName,
     ShortName,
 };
-use std::error::Error;
-use std::fmt;
+use thiserror::Error;
 
 /// How the memory operand of an instruction is written.
 #[derive(Clone, Copy)]
@@ -54,7 +53,8 @@ pub enum Field {
 }
 
 /// What is wrong with a line.
-#[derive(Clone, Copy, Debug)]
+#[derive(Clone, Copy, Debug, Error)]
+#[error("{}", self.name())]
 pub enum FaultKind {
     /// A label or name that is none, or is longer than 128 characters (10).
     BadLabel,
@@ -110,45 +110,78 @@ pub enum FaultKind {
     BadBlock,
 }
 
-impl fmt::Display for FaultKind {
-    ghost use Rattle.std.specs.Prelude.{Some};
-    ghost use Rattle.c25_meaning_language.specs.Faults.{fault_name};
+impl FaultKind {
+    ghost use Rattle.std.specs.Prelude.{◌≡◌};
+    ghost use Rattle.c25_meaning_language.specs.Faults.{fault_name, fault_number};
 
-    ghost output = { λ kind. Some (fault_name kind) };
-
-    fn fmt<W: fmt::Write>(&self, f: &mut fmt::Formatter<W>) -> fmt::Result {
+    /// The number that it is told by.
+    pub fn number(&self) -> u8
+        ensures { result ≡ fault_number self.now }
+    {
         match self {
-            FaultKind::BadLabel => f.write_str("BadLabel"),
-            FaultKind::BadConstant => f.write_str("BadConstant"),
-            FaultKind::OpenQuote => f.write_str("OpenQuote"),
-            FaultKind::StrayText => f.write_str("StrayText"),
-            FaultKind::BadExpression => f.write_str("BadExpression"),
-            FaultKind::TooDeep => f.write_str("TooDeep"),
-            FaultKind::Undefined => f.write_str("Undefined"),
-            FaultKind::NotAbsolute => f.write_str("NotAbsolute"),
-            FaultKind::DivideByZero => f.write_str("DivideByZero"),
-            FaultKind::ValueRange => f.write_str("ValueRange"),
-            FaultKind::Defined => f.write_str("Defined"),
-            FaultKind::NoFile => f.write_str("NoFile"),
-            FaultKind::OpenBlock => f.write_str("OpenBlock"),
-            FaultKind::StrayEnd => f.write_str("StrayEnd"),
-            FaultKind::Depth => f.write_str("Depth"),
-            FaultKind::Lines => f.write_str("Lines"),
-            FaultKind::TooManyParameters => f.write_str("TooManyParameters"),
-            FaultKind::Redefined => f.write_str("Redefined"),
-            FaultKind::LongLine => f.write_str("LongLine"),
-            FaultKind::UnknownMnemonic => f.write_str("UnknownMnemonic"),
-            FaultKind::OperandCount => f.write_str("OperandCount"),
-            FaultKind::OperandForm => f.write_str("OperandForm"),
-            FaultKind::FieldRange => f.write_str("FieldRange"),
-            FaultKind::TooLarge => f.write_str("TooLarge"),
-            FaultKind::NotRelocatable => f.write_str("NotRelocatable"),
-            FaultKind::BadBlock => f.write_str("BadBlock"),
+            FaultKind::BadLabel => 10,
+            FaultKind::BadConstant => 11,
+            FaultKind::OpenQuote => 12,
+            FaultKind::StrayText => 13,
+            FaultKind::BadExpression => 20,
+            FaultKind::TooDeep => 21,
+            FaultKind::Undefined => 22,
+            FaultKind::NotAbsolute => 23,
+            FaultKind::DivideByZero => 24,
+            FaultKind::ValueRange => 25,
+            FaultKind::Defined => 26,
+            FaultKind::NoFile => 30,
+            FaultKind::OpenBlock => 31,
+            FaultKind::StrayEnd => 32,
+            FaultKind::Depth => 33,
+            FaultKind::Lines => 34,
+            FaultKind::TooManyParameters => 35,
+            FaultKind::Redefined => 36,
+            FaultKind::LongLine => 38,
+            FaultKind::UnknownMnemonic => 50,
+            FaultKind::OperandCount => 51,
+            FaultKind::OperandForm => 52,
+            FaultKind::FieldRange => 53,
+            FaultKind::TooLarge => 54,
+            FaultKind::NotRelocatable => 55,
+            FaultKind::BadBlock => 56,
+        }
+    }
+
+    /// The name that it is told by.
+    pub fn name(&self) -> &'static str
+        ensures { result.now ≡ fault_name self.now }
+    {
+        match self {
+            FaultKind::BadLabel => "BadLabel",
+            FaultKind::BadConstant => "BadConstant",
+            FaultKind::OpenQuote => "OpenQuote",
+            FaultKind::StrayText => "StrayText",
+            FaultKind::BadExpression => "BadExpression",
+            FaultKind::TooDeep => "TooDeep",
+            FaultKind::Undefined => "Undefined",
+            FaultKind::NotAbsolute => "NotAbsolute",
+            FaultKind::DivideByZero => "DivideByZero",
+            FaultKind::ValueRange => "ValueRange",
+            FaultKind::Defined => "Defined",
+            FaultKind::NoFile => "NoFile",
+            FaultKind::OpenBlock => "OpenBlock",
+            FaultKind::StrayEnd => "StrayEnd",
+            FaultKind::Depth => "Depth",
+            FaultKind::Lines => "Lines",
+            FaultKind::TooManyParameters => "TooManyParameters",
+            FaultKind::Redefined => "Redefined",
+            FaultKind::LongLine => "LongLine",
+            FaultKind::UnknownMnemonic => "UnknownMnemonic",
+            FaultKind::OperandCount => "OperandCount",
+            FaultKind::OperandForm => "OperandForm",
+            FaultKind::FieldRange => "FieldRange",
+            FaultKind::TooLarge => "TooLarge",
+            FaultKind::NotRelocatable => "NotRelocatable",
+            FaultKind::BadBlock => "BadBlock",
         }
     }
 }
-
-impl Error for FaultKind {}
 
 /// What an operand is by its tokens.
 #[derive(Clone, Copy, PartialEq, Debug)]

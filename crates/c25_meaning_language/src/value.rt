@@ -1,10 +1,10 @@
 //! Values of expressions.
 
-use std::error::Error;
-use std::fmt;
+use thiserror::Error;
 
 /// Why an expression has no value.
-#[derive(Clone, Copy, PartialEq, Debug)]
+#[derive(Clone, Copy, PartialEq, Debug, Error)]
+#[error("{}", self.name())]
 pub enum ValueFault {
     /// A name stands for nothing (22).
     Undefined,
@@ -16,24 +16,23 @@ pub enum ValueFault {
     ValueRange,
 }
 
-impl fmt::Display for ValueFault {
-    ghost use Rattle.std.specs.Prelude.{Some};
+impl ValueFault {
+    ghost use Rattle.std.specs.Prelude.{◌≡◌};
     ghost use Rattle.c25_meaning_language.specs.Faults.{fault_name};
     ghost use Rattle.c25_meaning_language.specs.Statement.{value_fault};
 
-    ghost output = { λ fault. Some (fault_name (value_fault fault)) };
-
-    fn fmt<W: fmt::Write>(&self, f: &mut fmt::Formatter<W>) -> fmt::Result {
+    /// The name that it is told by.
+    pub fn name(&self) -> &'static str
+        ensures { result.now ≡ fault_name (value_fault self.now) }
+    {
         match self {
-            ValueFault::Undefined => f.write_str("Undefined"),
-            ValueFault::NotAbsolute => f.write_str("NotAbsolute"),
-            ValueFault::DivideByZero => f.write_str("DivideByZero"),
-            ValueFault::ValueRange => f.write_str("ValueRange"),
+            ValueFault::Undefined => "Undefined",
+            ValueFault::NotAbsolute => "NotAbsolute",
+            ValueFault::DivideByZero => "DivideByZero",
+            ValueFault::ValueRange => "ValueRange",
         }
     }
 }
-
-impl Error for ValueFault {}
 
 /// What a value counts from.
 #[derive(Clone, Copy, PartialEq, Debug, Default)]

@@ -1,10 +1,10 @@
 //! Lines of a source and their tokens.
 
-use std::error::Error;
-use std::fmt;
+use thiserror::Error;
 
 /// What is wrong with a line.
-#[derive(Clone, Copy, PartialEq, Debug)]
+#[derive(Clone, Copy, PartialEq, Debug, Error)]
+#[error("{}", self.name())]
 pub enum LineFault {
     /// A label, or a name among the operands, is no name or has more than 128 characters (10).
     BadLabel,
@@ -16,23 +16,22 @@ pub enum LineFault {
     StrayText,
 }
 
-impl fmt::Display for LineFault {
-    ghost use Rattle.std.specs.Prelude.{Some};
+impl LineFault {
+    ghost use Rattle.std.specs.Prelude.{◌≡◌};
     ghost use Rattle.c25_meaning_lines.specs.Faults.{line_fault_name};
 
-    ghost output = { λ fault. Some (line_fault_name fault) };
-
-    fn fmt<W: fmt::Write>(&self, f: &mut fmt::Formatter<W>) -> fmt::Result {
+    /// The name that it is told by.
+    pub fn name(&self) -> &'static str
+        ensures { result.now ≡ line_fault_name self.now }
+    {
         match self {
-            LineFault::BadLabel => f.write_str("BadLabel"),
-            LineFault::BadConstant => f.write_str("BadConstant"),
-            LineFault::OpenQuote => f.write_str("OpenQuote"),
-            LineFault::StrayText => f.write_str("StrayText"),
+            LineFault::BadLabel => "BadLabel",
+            LineFault::BadConstant => "BadConstant",
+            LineFault::OpenQuote => "OpenQuote",
+            LineFault::StrayText => "StrayText",
         }
     }
 }
-
-impl Error for LineFault {}
 
 /// A sign of one or two characters.
 #[derive(Clone, Copy, PartialEq, Debug)]

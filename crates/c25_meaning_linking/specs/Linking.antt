@@ -19,7 +19,7 @@ use Rattle.c25_meaning_common.specs.Results.{◌>>=◌}
 use Rattle.c25_meaning_linking.specs.Words.{Definition, symbol_name, section_name, definitions, definition_of, definition_value, name_value, relocated_value, HasWord, program_marks, program_run_marks, LineData, program_lines}
 use Rattle.c25_meaning_placing.specs.declared.link_fault.LinkFault.{LinkFault}
 use Rattle.c25_meaning_placing.specs.declared.link_fault.LinkFault.TheVariants.{Unresolved, DefinedTwice, RelocRange, NoEntry}
-use Rattle.c25_meaning_placing.specs.declared.link_fault.FaultyLink.{FaultyLink}
+use Rattle.c25_meaning_common.specs.declared.placed.Placed.{Placed}
 use Rattle.c25_meaning_image.specs.declared.mark.Mark.{Mark}
 use Rattle.c25_meaning_image.specs.declared.mark.RunMark.{RunMark}
 use Rattle.c25_meaning_objects.specs.declared.object.RelocationBase.{RelocationBase}
@@ -85,12 +85,12 @@ missing_entry ds None = None
 missing_entry ds (Some name) = if is_missing ds name then Some name else None
 
 -- a refusal, if there is a name to tell it with
-abbrev pub refused_with : LinkFault → Option (List ℕ) → Result (Unit {0}) (FaultyLink (List ℕ))
+abbrev pub refused_with : LinkFault → Option (List ℕ) → Result (Unit {0}) (Placed (List ℕ) LinkFault)
 refused_with fault None = Ok tt
-refused_with fault (Some name) = Err (record { fault = fault; name = name })
+refused_with fault (Some name) = Err (record { place = name; fault = fault })
 
 -- the first refusal of the names of symbols, if there is one
-abbrev pub names_checked : List Contents → Option (List ℕ) → Result (Unit {0}) (FaultyLink (List ℕ))
+abbrev pub names_checked : List Contents → Option (List ℕ) → Result (Unit {0}) (Placed (List ℕ) LinkFault)
 names_checked modules entry =
     refused_with DefinedTwice (first_again [] (defined_names modules)) >>= λ _.
     refused_with Unresolved (first_unresolved modules) >>= λ _.
@@ -189,18 +189,18 @@ pub record IsProgram (modules : List Contents) (command : CommandData) (image : 
   pub described : image.described ≡ map_of modules command.entry places
 
 -- the first section that cannot be placed
-pub record IsRefusedPlace (modules : List Contents) (command : CommandData) (refusal : FaultyLink (List ℕ)) : Type 0 where
+pub record IsRefusedPlace (modules : List Contents) (command : CommandData) (refusal : Placed (List ℕ) LinkFault) : Type 0 where
   pub names : names_checked modules command.entry ≡ Ok tt
   pub unplaced : IsUnplaced (ranges_for command) (requests modules (placings_for command)) refusal
 
 -- the first field that does not take its value
-pub record IsRefusedField (modules : List Contents) (command : CommandData) (refusal : FaultyLink (List ℕ)) : Type 0 where
+pub record IsRefusedField (modules : List Contents) (command : CommandData) (refusal : Placed (List ℕ) LinkFault) : Type 0 where
   pub places : List Place
   pub names : names_checked modules command.entry ≡ Ok tt
   pub good : IsGoodMap modules command places
   pub spilled : refused_with RelocRange (first_spilled modules places) ≡ Err refusal
 
 -- the first refusal of modules under a command
-abbrev pub IsRefusal : List Contents → CommandData → FaultyLink (List ℕ) → Type 0
+abbrev pub IsRefusal : List Contents → CommandData → Placed (List ℕ) LinkFault → Type 0
 IsRefusal modules command refusal =
     (names_checked modules command.entry ≡ Err refusal) ⊎ (IsRefusedPlace modules command refusal ⊎ IsRefusedField modules command refusal)

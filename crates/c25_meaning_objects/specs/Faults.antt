@@ -1,7 +1,17 @@
--- The names of an object record's faults.
+-- The numbers and names of an object record's faults.
 use Rattle.std.specs.Prelude.{ℕ, List, codes}
+use Rattle.c25_meaning_common.specs.Faults.{numbered}
 use Rattle.c25_meaning_objects.specs.declared.object.ObjectFault.{ObjectFault}
 use Rattle.c25_meaning_objects.specs.declared.object.ObjectFault.TheVariants as object
+
+-- the number of an object record's fault
+abbrev pub object_number : ObjectFault → ℕ
+object_number object.BadMagic = 40
+object_number object.BadVersion = 41
+object_number object.Short = 42
+object_number object.BadTag = 43
+object_number object.BadField = 44
+object_number object.Trailing = 45
 
 -- the name of an object record's fault
 abbrev pub object_name : ObjectFault → List ℕ
@@ -11,3 +21,7 @@ object_name object.Short = codes "Short"
 object_name object.BadTag = codes "BadTag"
 object_name object.BadField = codes "BadField"
 object_name object.Trailing = codes "Trailing"
+
+-- the number of a fault and its name, as a fault's line has them
+abbrev pub object_text : ObjectFault → List ℕ
+object_text f = numbered (object_number f) (object_name f)

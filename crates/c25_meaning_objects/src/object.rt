@@ -1,8 +1,7 @@
 //! The plain parts of a module of relocatable words, and what is wrong with bytes that spell none.
 
 use c25_meaning_common::relocation::RelocationKind;
-use std::error::Error;
-use std::fmt;
+use thiserror::Error;
 
 /// Which records may hold a module.
 #[derive(Clone, Copy, PartialEq, Debug)]
@@ -83,7 +82,8 @@ pub struct Block {
 }
 
 /// Why bytes are no module: the first fault that stands in them, from the front.
-#[derive(Clone, Copy, PartialEq, Debug)]
+#[derive(Clone, Copy, PartialEq, Debug, Error)]
+#[error("{}", self.name())]
 pub enum ObjectFault {
     /// They do not begin with `C25O` (40).
     BadMagic,
@@ -99,22 +99,35 @@ pub enum ObjectFault {
     Trailing,
 }
 
-impl fmt::Display for ObjectFault {
-    ghost use Rattle.std.specs.Prelude.{Some};
-    ghost use Rattle.c25_meaning_objects.specs.Faults.{object_name};
+impl ObjectFault {
+    ghost use Rattle.std.specs.Prelude.{◌≡◌};
+    ghost use Rattle.c25_meaning_objects.specs.Faults.{object_name, object_number};
 
-    ghost output = { λ fault. Some (object_name fault) };
-
-    fn fmt<W: fmt::Write>(&self, f: &mut fmt::Formatter<W>) -> fmt::Result {
+    /// The number that it is told by.
+    pub fn number(&self) -> u8
+        ensures { result ≡ object_number self.now }
+    {
         match self {
-            ObjectFault::BadMagic => f.write_str("BadMagic"),
-            ObjectFault::BadVersion => f.write_str("BadVersion"),
-            ObjectFault::Short => f.write_str("Short"),
-            ObjectFault::BadTag => f.write_str("BadTag"),
-            ObjectFault::BadField => f.write_str("BadField"),
-            ObjectFault::Trailing => f.write_str("Trailing"),
+            ObjectFault::BadMagic => 40,
+            ObjectFault::BadVersion => 41,
+            ObjectFault::Short => 42,
+            ObjectFault::BadTag => 43,
+            ObjectFault::BadField => 44,
+            ObjectFault::Trailing => 45,
+        }
+    }
+
+    /// The name that it is told by.
+    pub fn name(&self) -> &'static str
+        ensures { result.now ≡ object_name self.now }
+    {
+        match self {
+            ObjectFault::BadMagic => "BadMagic",
+            ObjectFault::BadVersion => "BadVersion",
+            ObjectFault::Short => "Short",
+            ObjectFault::BadTag => "BadTag",
+            ObjectFault::BadField => "BadField",
+            ObjectFault::Trailing => "Trailing",
         }
     }
 }
-
-impl Error for ObjectFault {}

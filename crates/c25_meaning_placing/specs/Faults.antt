@@ -1,8 +1,19 @@
--- The names of a linker's faults, and what they say.
-use Rattle.std.specs.Prelude.{ℕ, List, ◌++◌, codes, Option, option_map}
-use Rattle.c25_meaning_placing.specs.declared.link_fault.FaultyLink.{FaultyLink}
+-- The numbers and names of a linker's faults.
+use Rattle.std.specs.Prelude.{ℕ, List, codes}
+use Rattle.c25_meaning_common.specs.Faults.{numbered}
 use Rattle.c25_meaning_placing.specs.declared.link_fault.LinkFault.{LinkFault}
 use Rattle.c25_meaning_placing.specs.declared.link_fault.LinkFault.TheVariants as link
+
+-- the number of a linker's fault
+abbrev pub link_number : LinkFault → ℕ
+link_number link.Unresolved = 70
+link_number link.DefinedTwice = 71
+link_number link.NoRange = 72
+link_number link.DoesNotFit = 73
+link_number link.Overlap = 74
+link_number link.RelocRange = 75
+link_number link.NoEntry = 76
+link_number link.BadRun = 78
 
 -- the name of a linker's fault
 abbrev pub link_name : LinkFault → List ℕ
@@ -15,6 +26,6 @@ link_name link.RelocRange = codes "RelocRange"
 link_name link.NoEntry = codes "NoEntry"
 link_name link.BadRun = codes "BadRun"
 
--- what a linker's fault says, where it is known what its name is
-abbrev pub link_text : {Name : Type 0} → (Name → Option (List ℕ)) → FaultyLink Name → Option (List ℕ)
-link_text text_of f = option_map (λ name. name ++ codes ": " ++ link_name f.fault) (text_of f.name)
+-- the number of a fault and its name, as a fault's line has them
+abbrev pub link_text : LinkFault → List ℕ
+link_text f = numbered (link_number f) (link_name f)

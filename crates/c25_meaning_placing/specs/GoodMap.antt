@@ -10,7 +10,7 @@ use Rattle.c25_meaning_commands.specs.Command.{RangeData, TargetData, Anywhere, 
 use Rattle.c25_meaning_placing.specs.Place.{Place, Covers, BlockData, all_sections, blocks_of, size_of_parts, is_there, is_initialised}
 use Rattle.c25_meaning_placing.specs.declared.link_fault.LinkFault.{LinkFault}
 use Rattle.c25_meaning_placing.specs.declared.link_fault.LinkFault.TheVariants.{NoRange, DoesNotFit, Overlap, BadRun}
-use Rattle.c25_meaning_placing.specs.declared.link_fault.FaultyLink.{FaultyLink}
+use Rattle.c25_meaning_common.specs.declared.placed.Placed.{Placed}
 
 -- ---- the sections to be placed, in the order of placement
 
@@ -257,7 +257,7 @@ abbrev pub ArePlaced : List RangeData → List Request → List Place → Type 0
 ArePlaced ranges requests places = Stand ranges (reverse requests) (reverse places)
 
 -- the first section that cannot be placed, and why
-pub record IsUnplaced (ranges : List RangeData) (requests : List Request) (refusal : FaultyLink (List ℕ)) : Type 0 where
+pub record IsUnplaced (ranges : List RangeData) (requests : List Request) (refusal : Placed (List ℕ) LinkFault) : Type 0 where
   pub before : List Request
   pub refused : Request
   pub after : List Request
@@ -265,7 +265,7 @@ pub record IsUnplaced (ranges : List RangeData) (requests : List Request) (refus
   pub requests_are : requests ≡ before ++ refused ∷ after
   pub placed : ArePlaced ranges before places
   pub fault_is : IsUnfit ranges places refused refusal.fault
-  pub name_is : refusal.name ≡ refused.name
+  pub name_is : refusal.place ≡ refused.name
 
 -- the places of the sections of modules under a command
 abbrev pub IsGoodMap : List Contents → CommandData → List Place → Type 0

@@ -1,10 +1,11 @@
 //! Why modules cannot be linked.
 
-use std::error::Error;
-use std::fmt;
+use thiserror::Error;
 
-/// Why modules cannot be linked under a command. The numbers are those of the fault lines.
-#[derive(Clone, Copy, Debug)]
+/// Why modules cannot be linked under a command. It is placed at a name: the symbol's in 70, 71 and 76,
+/// the section's in 72 to 75 and 78. The numbers are those of the fault lines.
+#[derive(Clone, Copy, Debug, Error)]
+#[error("{}", self.name())]
 pub enum LinkFault {
     /// A relocation counts from an external symbol that no module defines (70).
     Unresolved,
@@ -24,44 +25,39 @@ pub enum LinkFault {
     BadRun,
 }
 
-impl fmt::Display for LinkFault {
-    ghost use Rattle.std.specs.Prelude.{Some};
-    ghost use Rattle.c25_meaning_placing.specs.Faults.{link_name};
+impl LinkFault {
+    ghost use Rattle.std.specs.Prelude.{◌≡◌};
+    ghost use Rattle.c25_meaning_placing.specs.Faults.{link_name, link_number};
 
-    ghost output = { λ fault. Some (link_name fault) };
-
-    fn fmt<W: fmt::Write>(&self, f: &mut fmt::Formatter<W>) -> fmt::Result {
+    /// The number that it is told by.
+    pub fn number(&self) -> u8
+        ensures { result ≡ link_number self.now }
+    {
         match self {
-            LinkFault::Unresolved => f.write_str("Unresolved"),
-            LinkFault::DefinedTwice => f.write_str("DefinedTwice"),
-            LinkFault::NoRange => f.write_str("NoRange"),
-            LinkFault::DoesNotFit => f.write_str("DoesNotFit"),
-            LinkFault::Overlap => f.write_str("Overlap"),
-            LinkFault::RelocRange => f.write_str("RelocRange"),
-            LinkFault::NoEntry => f.write_str("NoEntry"),
-            LinkFault::BadRun => f.write_str("BadRun"),
+            LinkFault::Unresolved => 70,
+            LinkFault::DefinedTwice => 71,
+            LinkFault::NoRange => 72,
+            LinkFault::DoesNotFit => 73,
+            LinkFault::Overlap => 74,
+            LinkFault::RelocRange => 75,
+            LinkFault::NoEntry => 76,
+            LinkFault::BadRun => 78,
+        }
+    }
+
+    /// The name that it is told by.
+    pub fn name(&self) -> &'static str
+        ensures { result.now ≡ link_name self.now }
+    {
+        match self {
+            LinkFault::Unresolved => "Unresolved",
+            LinkFault::DefinedTwice => "DefinedTwice",
+            LinkFault::NoRange => "NoRange",
+            LinkFault::DoesNotFit => "DoesNotFit",
+            LinkFault::Overlap => "Overlap",
+            LinkFault::RelocRange => "RelocRange",
+            LinkFault::NoEntry => "NoEntry",
+            LinkFault::BadRun => "BadRun",
         }
     }
 }
-
-impl Error for LinkFault {}
-
-/// A fault and the name that it is told with: the symbol's in 70, 71 and 76, the section's in 72 to
-/// 75 and 78. The code has the name as a text, the definitions as a list of bytes.
-#[derive(Debug, Drop)]
-pub struct FaultyLink<Name> {
-    pub fault: LinkFault,
-    pub name: Name,
-}
-
-impl<Name: fmt::Display> fmt::Display for FaultyLink<Name> {
-    ghost use Rattle.c25_meaning_placing.specs.Faults.{link_text};
-
-    ghost output = { λ faulty. link_text Name.output faulty };
-
-    fn fmt<W: fmt::Write>(&self, f: &mut fmt::Formatter<W>) -> fmt::Result {
-        write!(f, "{}: {}", self.name, self.fault)
-    }
-}
-
-impl<Name: fmt::Display + fmt::Debug + Drop> Error for FaultyLink<Name> {}

@@ -1,9 +1,10 @@
 //! Where a run leaves the code.
 
-use std::fmt;
+use thiserror::Error;
 
 /// Why a step stopped. A step that stops changes nothing.
-#[derive(Clone, Copy, PartialEq, Debug)]
+#[derive(Clone, Copy, PartialEq, Debug, Error)]
+#[error("{}", self.name())]
 pub enum Stop {
     /// No instruction can be fetched at PC (1).
     OutOfCode,
@@ -15,18 +16,20 @@ pub enum Stop {
     PortDry,
 }
 
-impl fmt::Display for Stop {
-    ghost use Rattle.std.specs.Prelude.{Some};
+impl Stop {
+    ghost use Rattle.std.specs.Prelude.{◌≡◌, ◌≤◌, length};
     ghost use Rattle.c25_meaning_processor.specs.RunText.{stop_name};
 
-    ghost output = { λ stop. Some (stop_name stop) };
-
-    fn fmt<W: fmt::Write>(&self, f: &mut fmt::Formatter<W>) -> fmt::Result {
+    /// The name that it is told by.
+    pub fn name(&self) -> &'static str
+        ensures name { result.now ≡ stop_name self.now }
+        ensures short { length result.now ≤ 9 }
+    {
         match self {
-            Stop::OutOfCode => f.write_str("OutOfCode"),
-            Stop::CodeWrite => f.write_str("CodeWrite"),
-            Stop::BadRepeat => f.write_str("BadRepeat"),
-            Stop::PortDry => f.write_str("PortDry"),
+            Stop::OutOfCode => "OutOfCode",
+            Stop::CodeWrite => "CodeWrite",
+            Stop::BadRepeat => "BadRepeat",
+            Stop::PortDry => "PortDry",
         }
     }
 }

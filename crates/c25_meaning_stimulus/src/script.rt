@@ -1,5 +1,7 @@
 //! Commands of the debugger.
 
+use thiserror::Error;
+
 /// A command of a script.
 #[derive(Clone, Copy)]
 pub enum Cmd {
@@ -25,4 +27,27 @@ pub enum Cmd {
     List(u32),
     /// Show the symbols.
     Symbols,
+}
+
+/// A line's words are no command (95). It is placed at the number of the line, counted from 1.
+#[derive(Clone, Copy, Debug, Error)]
+#[error("{}", self.name())]
+pub struct BadCommand;
+
+impl BadCommand {
+    ghost use Rattle.std.specs.Prelude.{◌≡◌, codes};
+
+    /// The number that it is told by.
+    pub fn number(&self) -> u8
+        ensures { result ≡ 95 }
+    {
+        95
+    }
+
+    /// The name that it is told by.
+    pub fn name(&self) -> &'static str
+        ensures { result.now ≡ codes "BadCommand" }
+    {
+        "BadCommand"
+    }
 }

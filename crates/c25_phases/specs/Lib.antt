@@ -1,4 +1,3 @@
-pub mod FaultText
 pub mod Imports
 pub mod Lined
 pub mod Names

@@ -9,4 +9,4 @@ use Rattle.c25_phases.specs.declared.item.Origin.{Origin}
 -- why a line is refused, as why the source is
 abbrev pub at_origin : Origin → Failure FaultKind → Failure AsmFault
 at_origin o (NoMemory n) = NoMemory n
-at_origin o (Fault kind) = Fault (Line o.file o.line kind)
+at_origin o (Fault kind) = Fault (Line (record { place = record { file = o.file; line = o.line }; fault = kind }))

@@ -44,5 +44,5 @@ symbols_of p = p.symbols
 
 -- why a source has no module
 abbrev pub fault_of : AsmFault → answer.ExpansionFault
-fault_of (fault.Line file line kind) = answer.Faulty file.now line kind
+fault_of (fault.Line f) = answer.Faulty f.place.file.now f.place.line f.fault
 fault_of (fault.NoFile file line name) = answer.Missing file.now line (string_bytes name)

@@ -6,6 +6,7 @@ ghost use Rattle.c25_phases.specs.Refusals.{at_origin};
 use crate::fault::AsmFault;
 use crate::item::Origin;
 use c25_meaning_common::failure::Failure;
+use c25_meaning_common::placed::{FileLine, Placed};
 use c25_meaning_language::statement::FaultKind;
 
 /// Why a line is refused, as why the source is.
@@ -14,10 +15,12 @@ pub fn at_origin<'a>(origin: Origin<'a>, failure: Failure<FaultKind>) -> Failure
 {
     match failure {
         Failure::NoMemory(error) => Failure::NoMemory(error),
-        Failure::Fault(kind) => Failure::Fault(AsmFault::Line {
-            file: origin.file,
-            line: origin.line,
-            kind,
-        }),
+        Failure::Fault(fault) => {
+            let place = FileLine {
+                file: origin.file,
+                line: origin.line,
+            };
+            Failure::Fault(AsmFault::Line(Placed { place, fault }))
+        }
     }
 }

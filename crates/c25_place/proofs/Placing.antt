@@ -9,7 +9,7 @@ use Rattle.c25_meaning_placing.specs.declared.link_fault.LinkFault.{LinkFault}
 use Rattle.c25_meaning_placing.specs.declared.link_fault.LinkFault.TheVariants.{BadRun}
 use Rattle.c25_meaning_common.specs.declared.failure.Failure.{Failure}
 use Rattle.c25_meaning_common.specs.declared.failure.Failure.TheVariants.{NoMemory, Fault}
-use Rattle.c25_meaning_placing.specs.declared.link_fault.FaultyLink.{FaultyLink}
+use Rattle.c25_meaning_common.specs.declared.placed.Placed.{Placed}
 use Rattle.c25_place.specs.Placement.{IsPlacedNext, IsPlacedOrRefused, ArePlacedOrRefused, IsRefused}
 
 -- one section more
@@ -24,7 +24,7 @@ placed_next ranges requests before after r placed next =
     first = subst (λ ps. Stands ranges ps r next.place) (sym (reverse-reverse before)) next.stands
 
 -- the first that cannot be placed
-pub refused : (ranges : List RangeData) (requests rest : List Request) (before after : List Place) (r : Request) (e : Failure (FaultyLink (String Global)))
+pub refused : (ranges : List RangeData) (requests rest : List Request) (before after : List Place) (r : Request) (e : Failure (Placed (String Global) LinkFault))
     → ArePlaced ranges requests before → IsPlacedOrRefused ranges before after r (Err e) → ArePlacedOrRefused ranges (requests ++ r ∷ rest) (Err e)
 refused ranges requests rest before after r (NoMemory n) placed h = tt
 refused ranges requests rest before after r (Fault f) placed h = record {
@@ -49,8 +49,8 @@ pub bad_run : (ranges : List RangeData) (places : List Place) (r : Request) (bas
 bad_run ranges places r base stands not_there = inr (base, stands, not_there, refl)
 
 -- a refusal with its fault and its name
-pub refused_is : (ranges : List RangeData) (before : List Place) (r : Request) (f : FaultyLink (List ℕ)) (fault : LinkFault) → f ≡ record { fault = fault; name = r.name } → IsUnfit ranges before r fault → IsRefused ranges before r f
+pub refused_is : (ranges : List RangeData) (before : List Place) (r : Request) (f : Placed (List ℕ) LinkFault) (fault : LinkFault) → f ≡ record { place = r.name; fault = fault } → IsUnfit ranges before r fault → IsRefused ranges before r f
 refused_is ranges before r f fault e h = record {
-  fault_is = subst (λ (x : LinkFault). IsUnfit ranges before r x) (sym (ap (λ (g : FaultyLink (List ℕ)). g.fault) e)) h;
-  name_is = ap (λ (g : FaultyLink (List ℕ)). g.name) e;
+  fault_is = subst (λ (x : LinkFault). IsUnfit ranges before r x) (sym (ap (λ (g : Placed (List ℕ) LinkFault). g.fault) e)) h;
+  name_is = ap (λ (g : Placed (List ℕ) LinkFault). g.place) e;
 }

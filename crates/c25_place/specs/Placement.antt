@@ -7,7 +7,7 @@ use Rattle.c25_meaning_placing.specs.GoodMap.{Request, Stands, ArePlaced, IsUnpl
 use Rattle.c25_meaning_placing.specs.Place as place
 use Rattle.c25_meaning_common.specs.declared.failure.Failure.{Failure}
 use Rattle.c25_meaning_common.specs.declared.failure.Failure.TheVariants.{NoMemory, Fault}
-use Rattle.c25_meaning_placing.specs.declared.link_fault.FaultyLink.{FaultyLink}
+use Rattle.c25_meaning_common.specs.declared.placed.Placed.{Placed}
 use Rattle.c25_meaning_placing.specs.declared.link_fault.LinkFault.{LinkFault}
 use Rattle.c25_place.specs.View.{refusal_of, places_view}
 use Rattle.c25_place.specs.declared.placement.Place.{Place}
@@ -36,18 +36,18 @@ pub record IsPlacedNext (ranges : List RangeData) (before after : List place.Pla
   pub after_is : after ≡ before ++ place ∷ []
 
 -- why a section cannot be placed
-pub record IsRefused (ranges : List RangeData) (before : List place.Place) (r : Request) (refusal : FaultyLink (List ℕ)) : Type 0 where
+pub record IsRefused (ranges : List RangeData) (before : List place.Place) (r : Request) (refusal : Placed (List ℕ) LinkFault) : Type 0 where
   pub fault_is : IsUnfit ranges before r refusal.fault
-  pub name_is : refusal.name ≡ r.name
+  pub name_is : refusal.place ≡ r.name
 
 -- a section is placed behind those before it, or refused
-abbrev pub IsPlacedOrRefused : List RangeData → List place.Place → List place.Place → Request → Result (Unit {0}) (Failure (FaultyLink (String Global))) → Type 0
+abbrev pub IsPlacedOrRefused : List RangeData → List place.Place → List place.Place → Request → Result (Unit {0}) (Failure (Placed (String Global) LinkFault)) → Type 0
 IsPlacedOrRefused ranges before after r (Ok done) = IsPlacedNext ranges before after r
 IsPlacedOrRefused ranges before after r (Err (NoMemory n)) = Unit {0}
 IsPlacedOrRefused ranges before after r (Err (Fault f)) = IsRefused ranges before r (refusal_of f)
 
 -- all sections are placed, or the first is told that cannot be
-abbrev pub ArePlacedOrRefused : List RangeData → List Request → Result (Vec Place Global) (Failure (FaultyLink (String Global))) → Type 0
+abbrev pub ArePlacedOrRefused : List RangeData → List Request → Result (Vec Place Global) (Failure (Placed (String Global) LinkFault)) → Type 0
 ArePlacedOrRefused ranges requests (Ok places) = ArePlaced ranges requests (places_view places.items)
 ArePlacedOrRefused ranges requests (Err (NoMemory n)) = Unit {0}
 ArePlacedOrRefused ranges requests (Err (Fault f)) = IsUnplaced ranges requests (refusal_of f)

@@ -10,7 +10,8 @@ use Rattle.c25_meaning_placing.specs.GoodMap as good
 use Rattle.c25_meaning_placing.specs.Place as place
 use Rattle.c25_meaning_placing.specs.Place.{blocks_of}
 use Rattle.c25_meaning_objects.specs.Module.{Contents, SectionData}
-use Rattle.c25_meaning_placing.specs.declared.link_fault.FaultyLink.{FaultyLink}
+use Rattle.c25_meaning_common.specs.declared.placed.Placed.{Placed}
+use Rattle.c25_meaning_placing.specs.declared.link_fault.LinkFault.{LinkFault}
 use Rattle.c25_obj.specs.declared.parts.Section.{Section}
 use Rattle.c25_obj.specs.View.{section_data}
 use Rattle.c25_place.specs.declared.placement.Place.{Place}
@@ -20,8 +21,8 @@ use Rattle.c25_place.specs.declared.requests.Wanted.{Wanted}
 use Rattle.c25_place.specs.declared.requests.Wanted.TheVariants as wanted
 
 -- a refusal with the bytes of its name
-abbrev pub refusal_of : FaultyLink (String Global) → FaultyLink (List ℕ)
-refusal_of f = record { fault = f.fault; name = string_bytes f.name }
+abbrev pub refusal_of : Placed (String Global) LinkFault → Placed (List ℕ) LinkFault
+refusal_of f = record { place = string_bytes f.place; fault = f.fault }
 
 -- what a map from names has for a name
 abbrev pub named : {V S : Type 0} → HashMap (Bor (List ℕ)) V S → List ℕ → Option V

@@ -5,16 +5,21 @@ ghost use Rattle.c25_place.specs.View.{refusal_of};
 
 use c25_meaning_common::failure::Failure;
 use c25_meaning_common::no_memory::NoMemory;
-use c25_meaning_placing::link_fault::{FaultyLink, LinkFault};
+use c25_meaning_common::placed::Placed;
+use c25_meaning_placing::link_fault::LinkFault;
 use std::alloc::Global;
 
 /// Why modules are not linked: a fault with a name, or want of memory.
-pub type Refused = Failure<FaultyLink<String>>;
+pub type Refused = Failure<Placed<String, LinkFault>>;
 
 /// A fault with a copy of its name.
-pub fn refusal(alloc: Global, fault: LinkFault, name: &str) -> Result<FaultyLink<String>, NoMemory>
-    ensures { IfOk result (λ r. refusal_of r ≡ record { fault = fault; name = name.now }) }
+pub fn refusal(
+    alloc: Global,
+    fault: LinkFault,
+    name: &str,
+) -> Result<Placed<String, LinkFault>, NoMemory>
+    ensures { IfOk result (λ r. refusal_of r ≡ record { place = name.now; fault = fault }) }
 {
-    let name = String::from_str(alloc, name)?;
-    Ok(FaultyLink { fault, name })
+    let place = String::from_str(alloc, name)?;
+    Ok(Placed { place, fault })
 }

@@ -7,14 +7,27 @@ ghost use Rattle.c25_reading.specs.Whole.{IsAllOf};
 use c25_meaning_common::failure::Failure;
 use std::alloc::Global;
 use std::io::Read;
+use thiserror::Error;
 
 /// A text may have so many bytes.
 const LIMIT: usize = 16_777_216;
 
 /// A text that cannot be had: a read failed or there were too many, a byte past the limit came, or
 /// the bytes are not UTF-8 (8).
-#[derive(Clone, Copy, Debug)]
+#[derive(Clone, Copy, Debug, Error)]
+#[error("{}", self.name())]
 pub struct CannotRead;
+
+impl CannotRead {
+    ghost use Rattle.std.specs.Prelude.{◌≡◌, codes};
+
+    /// The name that it is told by.
+    pub fn name(&self) -> &'static str
+        ensures { result.now ≡ codes "CannotRead" }
+    {
+        "CannotRead"
+    }
+}
 
 /// All that a reader has left, however its reads cut it. It is refused (8) where a read fails, where
 /// 33,554,432 reads bring no end, and where there are more than 16,777,216 bytes.

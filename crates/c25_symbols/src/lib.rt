@@ -7,8 +7,6 @@ pub mod laws;
 mod order;
 mod parts;
 mod ranges;
-#[cfg(test)]
-mod tests;
 mod used;
 mod writing;
 

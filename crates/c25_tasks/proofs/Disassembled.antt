@@ -9,7 +9,7 @@ use Rattle.std.proofs.lemmas.Str.{IsUtf8-from_is_utf8, is_utf8-from_IsUtf8}
 use Rattle.c25_chain.specs.Refusal.{Fault, IsRefusedAs, refusal_of}
 use Rattle.c25_chain.specs.declared.fault.Refusal.{Refusal}
 use Rattle.c25_chain.specs.declared.fault.Refusal.TheVariants.{File}
-use Rattle.c25_disk.specs.declared.fault.FileFaultKind.TheVariants.{CannotRead}
+use Rattle.c25_disk.specs.declared.fault.FileFault.TheVariants.{CannotRead}
 use Rattle.c25_meaning_common.specs.Results.{FailsBy}
 use Rattle.c25_meaning_common.specs.declared.failure.Failure.TheVariants as failure
 use Rattle.c25_tasks.specs.Disassembly.{IsGivenText, IsTextOf, given_by, given_in}
@@ -31,7 +31,7 @@ not_text bytes none = by (is_utf8 bytes) refl
     by true e = absurd (none (IsUtf8-from_is_utf8 bytes e))
     by false e = e
 
-pub text_refused : (name bytes shown : List ℕ) (fault : Fault) → shown ≡ bytes → (IsUtf8 shown → ⊥) → IsRefusedAs (File (record { file = name; kind = CannotRead })) fault
+pub text_refused : (name bytes shown : List ℕ) (fault : Fault) → shown ≡ bytes → (IsUtf8 shown → ⊥) → IsRefusedAs (File (record { place = name; fault = CannotRead })) fault
     → FailsBy refusal_of (given_in (name, bytes)) fault
 text_refused name bytes shown (failure.NoMemory n) is none refused = tt
 text_refused name bytes shown (failure.Fault f) is none refused = rw (not_text bytes (λ utf8. none (subst IsUtf8 (sym is) utf8))) (ap Err (sym refused))

@@ -1,5 +1,6 @@
 pub mod Unread
 pub mod Quiet
+pub mod Noted
 pub mod Gathered
 pub mod Debugged
 pub mod Done

@@ -9,17 +9,17 @@ use Rattle.c25_chain.specs.declared.fault.Refusal.{Refusal}
 use Rattle.c25_chain.specs.declared.fault.Refusal.TheVariants.{File}
 use Rattle.c25_disk.specs.Held.{Held, Stay}
 use Rattle.c25_disk.specs.Written.{IsUnwritten, contents_of}
+use Rattle.c25_meaning_common.specs.declared.placed.Placed.{Placed}
 use Rattle.c25_disk.specs.declared.fault.FileFault.{FileFault}
-use Rattle.c25_disk.specs.declared.fault.FileFaultKind.{FileFaultKind}
-use Rattle.c25_disk.specs.declared.fault.FileFaultKind.TheVariants.{CannotWrite}
+use Rattle.c25_disk.specs.declared.fault.FileFault.TheVariants.{CannotWrite}
 use Rattle.c25_disk.specs.declared.writing.Output.{Output}
-use Rattle.c25_explain.specs.declared.note.ShownLine.{ShownLine}
+use Rattle.c25_explain.specs.declared.fault.AnyFault.TheVariants as any
 use Rattle.c25_meaning_common.specs.declared.failure.Failure.{Failure}
 use Rattle.c25_meaning_common.specs.declared.failure.Failure.TheVariants as failure
 use Rattle.c25_meaning_expansion.specs.Files.{Files}
 use Rattle.c25_report.specs.declared.ending.Ending.{Ending}
 use Rattle.c25_tasks.specs.Files.{IsToldOfFile}
-use Rattle.c25_tasks.specs.Notes.{IsNoted, IsShown}
+use Rattle.c25_tasks.specs.Notes.{IsExplainedBy, IsNoted, name_by}
 use Rattle.c25_tasks.specs.Tells.{IsReportOf, IsUnwrittenAmong, Wrote, WritesTold}
 use Rattle.c25_tasks.specs.declared.notes.Notes.{Notes}
 use Rattle.c25_tasks.specs.declared.notes.Notes.TheVariants.{Nothing, Explanations}
@@ -34,43 +34,44 @@ keeps (Some xs) = refl
 
 -- ---- a file that cannot be written
 
-abbrev file_refusal : List ℕ → FileFaultKind → Refusal (List ℕ)
-file_refusal name kind = File (record { file = name; kind = kind })
+abbrev file_refusal : List ℕ → FileFault → Refusal (List ℕ)
+file_refusal name kind = File (record { place = name; fault = kind })
 
-same_refusal : (f : FileFault (String Global)) (name : List ℕ) → string_bytes f.file ≡ name → f.kind ≡ CannotWrite → file_refusal (string_bytes f.file) f.kind ≡ file_refusal name CannotWrite
+same_refusal : (f : Placed (String Global) FileFault) (name : List ℕ) → string_bytes f.place ≡ name → f.fault ≡ CannotWrite → file_refusal (string_bytes f.place) f.fault ≡ file_refusal name CannotWrite
 same_refusal f name named kind = λ i. file_refusal (named i) (kind i)
 
-refused_so : (f : FileFault (String Global)) (r : Refusal (String Global)) (name : List ℕ) → r ≡ File f → string_bytes f.file ≡ name → f.kind ≡ CannotWrite → refusal_of r ≡ file_refusal name CannotWrite
+refused_so : (f : Placed (String Global) FileFault) (r : Refusal (String Global)) (name : List ℕ) → r ≡ File f → string_bytes f.place ≡ name → f.fault ≡ CannotWrite → refusal_of r ≡ file_refusal name CannotWrite
 refused_so f r name told named kind = ap refusal_of told ∙ same_refusal f name named kind
 
--- what is shown of no place is so whatever the disk holds
-shown_nowhere : (held other : Held) (line : Option ShownLine) → IsShown held None line → IsShown other None line
-shown_nowhere held other None shown = tt
-shown_nowhere held other (Some line) shown = absurd shown
+-- the explanation of a file's fault that is not told of reading it is so whatever the disk holds
+explained_anew : (held other : Held) (f : Placed (String Global) FileFault) (kind : FileFault) (note : List ℕ) → kind ≡ CannotWrite → IsExplainedBy held None (name_by kind (string_bytes f.place)) (any.File f.fault) note → IsExplainedBy other None (name_by kind (string_bytes f.place)) (any.File f.fault) note
+explained_anew held other f kind note is explained =
+    let With : Held → FileFault → Type 0 = λ h k. IsExplainedBy h None (name_by k (string_bytes f.place)) (any.File f.fault) note in
+    subst (λ (k : FileFault). With other k) (sym is) (subst (λ (k : FileFault). With held k) is explained)
 
-noted_anew : (held other : Held) (notes : Notes) (f : FileFault (String Global)) (note : List ℕ) → IsNoted held notes (File f) note → IsNoted other notes (File f) note
-noted_anew held other Nothing f note noted = noted
-noted_anew held other (Explanations files script) f note (inl (line, shown, is)) = inl (line, shown_nowhere held other line shown, is)
-noted_anew held other (Explanations files script) f note (inr none) = inr none
+noted_anew : (held other : Held) (notes : Notes) (f : Placed (String Global) FileFault) (note : List ℕ) → f.fault ≡ CannotWrite → IsNoted held notes (File f) note → IsNoted other notes (File f) note
+noted_anew held other Nothing f note is noted = noted
+noted_anew held other (Explanations files script) f note is (inl explained) = inl (explained_anew held other f f.fault note is explained)
+noted_anew held other (Explanations files script) f note is (inr none) = inr none
 
-of_refusal_anew : (held other : Held) (notes : Notes) (f : FileFault (String Global)) (e : Ending) (note : List ℕ) → IsReportOf held notes (failure.Fault (File f)) e note → IsReportOf other notes (failure.Fault (File f)) e note
-of_refusal_anew held other notes f e note (inl (line, noted)) = inl (line, noted_anew held other notes f note noted)
-of_refusal_anew held other notes f e note (inr short) = inr short
+of_refusal_anew : (held other : Held) (notes : Notes) (f : Placed (String Global) FileFault) (e : Ending) (note : List ℕ) → f.fault ≡ CannotWrite → IsReportOf held notes (failure.Fault (File f)) e note → IsReportOf other notes (failure.Fault (File f)) e note
+of_refusal_anew held other notes f e note is (inl (line, noted)) = inl (line, noted_anew held other notes f note is noted)
+of_refusal_anew held other notes f e note is (inr short) = inr short
 
--- what is told of a file's fault is so whatever the disk holds
-reported_anew : (held other : Held) (notes : Notes) (f : FileFault (String Global)) (r : Refusal (String Global)) (e : Ending) (note : List ℕ) → r ≡ File f → IsReportOf held notes (failure.Fault r) e note → IsReportOf other notes (failure.Fault r) e note
-reported_anew held other notes f r e note told is =
+-- what is told of a file that cannot be written is so whatever the disk holds
+reported_anew : (held other : Held) (notes : Notes) (f : Placed (String Global) FileFault) (r : Refusal (String Global)) (e : Ending) (note : List ℕ) → r ≡ File f → f.fault ≡ CannotWrite → IsReportOf held notes (failure.Fault r) e note → IsReportOf other notes (failure.Fault r) e note
+reported_anew held other notes f r e note told unwritable is =
     let Of : Held → Refusal (String Global) → Type 0 = λ h g. IsReportOf h notes (failure.Fault g) e note in
-    subst (λ (g : Refusal (String Global)). Of other g) (sym told) (of_refusal_anew held other notes f e note (subst (λ (g : Refusal (String Global)). Of held g) told is))
+    subst (λ (g : Refusal (String Global)). Of other g) (sym told) (of_refusal_anew held other notes f e note unwritable (subst (λ (g : Refusal (String Global)). Of held g) told is))
 
-unwritten : (held other : Held) (notes : Notes) (old new : Option Files) (outputs : List Output) (refusal : Failure (FileFault (String Global))) (fault : Fault) (e : Ending) (note : List ℕ) → IsUnwritten old new outputs refusal → IsToldOfFile refusal fault → IsReportOf held notes fault e note → IsUnwrittenAmong other notes (map contents_of outputs) e note (old, new)
+unwritten : (held other : Held) (notes : Notes) (old new : Option Files) (outputs : List Output) (refusal : Failure (Placed (String Global) FileFault)) (fault : Fault) (e : Ending) (note : List ℕ) → IsUnwritten old new outputs refusal → IsToldOfFile refusal fault → IsReportOf held notes fault e note → IsUnwrittenAmong other notes (map contents_of outputs) e note (old, new)
 unwritten held other notes old new outputs (failure.NoMemory n) (failure.NoMemory m) e note (file, ends, is) told comes = (file, ends, (failure.NoMemory m, tt, comes))
 unwritten held other notes old new outputs (failure.NoMemory n) (failure.Fault r) e note is told comes = absurd told
 unwritten held other notes old new outputs (failure.Fault f) (failure.NoMemory m) e note is told comes = absurd told
 unwritten held other notes old new outputs (failure.Fault f) (failure.Fault r) e note (file, ends, is) told comes =
-    (file, ends, (failure.Fault r, refused_so f r file.0 told is.0 is.1, reported_anew held other notes f r e note told comes))
+    (file, ends, (failure.Fault r, refused_so f r file.0 told is.0 is.1, reported_anew held other notes f r e note told is.1 comes))
 
-pub told_unwritten : (held other : Held) (notes : Notes) (told : Result (Vec Output Global) Fault) (outputs : Vec Output Global) (shown : List Output) (refusal : Failure (FileFault (String Global))) (fault : Fault) (e : Ending) (note : List ℕ) (written : Wrote) → told ≡ Ok outputs → shown ≡ outputs.items → IsUnwritten written.0 written.1 shown refusal → IsToldOfFile refusal fault → IsReportOf held notes fault e note → WritesTold other notes told e note written
+pub told_unwritten : (held other : Held) (notes : Notes) (told : Result (Vec Output Global) Fault) (outputs : Vec Output Global) (shown : List Output) (refusal : Failure (Placed (String Global) FileFault)) (fault : Fault) (e : Ending) (note : List ℕ) (written : Wrote) → told ≡ Ok outputs → shown ≡ outputs.items → IsUnwritten written.0 written.1 shown refusal → IsToldOfFile refusal fault → IsReportOf held notes fault e note → WritesTold other notes told e note written
 told_unwritten held other notes told outputs shown refusal fault e note written is same among as_fault comes =
     let of_outputs = subst (λ (os : List Output). IsUnwrittenAmong other notes (map contents_of os) e note written) same (unwritten held other notes written.0 written.1 shown refusal fault e note among as_fault comes) in
     subst (λ (t : Result (Vec Output Global) Fault). WritesTold other notes t e note written) (sym is) (inr of_outputs)

@@ -12,7 +12,7 @@ use Rattle.c25_chain.specs.declared.fault.Refusal.TheVariants.{File, Hex}
 use Rattle.c25_dis.specs.Sections.{IsModuleText}
 use Rattle.c25_dis.specs.Words.{IsWordsText}
 use Rattle.c25_disk.specs.Held.{Held, IsAllOf}
-use Rattle.c25_disk.specs.declared.fault.FileFaultKind.TheVariants.{CannotRead}
+use Rattle.c25_disk.specs.declared.fault.FileFault.TheVariants.{CannotRead}
 use Rattle.c25_meaning_common.specs.Digits.{hexadecimal_of}
 use Rattle.c25_meaning_common.specs.Results.{FailsBy, MeetsBy, told}
 use Rattle.c25_meaning_intel_hex.specs.Hex.{HasWordsOf, bytes_given}
@@ -35,7 +35,7 @@ given_by text = told Hex (bytes_given text)
 
 -- the same of a file with its name, which may be no text (8)
 abbrev pub given_in : List ℕ × List ℕ → Result (map.FinMap nat_cmp ℕ) (Refusal (List ℕ))
-given_in file = if is_utf8 file.1 then given_by file.1 else Err (File (record { file = file.0; kind = CannotRead }))
+given_in file = if is_utf8 file.1 then given_by file.1 else Err (File (record { place = file.0; fault = CannotRead }))
 
 -- a text is that of the words of such bytes, from an address on
 abbrev pub IsGivenText : ℕ → map.FinMap nat_cmp ℕ → List ℕ → Type 0

@@ -7,8 +7,9 @@ use Rattle.c25_chain.specs.declared.fault.Refusal.{Refusal}
 use Rattle.c25_chain.specs.declared.fault.Refusal.TheVariants.{Source, NoFile, Object, Command, Link, Hex, Schedule, Samples, Script, File}
 use Rattle.c25_disk.specs.Copies.{EndsOver}
 use Rattle.c25_disk.specs.Held.{Held, IsAllOf, IsOfFile, ReadsSources}
+use Rattle.c25_meaning_common.specs.declared.placed.Placed.{Placed}
 use Rattle.c25_disk.specs.declared.fault.FileFault.{FileFault}
-use Rattle.c25_disk.specs.declared.fault.FileFaultKind.TheVariants.{CannotRead}
+use Rattle.c25_disk.specs.declared.fault.FileFault.TheVariants.{CannotRead}
 use Rattle.c25_disk.specs.declared.work.CopyFault.{CopyFault}
 use Rattle.c25_disk.specs.declared.work.CopyFault.TheVariants as copy
 use Rattle.c25_meaning_expansion.specs.Files.{Files}
@@ -18,7 +19,7 @@ use Rattle.c25_meaning_common.specs.declared.failure.Failure.TheVariants as fail
 -- ---- faults
 
 -- a file's fault
-abbrev pub IsToldOfFile : Failure (FileFault (String Global)) → Fault → Type 0
+abbrev pub IsToldOfFile : Failure (Placed (String Global) FileFault) → Fault → Type 0
 IsToldOfFile (failure.NoMemory n) (failure.NoMemory m) = Unit {0}
 IsToldOfFile (failure.NoMemory n) (failure.Fault r) = ⊥
 IsToldOfFile (failure.Fault f) (failure.NoMemory m) = ⊥
@@ -35,8 +36,8 @@ IsToldOfCopies (failure.Fault (copy.Work g)) (failure.Fault r) = r ≡ g
 -- the name of the file that a refusal asks for
 abbrev pub missing_name : Refusal (String Global) → Option (List ℕ)
 missing_name (NoFile file line name) = Some (string_bytes name)
-missing_name (Source file line kind) = None
-missing_name (Object file fault) = None
+missing_name (Source placed) = None
+missing_name (Object placed) = None
 missing_name (Command faulty) = None
 missing_name (Link faulty) = None
 missing_name (Hex placed) = None
@@ -54,7 +55,7 @@ FailsWith (Err fault) holds = holds fault
 
 -- the file of this name cannot be read (8), or memory ran out
 abbrev pub IsUnread : List ℕ → Fault → Type 0
-IsUnread name fault = (failure : Failure (FileFault (String Global))) × IsOfFile name CannotRead failure × IsToldOfFile failure fault
+IsUnread name fault = (failure : Failure (Placed (String Global) FileFault)) × IsOfFile name CannotRead failure × IsToldOfFile failure fault
 
 -- the text of the file of this name, or why it is not read
 abbrev pub ReadsNamed : Held → List ℕ → Result (String Global) Fault → Type 0
@@ -91,7 +92,7 @@ AfterOptional held name next answer = FailsWith answer (IsUnreadOptional name) �
 -- the sources of names, or the first that is refused: it is among those before it (37), or cannot be read (8)
 abbrev pub ReadsAll : Held → List (List ℕ) → Result Files Fault → Type 0
 ReadsAll held names (Ok files) = ReadsSources held [] names (Ok files)
-ReadsAll held names (Err fault) = (failure : Failure (FileFault (String Global))) × ReadsSources held [] names (Err failure) × IsToldOfFile failure fault
+ReadsAll held names (Err fault) = (failure : Failure (Placed (String Global) FileFault)) × ReadsSources held [] names (Err failure) × IsToldOfFile failure fault
 
 -- one of these sources is refused
 abbrev pub IsRefusedSource : {A : Type 0} → Held → List (List ℕ) → Result A Fault → Type 0

@@ -1,14 +1,21 @@
 -- What is noted of a fault behind its line.
-use Rattle.std.specs.Prelude.{◌≡◌, ◌⊎◌, ℕ, Bool, true, false, List, [], Option, Some, None, String, option_map}
+use Rattle.std.specs.Prelude.{◌≡◌, ◌⊎◌, ℕ, ◌+◌, ◌==◌, Bool, true, false, List, [], take, count_by, Option, Some, None, String, option_map}
 use Rattle.std.specs.Borrow.{Bor}
+use Rattle.std.specs.Str.{IsUtf8, IsValidUpTo}
 use Rattle.std.specs.String.{string_bytes}
 use Rattle.std.specs.declared.alloc.Global.{Global}
 use Rattle.c25_chain.specs.declared.fault.Refusal.{Refusal}
 use Rattle.c25_chain.specs.declared.fault.Refusal.TheVariants.{Source, NoFile, Object, Command, Link, Hex, Schedule, Samples, Script, File}
 use Rattle.c25_disk.specs.Held.{Held, IsAllOf}
-use Rattle.c25_explain.specs.Lines.{of_refusal}
+use Rattle.c25_disk.specs.declared.fault.FileFault.{FileFault}
+use Rattle.c25_disk.specs.declared.fault.FileFault.TheVariants.{CannotWrite, CannotRead, FileTwice}
 use Rattle.c25_explain.specs.Note.{IsNoteOf, line_of}
-use Rattle.c25_explain.specs.declared.note.ShownLine.{ShownLine}
+use Rattle.c25_explain.specs.declared.fault.AnyFault.{AnyFault}
+use Rattle.c25_explain.specs.declared.note.Shown.{Shown}
+use Rattle.c25_explain.specs.declared.note.Shown.TheVariants as shown
+use Rattle.c25_explain.specs.declared.note.Unread.{Unread}
+use Rattle.c25_explain.specs.declared.note.Unread.TheVariants.{NotOpened, NotRead, NotUtf8}
+use Rattle.c25_explanation_laws.specs.Lines.{of_refusal}
 use Rattle.c25_words.specs.Task.{text_of}
 use Rattle.c25_words.specs.declared.task.RunFiles.{RunFiles}
 use Rattle.c25_tasks.specs.declared.notes.Notes.{Notes}
@@ -28,33 +35,86 @@ at_line name line = option_map (λ file. (file, line)) name
 -- the file and the number of the line where a refusal is told, if it is told of one: of the command file, the samples, the schedule and
 -- the script these are the names
 abbrev pub place_of : RunFiles → Option (Bor (List ℕ)) → Refusal (String Global) → Option (List ℕ × ℕ)
-place_of files script (Source file line kind) = Some (string_bytes file, line)
+place_of files script (Source placed) = Some (string_bytes placed.place.file, placed.place.line)
 place_of files script (NoFile file line name) = Some (string_bytes file, line)
-place_of files script (Command faulty) = at_line (text_of files.command) faulty.line
+place_of files script (Command placed) = at_line (text_of files.command) placed.place
 place_of files script (Samples line) = at_line (text_of files.samples) line
 place_of files script (Schedule line) = at_line (text_of files.schedule) line
 place_of files script (Script line) = at_line (text_of script) line
-place_of files script (Object file fault) = None
-place_of files script (Link faulty) = None
+place_of files script (Object placed) = None
+place_of files script (Link placed) = None
 place_of files script (Hex placed) = None
-place_of files script (File fault) = None
+place_of files script (File placed) = None
 
--- the line of a place in the text of its file, or none where there is no such line
-abbrev pub IsShownOf : List ℕ × ℕ → List ℕ → Option ShownLine → Type 0
-IsShownOf place text None = line_of text place.1 ≡ None
-IsShownOf place text (Some line) = (line.file.now ≡ place.0) × (line.number ≡ place.1) × (line_of text place.1 ≡ Some line.text.now)
+-- that line of the file's text, or nothing where there is no such line
+abbrev pub IsLineOf : (file : List ℕ) → (number : ℕ) → (text : List ℕ) → Shown → Type 0
+IsLineOf file number text shown.Nothing = line_of text number ≡ None
+IsLineOf file number text (shown.Line of_file at line) = (of_file.now ≡ file) × (at ≡ number) × (line_of text number ≡ Some line.now)
+IsLineOf file number text (shown.Unread of_file why) = ⊥
 
--- what is shown of a place, where there is one: its line in what its file holds, or none, as where the file cannot be read
-abbrev pub IsShown : Held → Option (List ℕ × ℕ) → Option ShownLine → Type 0
-IsShown held place None = Unit {0}
-IsShown held None (Some line) = ⊥
-IsShown held (Some place) (Some line) = (text : List ℕ) × IsAllOf (held place.0) text × IsShownOf place text (Some line)
+-- that line of what the file holds, or nothing, as where it cannot be read
+abbrev pub IsLineAt : Held → (file : List ℕ) → (number : ℕ) → Shown → Type 0
+IsLineAt held file number shown.Nothing = Unit {0}
+IsLineAt held file number shows = (text : List ℕ) × IsAllOf (held file) text × IsLineOf file number text shows
+
+-- ---- a file that cannot be read
+
+-- the name of such a file
+abbrev pub name_by : FileFault → List ℕ → Option (List ℕ)
+name_by CannotRead name = Some name
+name_by CannotWrite name = None
+name_by FileTwice name = None
+
+-- the name of the file that cannot be read, if that is refused
+abbrev pub unread_name : Refusal (String Global) → Option (List ℕ)
+unread_name (File placed) = name_by placed.fault (string_bytes placed.place)
+unread_name (Source placed) = None
+unread_name (NoFile file line name) = None
+unread_name (Object placed) = None
+unread_name (Command placed) = None
+unread_name (Link placed) = None
+unread_name (Hex placed) = None
+unread_name (Schedule line) = None
+unread_name (Samples line) = None
+unread_name (Script line) = None
+
+-- the number of the line in which bytes are first no UTF-8, or none where they are
+abbrev pub IsLineOfNoText : List ℕ → Option ℕ → Type 0
+IsLineOfNoText bytes None = IsUtf8 bytes
+IsLineOfNoText bytes (Some line) = (n : ℕ) × IsValidUpTo bytes n × (line ≡ count_by (λ byte. byte == 10) (take n bytes) + 1)
+
+-- why a file cannot be read, with what is known of its bytes, as far as it is found when that is tried again
+abbrev pub IsWhy : Option (List ℕ) → Option Unread → Type 0
+IsWhy known None = Unit {0}
+IsWhy known (Some NotOpened) = Unit {0}
+IsWhy known (Some NotRead) = Unit {0}
+IsWhy known (Some (NotUtf8 line)) = (bytes : List ℕ) × IsAllOf known bytes × IsLineOfNoText bytes (Some line)
+
+-- why the file of this name cannot be read, or nothing
+abbrev pub IsUnread : Held → (file : List ℕ) → Shown → Type 0
+IsUnread held file shown.Nothing = Unit {0}
+IsUnread held file (shown.Line of_file number text) = ⊥
+IsUnread held file (shown.Unread of_file why) = (of_file.now ≡ file) × IsWhy (held file) (Some why)
 
 -- ---- notes
 
+-- the explanation of a fault that is told in this line of a file
+abbrev pub IsExplainedAt : Held → (file : List ℕ) → (number : ℕ) → AnyFault → List ℕ → Type 0
+IsExplainedAt held file number fault note = (shows : Shown) × IsLineAt held file number shows × IsNoteOf fault shows note
+
+-- the explanation of a fault of a file that cannot be read
+abbrev pub IsExplainedUnread : Held → (file : List ℕ) → AnyFault → List ℕ → Type 0
+IsExplainedUnread held file fault note = (shows : Shown) × IsUnread held file shows × IsNoteOf fault shows note
+
+-- the explanation of a fault that is told in this line of a file, if of one, and else of this file that cannot be read, if there is one
+abbrev pub IsExplainedBy : Held → (place : Option (List ℕ × ℕ)) → (unread : Option (List ℕ)) → AnyFault → List ℕ → Type 0
+IsExplainedBy held (Some place) unread fault note = IsExplainedAt held place.0 place.1 fault note
+IsExplainedBy held None (Some file) fault note = IsExplainedUnread held file fault note
+IsExplainedBy held None None fault note = IsNoteOf fault shown.Nothing note
+
 -- the explanation of a refusal that is told at this place
-abbrev pub IsExplained : Held → Option (List ℕ × ℕ) → Refusal (String Global) → List ℕ → Type 0
-IsExplained held place refusal note = (line : Option ShownLine) × IsShown held place line × IsNoteOf (of_refusal refusal) line note
+abbrev pub IsExplained : Held → (place : Option (List ℕ × ℕ)) → Refusal (String Global) → List ℕ → Type 0
+IsExplained held place refusal note = IsExplainedBy held place (unread_name refusal) (of_refusal refusal) note
 
 -- what is noted of a refusal: its explanation where that is asked for, unless memory runs out
 abbrev pub IsNoted : Held → Notes → Refusal (String Global) → List ℕ → Type 0

@@ -46,7 +46,7 @@ AfterObjects held names next answer = FailsWith answer (IsUnreadAmong held names
 
 -- the module of a file, or why its bytes are those of none
 abbrev pub module_in : List ℕ × List ℕ → Result Contents (Refusal (List ℕ))
-module_in file = told (λ fault. Object file.0 fault) (module_of file.1)
+module_in file = told (λ fault. Object (record { place = file.0; fault = fault })) (module_of file.1)
 
 -- one module more
 abbrev pub with_object : List Contents → List ℕ × List ℕ → Result (List Contents) (Refusal (List ℕ))

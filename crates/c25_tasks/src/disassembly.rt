@@ -4,7 +4,7 @@ ghost use Rattle.std.specs.Prelude.{◌≡◌, Some, None, false};
 ghost use Rattle.c25_chain.specs.Refusal.{IsRefusedAs};
 ghost use Rattle.c25_chain.specs.declared.fault.Refusal.TheVariants as refusal;
 ghost use Rattle.c25_dis.specs.Sections.{IsModuleText};
-ghost use Rattle.c25_disk.specs.declared.fault.FileFaultKind.TheVariants as kind;
+ghost use Rattle.c25_disk.specs.declared.fault.FileFault.TheVariants as kind;
 ghost use Rattle.c25_tasks.specs.Disassembly.{Disassembles, DisassemblesBy, DisassemblesFrom, DisassemblesNamed, DisassemblesTold, IsGivenText, IsTextOf, RefusesObject, address_of, given_by, given_in, is_hex, no_address_line, object_line};
 ghost use Rattle.c25_tasks.specs.Objects.{module_in};
 ghost use Rattle.c25_tasks.specs.Tells.{IsLineOf};
@@ -16,12 +16,13 @@ use crate::report::{ending_of_fault, report_text};
 use c25_chain::fault::{Fault, Refusal};
 use c25_dis::{disassemble_module, disassemble_words};
 use c25_disk::disk::Disk;
-use c25_disk::fault::{FileFault, FileFaultKind};
+use c25_disk::fault::FileFault;
 use c25_disk::read_binary;
 use c25_hex::read_hex;
 use c25_items::hexadecimal_of;
 use c25_meaning_common::failure::Failure;
 use c25_meaning_common::no_memory::NoMemory;
+use c25_meaning_common::placed::Placed;
 use c25_report::ending::Ending;
 use std::alloc::Global;
 use std::io::Write;
@@ -49,12 +50,12 @@ fn words_text(alloc: Global, text: &str, start: u16) -> Result<String, Fault>
 
 /// A file whose bytes are not UTF-8.
 fn no_text(alloc: Global, name: &str) -> Fault
-    ensures { IsRefusedAs (refusal.File (record { file = name.now; kind = kind.CannotRead })) result }
+    ensures { IsRefusedAs (refusal.File (record { place = name.now; fault = kind.CannotRead })) result }
 {
     match String::from_str(alloc, name) {
-        Ok(file) => {
-            let kind = FileFaultKind::CannotRead;
-            Failure::Fault(Refusal::File(FileFault { file, kind }))
+        Ok(place) => {
+            let fault = FileFault::CannotRead;
+            Failure::Fault(Refusal::File(Placed { place, fault }))
         }
         Err(error) => Failure::NoMemory(NoMemory::from(error)),
     }

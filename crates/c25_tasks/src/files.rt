@@ -12,10 +12,11 @@ use c25_disk::read_file;
 use c25_disk::work::CopyFault;
 use c25_meaning_common::failure::Failure;
 use c25_meaning_common::no_memory::NoMemory;
+use c25_meaning_common::placed::Placed;
 use std::alloc::Global;
 
 /// A file's fault.
-pub(crate) fn fault_of_file(failure: Failure<FileFault<String>>) -> Fault
+pub(crate) fn fault_of_file(failure: Failure<Placed<String, FileFault>>) -> Fault
     ensures { IsToldOfFile failure result }
 {
     match failure {

@@ -3,13 +3,16 @@
 ghost use Rattle.std.specs.Option.{option_map};
 ghost use Rattle.std.specs.Prelude.{◌≡◌, IfOk, string_bytes};
 ghost use Rattle.c25_words.specs.Task.{text_of};
-ghost use Rattle.c25_tasks.specs.Notes.{IsExplained, IsNoted, IsShownOf, at_line, notes_for, place_of};
+ghost use Rattle.c25_tasks.specs.Notes.{IsExplained, IsExplainedAt, IsExplainedUnread, IsLineOf, IsLineOfNoText, IsNoted, IsWhy, at_line, notes_for, place_of, unread_name};
 
 use crate::refusals::of_refusal;
 use c25_chain::fault::Refusal;
 use c25_disk::disk::Disk;
-use c25_disk::read_file;
-use c25_explain::note::{ShownLine, explained, line_of};
+use c25_disk::fault::FileFault;
+use c25_disk::{read_binary, read_file};
+use c25_explain::fault::AnyFault;
+use c25_explain::note::{Shown, Unread, explained, line_of};
+use c25_meaning_common::failure::Failure;
 use c25_meaning_common::no_memory::NoMemory;
 use c25_words::task::RunFiles;
 use std::alloc::Global;
@@ -67,32 +70,102 @@ fn place_of<'a>(
     ensures { option_map (λ place. (place.file.now, place.line)) result ≡ place_of files.entry script.entry refusal.entry.now }
 {
     match refusal {
-        Refusal::Source { file, line, .. } => at_line(Some(file.as_str()), *line),
+        Refusal::Source(placed) => at_line(Some(placed.place.file.as_str()), placed.place.line),
         Refusal::NoFile { file, line, .. } => at_line(Some(file.as_str()), *line),
-        Refusal::Command(faulty) => at_line(files.command, faulty.line),
+        Refusal::Command(placed) => at_line(files.command, placed.place),
         Refusal::Samples { line } => at_line(files.samples, *line),
         Refusal::Schedule { line } => at_line(files.schedule, *line),
         Refusal::Script { line } => at_line(script, *line),
-        Refusal::Object { .. } | Refusal::Link(_) | Refusal::Hex(_) | Refusal::File(_) => None,
+        Refusal::Object(_) | Refusal::Link(_) | Refusal::Hex(_) | Refusal::File(_) => None,
     }
 }
 
-/// The line of a place in the text of its file, if it has one.
-fn shown<'a>(place: &Place<'a>, text: &'a str) -> Option<ShownLine<'a>>
-    ensures { IsShownOf (place.now.file.now, place.now.line) text.entry.now result }
+/// The line of this number in the text of a file, if it has one.
+fn line_shown<'a>(file: &'a str, number: usize, text: &'a str) -> Shown<'a>
+    ensures { IsLineOf file.entry.now number text.entry.now result }
 {
-    let number = place.line;
     match line_of(text, number) {
-        Some(text) => {
-            let file = place.file;
-            Some(ShownLine { file, number, text })
-        }
-        None => None,
+        Some(text) => Shown::Line { file, number, text },
+        None => Shown::Nothing,
     }
 }
 
-/// The explanation of a refusal, behind the line of a file where it is told. The file is read again for
-/// that; where it cannot be, or has no such line, none is shown.
+/// The explanation of a fault that is told in this line of a file, behind that line.
+fn explained_at<D: Disk>(
+    alloc: Global,
+    disk: &D,
+    fault: AnyFault,
+    file: &str,
+    number: usize,
+) -> Result<String, NoMemory>
+    ensures { IfOk result (λ note. IsExplainedAt (D.bytes_of disk.now) file.now number fault (string_bytes note)) }
+{
+    match read_file(alloc, disk, file) {
+        Ok(text) => explained(alloc, fault, line_shown(file, number, text.as_str())),
+        Err(_) => explained(alloc, fault, Shown::Nothing),
+    }
+}
+
+/// The name of the file that cannot be read, if that is refused.
+fn unread_name(refusal: &Refusal<String>) -> Option<&str>
+    ensures { option_map (λ name. name.now) result ≡ unread_name refusal.now }
+{
+    match refusal {
+        Refusal::File(placed) => match placed.fault {
+            FileFault::CannotRead => Some(placed.place.as_str()),
+            FileFault::CannotWrite | FileFault::FileTwice => None,
+        },
+        _ => None,
+    }
+}
+
+/// The number of the first line that is not UTF-8, where there is one.
+fn line_of_no_text(bytes: &[u8]) -> Option<usize>
+    ensures { IsLineOfNoText bytes.now result }
+{
+    match str::from_utf8(bytes) {
+        Ok(_) => None,
+        Err(error) => {
+            let front = &bytes[..error.valid_up_to()];
+            Some(front.iter().filter(|byte| **byte == b'\n').count() + 1)
+        }
+    }
+}
+
+/// Why a file cannot be read, as it is found when that is tried again.
+fn why_unread<D: Disk>(alloc: Global, disk: &D, name: &str) -> Option<Unread>
+    ensures { IsWhy (D.bytes_of disk.now name.now) result }
+{
+    if disk.open(name).is_err() {
+        return Some(Unread::NotOpened);
+    }
+    match read_binary(alloc, disk, name) {
+        Ok(bytes) => match line_of_no_text(bytes.as_slice()) {
+            Some(line) => Some(Unread::NotUtf8 { line }),
+            None => None,
+        },
+        Err(Failure::NoMemory(_)) => None,
+        Err(Failure::Fault(_)) => Some(Unread::NotRead),
+    }
+}
+
+/// The explanation of a fault of a file that cannot be read, behind why not, where that is known.
+fn explained_unread<D: Disk>(
+    alloc: Global,
+    disk: &D,
+    fault: AnyFault,
+    file: &str,
+) -> Result<String, NoMemory>
+    ensures { IfOk result (λ note. IsExplainedUnread (D.bytes_of disk.now) file.now fault (string_bytes note)) }
+{
+    match why_unread(alloc, disk, file) {
+        Some(why) => explained(alloc, fault, Shown::Unread { file, why }),
+        None => explained(alloc, fault, Shown::Nothing),
+    }
+}
+
+/// The explanation of a refusal, behind the line of a file where it is told, or behind why a file cannot
+/// be read. The file is read again for that; where it cannot be, or has no such line, none is shown.
 fn explanation_of<D: Disk>(
     alloc: Global,
     disk: &D,
@@ -103,12 +176,12 @@ fn explanation_of<D: Disk>(
     ensures { IfOk result (λ note. IsExplained (D.bytes_of disk.now) (place_of files.entry script.entry refusal.now) refusal.now (string_bytes note)) }
 {
     let fault = of_refusal(refusal);
-    let Some(place) = place_of(refusal, files, script) else {
-        return explained(alloc, fault, None);
-    };
-    match read_file(alloc, disk, place.file) {
-        Ok(text) => explained(alloc, fault, shown(&place, text.as_str())),
-        Err(_) => explained(alloc, fault, None),
+    if let Some(place) = place_of(refusal, files, script) {
+        return explained_at(alloc, disk, fault, place.file, place.line);
+    }
+    match unread_name(refusal) {
+        Some(file) => explained_unread(alloc, disk, fault, file),
+        None => explained(alloc, fault, Shown::Nothing),
     }
 }
 

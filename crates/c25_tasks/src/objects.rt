@@ -12,6 +12,7 @@ use c25_disk::disk::Disk;
 use c25_disk::read_binary;
 use c25_meaning_common::failure::Failure;
 use c25_meaning_common::no_memory::NoMemory;
+use c25_meaning_common::placed::Placed;
 use c25_meaning_objects::object::ObjectFault;
 use c25_obj::Module;
 use c25_records::read_module;
@@ -45,10 +46,10 @@ pub(crate) fn read_objects<'a, D: Disk>(
 
 /// A file whose bytes are those of no module.
 fn no_module(alloc: Global, name: &str, fault: ObjectFault) -> Fault
-    ensures { IsRefusedAs (refusal.Object name.now fault) result }
+    ensures { IsRefusedAs (refusal.Object (record { place = name.now; fault = fault })) result }
 {
     match String::from_str(alloc, name) {
-        Ok(file) => Failure::Fault(Refusal::Object { file, fault }),
+        Ok(place) => Failure::Fault(Refusal::Object(Placed { place, fault })),
         Err(error) => Failure::NoMemory(NoMemory::from(error)),
     }
 }

@@ -1,7 +1,7 @@
 //! The faults of refusals.
 
 ghost use Rattle.std.specs.Prelude.{◌≡◌};
-ghost use Rattle.c25_explain.specs.Lines.{of_refusal};
+ghost use Rattle.c25_explanation_laws.specs.Lines.{of_refusal};
 
 use c25_chain::fault::Refusal;
 use c25_explain::fault::AnyFault;
@@ -12,15 +12,15 @@ pub(crate) fn of_refusal(refusal: &Refusal<String>) -> AnyFault
     ensures { result ≡ of_refusal refusal.now }
 {
     match refusal {
-        Refusal::Source { kind, .. } => AnyFault::Source(*kind),
+        Refusal::Source(placed) => AnyFault::Source(placed.fault),
         Refusal::NoFile { .. } => AnyFault::Source(FaultKind::NoFile),
-        Refusal::Object { fault, .. } => AnyFault::Object(*fault),
-        Refusal::Command(faulty) => AnyFault::Command(faulty.fault),
-        Refusal::Link(faulty) => AnyFault::Link(faulty.fault),
+        Refusal::Object(placed) => AnyFault::Object(placed.fault),
+        Refusal::Command(placed) => AnyFault::Command(placed.fault),
+        Refusal::Link(placed) => AnyFault::Link(placed.fault),
         Refusal::Hex(placed) => AnyFault::Hex(placed.fault),
         Refusal::Schedule { .. } => AnyFault::Schedule,
         Refusal::Samples { .. } => AnyFault::Samples,
         Refusal::Script { .. } => AnyFault::Script,
-        Refusal::File(fault) => AnyFault::File(fault.kind),
+        Refusal::File(placed) => AnyFault::File(placed.fault),
     }
 }

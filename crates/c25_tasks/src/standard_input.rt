@@ -11,10 +11,11 @@ use crate::report::report_run;
 use c25_chain::fault::{Fault, Refusal};
 use c25_chain::ready::Ready;
 use c25_disk::disk::Disk;
-use c25_disk::fault::{FileFault, FileFaultKind};
+use c25_disk::fault::FileFault;
 use c25_disk::{CannotRead, read_text};
 use c25_macro::files::{FileTwice, Files};
 use c25_meaning_common::failure::Failure;
+use c25_meaning_common::placed::Placed;
 use c25_report::ending::Report;
 use c25_words::task::DEFAULT_STEPS;
 use std::alloc::Global;
@@ -51,9 +52,9 @@ fn answer<D: Disk, R: Read>(alloc: Global, disk: &D, reader: &mut R) -> Result<R
         Ok(text) => ready_text(alloc, disk, text.as_str()),
         Err(Failure::NoMemory(error)) => Err(error.into()),
         Err(Failure::Fault(CannotRead)) => {
-            let file = String::from_str(alloc, STANDARD_INPUT)?;
-            let kind = FileFaultKind::CannotRead;
-            Err(Failure::Fault(Refusal::File(FileFault { file, kind })))
+            let place = String::from_str(alloc, STANDARD_INPUT)?;
+            let fault = FileFault::CannotRead;
+            Err(Failure::Fault(Refusal::File(Placed { place, fault })))
         }
     }
 }

@@ -1,4 +1,4 @@
-use Rattle.std.proofs.Common.{◌∙◌, ap, sym, Bool, Some, None, Err, if◌then◌else◌}
+use Rattle.std.proofs.Common.{◌∙◌, ap, sym, Bool, Some, None, if◌then◌else◌}
 use Rattle.c25_items.proofs.Lists.{items_more, items_fault, items_end}
 use Rattle.c25_items.proofs.reading.items_in.Goals as goal
 
@@ -7,7 +7,6 @@ returns-then-not-fine g c =
     sym c.loop-index.invariant
     ∙ items_fault g.F.LineFormat.item_of (λ s. s.now) c.args.lines.now c.loop-index.index _ c.as_bytes.result.now c.loop-index-test.true c.as_bytes.ensures.value c.loop-index.items.items _
     (c.in_ok-fine.ensures ∙ ap (λ (b : Bool). if b then Some c.add_line.new.items.items else None) c.if-not-fine.true)
-    ∙ ap Err (sym c.fault.ensures)
 
 pub loop-index-preserved : goal.loop-index-preserved
 loop-index-preserved g c =

@@ -1,6 +1,0 @@
-use Rattle.c25_meaning_arithmetic.specs.Arithmetic.{absolute}
-use Rattle.c25_alu.proofs.addition.absolute.Goals as goal
-
-pub returns : goal.returns
-unfolding absolute
-returns c = c.kept.ensures _ c.total_absolute.ensures

@@ -1,0 +1,132 @@
+//! Sums and differences in the accumulator.
+
+ghost use Rattle.std.specs.Prelude.{◌≡◌, ◌+ℤ◌, ◌-ℤ◌, ℤ, pos, unsigned_abs};
+ghost use Rattle.c25_bits.specs.Cut.{signed};
+ghost use Rattle.c25_meaning_arithmetic.specs.Arithmetic.{absolute, difference, negated, sum, with_total};
+ghost use Rattle.c25_core.specs.Total.{IsTotal};
+
+use c25_meaning_arithmetic::accumulator::Acc;
+
+/// The lowest number of 32 signed bits. In each number with its sign, this bit is set.
+const LOWEST: u32 = 0x8000_0000;
+
+/// The highest number of 32 signed bits.
+const HIGHEST: u32 = 0x7FFF_FFFF;
+
+/// What two signed numbers of 32 bits come to.
+#[derive(Clone, Copy)]
+pub(super) struct Total {
+    /// Its low 32 bits.
+    pub(super) bits: u32,
+    /// It has left 32 signed bits.
+    pub(super) overflows: bool,
+    pub(super) negative: bool,
+}
+
+/// The sum of the signed numbers of these bits.
+#[inline(always)]
+fn total_sum(first: u32, second: u32) -> Total
+    ensures { IsTotal result (signed first 32 +ℤ signed second 32) }
+{
+    let bits = first.wrapping_add(second);
+    let negative = first >= LOWEST;
+    let overflows = negative == (second >= LOWEST) && negative != (bits >= LOWEST);
+    Total {
+        bits,
+        overflows,
+        negative: if overflows { negative } else { bits >= LOWEST },
+    }
+}
+
+/// The difference of the signed numbers of these bits.
+#[inline(always)]
+pub(super) fn total_difference(first: u32, second: u32) -> Total
+    ensures { IsTotal result (signed first 32 -ℤ signed second 32) }
+{
+    let bits = first.wrapping_sub(second);
+    let negative = first >= LOWEST;
+    let overflows = negative != (second >= LOWEST) && negative != (bits >= LOWEST);
+    Total {
+        bits,
+        overflows,
+        negative: if overflows { negative } else { bits >= LOWEST },
+    }
+}
+
+/// The absolute value of the signed number of these bits.
+fn total_absolute(bits: u32) -> Total
+    ensures { IsTotal result (pos (unsigned_abs (signed bits 32))) }
+{
+    Total {
+        bits: if bits < LOWEST {
+            bits
+        } else {
+            bits.wrapping_neg()
+        },
+        overflows: bits == LOWEST,
+        negative: false,
+    }
+}
+
+/// The accumulator with a new value: where that leaves 32 signed bits, OV is set, and with `ovm` the
+/// end of the range stands in its place.
+#[inline(always)]
+fn kept(acc: Acc, total: Total, carry: bool, ovm: bool) -> Acc
+    ensures { (number : ℤ) → IsTotal total number → result ≡ with_total number ovm carry acc }
+{
+    let value = match (total.overflows && ovm, total.negative) {
+        (false, _) => total.bits,
+        (true, true) => LOWEST,
+        (true, false) => HIGHEST,
+    };
+    Acc {
+        value,
+        ov: acc.ov || total.overflows,
+        c: carry,
+    }
+}
+
+/// The accumulator after `A += v`, where v is the signed number of the bits of `addend`. C is the
+/// carry out of the 32 bits. Where the sum leaves 32 signed bits, OV is set, and with `ovm` the
+/// accumulator takes the end of the range that was left.
+#[tactic(auto, unfolding(c25_meaning_arithmetic::specs::Arithmetic::sum))]
+#[inline(always)]
+pub(crate) fn add(acc: Acc, addend: u32, ovm: bool) -> Acc
+    ensures { result ≡ sum acc (signed addend 32) ovm }
+{
+    let (_, carry) = acc.value.overflowing_add(addend);
+    kept(acc, total_sum(acc.value, addend), carry, ovm)
+}
+
+/// The accumulator after `A -= v`, where v is the signed number of the bits of `amount`. C is 0
+/// where the 32 bits borrow. OV and saturation are as for [`add`].
+#[tactic(auto, unfolding(c25_meaning_arithmetic::specs::Arithmetic::difference))]
+#[inline(always)]
+pub(crate) fn subtract(acc: Acc, amount: u32, ovm: bool) -> Acc
+    ensures { result ≡ difference acc (signed amount 32) ovm }
+{
+    kept(
+        acc,
+        total_difference(acc.value, amount),
+        acc.value >= amount,
+        ovm,
+    )
+}
+
+/// The accumulator after `ABS`: its absolute value, and C 0. 80000000h has none in 32 signed bits,
+/// so there OV is set, and with `ovm` the value is 7FFFFFFFh.
+#[tactic(auto, unfolding(c25_meaning_arithmetic::specs::Arithmetic::absolute))]
+pub(crate) fn absolute(acc: Acc, ovm: bool) -> Acc
+    ensures { result ≡ absolute acc ovm }
+{
+    kept(acc, total_absolute(acc.value), false, ovm)
+}
+
+/// The accumulator after `NEG`: its negative, and C 1 at 0 alone. At 80000000h OV is set, and with
+/// `ovm` the value is 7FFFFFFFh.
+#[tactic(auto, unfolding(c25_meaning_arithmetic::specs::Arithmetic::negated))]
+pub(crate) fn negate(acc: Acc, ovm: bool) -> Acc
+    ensures { result ≡ negated acc ovm }
+{
+    kept(acc, total_difference(0, acc.value), acc.value == 0, ovm)
+}

@@ -1,0 +1,1 @@
+SECTIONS { high : > 0FFF6h }

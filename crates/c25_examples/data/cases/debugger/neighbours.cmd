@@ -1,0 +1,1 @@
+SECTIONS { high : > 0FFFEh }

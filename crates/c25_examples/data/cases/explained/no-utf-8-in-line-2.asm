@@ -1,0 +1,3 @@
+ NOP
+ NOP ; îffnen
+ NOP ; Åber

@@ -1,0 +1,33 @@
+//! A fault, and where it is.
+
+use std::fmt;
+use thiserror::Error;
+
+/// A fault, and where it is: the number of a line, a name, or a line of a file. The code has names
+/// as texts, the definitions as lists of bytes.
+#[derive(Clone, Copy, PartialEq, Debug, Drop, Error)]
+#[error_bound(Place: fmt::Display, Fault: fmt::Display)]
+#[error("{place}: {fault}")]
+pub struct Placed<Place, Fault> {
+    pub place: Place,
+    pub fault: Fault,
+}
+
+/// The line of this number, counted from 1, in the file of this name; line 0 is the file itself.
+#[derive(Clone, Copy, PartialEq, Debug, Drop)]
+pub struct FileLine<Name> {
+    pub file: Name,
+    pub line: usize,
+}
+
+impl<Name: fmt::Display> fmt::Display for FileLine<Name> {
+    ghost use Rattle.std.specs.Prelude.{◌++◌, codes};
+    ghost use Rattle.std.specs.Fmt.{decimal};
+    ghost use Rattle.std.specs.Option.{option_map};
+
+    ghost output = { λ place. option_map (λ file. file ++ codes ":" ++ decimal place.line) (Name.output place.file) };
+
+    fn fmt<W: fmt::Write>(&self, f: &mut fmt::Formatter<W>) -> fmt::Result {
+        write!(f, "{}:{}", self.file, self.line)
+    }
+}
