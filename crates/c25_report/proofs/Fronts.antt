@@ -1,5 +1,5 @@
 -- Texts of which a front is written.
-use Rattle.std.proofs.Common.{◌≡◌, ◌∙◌, ℕ, List, [], ◌++◌, Option, refl, ap, sym, subst, append_assoc, append-nil, take, drop, take-append-drop}
+use Rattle.std.proofs.Common.{◌≡◌, ◌∙◌, ℕ, List, [], ◌++◌, Option, ap, sym, subst, append_assoc, append-nil, take, drop, take-append-drop}
 use Rattle.std.proofs.KnownBytes.{Appends-kept, Appends-nil, Appends-trans}
 use Rattle.std.specs.Io.KnownBytes.{Appends, Keeps}
 use Rattle.c25_report.specs.Ending.{HasFront}
