@@ -1,5 +1,5 @@
 -- A test that was passed.
-use Rattle.std.proofs.Common.{◌≡◌, Bool, true, false, not, Result, Ok, Err, refl, if◌then◌else◌}
+use Rattle.std.proofs.Common.{ℕ, ◌≡◌, Bool, true, false, not, Result, Ok, Err, refl, if◌then◌else◌}
 use Rattle.c25_meaning_common.specs.declared.placed.Placed.{Placed}
 use Rattle.c25_meaning_commands.specs.declared.command_fault.CommandFault.{CommandFault}
 

@@ -77,7 +77,7 @@ TellsText (Err fault) e out = IsEndingOf fault e × Keeps out.0 out.1
 abbrev pub IsUnwrittenAmong : Held → Notes → Files → Ending → (note : List ℕ) → Wrote → Type 0
 IsUnwrittenAmong held notes files e note written =
     (file : List ℕ × List ℕ) × EndsBefore written.0 written.1 files file
-    × ((fault : Fault) × IsRefusedAs (File (record { file = file.0; kind = CannotWrite })) fault × IsReportOf held notes fault e note)
+    × ((fault : Fault) × IsRefusedAs (File (record { place = file.0; fault = CannotWrite })) fault × IsReportOf held notes fault e note)
 
 -- these files are written, or one cannot be
 abbrev pub Writes : Held → Notes → Files → Ending → (note : List ℕ) → Wrote → Type 0

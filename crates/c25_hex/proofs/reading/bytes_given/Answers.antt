@@ -34,10 +34,10 @@ pub returns-then-not-reader : goal.returns-then-not-reader
 returns-then-not-reader c =
     let t = YieldsList-end (YieldsList-from_lines c.args.text.now cc) c.loop-line.yielded _ c.loop-line.yielded_by _ _ c.in-None.is c.next.ensures.steps in
     no_more c.loop-line.number (hex_state c.loop-line.reader) (lines c.args.text.now) (bytes_given c.args.text.now) (omega (arith, t.1, c.loop-line.invariant.counted)) c.loop-line.invariant.told
-    ∙ ap (λ (b : Bool). cond b (Ok (cells_map c.loop-line.reader.bytes.items)) (Err (record { fault = NoEnd; line = c.loop-line.number }))) c.if-not-reader.true
+    ∙ ap (λ (b : Bool). cond b (Ok (cells_map c.loop-line.reader.bytes.items)) (Err (record { fault = NoEnd; place = c.loop-line.number }))) c.if-not-reader.true
 
 pub returns : goal.returns
 returns c =
     let t = YieldsList-end (YieldsList-from_lines c.args.text.now cc) c.loop-line.yielded _ c.loop-line.yielded_by _ _ c.in-None.is c.next.ensures.steps in
     no_more c.loop-line.number (hex_state c.loop-line.reader) (lines c.args.text.now) (bytes_given c.args.text.now) (omega (arith, t.1, c.loop-line.invariant.counted)) c.loop-line.invariant.told
-    ∙ ap (λ (b : Bool). cond b (Ok (cells_map c.loop-line.reader.bytes.items)) (Err (record { fault = NoEnd; line = c.loop-line.number }))) c.if-not-reader.false
+    ∙ ap (λ (b : Bool). cond b (Ok (cells_map c.loop-line.reader.bytes.items)) (Err (record { fault = NoEnd; place = c.loop-line.number }))) c.if-not-reader.false
