@@ -8,7 +8,9 @@ use crate::batch::{Batch, STEPS};
 use crate::lines::{Text, put_outcome, put_outputs};
 use c25_board::board::{Board, Outcome};
 use c25_board::samples::Samples;
+use c25_output_laws::laws::{outputs_have_no_part_in_runs, steps_put_one_output_at_most};
 use c25_report::printing::{Unwritten, print_text};
+use c25_run_laws::laws::two_runs_are_one;
 use std::io::Write;
 
 /// A board whose outputs are those of some steps.
@@ -31,6 +33,7 @@ fn print_some<O: Write>(
         (O.contents out.old) (O.contents out.new)) }
     ensures schedule { entries board.new ≡ entries board.old }
 {
+    steps_put_one_output_at_most();
     let outcome = board.run(n);
     put_outputs(text, board.sink().outputs());
     if let Err(unwritten) = print_text(text.as_str(), out) {
@@ -56,12 +59,15 @@ fn print_steps<O: Write>(
         (O.contents out.old) (O.contents out.new)) }
     ensures schedule { entries board.new ≡ entries board.old }
 {
+    outputs_have_no_part_in_runs();
+    two_runs_are_one();
     let mut done = 0;
     while done < n {
         let some = STEPS.min(n - done);
         match print_some(board, text, some, out) {
             Ok(Outcome::Ran) => done += some,
-            Ok(stopped) => return Ok(stopped),
+            Ok(Outcome::Left(at, stop)) => return Ok(Outcome::Left(at, stop)),
+            Ok(Outcome::SinkFault(at)) => return Ok(Outcome::SinkFault(at)),
             Err(unwritten) => return Err(unwritten),
         }
     }
