@@ -1,3 +1,4 @@
 pub mod Agreed
 pub mod Debugged
 pub mod Scripted
+pub mod Standing

@@ -1,6 +1,6 @@
 use Rattle.std.proofs.Common.{string_bytes, map}
 use Rattle.c25_chain.specs.Chain.{Given}
-use Rattle.c25_chain.proofs.Answered.{is_ready, ready_refused, samples_refused, schedule_refused}
+use Rattle.c25_chain.proofs.Answered.{ready_refused, samples_refused, schedule_refused}
 use Rattle.c25_chain.proofs.chain.make_ready.Goals as goal
 
 pub returns-in_err-samples : goal.returns-in_err-samples
