@@ -1,3 +1,5 @@
 pub mod Joined
+pub mod Looped
 pub mod OutputLines
+pub mod Told
 pub mod Went

@@ -8,7 +8,7 @@ ghost use Rattle.c25_chain.specs.Ready.{IsReady};
 ghost use Rattle.c25_chain.specs.Run.{last_state};
 ghost use Rattle.c25_meaning_image.specs.Marks.{fit_from, run_fit};
 ghost use Rattle.c25_meaning_processor.specs.FirstState.{first_of_pages};
-ghost use Rattle.c25_meaning_processor.specs.Run.{Ending};
+ghost use Rattle.c25_meaning_processor.specs.Run as runs;
 ghost use Rattle.c25_meaning_stimulus.specs.Samples.{samples_at};
 ghost use Rattle.c25_output_laws.specs.Behind.{behind};
 ghost use Rattle.c25_stream.specs.Printed.{IsFresh};
@@ -66,7 +66,7 @@ fn report_of(
     outcome: Outcome,
     regs: bool,
 ) -> Report
-    ensures { (n : ℕ) (end : Ending) (outputs : List (ℕ × ℕ)) → outcome ≡ outcome_of end → steps board ≡ steps_of n end
+    ensures { (n : ℕ) (end : runs.Ending) (outputs : List (ℕ × ℕ)) → outcome ≡ outcome_of end → steps board ≡ steps_of n end
         → last_state end ≡ behind outputs (state board) → TellsEnd regs image.now (entries board) n end result.ending (string_bytes result.note) }
 {
     outputs_have_no_part_in_runs();

@@ -1,6 +1,6 @@
 //! Words that are none and words that are no task, and a run that cannot be printed.
 
-use crate::worlds::{Closed, NotText, Words, empty_shelf};
+use crate::worlds::{Closed, Narrow, NotText, Words, empty_shelf};
 use c25_disk_tests::readers::Pieces;
 use c25_tasks::run_program;
 use std::process::{Abort, ExitCode};
@@ -61,4 +61,44 @@ fn a_run_that_cannot_be_printed_is_a_failure(rt: HostRuntime) {
     );
     assert_eq!(rt; ended.status(), ExitCode::FAILURE);
     assert_eq!(rt; err.as_slice(), b"stdout: 7 CannotWrite\n".as_slice());
+}
+
+/// What a run of `OUTPUTS` prints.
+const PRINTED: &[u8] = b"1 0000\n2 0000\nleft 2 OutOfCode\n";
+
+/// A source with two outputs, behind which the code is left.
+const OUTPUTS: &[u8] = b" OUT 60h,PA1\n OUT 60h,PA2\n";
+
+/// Of a run that is printed to a writer with this room a front stands, and the status and what is told are these.
+fn prints_front(rt: &(impl Abort + AllocGlobal), room: usize, status: ExitCode, told: &[u8]) {
+    let mut input = Pieces {
+        rest: OUTPUTS,
+        most: 9,
+        fails: false,
+    };
+    let mut out = Narrow {
+        room,
+        taken: Vec::new(rt.alloc()),
+    };
+    let mut err = Vec::<u8>::new(rt.alloc());
+    let mut shelf = empty_shelf(rt.alloc());
+    let ended = run_program(
+        rt.alloc(),
+        &Words { words: &[] },
+        &mut shelf,
+        &mut input,
+        &mut out,
+        &mut err,
+    );
+    assert_eq!(rt; ended.status(), status);
+    assert_eq!(rt; err.as_slice(), told);
+    assert_eq!(rt; out.taken.as_slice(), &PRINTED[..room.min(PRINTED.len())]);
+}
+
+#[test]
+fn what_a_writer_took_of_a_run_stands(rt: HostRuntime) {
+    for room in 0..PRINTED.len() {
+        prints_front(&rt, room, ExitCode::FAILURE, b"stdout: 7 CannotWrite\n");
+    }
+    prints_front(&rt, PRINTED.len(), ExitCode::from(3), b"");
 }

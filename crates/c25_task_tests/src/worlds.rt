@@ -82,6 +82,29 @@ impl Write for Closed {
     }
 }
 
+/// Takes so many bytes, and no more.
+#[derive(Drop)]
+pub(crate) struct Narrow {
+    pub(crate) room: usize,
+    pub(crate) taken: Vec<u8>,
+}
+
+impl Write for Narrow {
+    fn write(&mut self, buf: &[u8]) -> io::Result<usize> {
+        let count = buf.len().min(self.room);
+        if count == 0 {
+            return Err(Error::from(ErrorKind::BrokenPipe));
+        }
+        self.taken.extend_from_slice(&buf[..count])?;
+        self.room -= count;
+        Ok(count)
+    }
+
+    fn flush(&mut self) -> io::Result<()> {
+        Ok(())
+    }
+}
+
 /// No files, and room for some.
 pub(crate) fn empty_shelf(alloc: Global) -> Shelf<'static> {
     Shelf {
