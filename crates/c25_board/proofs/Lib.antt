@@ -1,4 +1,5 @@
 pub mod Begins
+pub mod Entries
 pub mod Behind
 pub mod Kept
 pub mod KeptCopies
@@ -9,6 +10,7 @@ pub mod RunsFound
 pub mod RunsTo
 pub mod SamplePorts
 pub mod SamplesTaken
+pub mod Streaks
 pub mod Timing
 pub mod Zeros
 mod Lent

@@ -6,7 +6,7 @@ use Rattle.std.specs.Result.{IsErrAnd}
 use Rattle.std.specs.declared.alloc.Global.{Global}
 use Rattle.std.specs.declared.vec.Vec.{Vec}
 use Rattle.c25_meaning_expansion.specs.Files.{Files}
-use Rattle.c25_meaning_common.specs.Results.{FailsBy, ◌>>=◌, told}
+use Rattle.c25_meaning_common.specs.Results.{FailsBy, IsNoMemory, ◌>>=◌, told}
 use Rattle.c25_meaning_stimulus.specs.Samples.{samples_of}
 use Rattle.c25_meaning_stimulus.specs.Schedule.{schedule_of}
 use Rattle.c25_meaning_common.specs.declared.failure.Failure.TheVariants as failure
@@ -16,12 +16,14 @@ use Rattle.c25_chain.specs.Built.{IsBuilt, IsBuiltAs}
 use Rattle.c25_chain.specs.Chain.{Answers, Given, Inputs, IsAnswer, inputs_in, run_of, texts_of}
 use Rattle.c25_chain.specs.Linked as linked
 use Rattle.c25_chain.specs.Linked.{LinkedTexts}
+use Rattle.c25_chain.specs.Ready.{IsReady, Readies}
 use Rattle.c25_chain.specs.Refusal.{Fault, refusal_of}
 use Rattle.c25_chain.specs.Run.{EndsAs, HasRun, RunsWords, run_data}
 use Rattle.c25_chain.specs.declared.built.Built.{Built}
 use Rattle.c25_chain.specs.declared.chain.Chain.{Chain}
 use Rattle.c25_chain.specs.declared.fault.Refusal.{Refusal}
 use Rattle.c25_chain.specs.declared.fault.Refusal.TheVariants.{Schedule, Samples}
+use Rattle.c25_chain.specs.declared.ready.Ready.{Ready}
 use Rattle.c25_chain.specs.declared.run.Done.{Done}
 
 -- ---- programs of sources
@@ -78,11 +80,11 @@ both_read g samples entries e h =
     ap (λ (x : Result (List Sample) (Refusal (List ℕ))). x >>= with_samples g) e
     ∙ ap (λ (x : Result (List Entry) (Refusal (List ℕ))). x >>= with_entries samples) h
 
-unfoldable pub answered : (g : Given) (n : ℕ) (b : Built) (d : Done) (c : Chain) (samples : List Sample) (entries : List Entry) → IsBuiltAs g.files g.sources g.command b
-    → samples_in g ≡ Ok samples → schedule_in g ≡ Ok entries
+pub answered : (g : Given) (n : ℕ) (b : Built) (d : Done) (c : Chain) (samples : List Sample) (entries : List Entry) → IsBuiltAs g.files g.sources g.command b
+    → inputs_in g ≡ Ok (record { samples = samples; entries = entries })
     → HasRun b.linked.page0.words b.linked.page1.words b.linked.image.marks b.linked.image.run_marks samples entries n d
     → texts_of c ≡ linked.texts_of b.linked → c.listings ≡ b.listings → run_of c ≡ run_data d → IsAnswer g n c
-answered g n b d c samples entries is e h run texts listings done =
+answered g n b d c samples entries is read run texts listings done =
     let image = b.linked.image in
     let built = is_built g.files g.sources g.command b is in
     record {
@@ -90,7 +92,7 @@ answered g n b d c samples entries is e h run texts listings done =
       inputs = record { samples = samples; entries = entries };
       built = subst (λ (ls : Vec (String Global) Global). IsBuilt g.files g.sources g.command image (texts_of c) (map string_bytes ls.items)) (sym listings)
           (subst (λ (t : LinkedTexts). IsBuilt g.files g.sources g.command image t (map string_bytes b.listings.items)) (sym texts) built);
-      read = both_read g samples entries e h;
+      read = read;
       run = (
         run.0,
         subst (λ (w : finite.FinMap nat_cmp ℕ). RunsWords image.program w image.marks image.run_marks samples entries n run.0) is.linked.words1
@@ -98,3 +100,23 @@ answered g n b d c samples entries is e h run texts listings done =
         subst (EndsAs n run.0) (sym done) run.2,
       );
     }
+
+-- ---- what is ready to run
+
+-- a refusal that is told on before the run
+pub ready_refused : (g : Given) (result : Result Ready Fault) (given : Fault) → IsErrAnd result (λ f. f ≡ given) → Answers g 0 (Err given) → Readies g result
+ready_refused g (Ok r) given same h = absurd same
+ready_refused g (Err f) given same h = subst (λ (x : Fault). Readies g (Err x)) (sym same) (before given h)
+  where
+    before : (f : Fault) → Answers g 0 (Err f) → Readies g (Err f)
+    before (failure.NoMemory m) h = tt
+    before (failure.Fault r) h = h
+
+-- a refused growth
+pub growth_refused : (g : Given) (n : ℕ) (result : Result Chain Fault) → IsErrAnd result IsNoMemory → Answers g n result
+growth_refused g n (Ok c) h = absurd h
+growth_refused g n (Err (failure.NoMemory m)) h = tt
+growth_refused g n (Err (failure.Fault r)) h = absurd h
+
+pub is_ready : (g : Given) (r : Ready) → IsBuiltAs g.files g.sources g.command r.built → samples_in g ≡ Ok r.samples → schedule_in g ≡ Ok r.schedule → IsReady g r
+is_ready g r is samples schedule = record { built = is; read = both_read g r.samples r.schedule samples schedule }

@@ -5,6 +5,7 @@ pub mod Linked
 pub mod Built
 pub mod Run
 pub mod Chain
+pub mod Ready
 pub mod OutcomeText
 pub mod View
 pub mod Headline

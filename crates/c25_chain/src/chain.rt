@@ -8,6 +8,7 @@ ghost use Rattle.c25_chain.specs.Refusal.{refusal_of};
 ghost use Rattle.c25_chain.specs.Chain.{Answers, run_of, texts_of};
 ghost use Rattle.c25_chain.specs.Headline.{CodeStays, HoldsSourceWords, MarksStatements, OfProgram, RunsAsSources, TellsStatementsRun};
 ghost use Rattle.c25_chain.specs.Linked as linked;
+ghost use Rattle.c25_chain.specs.Ready.{Readies};
 ghost use Rattle.c25_chain.specs.Run.{run_data};
 ghost use Rattle.c25_chain.specs.declared.fault.Refusal.TheVariants as refusal;
 
@@ -16,6 +17,7 @@ use crate::fault::{Fault, Refusal};
 use crate::laws::answers_run_as_their_sources;
 use crate::linked::Linked;
 use crate::page::Page;
+use crate::ready::Ready;
 use crate::run::{Done, run_linked};
 use c25_board::board::Outcome;
 use c25_board::samples::{Samples, read_samples};
@@ -76,6 +78,31 @@ pub fn schedule_in(alloc: Global, text: &str) -> Result<Schedule, Fault>
     }
 }
 
+/// Assembles sources, links their modules under a command file, and reads the samples and the schedule of
+/// a run, so that nothing of it is left to be refused but memory.
+///
+/// The first refusal is the answer, in this order: the sources, one behind another (10 to 56), a line of
+/// the command file (60 to 63), linking (70 to 76 and 78), the samples (91), the schedule (90).
+pub fn make_ready(
+    alloc: Global,
+    files: &Files,
+    sources: &[String],
+    command: &str,
+    samples: &str,
+    schedule: &str,
+) -> Result<Ready, Fault>
+    ensures { Readies (record { files = files.now; sources = map string_bytes sources.now; command = command.now; samples = samples.now; schedule = schedule.now }) result }
+{
+    let built = build(alloc, files, sources, command)?;
+    let samples = samples_in(alloc, samples)?;
+    let schedule = schedule_in(alloc, schedule)?;
+    Ok(Ready {
+        built,
+        samples,
+        schedule,
+    })
+}
+
 /// What the chain answers of a program and its run.
 pub fn chain_of(built: Built, done: Done) -> Chain
     ensures texts { texts_of result ≡ linked.texts_of built.linked }
@@ -129,9 +156,11 @@ pub fn run_chain(
     ensures own_run_is_the_statements { IfOk result (TellsStatementsRun (record { files = files.now; sources = map string_bytes sources.now; command = command.now; samples = samples.now; schedule = schedule.now }) n) }
 {
     answers_run_as_their_sources();
-    let built = build(alloc, files, sources, command)?;
-    let samples = samples_in(alloc, samples)?;
-    let schedule = schedule_in(alloc, schedule)?;
+    let Ready {
+        built,
+        samples,
+        schedule,
+    } = make_ready(alloc, files, sources, command, samples, schedule)?;
     let done = run_linked(alloc, &built.linked, samples, schedule, n)?;
     Ok(chain_of(built, done))
 }

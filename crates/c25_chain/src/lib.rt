@@ -10,11 +10,12 @@ pub mod linked;
 pub mod modules;
 mod output;
 pub mod page;
+pub mod ready;
 mod run;
 pub mod sources;
 
 pub use built::build;
-pub use chain::{chain_of, run_chain};
+pub use chain::{chain_of, make_ready, run_chain};
 pub use fault_text::write_fault;
 pub use linked::link_modules;
 pub use modules::assemble_all;

@@ -4,3 +4,4 @@ pub mod Prepared
 pub mod Alone
 pub mod Numbers
 pub mod Powers
+pub mod Steady

@@ -1,6 +1,6 @@
 //! The way of PC from one instruction to the next.
 
-ghost use Rattle.std.specs.Prelude.{◌≡◌};
+ghost use Rattle.std.specs.Prelude.{◌≡◌, ◌<◌, ℕ, true, false};
 ghost use Rattle.c25_meaning_processor.specs.Step.{advanced};
 
 use c25_meaning_processor::registers::Registers;
@@ -36,4 +36,29 @@ pub fn move_on(registers: &mut Registers, repeating: bool, size: u16)
     registers.shadowed = false;
     registers.pc = registers.pc.wrapping_add(size);
     registers.repeated = 0;
+}
+
+/// The same where neither a repeat nor the shadow of `EINT` is: PC alone moves.
+#[inline(always)]
+#[tactic(auto, using(crate::proofs::Alone::moved))]
+pub fn go_on(registers: &mut Registers, size: u16)
+    requires repeating { registers.old.repeating ≡ false }
+    requires shadowed { registers.old.shadowed ≡ false }
+    requires repeated { registers.old.repeated ≡ 0 }
+    ensures { registers.new ≡ advanced size registers.old }
+{
+    registers.pc = registers.pc.wrapping_add(size);
+}
+
+/// The same in a repeat, before its last repetition: that is counted.
+#[inline(always)]
+#[tactic(auto, using(crate::proofs::Alone::counted))]
+pub fn count(registers: &mut Registers)
+    requires repeating { registers.old.repeating ≡ true }
+    requires shadowed { registers.old.shadowed ≡ false }
+    requires more { 0 < registers.old.rptc }
+    ensures { (size : ℕ) → registers.new ≡ advanced size registers.old }
+{
+    registers.rptc -= 1;
+    registers.repeated = registers.repeated.wrapping_add(1);
 }

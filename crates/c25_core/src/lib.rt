@@ -21,13 +21,17 @@ mod plain;
 mod port;
 mod processor;
 mod quick;
+mod quick_insn;
+mod repeats;
 mod shifted;
 mod short;
 mod stack;
 mod status;
 mod step;
+mod streak;
 
 pub use bus::{Bus, Halt, SinkFailed, Tick};
 pub use copied::CopiedInsn;
 pub use processor::Core;
 pub use quick::keeps_words;
+pub use quick_insn::{QuickInsn, quick_of};

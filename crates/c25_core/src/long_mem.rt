@@ -28,13 +28,20 @@ fn multiply(registers: &mut Registers, word: u16, factor: u16)
 /// Any of the instructions, with its operand at this address, before the operand's change; `at` is
 /// the second word, gone up by the repetitions that are done.
 #[inline(always)]
-fn act<B: Bus>(registers: &mut Registers, bus: &mut B, name: LongMemName, at: u16, address: u16)
+fn act<B: Bus>(
+    registers: &mut Registers,
+    bus: &mut B,
+    cnf: bool,
+    name: LongMemName,
+    at: u16,
+    address: u16,
+)
+    requires { registers.old.cnf ≡ cnf }
     ensures after { long_mem_effect name at (data_at registers.old.cnf (B.world bus.old) address)
         address registers.old (B.world bus.old)
         ≡ to registers.new (B.world bus.new) }
     ensures failures { B.failures bus.new ≡ B.failures bus.old }
 {
-    let cnf = registers.cnf;
     let word = read_data(bus, cnf, address);
     match name {
         LongMemName::Macd => {
@@ -51,6 +58,39 @@ fn act<B: Bus>(registers: &mut Registers, bus: &mut B, name: LongMemName, at: u1
             write_data(bus, cnf, address, moved);
         }
     }
+}
+
+/// Any of the instructions, with its second word and its operand; `repeated` repetitions of it are
+/// done. CNF is known.
+#[inline(always)]
+pub fn long_mem_under<B: Bus>(
+    registers: &mut Registers,
+    bus: &mut B,
+    cnf: bool,
+    name: LongMemName,
+    word: u16,
+    operand: &Addr,
+    repeated: u16,
+)
+    requires operand { AddrInRange operand.now }
+    requires cnf { registers.old.cnf ≡ cnf }
+    ensures after { settle operand.now registers.old.arp (long_mem_effect name
+        ((word + repeated) % 2 ^ 16) (operand_word operand.now registers.old (B.world bus.old))
+        (address_of operand.now registers.old) registers.old (B.world bus.old))
+        ≡ to registers.new (B.world bus.new) }
+    ensures failures { B.failures bus.new ≡ B.failures bus.old }
+{
+    let arp = registers.arp;
+    let address = address_of(operand, registers);
+    act(
+        registers,
+        bus,
+        cnf,
+        name,
+        word.wrapping_add(repeated),
+        address,
+    );
+    settle(registers, operand, arp);
 }
 
 /// Any of the instructions, with its second word and its operand; `repeated` repetitions of it are
@@ -71,8 +111,6 @@ pub fn long_mem<B: Bus>(
         ≡ to registers.new (B.world bus.new) }
     ensures failures { B.failures bus.new ≡ B.failures bus.old }
 {
-    let arp = registers.arp;
-    let address = address_of(operand, registers);
-    act(registers, bus, name, word.wrapping_add(repeated), address);
-    settle(registers, operand, arp);
+    let cnf = registers.cnf;
+    long_mem_under(registers, bus, cnf, name, word, operand, repeated);
 }

@@ -216,14 +216,21 @@ fn act_rarely<B: Bus>(
 
 /// Any of the instructions but `TBLW`, with its operand at this address, before the operand's change.
 #[inline(always)]
-fn act<B: Bus>(registers: &mut Registers, bus: &mut B, name: MemName, address: u16, repeated: u16)
-    requires { KeepsProgram name }
+fn act<B: Bus>(
+    registers: &mut Registers,
+    bus: &mut B,
+    cnf: bool,
+    name: MemName,
+    address: u16,
+    repeated: u16,
+)
+    requires name { KeepsProgram name }
+    requires cnf { registers.old.cnf ≡ cnf }
     ensures after { mem_effect name (data_at registers.old.cnf (B.world bus.old) address) address
         repeated registers.old (B.world bus.old)
         ≡ to registers.new (B.world bus.new) }
     ensures failures { B.failures bus.new ≡ B.failures bus.old }
 {
-    let cnf = registers.cnf;
     let word = read_data(bus, cnf, address);
     match name {
         MemName::Zalh => registers.acc.value = u32::from(word) * 0x1_0000,
@@ -252,6 +259,33 @@ fn act<B: Bus>(registers: &mut Registers, bus: &mut B, name: MemName, address: u
 }
 
 /// Any of the instructions but `TBLW`, with its operand; `repeated` repetitions of it are done.
+/// CNF is known.
+#[inline(always)]
+pub fn mem_under<B: Bus>(
+    registers: &mut Registers,
+    bus: &mut B,
+    cnf: bool,
+    name: MemName,
+    operand: &Addr,
+    repeated: u16,
+)
+    requires name { KeepsProgram name }
+    requires operand { AddrInRange operand.now }
+    requires cnf { registers.old.cnf ≡ cnf }
+    ensures after { let address = mem_address name operand.now registers.old in
+        let word = data_at registers.old.cnf (B.world bus.old) address in
+        settle (mem_operand name operand.now) registers.old.arp
+        (mem_effect name word address repeated registers.old (B.world bus.old))
+        ≡ to registers.new (B.world bus.new) }
+    ensures failures { B.failures bus.new ≡ B.failures bus.old }
+{
+    let arp = registers.arp;
+    let address = mem_address(name, operand, registers);
+    act(registers, bus, cnf, name, address, repeated);
+    settle(registers, &mem_operand(name, operand), arp);
+}
+
+/// Any of the instructions but `TBLW`, with its operand; `repeated` repetitions of it are done.
 #[inline(always)]
 pub fn mem<B: Bus>(
     registers: &mut Registers,
@@ -269,10 +303,8 @@ pub fn mem<B: Bus>(
         ≡ to registers.new (B.world bus.new) }
     ensures failures { B.failures bus.new ≡ B.failures bus.old }
 {
-    let arp = registers.arp;
-    let address = mem_address(name, operand, registers);
-    act(registers, bus, name, address, repeated);
-    settle(registers, &mem_operand(name, operand), arp);
+    let cnf = registers.cnf;
+    mem_under(registers, bus, cnf, name, operand, repeated);
 }
 
 /// `TBLW`, with its operand; `repeated` repetitions of it are done.

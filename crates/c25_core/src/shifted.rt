@@ -17,14 +17,21 @@ use c25_meaning_processor::registers::Registers;
 
 /// Any of the instructions, with its operand at this address, before the operand's change.
 #[inline(always)]
-fn act<B: Bus>(registers: &mut Registers, bus: &mut B, name: ShiftedName, address: u16, shift: u16)
-    requires { shift < shift_limit name }
+fn act<B: Bus>(
+    registers: &mut Registers,
+    bus: &mut B,
+    cnf: bool,
+    name: ShiftedName,
+    address: u16,
+    shift: u16,
+)
+    requires shift { shift < shift_limit name }
+    requires cnf { registers.old.cnf ≡ cnf }
     ensures after { shifted_effect name (data_at registers.old.cnf (B.world bus.old) address)
         address shift registers.old (B.world bus.old)
         ≡ to registers.new (B.world bus.new) }
     ensures failures { B.failures bus.new ≡ B.failures bus.old }
 {
-    let cnf = registers.cnf;
     let word = read_data(bus, cnf, address);
     let value = registers.acc.value;
     match name {
@@ -34,6 +41,31 @@ fn act<B: Bus>(registers: &mut Registers, bus: &mut B, name: ShiftedName, addres
         ShiftedName::Sacl => write_data(bus, cnf, address, low_half(shift_left(value, shift))),
         ShiftedName::Sach => write_data(bus, cnf, address, high_half(shift_left(value, shift))),
     }
+}
+
+/// Any of the instructions, with its operand, where CNF is known.
+#[inline(always)]
+pub fn shifted_under<B: Bus>(
+    registers: &mut Registers,
+    bus: &mut B,
+    cnf: bool,
+    name: ShiftedName,
+    operand: &Addr,
+    shift: u16,
+)
+    requires shift { shift < shift_limit name }
+    requires operand { AddrInRange operand.now }
+    requires cnf { registers.old.cnf ≡ cnf }
+    ensures after { settle operand.now registers.old.arp (shifted_effect name
+        (operand_word operand.now registers.old (B.world bus.old))
+        (address_of operand.now registers.old) shift registers.old (B.world bus.old))
+        ≡ to registers.new (B.world bus.new) }
+    ensures failures { B.failures bus.new ≡ B.failures bus.old }
+{
+    let arp = registers.arp;
+    let address = address_of(operand, registers);
+    act(registers, bus, cnf, name, address, shift);
+    settle(registers, operand, arp);
 }
 
 /// Any of the instructions, with its operand.
@@ -53,8 +85,6 @@ pub fn shifted<B: Bus>(
         ≡ to registers.new (B.world bus.new) }
     ensures failures { B.failures bus.new ≡ B.failures bus.old }
 {
-    let arp = registers.arp;
-    let address = address_of(operand, registers);
-    act(registers, bus, name, address, shift);
-    settle(registers, operand, arp);
+    let cnf = registers.cnf;
+    shifted_under(registers, bus, cnf, name, operand, shift);
 }

@@ -1,4 +1,4 @@
 pub mod Agreed
 pub mod Debugged
-pub mod Inspected
 pub mod Scripted
+pub mod Standing

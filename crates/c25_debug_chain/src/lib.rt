@@ -1,5 +1,5 @@
 //! The debugger over the tool chain: from sources and a script to the script's answers,
-//! or to a run and where it ended.
+//! and where a board stands.
 #![tactic(auto)]
 
 mod answers;
@@ -8,4 +8,4 @@ mod inspection;
 mod script;
 
 pub use chain::debug_chain;
-pub use inspection::{NotedRun, inspect_chain};
+pub use inspection::where_it_stands;

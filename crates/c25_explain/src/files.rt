@@ -68,8 +68,8 @@ pub(crate) fn no_memory() -> Explanation
         meaning: r#"Memory ran out. There is no text that gives it; the line is memory: 9 NoMemory.
 "#,
         example: None,
-        advice: r#"Do: give the program more memory, end others, or run fewer steps where outputs are many: each output
-of a run is kept until its end.
+        advice: r#"Do: give the program more memory, end others, or take fewer steps in a session of the debugger where
+outputs are many: each is kept until its end.
 "#,
     }
 }

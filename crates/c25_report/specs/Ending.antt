@@ -10,6 +10,7 @@ use Rattle.c25_board.specs.declared.board.Outcome.{Outcome}
 use Rattle.c25_board.specs.declared.board.Outcome.TheVariants as outcome
 use Rattle.c25_meaning_common.specs.declared.failure.Failure.{Failure}
 use Rattle.c25_meaning_common.specs.declared.failure.Failure.TheVariants as failure
+use Rattle.c25_meaning_common.specs.declared.no_memory.NoMemory as no_memory
 use Rattle.c25_words.specs.Task.{IsWantOfMemory}
 use Rattle.c25_report.specs.declared.ending.Ending.{Ending}
 use Rattle.c25_report.specs.declared.ending.Ending.TheVariants.{Done, Left, Sunk, Faulty, NoMemory, Unprinted, NoTask, NoText}
@@ -46,9 +47,17 @@ ending_of outcome.Ran = Done
 ending_of (outcome.Left at stop) = Left
 ending_of (outcome.SinkFault at) = Sunk
 
--- a text is printed behind what stood there, and that comes to this; or it cannot be
+-- a front of a text is printed behind what stood there
+abbrev pub HasFront : List ℕ → Option (List ℕ) → Option (List ℕ) → Type 0
+HasFront text old new = (front rest : List ℕ) × (text ≡ front ++ rest) × Appends old new front
+
+-- a text is printed behind what stood there, and that comes to this; or it cannot be to its end, and a front of it is
 abbrev pub IsPrinted : List ℕ → Ending → Ending → Option (List ℕ) → Option (List ℕ) → Type 0
-IsPrinted text done ending old new = ((ending ≡ done) × Appends old new text) ⊎ (ending ≡ Unprinted)
+IsPrinted text done ending old new = ((ending ≡ done) × Appends old new text) ⊎ ((ending ≡ Unprinted) × HasFront text old new)
+
+-- it ends for want of memory, as a growth was refused
+abbrev pub IsShort : Ending → Type 0
+IsShort e = (n : no_memory.NoMemory) × (e ≡ NoMemory n)
 
 -- ---- standard error
 

@@ -1,22 +1,60 @@
 //! What is printed.
 
-ghost use Rattle.std.specs.Prelude.{◌++◌, OnOk, codes};
-ghost use Rattle.std.specs.Io.KnownBytes.{Appends};
+ghost use Rattle.std.specs.Prelude.{◌≡◌, ◌++◌, ◌≤◌, IfOk, OnErr, OnOk, codes, length, take};
+ghost use Rattle.std.specs.Io.KnownBytes.{Appends, Keeps};
 ghost use Rattle.c25_report.specs.declared.ending.Ending.TheVariants as ending;
-ghost use Rattle.c25_report.specs.Ending.{IsPrinted, ending_of};
+ghost use Rattle.c25_report.specs.Ending.{HasFront, IsPrinted, ending_of};
 
 use crate::ending::Ending;
 use c25_board::board::Outcome;
 use std::io;
-use std::io::Write;
+use std::io::{ErrorKind, Write};
 
-/// Prints the text of a run.
-pub fn print_run<O: Write>(text: &str, outcome: Outcome, out: &mut O) -> Ending
-    ensures { IsPrinted text.now (ending_of outcome) result (O.contents out.old) (O.contents out.new) }
+/// A text could not be written to its end.
+#[derive(Clone, Copy)]
+pub struct Unwritten;
+
+/// Writes a front of bytes, and tells how long it is: of no length where the write was interrupted.
+fn write_some<O: Write>(bytes: &[u8], out: &mut O) -> Result<usize, Unwritten>
+    ensures most { IfOk result (λ count. count ≤ length bytes.now) }
+    ensures ok { IfOk result (λ count. Appends (O.contents out.old) (O.contents out.new) (take count bytes.now)) }
+    ensures err { OnErr result (Keeps (O.contents out.old) (O.contents out.new)) }
 {
-    if out.write_all(text.as_bytes()).is_err() {
-        return Ending::Unprinted;
+    match out.write(bytes) {
+        Ok(0) => Err(Unwritten),
+        Ok(count) => Ok(count),
+        Err(error) => {
+            if error.kind() == ErrorKind::Interrupted {
+                return Ok(0);
+            }
+            Err(Unwritten)
+        }
     }
+}
+
+/// Prints a text. Where it cannot be written to its end, a front of it stands.
+#[tactic(auto, using(crate::proofs::Fronts::more_written))]
+pub fn print_text<O: Write>(text: &str, out: &mut O) -> Result<(), Unwritten>
+    ensures ok { OnOk result (Appends (O.contents out.old) (O.contents out.new) text.now) }
+    ensures err { OnErr result (HasFront text.now (O.contents out.old) (O.contents out.new)) }
+{
+    let mut rest = text.as_bytes();
+    for _turn in 0..u64::MAX {
+        if rest.is_empty() {
+            return Ok(());
+        }
+        match write_some(rest, out) {
+            Ok(count) => rest = rest.split_at(count).1,
+            Err(unwritten) => return Err(unwritten),
+        }
+    }
+    Err(Unwritten)
+}
+
+/// What a run comes to that is printed.
+pub fn ending_of(outcome: Outcome) -> Ending
+    ensures { result ≡ ending_of outcome }
+{
     match outcome {
         Outcome::Ran => Ending::Done,
         Outcome::Left(_, _) => Ending::Left,
@@ -28,9 +66,9 @@ pub fn print_run<O: Write>(text: &str, outcome: Outcome, out: &mut O) -> Ending
 pub fn print_answers<O: Write>(text: &str, out: &mut O) -> Ending
     ensures { IsPrinted text.now ending.Done result (O.contents out.old) (O.contents out.new) }
 {
-    match out.write_all(text.as_bytes()) {
+    match print_text(text, out) {
         Ok(()) => Ending::Done,
-        Err(_) => Ending::Unprinted,
+        Err(Unwritten) => Ending::Unprinted,
     }
 }
 

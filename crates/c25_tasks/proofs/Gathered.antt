@@ -1,19 +1,23 @@
 -- Work over files that were read from a disk.
-use Rattle.std.proofs.Common.{◌≡◌, inl, inr, sym, subst, ℕ, Bool, false, List, [], ◌∷◌, append-nil, arith}
+use Rattle.std.proofs.Common.{◌≡◌, inl, inr, sym, subst, ℕ, List, [], ◌∷◌, append-nil, arith}
 use Rattle.std.proofs.lemmas.List.Elements.{All-nil}
-use Rattle.std.specs.Prelude.{Option, Result, Ok, Err}
+use Rattle.std.specs.Prelude.{IfOk, Option, Result, Ok, Err}
 use Rattle.std.specs.Result.{IsErrAnd}
 use Rattle.c25_chain.specs.Built.{Builds}
 use Rattle.c25_chain.specs.Refusal.{Fault}
 use Rattle.c25_chain.specs.declared.built.Built.{Built}
-use Rattle.c25_debug_chain.specs.declared.inspection.NotedRun.{NotedRun}
+use Rattle.c25_chain.specs.Ready.{Readies}
+use Rattle.c25_chain.specs.declared.ready.Ready.{Ready}
 use Rattle.c25_disk.specs.Held.{Held, IsAllOf}
 use Rattle.c25_meaning_expansion.specs.Files.{Files}
 use Rattle.c25_meaning_common.specs.Results.{IsNoMemory}
 use Rattle.c25_meaning_common.specs.declared.failure.Failure.TheVariants as failure
 use Rattle.c25_tasks.specs.Building.{BuildsOver}
-use Rattle.c25_tasks.specs.Files.{ComesTo, FailsWith, IsUnread}
-use Rattle.c25_tasks.specs.Running.{AnswersWith, RanInput, RanText, RunsOver, given_with, stdin}
+use Rattle.c25_words.specs.Task.{text_of}
+use Rattle.c25_words.specs.declared.task.RunFiles.{RunFiles}
+use Rattle.c25_tasks.specs.Files.{AfterOptional, ComesTo, FailsWith, IsUnread}
+use Rattle.c25_tasks.specs.Running.{ReadiesFrom, ReadiesInput, ReadiesOver, ReadiesText, given_with, stdin}
+use Rattle.c25_tasks.specs.Tells.{IsOfSources}
 
 abbrev is_held : Held → List ℕ × List ℕ → Type 0
 is_held held file = IsAllOf (held file.0) file.1
@@ -45,43 +49,71 @@ pub builds_told : (held : Held) (given : Files) (names : List (List ℕ)) (comma
 builds_told held given names command (Ok built) short = absurd short
 builds_told held given names command (Err fault) short = over_short held given (λ files result. Builds files names command result) fault short
 
--- ---- runs
+-- ---- programs that are ready to run
 
-pub runs_over : (held : Held) (given : Files) (names sources : List (List ℕ)) (steps : ℕ) (regs : Bool) (command samples schedule command_shown samples_shown schedule_shown : List ℕ) (answer : Result NotedRun Fault) → sources ≡ names → command_shown ≡ command → samples_shown ≡ samples → schedule_shown ≡ schedule → RunsOver held given sources steps regs command_shown samples_shown schedule_shown answer → RunsOver held given names steps regs command samples schedule answer
-runs_over held given names sources steps regs command samples schedule command_shown samples_shown schedule_shown answer named same_command same_samples same_schedule comes =
-    let with_names = subst (λ (ns : List (List ℕ)). RunsOver held given ns steps regs command_shown samples_shown schedule_shown answer) named comes in
-    let with_command = subst (λ (t : List ℕ). RunsOver held given names steps regs t samples_shown schedule_shown answer) same_command with_names in
-    let with_samples = subst (λ (t : List ℕ). RunsOver held given names steps regs command t schedule_shown answer) same_samples with_command in
-    subst (λ (t : List ℕ). RunsOver held given names steps regs command samples t answer) same_schedule with_samples
+pub readies_over : (held : Held) (given : Files) (names sources : List (List ℕ)) (command samples schedule command_shown samples_shown schedule_shown : List ℕ) (answer : Result Ready Fault) → sources ≡ names → command_shown ≡ command → samples_shown ≡ samples → schedule_shown ≡ schedule → ReadiesOver held given sources command_shown samples_shown schedule_shown answer → ReadiesOver held given names command samples schedule answer
+readies_over held given names sources command samples schedule command_shown samples_shown schedule_shown answer named same_command same_samples same_schedule comes =
+    let with_names = subst (λ (ns : List (List ℕ)). ReadiesOver held given ns command_shown samples_shown schedule_shown answer) named comes in
+    let with_command = subst (λ (t : List ℕ). ReadiesOver held given names t samples_shown schedule_shown answer) same_command with_names in
+    let with_samples = subst (λ (t : List ℕ). ReadiesOver held given names command t schedule_shown answer) same_samples with_command in
+    subst (λ (t : List ℕ). ReadiesOver held given names command samples t answer) same_schedule with_samples
 
-pub runs_short : (held : Held) (given : Files) (names : List (List ℕ)) (steps : ℕ) (regs : Bool) (command samples schedule : List ℕ) (fault : Fault) → IsNoMemory fault → RunsOver held given names steps regs command samples schedule (Err fault)
-runs_short held given names steps regs command samples schedule fault short =
-    over_short held given (λ all result. AnswersWith regs (given_with all names (record { command = command; samples = samples; schedule = schedule })) steps result) fault short
+pub readies_short : (held : Held) (given : Files) (names : List (List ℕ)) (command samples schedule : List ℕ) (fault : Fault) → IsNoMemory fault → ReadiesOver held given names command samples schedule (Err fault)
+readies_short held given names command samples schedule fault short =
+    over_short held given (λ all result. Readies (given_with all names (record { command = command; samples = samples; schedule = schedule })) result) fault short
 
-pub runs_told : (held : Held) (given : Files) (names : List (List ℕ)) (steps : ℕ) (regs : Bool) (command samples schedule : List ℕ) (answer : Result NotedRun Fault) → IsErrAnd answer IsNoMemory → RunsOver held given names steps regs command samples schedule answer
-runs_told held given names steps regs command samples schedule (Ok noted) short = absurd short
-runs_told held given names steps regs command samples schedule (Err fault) short = runs_short held given names steps regs command samples schedule fault short
+pub readies_told : (held : Held) (given : Files) (names : List (List ℕ)) (command samples schedule : List ℕ) (answer : Result Ready Fault) → IsErrAnd answer IsNoMemory → ReadiesOver held given names command samples schedule answer
+readies_told held given names command samples schedule (Ok ready) short = absurd short
+readies_told held given names command samples schedule (Err fault) short = readies_short held given names command samples schedule fault short
+
+-- what is ready is a program of sources
+of_sources : (held : Held) (given : Files) (names : List (List ℕ)) (command samples schedule : List ℕ) (answer : Result Ready Fault) → ReadiesOver held given names command samples schedule answer → IfOk answer IsOfSources
+of_sources held given names command samples schedule (Ok ready) (Ok told, (files, copied, is), same) =
+    subst IsOfSources (sym same) (given_with files names (record { command = command; samples = samples; schedule = schedule }), is)
+of_sources held given names command samples schedule (Ok ready) (Err failure, over, same) = absurd same
+of_sources held given names command samples schedule (Err fault) comes = tt
+
+after_optional : {A : Type 0} (held : Held) (name : Option (List ℕ)) (next : List ℕ → Result A Fault → Type 0) (holds : A → Type 0) (answer : Result A Fault) → ((text : List ℕ) → next text answer → IfOk answer holds) → AfterOptional held name next answer → IfOk answer holds
+after_optional held name next holds (Ok a) then (inl refused) = absurd refused
+after_optional held name next holds (Err fault) then (inl refused) = tt
+after_optional held name next holds answer then (inr (text, read, goes)) = then text goes
+
+pub of_files : (held : Held) (names : List (List ℕ)) (files : RunFiles) (answer : Result Ready Fault) → ReadiesFrom held names files answer → IfOk answer IsOfSources
+of_files held names files (Ok ready) (inl refused) = absurd refused
+of_files held names files (Err fault) (inl refused) = tt
+of_files held names files answer (inr (given, read, next)) =
+    after_optional held (text_of files.command) _ IsOfSources answer
+    (λ command.
+    after_optional held (text_of files.samples) _ IsOfSources answer
+    (λ samples.
+    after_optional held (text_of files.schedule) _ IsOfSources answer (λ schedule. of_sources held given names command samples schedule answer)))
+    next
+
+pub of_input : (held : Held) (input : Option (List ℕ)) (answer : Result Ready Fault) → ReadiesInput held input answer → IfOk answer IsOfSources
+of_input held input answer (inl (text, all, over)) = of_sources held ((stdin, text) ∷ []) (stdin ∷ []) [] [] [] answer over
+of_input held input (Ok ready) (inr unread) = absurd unread
+of_input held input (Err fault) (inr unread) = tt
 
 -- ---- standard input
 
-pub ran_input : (held : Held) (input : Option (List ℕ)) (text shown : List ℕ) (answer : Result NotedRun Fault) → IsAllOf input text → shown ≡ text → RanText held shown answer → RanInput held input answer
-ran_input held input text shown answer all same ran = inl (text, all, subst (λ (t : List ℕ). RanText held t answer) same ran)
+pub ready_input : (held : Held) (input : Option (List ℕ)) (text shown : List ℕ) (answer : Result Ready Fault) → IsAllOf input text → shown ≡ text → ReadiesText held shown answer → ReadiesInput held input answer
+ready_input held input text shown answer all same ran = inl (text, all, subst (λ (t : List ℕ). ReadiesText held t answer) same ran)
 
-pub input_short : (held : Held) (input : Option (List ℕ)) (fault : Fault) → IsNoMemory fault → RanInput held input (Err fault)
+pub input_short : (held : Held) (input : Option (List ℕ)) (fault : Fault) → IsNoMemory fault → ReadiesInput held input (Err fault)
 input_short held input fault short = inr (unread_short stdin fault short)
 
-pub text_short : (held : Held) (text : List ℕ) (fault : Fault) → IsNoMemory fault → RanText held text (Err fault)
-text_short held text fault short = runs_short held ((stdin, text) ∷ []) (stdin ∷ []) 1000 false [] [] [] fault short
+pub text_short : (held : Held) (text : List ℕ) (fault : Fault) → IsNoMemory fault → ReadiesText held text (Err fault)
+text_short held text fault short = readies_short held ((stdin, text) ∷ []) (stdin ∷ []) [] [] [] fault short
 
-pub text_ran : (held : Held) (text : List ℕ) (given : Files) (names : List (List ℕ)) (answer : Result NotedRun Fault) → given ≡ (stdin, text) ∷ [] → names ≡ stdin ∷ [] → RunsOver held given names 1000 false [] [] [] answer → RanText held text answer
-text_ran held text given names answer given_is named comes =
-    let as_named = subst (λ (ns : List (List ℕ)). RunsOver held given ns 1000 false [] [] [] answer) named comes in
-    subst (λ (files : Files). RunsOver held files (stdin ∷ []) 1000 false [] [] [] answer) given_is as_named
+pub text_ready : (held : Held) (text : List ℕ) (given : Files) (names : List (List ℕ)) (answer : Result Ready Fault) → given ≡ (stdin, text) ∷ [] → names ≡ stdin ∷ [] → ReadiesOver held given names [] [] [] answer → ReadiesText held text answer
+text_ready held text given names answer given_is named comes =
+    let as_named = subst (λ (ns : List (List ℕ)). ReadiesOver held given ns [] [] [] answer) named comes in
+    subst (λ (files : Files). ReadiesOver held files (stdin ∷ []) [] [] [] answer) given_is as_named
 
-pub input_told : (held : Held) (input : Option (List ℕ)) (answer : Result NotedRun Fault) → IsErrAnd answer IsNoMemory → RanInput held input answer
-input_told held input (Ok noted) short = absurd short
+pub input_told : (held : Held) (input : Option (List ℕ)) (answer : Result Ready Fault) → IsErrAnd answer IsNoMemory → ReadiesInput held input answer
+input_told held input (Ok ready) short = absurd short
 input_told held input (Err fault) short = input_short held input fault short
 
-pub text_told : (held : Held) (text : List ℕ) (answer : Result NotedRun Fault) → IsErrAnd answer IsNoMemory → RanText held text answer
-text_told held text (Ok noted) short = absurd short
+pub text_told : (held : Held) (text : List ℕ) (answer : Result Ready Fault) → IsErrAnd answer IsNoMemory → ReadiesText held text answer
+text_told held text (Ok ready) short = absurd short
 text_told held text (Err fault) short = text_short held text fault short

@@ -8,6 +8,7 @@ use Rattle.c25_chain.specs.Refusal.{Fault}
 use Rattle.c25_chain.specs.declared.built.Built.{Built}
 use Rattle.c25_disk.specs.Held.{Held, Stay}
 use Rattle.c25_meaning_common.specs.declared.failure.Failure.{Failure}
+use Rattle.c25_report.specs.Ending.{IsShort}
 use Rattle.c25_report.specs.declared.ending.Ending.{Ending}
 use Rattle.c25_report.specs.declared.ending.Ending.TheVariants as ending
 use Rattle.c25_report.specs.declared.ending.Report.{Report}
@@ -23,7 +24,7 @@ use Rattle.c25_tasks.specs.Linking.{LinksFrom}
 use Rattle.c25_tasks.specs.Notes.{notes_for}
 use Rattle.c25_tasks.specs.Running.{Runs, RunsTold}
 use Rattle.c25_tasks.specs.Symbols.{BuildsToDisk}
-use Rattle.c25_tasks.specs.Tells.{IsShort, Printed, Wrote}
+use Rattle.c25_tasks.specs.Tells.{Printed, Wrote}
 use Rattle.c25_tasks.specs.declared.notes.Notes.{Notes}
 
 -- what the program comes to, the note that it tells behind that, what it prints to standard output, and what it writes

@@ -1,23 +1,24 @@
 -- What the program prints and writes of answers, and what it comes to.
-use Rattle.std.specs.Prelude.{◌≡◌, ◌⊎◌, ℕ, List, [], map, Option, Result, Ok, Err, String, Vec}
+use Rattle.std.specs.Prelude.{◌≡◌, ◌⊎◌, ℕ, Bool, List, [], map, Option, Result, Ok, Err, String, Vec}
 use Rattle.std.specs.Io.KnownBytes.{Keeps}
 use Rattle.std.specs.String.{string_bytes}
 use Rattle.std.specs.declared.alloc.Global.{Global}
 use Rattle.c25_chain.specs.FaultText.{fault_text}
-use Rattle.c25_chain.specs.OutcomeText.{run_text}
+use Rattle.c25_chain.specs.Chain.{Given}
+use Rattle.c25_chain.specs.Ready.{IsReady}
 use Rattle.c25_chain.specs.Refusal.{Fault, IsRefusedAs}
 use Rattle.c25_chain.specs.declared.fault.Refusal.TheVariants.{File}
-use Rattle.c25_debug_chain.specs.declared.inspection.NotedRun.{NotedRun}
+use Rattle.c25_chain.specs.declared.ready.Ready.{Ready}
 use Rattle.c25_disk.specs.Held.{Adds, Held, Stay}
 use Rattle.c25_disk.specs.Written.{EndsBefore, contents_of}
 use Rattle.c25_disk.specs.declared.fault.FileFault.TheVariants.{CannotWrite}
 use Rattle.c25_disk.specs.declared.writing.Output.{Output}
 use Rattle.c25_meaning_common.specs.declared.failure.Failure.TheVariants as failure
-use Rattle.c25_meaning_common.specs.declared.no_memory.NoMemory.{NoMemory}
 use Rattle.c25_meaning_expansion.specs.Files.{Files}
-use Rattle.c25_report.specs.Ending.{IsPrinted, ending_of}
+use Rattle.c25_report.specs.Ending.{IsPrinted, IsShort}
 use Rattle.c25_report.specs.declared.ending.Ending.{Ending}
 use Rattle.c25_report.specs.declared.ending.Ending.TheVariants as ending
+use Rattle.c25_stream.specs.Run.{PrintsRun}
 use Rattle.c25_tasks.specs.Notes.{IsNoted}
 use Rattle.c25_tasks.specs.declared.notes.Notes.{Notes}
 
@@ -30,10 +31,6 @@ abbrev pub Wrote : Type 0
 Wrote = Option Files × Option Files
 
 -- ---- faults
-
--- it ends for want of memory, as a growth was refused
-abbrev pub IsShort : Ending → Type 0
-IsShort e = (n : NoMemory) × (e ≡ ending.NoMemory n)
 
 -- it ends with a fault of this line
 abbrev pub HasFault : List ℕ → Ending → Type 0
@@ -55,19 +52,14 @@ IsReportOf held notes (failure.Fault f) e note = (HasFault (fault_text (failure.
 
 -- ---- answers
 
--- nothing goes to standard output, and no note is told
-abbrev pub IsUntold : (note : List ℕ) → Printed → Type 0
-IsUntold note out = Keeps out.0 out.1 × (note ≡ [])
+-- a program is ready that is one of sources
+abbrev pub IsOfSources : Ready → Type 0
+IsOfSources ready = (g : Given) × IsReady g ready
 
--- what a run comes to that is not refused: its text goes to standard output, and its note is told, unless memory runs out
-abbrev pub TellsNoted : NotedRun → Ending → (note : List ℕ) → Printed → Type 0
-TellsNoted noted e note out =
-    (IsPrinted (run_text noted.chain) (ending_of (noted.chain).outcome) e out.0 out.1 × (note ≡ string_bytes noted.note)) ⊎ (IsShort e × IsUntold note out)
-
--- what a run comes to; of a fault nothing goes to standard output
-abbrev pub TellsRun : Held → Notes → Result NotedRun Fault → Ending → (note : List ℕ) → Printed → Type 0
-TellsRun held notes (Ok noted) e note out = TellsNoted noted e note out
-TellsRun held notes (Err fault) e note out = IsReportOf held notes fault e note × Keeps out.0 out.1
+-- what n steps of a program come to, or why there is none: they are printed as they go, and of a fault nothing goes to standard output
+abbrev pub TellsRun : Held → Notes → ℕ → (regs : Bool) → Result Ready Fault → Ending → (note : List ℕ) → Printed → Type 0
+TellsRun held notes n regs (Ok ready) e note out = PrintsRun ready n regs e note out.0 out.1
+TellsRun held notes n regs (Err fault) e note out = IsReportOf held notes fault e note × Keeps out.0 out.1
 
 -- what the answers of a debugger come to: they go to standard output, and of a fault nothing does
 abbrev pub TellsAnswers : Held → Notes → Result (String Global) Fault → Ending → (note : List ℕ) → Printed → Type 0

@@ -3,16 +3,17 @@
 ghost use Rattle.std.specs.Option.{option_map};
 ghost use Rattle.std.specs.Prelude.{◌≡◌, map, string_bytes};
 ghost use Rattle.c25_chain.specs.Built.{Builds};
+ghost use Rattle.c25_chain.specs.Ready.{Readies};
 ghost use Rattle.c25_debug_chain.specs.Debug.{Debugs};
 ghost use Rattle.c25_tasks.specs.Files.{ComesTo, missing_name};
-ghost use Rattle.c25_tasks.specs.Running.{AnswersWith};
 ghost use Rattle.c25_tasks.specs.View.{debugged_of, given_of};
 
 use crate::files::{fault_of_copies, missing_name};
 use c25_chain::built::Built;
 use c25_chain::fault::{Fault, Refusal};
-use c25_chain::{build, run_chain};
-use c25_debug_chain::{NotedRun, debug_chain, inspect_chain};
+use c25_chain::ready::Ready;
+use c25_chain::{build, make_ready};
+use c25_debug_chain::debug_chain;
 use c25_disk::disk::Disk;
 use c25_disk::with_copies;
 use c25_disk::work::Work;
@@ -50,55 +51,37 @@ impl<'a> Work for Build<'a> {
     }
 }
 
-/// Sources that are to be run so many steps, the texts beside them, and whether a note is to tell the
-/// registers at the end.
+/// Sources that are to be run, and the texts beside them.
 #[derive(Clone, Copy)]
 pub(crate) struct Run<'a> {
     pub(crate) sources: &'a [String],
     pub(crate) command: &'a str,
     pub(crate) samples: &'a str,
     pub(crate) schedule: &'a str,
-    pub(crate) steps: u32,
-    pub(crate) regs: bool,
 }
 
 impl<'a> Work for Run<'a> {
+    ghost use Rattle.c25_chain.specs.Ready.{Readies};
     ghost use Rattle.c25_tasks.specs.Files.{missing_name};
-    ghost use Rattle.c25_tasks.specs.Running.{AnswersWith};
     ghost use Rattle.c25_tasks.specs.View.{given_of};
 
-    type Answer = NotedRun;
+    type Answer = Ready;
 
     type Fault = Refusal<String>;
 
-    ghost comes_to = { λ work files result. AnswersWith work.regs (given_of files work) work.steps result };
+    ghost comes_to = { λ work files result. Readies (given_of files work) result };
 
     ghost missing_of = { missing_name };
 
-    fn answer(&self, alloc: Global, files: &Files) -> Result<NotedRun, Fault> {
-        if self.regs {
-            inspect_chain(
-                alloc,
-                files,
-                self.sources,
-                self.command,
-                self.samples,
-                self.schedule,
-                self.steps,
-            )
-        } else {
-            let chain = run_chain(
-                alloc,
-                files,
-                self.sources,
-                self.command,
-                self.samples,
-                self.schedule,
-                self.steps,
-            )?;
-            let note = String::new(alloc);
-            Ok(NotedRun { chain, note })
-        }
+    fn answer(&self, alloc: Global, files: &Files) -> Result<Ready, Fault> {
+        make_ready(
+            alloc,
+            files,
+            self.sources,
+            self.command,
+            self.samples,
+            self.schedule,
+        )
     }
 
     fn missing(fault: &Refusal<String>) -> Option<&str>
@@ -165,17 +148,17 @@ pub(crate) fn build_over<D: Disk>(
     }
 }
 
-/// Runs sources among these files, and those that they copy from a disk.
-pub(crate) fn run_over<D: Disk>(
+/// Makes sources among these files ready to run, and those that they copy from a disk.
+pub(crate) fn ready_over<D: Disk>(
     alloc: Global,
     disk: &D,
     files: Files,
     work: &Run<'_>,
-) -> Result<NotedRun, Fault>
-    ensures { ComesTo (D.bytes_of disk.now) files (λ given result. AnswersWith work.now.regs (given_of given work.now) work.now.steps result) result }
+) -> Result<Ready, Fault>
+    ensures { ComesTo (D.bytes_of disk.now) files (λ given result. Readies (given_of given work.now) result) result }
 {
     match with_copies(alloc, disk, files, work) {
-        Ok(noted) => Ok(noted),
+        Ok(ready) => Ok(ready),
         Err(failure) => Err(fault_of_copies(failure)),
     }
 }

@@ -1,17 +1,18 @@
 //! What answers and faults come to.
 
-ghost use Rattle.std.specs.Prelude.{string_bytes};
+ghost use Rattle.std.specs.Prelude.{IfOk, string_bytes};
 ghost use Rattle.c25_chain.specs.FaultText.{fault_text};
-ghost use Rattle.c25_tasks.specs.Tells.{IsEndingOf, IsLineOf, IsReportOf, TellsAnswers, TellsNoted, TellsRun, TellsText};
+ghost use Rattle.c25_tasks.specs.Tells.{IsEndingOf, IsLineOf, IsOfSources, IsReportOf, TellsAnswers, TellsRun, TellsText};
 
 use crate::notes::{Notes, note_of};
 use c25_chain::fault::Fault;
-use c25_chain::{write_fault, write_run};
-use c25_debug_chain::NotedRun;
+use c25_chain::ready::Ready;
+use c25_chain::write_fault;
 use c25_disk::disk::Disk;
 use c25_meaning_common::failure::Failure;
 use c25_report::ending::{Ending, Report};
-use c25_report::printing::{print_answers, print_run};
+use c25_report::printing::print_answers;
+use c25_stream::print_run;
 use std::alloc::Global;
 use std::io::Write;
 
@@ -91,32 +92,20 @@ pub(crate) fn report_answers<D: Disk, O: Write>(
     }
 }
 
-/// Prints a run that came to its end, and hands its note on.
-fn report_noted<O: Write>(alloc: Global, noted: NotedRun, out: &mut O) -> Report
-    ensures { TellsNoted noted result.ending (string_bytes result.note) (O.contents out.old, O.contents out.new) }
-{
-    let NotedRun { chain, note } = noted;
-    match write_run(alloc, &chain) {
-        Ok(text) => {
-            let ending = print_run(text.as_str(), chain.outcome, out);
-            Report { ending, note }
-        }
-        Err(error) => Report::without_note(alloc, Ending::NoMemory(error)),
-    }
-}
-
-/// Prints a run and hands its note on, or tells why there is none.
+/// Runs a program that is ready and prints the run as it goes, or tells why there is none.
 pub(crate) fn report_run<D: Disk, O: Write>(
     alloc: Global,
     disk: &D,
-    answer: Result<NotedRun, Fault>,
+    answer: Result<Ready, Fault>,
+    steps: u32,
+    regs: bool,
     notes: Notes<'_>,
     out: &mut O,
 ) -> Report
-    ensures { TellsRun (D.bytes_of disk.now) notes.entry answer result.ending (string_bytes result.note) (O.contents out.old, O.contents out.new) }
+    ensures { IfOk answer IsOfSources → TellsRun (D.bytes_of disk.now) notes.entry steps regs answer result.ending (string_bytes result.note) (O.contents out.old, O.contents out.new) }
 {
     match answer {
-        Ok(noted) => report_noted(alloc, noted, out),
+        Ok(ready) => print_run(alloc, ready, steps, regs, out),
         Err(fault) => report_of_fault(alloc, disk, &fault, notes),
     }
 }

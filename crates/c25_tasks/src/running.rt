@@ -2,15 +2,15 @@
 
 ghost use Rattle.std.specs.Prelude.{string_bytes};
 ghost use Rattle.c25_words.specs.Task.{texts_of};
-ghost use Rattle.c25_tasks.specs.Running.{RunsFrom, RunsTold};
+ghost use Rattle.c25_tasks.specs.Running.{ReadiesFrom, RunsTold};
 
-use crate::copies::{Run, run_over};
+use crate::copies::{Run, ready_over};
 use crate::files::{names_of, read_optional};
 use crate::notes::Notes;
 use crate::report::report_run;
 use crate::sources::sources_of;
 use c25_chain::fault::Fault;
-use c25_debug_chain::NotedRun;
+use c25_chain::ready::Ready;
 use c25_disk::disk::Disk;
 use c25_report::ending::Report;
 use c25_words::task::RunFiles;
@@ -18,16 +18,14 @@ use std::alloc::Global;
 use std::io::Write;
 
 /// Reads the files of a run, the sources first and then the command file, the samples and the schedule,
-/// and runs the sources.
+/// and makes the sources ready.
 fn answer<D: Disk>(
     alloc: Global,
     disk: &D,
     sources: &[&str],
-    steps: u32,
-    regs: bool,
     beside: RunFiles<'_>,
-) -> Result<NotedRun, Fault>
-    ensures { RunsFrom (D.bytes_of disk.now) (texts_of sources.now) steps regs beside.entry result }
+) -> Result<Ready, Fault>
+    ensures { ReadiesFrom (D.bytes_of disk.now) (texts_of sources.now) beside.entry result }
 {
     let files = sources_of(alloc, disk, sources)?;
     let command = read_optional(alloc, disk, beside.command)?;
@@ -39,14 +37,12 @@ fn answer<D: Disk>(
         command: command.as_str(),
         samples: samples.as_str(),
         schedule: schedule.as_str(),
-        steps,
-        regs,
     };
-    run_over(alloc, disk, files, &work)
+    ready_over(alloc, disk, files, &work)
 }
 
-/// Runs sources, prints the run, and notes the registers at its end or what is noted of a fault, where
-/// they are asked for.
+/// Runs sources, prints the run as it goes, and notes the registers at its end or what is noted of a fault,
+/// where they are asked for.
 pub(crate) fn run_sources<D: Disk, O: Write>(
     alloc: Global,
     sources: &[&str],
@@ -59,6 +55,6 @@ pub(crate) fn run_sources<D: Disk, O: Write>(
 ) -> Report
     ensures { RunsTold (D.bytes_of disk.now) notes.entry (texts_of sources.now) steps regs beside.entry result.ending (string_bytes result.note) (O.contents out.old, O.contents out.new) }
 {
-    let told = answer(alloc, disk, sources, steps, regs, beside);
-    report_run(alloc, disk, told, notes, out)
+    let told = answer(alloc, disk, sources, beside);
+    report_run(alloc, disk, told, steps, regs, notes, out)
 }

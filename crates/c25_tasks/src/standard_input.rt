@@ -2,14 +2,14 @@
 
 ghost use Rattle.std.specs.Prelude.{string_bytes};
 ghost use Rattle.c25_tasks.specs.Files.{ComesTo};
-ghost use Rattle.c25_tasks.specs.Running.{RanInput, RanText, Runs};
+ghost use Rattle.c25_tasks.specs.Running.{ReadiesInput, ReadiesText, Runs};
 
-use crate::copies::{Run, run_over};
+use crate::copies::{Run, ready_over};
 use crate::files::names_of;
 use crate::notes::Notes;
 use crate::report::report_run;
 use c25_chain::fault::{Fault, Refusal};
-use c25_debug_chain::NotedRun;
+use c25_chain::ready::Ready;
 use c25_disk::disk::Disk;
 use c25_disk::fault::FileFault;
 use c25_disk::{CannotRead, read_text};
@@ -24,9 +24,9 @@ use std::io::{Read, Write};
 /// The name of standard input as a source.
 const STANDARD_INPUT: &str = "stdin";
 
-/// Runs a text as the one source of the chain, with the files that it copies from a disk.
-fn run_text<D: Disk>(alloc: Global, disk: &D, text: &str) -> Result<NotedRun, Fault>
-    ensures { RanText (D.bytes_of disk.now) text.now result }
+/// Makes a text ready as the one source of the chain, with the files that it copies from a disk.
+fn ready_text<D: Disk>(alloc: Global, disk: &D, text: &str) -> Result<Ready, Fault>
+    ensures { ReadiesText (D.bytes_of disk.now) text.now result }
 {
     let mut files = Files::new(alloc);
     match files.add(STANDARD_INPUT, text) {
@@ -40,18 +40,16 @@ fn run_text<D: Disk>(alloc: Global, disk: &D, text: &str) -> Result<NotedRun, Fa
         command: "",
         samples: "",
         schedule: "",
-        steps: DEFAULT_STEPS,
-        regs: false,
     };
-    run_over(alloc, disk, files, &work)
+    ready_over(alloc, disk, files, &work)
 }
 
-/// What the run of the text that a reader gives answers.
-fn answer<D: Disk, R: Read>(alloc: Global, disk: &D, reader: &mut R) -> Result<NotedRun, Fault>
-    ensures { RanInput (D.bytes_of disk.now) (R.remaining reader.old) result }
+/// Makes the text that a reader gives ready.
+fn answer<D: Disk, R: Read>(alloc: Global, disk: &D, reader: &mut R) -> Result<Ready, Fault>
+    ensures { ReadiesInput (D.bytes_of disk.now) (R.remaining reader.old) result }
 {
     match read_text(alloc, reader) {
-        Ok(text) => run_text(alloc, disk, text.as_str()),
+        Ok(text) => ready_text(alloc, disk, text.as_str()),
         Err(Failure::NoMemory(error)) => Err(error.into()),
         Err(Failure::Fault(CannotRead)) => {
             let place = String::from_str(alloc, STANDARD_INPUT)?;
@@ -61,7 +59,7 @@ fn answer<D: Disk, R: Read>(alloc: Global, disk: &D, reader: &mut R) -> Result<N
     }
 }
 
-/// Runs what a reader gives, and prints the run.
+/// Runs what a reader gives, and prints the run as it goes.
 pub(crate) fn run_standard_input<D: Disk, R: Read, O: Write>(
     alloc: Global,
     disk: &D,
@@ -71,5 +69,5 @@ pub(crate) fn run_standard_input<D: Disk, R: Read, O: Write>(
     ensures { Runs (D.bytes_of disk.now) (R.remaining input.old) result.ending (string_bytes result.note) (O.contents out.old, O.contents out.new) }
 {
     let told = answer(alloc, disk, input);
-    report_run(alloc, disk, told, Notes::Nothing, out)
+    report_run(alloc, disk, told, DEFAULT_STEPS, false, Notes::Nothing, out)
 }

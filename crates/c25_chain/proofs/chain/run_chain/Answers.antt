@@ -1,25 +1,16 @@
 use Rattle.std.proofs.Common.{string_bytes, map}
 use Rattle.c25_chain.specs.Chain.{Given}
-use Rattle.c25_chain.proofs.Answered.{answered, samples_refused, schedule_refused, told_on}
+use Rattle.c25_chain.proofs.Answered.{answered, growth_refused}
 use Rattle.c25_chain.proofs.chain.run_chain.Goals as goal
 
-pub returns-in_err-samples-clause-answer : goal.returns-in_err-samples-clause-answer
-returns-in_err-samples-clause-answer c =
-    let g : Given = record { files = c.args.files.now; sources = map string_bytes c.args.sources.now; command = c.args.command.now; samples = c.args.samples.now; schedule = c.args.schedule.now } in
-    told_on g c.args.n c.from_residual-in_err-samples.result c.in_err-samples.field-0.0 c.from_residual-in_err-samples.ensures.1
-    (samples_refused g c.args.n c.in_ok-built.built c.in_err-samples.field-0.0 c.in_ok-built.ensures c.in_err-samples.ensures)
-
-pub returns-in_err-schedule-clause-answer : goal.returns-in_err-schedule-clause-answer
-returns-in_err-schedule-clause-answer c =
-    let g : Given = record { files = c.args.files.now; sources = map string_bytes c.args.sources.now; command = c.args.command.now; samples = c.args.samples.now; schedule = c.args.schedule.now } in
-    told_on g c.args.n c.from_residual-in_err-schedule.result c.in_err-schedule.field-0.0 c.from_residual-in_err-schedule.ensures.1
-    (schedule_refused g c.args.n c.in_ok-built.built c.in_ok-samples.samples c.in_err-schedule.field-0.0 c.in_ok-built.ensures c.in_ok-samples.ensures c.in_err-schedule.ensures)
+pub returns-in_err-done-clause-answer : goal.returns-in_err-done-clause-answer
+returns-in_err-done-clause-answer c = growth_refused _ c.args.n c.from_residual-in_err-done.result c.from_residual-in_err-done.ensures.1
 
 pub returns-clause-answer : goal.returns-clause-answer
 returns-clause-answer c =
     let g : Given = record { files = c.args.files.now; sources = map string_bytes c.args.sources.now; command = c.args.command.now; samples = c.args.samples.now; schedule = c.args.schedule.now } in
-    answered g c.args.n c.in_ok-built.built c.in_ok-done.done c.chain_of.result c.in_ok-samples.samples c.in_ok-schedule.schedule c.in_ok-built.ensures
-    c.in_ok-samples.ensures c.in_ok-schedule.ensures c.in_ok-done.ensures c.chain_of.ensures.texts c.chain_of.ensures.listings c.chain_of.ensures.run
+    answered g c.args.n c.in_ok-built.field-0.built c.in_ok-done.done c.chain_of.result c.in_ok-built.field-0.samples c.in_ok-built.field-0.schedule (c.in_ok-built.ensures).built (c.in_ok-built.ensures).read
+    c.in_ok-done.ensures c.chain_of.ensures.texts c.chain_of.ensures.listings c.chain_of.ensures.run
 
 pub returns-clause-hex_texts_hold_the_words : goal.returns-clause-hex_texts_hold_the_words
 returns-clause-hex_texts_hold_the_words c = c.answers_run_as_their_sources.ensures.words _ _ _ (returns-clause-answer c)

@@ -2,7 +2,7 @@ use Rattle.std.proofs.Common.{◌∙◌, ap, inl, inr, map, string_bytes}
 use Rattle.std.specs.Prelude.{Err}
 use Rattle.c25_words.specs.Task.{text_of, texts_of}
 use Rattle.c25_tasks.specs.Files.{IsUnreadOptional, ReadsAll}
-use Rattle.c25_tasks.proofs.Gathered.{fails_with, runs_over, runs_told}
+use Rattle.c25_tasks.proofs.Gathered.{fails_with, readies_over, readies_told}
 use Rattle.c25_tasks.proofs.running.answer.Goals as goal
 
 pub returns-in_err-files : goal.returns-in_err-files
@@ -59,7 +59,7 @@ returns-in_err-sources g c =
           inr (
             _,
             c.in_ok-schedule.ensures,
-            runs_told (g.D.Disk.bytes_of c.args.disk.now) _ (texts_of c.args.sources.now) c.args.steps c.args.regs _ _ _ c.from_residual-in_err-sources.result c.from_residual-in_err-sources.ensures.1,
+            readies_told (g.D.Disk.bytes_of c.args.disk.now) _ (texts_of c.args.sources.now) _ _ _ c.from_residual-in_err-sources.result c.from_residual-in_err-sources.ensures.1,
           ),
         ),
       ),
@@ -79,8 +79,8 @@ returns g c =
           inr (
             _,
             c.in_ok-schedule.ensures,
-            runs_over (g.D.Disk.bytes_of c.args.disk.now) _ (texts_of c.args.sources.now) _ c.args.steps c.args.regs _ _ _ _ _ _ c.run_over.result (ap (λ xs. map string_bytes xs) c.as_slice.ensures.value ∙ c.in_ok-sources.ensures)
-                c.as_str.ensures.value c.as_str-2.ensures.value c.as_str-3.ensures.value c.run_over.ensures,
+            readies_over (g.D.Disk.bytes_of c.args.disk.now) _ (texts_of c.args.sources.now) _ _ _ _ _ _ _ c.ready_over.result (ap (λ xs. map string_bytes xs) c.as_slice.ensures.value ∙ c.in_ok-sources.ensures)
+                c.as_str.ensures.value c.as_str-2.ensures.value c.as_str-3.ensures.value c.ready_over.ensures,
           ),
         ),
       ),

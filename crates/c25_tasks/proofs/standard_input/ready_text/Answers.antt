@@ -1,6 +1,6 @@
 use Rattle.std.proofs.Common.{◌∙◌, ap, map, rules, string_bytes}
-use Rattle.c25_tasks.proofs.Gathered.{text_short, text_told, text_ran}
-use Rattle.c25_tasks.proofs.standard_input.run_text.Goals as goal
+use Rattle.c25_tasks.proofs.Gathered.{text_short, text_told, text_ready}
+use Rattle.c25_tasks.proofs.standard_input.ready_text.Goals as goal
 
 pub returns-in-Err-NoMemory : goal.returns-in-Err-NoMemory
 returns-in-Err-NoMemory g c = text_short _ _ _ (search rules)
@@ -9,4 +9,4 @@ pub returns-in_err-sources : goal.returns-in_err-sources
 returns-in_err-sources g c = text_told _ _ _ c.from_residual.ensures.1
 
 pub returns : goal.returns
-returns g c = text_ran _ _ _ _ _ (search rules) (ap (λ xs. map string_bytes xs) c.as_slice.ensures.value ∙ c.in_ok-sources.ensures) c.run_over.ensures
+returns g c = text_ready _ _ _ _ _ (search rules) (ap (λ xs. map string_bytes xs) c.as_slice.ensures.value ∙ c.in_ok-sources.ensures) c.ready_over.ensures

@@ -1,0 +1,4 @@
+pub mod Apart
+pub mod Fetched
+pub mod Few
+pub mod Runs

@@ -1,0 +1,3 @@
+pub mod Joined
+pub mod OutputLines
+pub mod Went

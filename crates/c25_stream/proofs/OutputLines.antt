@@ -1,0 +1,10 @@
+-- Lines of outputs, one after another.
+use Rattle.std.proofs.Common.{◌≡◌, ℕ, ◌+◌, ◌<◌, ◌≤◌, List, [], ◌++◌, length, drop, get_or}
+use Rattle.std.proofs.lemmas.List.{at_drop_more, at_drop_all}
+use Rattle.c25_meaning_processor.specs.RunText.{output_line, outputs_text}
+
+pub outputs_more : (outputs : List (ℕ × ℕ)) (i : ℕ) (d : ℕ × ℕ) → i < length outputs → outputs_text (drop i outputs) ≡ output_line (get_or outputs i d) ++ outputs_text (drop (i + 1) outputs)
+outputs_more outputs i d h = at_drop_more outputs_text outputs i d h
+
+pub outputs_none : (outputs : List (ℕ × ℕ)) (i : ℕ) → length outputs ≤ i → outputs_text (drop i outputs) ≡ []
+outputs_none outputs i h = at_drop_all outputs_text outputs i h
