@@ -23,19 +23,3 @@ impl Read for Pieces<'_> {
         Ok(count)
     }
 }
-
-/// Gives so many `*`, at most so many at a time.
-#[derive(Drop)]
-pub struct Stars {
-    pub left: usize,
-    pub most: usize,
-}
-
-impl Read for Stars {
-    fn read(&mut self, buf: &mut [u8]) -> io::Result<usize> {
-        let count = self.most.min(buf.len()).min(self.left);
-        buf[..count].fill(b'*');
-        self.left -= count;
-        Ok(count)
-    }
-}

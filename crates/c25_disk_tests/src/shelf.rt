@@ -2,7 +2,6 @@
 
 use crate::readers::Pieces;
 use c25_disk::disk::{Disk, Refused};
-use std::cell::Cell;
 
 /// Files of a list, and what was written: for each file its name, a line feed, and its bytes. All other
 /// names are of a file with this text, if there is one; so many files may still be written.
@@ -56,31 +55,5 @@ impl<'a> Disk for Shelf<'a> {
             }
         }
         Ok(())
-    }
-}
-
-/// A shelf that counts how often a file is opened.
-#[derive(Drop)]
-pub struct Counting<'a> {
-    pub shelf: Shelf<'a>,
-    pub opened: Cell<usize>,
-}
-
-impl<'a> Disk for Counting<'a> {
-    ghost use Rattle.std.specs.Prelude.{None};
-
-    type Reader = Pieces<'a>;
-
-    ghost bytes_of = { λ _ _. None };
-
-    ghost written = { λ _. None };
-
-    fn open(&self, name: &str) -> Result<Pieces<'a>, Refused> {
-        self.opened.set(self.opened.get().wrapping_add(1));
-        self.shelf.open(name)
-    }
-
-    fn write(&mut self, name: &str, bytes: &[u8]) -> Result<(), Refused> {
-        self.shelf.write(name, bytes)
     }
 }

@@ -50,6 +50,8 @@ pub(crate) enum Command<'a> {
     RunChain(&'a str),
     /// `line_of COMMAND OBJECT..`.
     LineOf(&'a str),
+    /// `values FILE`.
+    Values(&'a str),
 }
 
 /// The text that `echo` is given in quotes of either kind, and the call to which it goes.
@@ -111,6 +113,7 @@ fn library_call(line: &str) -> Option<Command<'_>> {
         "read_map" => Some(Command::ReadMap(files)),
         "run_chain" => Some(Command::RunChain(files)),
         "line_of" => Some(Command::LineOf(files)),
+        "values" => Some(Command::Values(files)),
         _ => None,
     }
 }

@@ -9,6 +9,7 @@ mod files;
 mod library;
 mod packed;
 mod session;
+mod values;
 
 use anyhow::Result;
 use packed::run_cases;

@@ -4,31 +4,13 @@ use c25_bytes::{
     all_blank, all_go_on_name, all_space, are_digits, begins_name, byte_at, constant_run, digit,
     goes_on_name, is_blank, is_digit, is_letter, is_space, name_run, value_in,
 };
-use c25_meaning_lines::line::{LineFault, Sign, TokenKind};
+use c25_meaning_lines::line::{Sign, TokenKind};
 use c25_text::line::{first_word, split_line};
 use c25_text::{constant_value, past_blanks, past_field, quoted_len};
-use std::process::Abort;
 use std::test::Fail;
-
-/// Whether a line is refused for this fault.
-fn is_refused(rt: &impl Abort, text: &str, fault: LineFault) {
-    assert_eq!(rt; split_line(text).map(|_| ()), Err(fault), "{text}");
-}
-
-#[test]
-fn lines_are_refused(rt: HostRuntime) {
-    is_refused(&rt, "9X NOP", LineFault::BadLabel);
-    is_refused(&rt, "X:NOP", LineFault::BadLabel);
-    is_refused(&rt, " .word 12G", LineFault::BadConstant);
-    is_refused(&rt, " .word 'A", LineFault::OpenQuote);
-    is_refused(&rt, " .word @", LineFault::StrayText);
-    is_refused(&rt, " .word \"é\"", LineFault::StrayText);
-}
 
 #[test]
 fn a_line_has_its_parts(rt: HostRuntime) -> Result<(), Fail> {
-    let line = split_line("GO:\tOUT 60h,'é' ; é");
-    assert!(rt; line.is_err());
     let line = split_line("GO:\tOUT 60h,.x ; é")?;
     assert_eq!(rt; line.label, Some("GO"));
     let word = line.word.ok_or("no first word")?;
