@@ -8,7 +8,7 @@ use Rattle.c25_chain.specs.Built.{IsBuilt}
 use Rattle.c25_chain.specs.Chain.{Given}
 use Rattle.c25_chain.specs.Headline.{first_state, source_statements}
 use Rattle.c25_chain.specs.Linked as linked
-use Rattle.c25_chain.specs.Linked.{Texts}
+use Rattle.c25_chain.specs.Linked.{LinkedTexts}
 use Rattle.c25_chain.specs.OutcomeText.{outcome_of, steps_of}
 use Rattle.c25_chain.specs.Ready.{IsReady}
 use Rattle.c25_chain.specs.Run.{last_state}
@@ -72,7 +72,7 @@ reports_end fetched regs image entries steps s o e text asked is where_is n end 
 
 abbrev pub FirstStates : Type 0
 FirstStates =
-    (files : Files) (names : List (List ℕ)) (command : List ℕ) (image : ImageData) (texts : Texts) (listings : List (List ℕ)) (samples : List Sample)
+    (files : Files) (names : List (List ℕ)) (command : List ℕ) (image : ImageData) (texts : LinkedTexts) (listings : List (List ℕ)) (samples : List Sample)
     → IsBuilt files names command image texts listings → IsImageOf (source_statements files names image.described) (first_state image samples).world
 
 abbrev pub RunAlike : Type 0
