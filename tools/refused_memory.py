@@ -8,7 +8,8 @@ faults of docs/FAULTS.md; --groups keeps to the groups whose names hold the word
 run with every request granted, and then again for each of its requests with that one refused (--rest: with all from that one on);
 where there are more than N requests (400), for the first N/2 and N/2 of the others, evenly spread. Every run must come to one of
 
-  told   status 1, `memory: 9 NoMemory` on standard error, nothing on standard output, and no file written or changed
+  told   status 1, `memory: 9 NoMemory` on standard error, nothing on standard output (of a run with `--regs` all of it or nothing),
+         and no file written or changed
   full   the status, the outputs and the files of the run with every request granted: the request could be done without, or only
          what `--explain` tells behind a fault's line is less: nothing, or what a fault means without the line that is shown
 
@@ -50,6 +51,10 @@ class Answer:
 
     def is_told(self):
         return (self.status, self.output, self.errors, self.written) == (1, b"", TOLD, {})
+
+    def lacks_registers(self, other):
+        """Whether it is the other answer, a run with its registers, but that memory was refused for these."""
+        return (self.status, self.output, self.errors, self.written) == (1, other.output, TOLD, {})
 
     def __str__(self):
         return "status %s, %d bytes on standard output, %r, files %s" % (self.status, len(self.output), self.errors[:100], sorted(self.written))
@@ -121,7 +126,8 @@ def swept(sweep, name, calls, most, rest):
             tally[2] += 1
             # (a call may itself be told of memory by nothing: where the whole is a fault, that fault is the full answer)
             enough = answer.same(full) or "--explain" in call.words and answer.explains_less(full)
-            kind = 4 if enough else 3 if answer.is_told() else 5
+            told = answer.is_told() or "--regs" in call.words and answer.lacks_registers(full)
+            kind = 4 if enough else 3 if told else 5
             tally[kind] += 1
             if kind == 5:
                 lines.append("%s, request %d: %s" % (call.name, number, answer))
