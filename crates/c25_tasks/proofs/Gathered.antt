@@ -15,7 +15,7 @@ use Rattle.c25_meaning_common.specs.declared.failure.Failure.TheVariants as fail
 use Rattle.c25_tasks.specs.Building.{BuildsOver}
 use Rattle.c25_words.specs.Task.{text_of}
 use Rattle.c25_words.specs.declared.task.RunFiles.{RunFiles}
-use Rattle.c25_tasks.specs.Files.{AfterOptional, ComesTo, FailsWith, IsUnread}
+use Rattle.c25_tasks.specs.Files.{ComesTo, FailsWith, IsUnread}
 use Rattle.c25_tasks.specs.Running.{ReadiesFrom, ReadiesInput, ReadiesOver, ReadiesText, given_with, stdin}
 use Rattle.c25_tasks.specs.Tells.{IsOfSources}
 
@@ -73,21 +73,13 @@ of_sources held given names command samples schedule (Ok ready) (Ok told, (files
 of_sources held given names command samples schedule (Ok ready) (Err failure, over, same) = absurd same
 of_sources held given names command samples schedule (Err fault) comes = tt
 
-after_optional : {A : Type 0} (held : Held) (name : Option (List ℕ)) (next : List ℕ → Result A Fault → Type 0) (holds : A → Type 0) (answer : Result A Fault) → ((text : List ℕ) → next text answer → IfOk answer holds) → AfterOptional held name next answer → IfOk answer holds
-after_optional held name next holds (Ok a) then (inl refused) = absurd refused
-after_optional held name next holds (Err fault) then (inl refused) = tt
-after_optional held name next holds answer then (inr (text, read, goes)) = then text goes
-
 pub of_files : (held : Held) (names : List (List ℕ)) (files : RunFiles) (answer : Result Ready Fault) → ReadiesFrom held names files answer → IfOk answer IsOfSources
+of_files held names files (Err fault) from = tt
 of_files held names files (Ok ready) (inl refused) = absurd refused
-of_files held names files (Err fault) (inl refused) = tt
-of_files held names files answer (inr (given, read, next)) =
-    after_optional held (text_of files.command) _ IsOfSources answer
-    (λ command.
-    after_optional held (text_of files.samples) _ IsOfSources answer
-    (λ samples.
-    after_optional held (text_of files.schedule) _ IsOfSources answer (λ schedule. of_sources held given names command samples schedule answer)))
-    next
+of_files held names files (Ok ready) (inr (given, read, inl refused)) = absurd refused
+of_files held names files (Ok ready) (inr (given, read, inr (command, c, inl refused))) = absurd refused
+of_files held names files (Ok ready) (inr (given, read, inr (command, c, inr (samples, s, inl refused)))) = absurd refused
+of_files held names files (Ok ready) (inr (given, read, inr (command, c, inr (samples, s, inr (schedule, t, over))))) = of_sources held given names command samples schedule (Ok ready) over
 
 pub of_input : (held : Held) (input : Option (List ℕ)) (answer : Result Ready Fault) → ReadiesInput held input answer → IfOk answer IsOfSources
 of_input held input answer (inl (text, all, over)) = of_sources held ((stdin, text) ∷ []) (stdin ∷ []) [] [] [] answer over

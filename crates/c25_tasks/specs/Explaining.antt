@@ -1,10 +1,9 @@
 -- What the program does of the number of a fault.
-use Rattle.std.specs.Prelude.{ℕ, List, ◌++◌, Option, Some, None, codes}
+use Rattle.std.specs.Prelude.{◌≡◌, ◌⊎◌, ℕ, List, ◌++◌, Option, Some, None, codes}
 use Rattle.std.specs.Fmt.{decimal}
-use Rattle.std.specs.Io.KnownBytes.{Keeps}
+use Rattle.std.specs.Io.KnownBytes.{Appends, Keeps}
 use Rattle.c25_explain.specs.Explanation.{Explains, whole_text}
 use Rattle.c25_explain.specs.declared.parts.Explanation.{Explanation}
-use Rattle.c25_report.specs.Ending.{IsPrinted}
 use Rattle.c25_report.specs.declared.ending.Ending.{Ending}
 use Rattle.c25_report.specs.declared.ending.Ending.TheVariants as ending
 use Rattle.c25_tasks.specs.Tells.{IsLineOf, Printed}
@@ -13,9 +12,13 @@ use Rattle.c25_tasks.specs.Tells.{IsLineOf, Printed}
 abbrev pub unknown_line : ℕ → List ℕ
 unknown_line number = codes "explain: no fault has the number " ++ decimal number
 
+-- a text is printed part by part, or cannot be, and of what then stands nothing is known
+abbrev pub PrintsParts : List ℕ → Ending → Printed → Type 0
+PrintsParts text e out = ((e ≡ ending.Done) × Appends out.0 out.1 text) ⊎ (e ≡ ending.Unprinted)
+
 -- what the answer to a number comes to: all of it goes to standard output; where there is none that is told, unless memory runs out, and nothing goes there
 abbrev pub TellsAnswer : ℕ → Option Explanation → Ending → Printed → Type 0
-TellsAnswer number (Some explanation) e out = IsPrinted (whole_text explanation) ending.Done e out.0 out.1
+TellsAnswer number (Some explanation) e out = PrintsParts (whole_text explanation) e out
 TellsAnswer number None e out = IsLineOf (unknown_line number) e × Keeps out.0 out.1
 
 -- the number is explained

@@ -2,9 +2,7 @@
 
 ghost use Rattle.std.specs.Prelude.{◌≡◌, IfOk, string_bytes};
 ghost use Rattle.c25_explain.specs.Explanation.{whole_text};
-ghost use Rattle.c25_report.specs.Ending.{IsPrinted};
-ghost use Rattle.c25_report.specs.declared.ending.Ending.TheVariants as ending;
-ghost use Rattle.c25_tasks.specs.Explaining.{Explained, unknown_line};
+ghost use Rattle.c25_tasks.specs.Explaining.{Explained, PrintsParts, unknown_line};
 ghost use Rattle.c25_tasks.specs.Tells.{IsLineOf};
 
 use c25_explain::explanation::explanation;
@@ -33,7 +31,7 @@ fn unknown(alloc: Global, number: u8) -> Ending
 
 /// Prints an explanation.
 fn print_explanation<O: Write>(explanation: &Explanation, out: &mut O) -> Ending
-    ensures { IsPrinted (whole_text explanation.now) ending.Done result (O.contents out.old) (O.contents out.new) }
+    ensures { PrintsParts (whole_text explanation.now) result (O.contents out.old, O.contents out.new) }
 {
     match write!(out, "{explanation}") {
         Ok(()) => Ending::Done,
