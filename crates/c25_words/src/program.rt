@@ -15,7 +15,7 @@ use std::alloc::{AllocError, Global};
 
 /// What `--version` prints behind the program's name. It rises with each change of what the program
 /// reads, writes or answers.
-const VERSION: &str = "1.5.0";
+const VERSION: &str = "1.6.0";
 
 /// What help says of the program behind its subcommands.
 const MORE: &str =
