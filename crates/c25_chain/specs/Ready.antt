@@ -4,7 +4,7 @@ use Rattle.c25_meaning_common.specs.declared.failure.Failure.TheVariants as fail
 use Rattle.c25_meaning_processor.specs.Run.{Ending}
 use Rattle.c25_chain.specs.Built.{IsBuiltAs}
 use Rattle.c25_chain.specs.Chain.{Given, Inputs, IsAnswer, IsRefused, inputs_in, run_of}
-use Rattle.c25_chain.specs.Headline.{RunsItsWords}
+use Rattle.c25_chain.specs.Headline.{RunsItsWords, statements_run}
 use Rattle.c25_chain.specs.OutcomeText.{end_text, run_text}
 use Rattle.c25_chain.specs.Refusal.{Fault, refusal_of}
 use Rattle.c25_chain.specs.Run.{EndsAs}
@@ -27,6 +27,10 @@ Readies g (Err (failure.Fault f)) = IsRefused g (refusal_of f)
 -- n steps of its words end so, under its samples and its schedule
 abbrev pub RunsReady : Ready → ℕ → Ending → Type 0
 RunsReady r = RunsItsWords r.built.linked.image r.samples r.schedule
+
+-- the end of n steps of the statements of the sources that it was made ready of, read from no word
+abbrev pub statements_end : Given → Ready → ℕ → Ending
+statements_end g r = statements_run g.files g.sources r.built.linked.image r.samples r.schedule
 
 -- an answer is of that program and of that run: its samples and entries are those, its n steps end so, what it tells of them is told of
 -- this end, and their text is one

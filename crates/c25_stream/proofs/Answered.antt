@@ -1,4 +1,4 @@
--- A run that is printed is what the chain answers.
+-- A run that is printed is what its sources say, and what the chain answers.
 use Rattle.std.proofs.Common.{◌≡◌, ◌∙◌, ℕ, Bool, List, Option, inl, inr, subst, sym}
 use Rattle.std.specs.Io.KnownBytes.{Appends}
 use Rattle.c25_board.specs.declared.board.Outcome.{Outcome}
@@ -14,7 +14,8 @@ use Rattle.c25_meaning_processor.specs.State.{State}
 use Rattle.c25_meaning_stimulus.specs.declared.schedule.Entry.{Entry}
 use Rattle.c25_report.specs.Ending.{HasFront}
 use Rattle.c25_report.specs.declared.ending.Ending as report_ending
-use Rattle.c25_stream.specs.Run.{PrintsAnswer, PrintsEnd, PrintsRun, PrintsText, TellsAnswer, TellsEnd, TellsOutcome}
+use Rattle.c25_stream.proofs.Told.{RunsAsSaid}
+use Rattle.c25_stream.specs.Run.{PrintsAnswer, PrintsEnd, PrintsRun, PrintsStatements, PrintsText, TellsAnswer, TellsEnd, TellsOutcome}
 
 -- a program that is ready runs as the chain answers
 abbrev pub RunsAnswered : Type 0
@@ -28,8 +29,13 @@ steps_told : (n : ℕ) (end : Ending) (c : Chain) → EndsAs n end (run_of c) �
 steps_told n (Ran t) c told = told.1
 steps_told n (Left j stop t) c told = told.1
 
-module _ (answered : RunsAnswered) (given : Given) (ready : Ready) (is : IsReady given ready) (n : ℕ) (regs : Bool) (e : report_ending.Ending) (note : List ℕ) (old new : Option (List ℕ)) where
-  module _ (end : Ending) (run : RunsReady ready n end) (c : Chain) (a : IsAnswer given n c) where
+module _ (given : Given) (ready : Ready) (is : IsReady given ready) (n : ℕ) (regs : Bool) (e : report_ending.Ending) (note : List ℕ) (old new : Option (List ℕ)) where
+  pub printed_statements : RunsAsSaid → PrintsRun ready n regs e note old new → PrintsStatements given ready n regs e note old new
+  printed_statements said (inl (end, run, printed)) =
+      inl (subst (λ (f : Ending). PrintsEnd regs ready.built.linked.image ready.schedule n f e note old new) ((said given ready n end is).0 run) printed)
+  printed_statements said (inr short) = inr short
+
+  module _ (answered : RunsAnswered) (end : Ending) (run : RunsReady ready n end) (c : Chain) (a : IsAnswer given n c) where
     of : IsAnswerOf ready n end given c a
     of = answered given ready n end c is run a
 
@@ -47,6 +53,6 @@ module _ (answered : RunsAnswered) (given : Given) (ready : Ready) (is : IsReady
     of_answer (inl (printed, told)) = inl (subst (Appends old new) of.text printed, told_of_answer told)
     of_answer (inr (is_unprinted, none, front)) = inr (is_unprinted, none, subst (λ (t : List ℕ). HasFront t old new) of.text front)
 
-  pub printed_answer : PrintsRun ready n regs e note old new → PrintsAnswer given n regs e note old new
-  printed_answer (inl (end, run, printed)) = inl (λ c a. of_answer end run c a printed)
-  printed_answer (inr short) = inr short
+  pub printed_answer : RunsAnswered → PrintsRun ready n regs e note old new → PrintsAnswer given n regs e note old new
+  printed_answer answered (inl (end, run, printed)) = inl (λ c a. of_answer answered end run c a printed)
+  printed_answer answered (inr short) = inr short

@@ -1,10 +1,11 @@
--- The run of a program that is ready, printed as it goes: by the end of its words, and by what the chain answers.
+-- The run of a program that is ready, printed as it goes: by the end of its words, by the statements of its
+-- sources, and by what the chain answers.
 use Rattle.std.specs.Prelude.{◌≡◌, ◌⊎◌, ℕ, Bool, true, false, List, [], Option}
 use Rattle.std.specs.Io.KnownBytes.{Appends, Keeps}
 use Rattle.c25_board.specs.declared.board.Outcome.{Outcome}
 use Rattle.c25_chain.specs.Chain.{Given, IsAnswer}
 use Rattle.c25_chain.specs.OutcomeText.{end_text, outcome_of, run_text, steps_of}
-use Rattle.c25_chain.specs.Ready.{RunsReady}
+use Rattle.c25_chain.specs.Ready.{RunsReady, statements_end}
 use Rattle.c25_chain.specs.Run.{last_state}
 use Rattle.c25_chain.specs.declared.chain.Chain.{Chain}
 use Rattle.c25_chain.specs.declared.ready.Ready.{Ready}
@@ -49,6 +50,13 @@ PrintsEnd regs image entries n end e note = PrintsText (end_text n end) (TellsEn
 abbrev pub PrintsRun : Ready → ℕ → (regs : Bool) → report_ending.Ending → (note : List ℕ) → Option (List ℕ) → Option (List ℕ) → Type 0
 PrintsRun ready n regs e note old new =
     ((end : Ending) × RunsReady ready n end × PrintsEnd regs ready.built.linked.image ready.schedule n end e note old new) ⊎ IsShortBefore e note old new
+
+-- ---- by the statements of its sources
+
+-- n steps of it are printed as those of the statements of the sources that it was made ready of
+abbrev pub PrintsStatements : Given → Ready → ℕ → (regs : Bool) → report_ending.Ending → (note : List ℕ) → Option (List ℕ) → Option (List ℕ) → Type 0
+PrintsStatements given ready n regs e note old new =
+    PrintsEnd regs ready.built.linked.image ready.schedule n (statements_end given ready n) e note old new ⊎ IsShortBefore e note old new
 
 -- ---- by the chain's answer
 

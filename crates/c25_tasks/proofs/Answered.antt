@@ -1,12 +1,11 @@
--- A run that ends with status 0 or 3 is printed as the chain answers.
+-- A run that ends with status 0 or 3 is printed as its statements run and as the chain answers.
 use Rattle.std.proofs.Common.{◌≡◌, ◌⊎◌, ◌∙◌, ap, inl, inr, refl, subst, sym, ℕ, Bool, false, List, [], ◌∷◌}
 use Rattle.std.specs.Io.KnownBytes.{Appends, Keeps}
 use Rattle.std.specs.Prelude.{Option, Result, Ok, Err}
-use Rattle.c25_chain.specs.Chain.{Given, IsAnswer, given_of}
-use Rattle.c25_chain.specs.OutcomeText.{run_text}
-use Rattle.c25_chain.specs.Ready.{IsReady}
+use Rattle.c25_chain.specs.Chain.{Given, given_of}
+use Rattle.c25_chain.specs.OutcomeText.{end_text, run_text}
+use Rattle.c25_chain.specs.Ready.{IsReady, statements_end}
 use Rattle.c25_chain.specs.Refusal.{Fault}
-use Rattle.c25_chain.specs.declared.chain.Chain.{Chain}
 use Rattle.c25_chain.specs.declared.ready.Ready.{Ready}
 use Rattle.c25_disk.specs.Copies.{HasCopied}
 use Rattle.c25_disk.specs.Held.{Held}
@@ -15,10 +14,10 @@ use Rattle.c25_meaning_expansion.specs.Files.{Files}
 use Rattle.c25_report.specs.Ending.{IsShort, status_of}
 use Rattle.c25_report.specs.declared.ending.Ending.{Ending}
 use Rattle.c25_report.specs.declared.ending.Ending.TheVariants as ending
-use Rattle.c25_stream.specs.Run.{PrintsAnswer, PrintsText, TellsAnswer}
+use Rattle.c25_stream.specs.Run.{PrintsAnswer, PrintsStatements, PrintsText, TellsAnswer, TellsEnd}
 use Rattle.c25_words.specs.declared.task.RunFiles.{RunFiles}
 use Rattle.c25_tasks.specs.Running.{IsGivenFrom, IsGivenInput, ReadiesFrom, ReadiesInput, ReadiesOver, stdin}
-use Rattle.c25_tasks.specs.Tells.{IsReportOf, IsRun, Printed, PrintsAnswerOf, TellsRun}
+use Rattle.c25_tasks.specs.Tells.{IsReportOf, IsRun, IsRunOfAnswers, IsRunOfStatements, Printed, PrintsGiven, TellsRun}
 use Rattle.c25_tasks.specs.declared.notes.Notes.{Notes}
 
 -- ---- other statuses
@@ -42,10 +41,15 @@ module _ (n : ℕ) (regs : Bool) (e : Ending) (note : List ℕ) (out : Printed) 
   whole_text text tells (inl printed) = printed
   whole_text text tells (inr (is, rest)) = failed e (ap status_of is) ran
 
-  whole_answer : (given : Given) → PrintsAnswer given n regs e note out.0 out.1
-      → (chain : Chain) → (a : IsAnswer given n chain) → Appends out.0 out.1 (run_text chain) × TellsAnswer regs given n chain a e note
-  whole_answer given (inl printed) chain a = whole_text (run_text chain) (TellsAnswer regs given n chain a e note) (printed chain a)
-  whole_answer given (inr (short, rest)) chain a = short_failed e short ran
+  whole_statements : (given : Given) (ready : Ready) → IsReady given ready → PrintsStatements given ready n regs e note out.0 out.1 → IsRunOfStatements given n regs e note out
+  whole_statements given ready is (inl printed) =
+      let end = statements_end given ready n in
+      (ready, is, whole_text (end_text n end) (TellsEnd regs ready.built.linked.image ready.schedule n end e note) printed)
+  whole_statements given ready is (inr (short, rest)) = short_failed e short ran
+
+  whole_answers : (given : Given) → PrintsAnswer given n regs e note out.0 out.1 → IsRunOfAnswers given n regs e note out
+  whole_answers given (inl printed) chain a = whole_text (run_text chain) (TellsAnswer regs given n chain a e note) (printed chain a)
+  whole_answers given (inr (short, rest)) chain a = short_failed e short ran
 
 -- what is ready is of something that is given so
 abbrev pub HasGiven : (Given → Type 0) → Result Ready Fault → Type 0
@@ -53,8 +57,10 @@ HasGiven is_given (Ok ready) = (given : Given) × is_given given × IsReady give
 HasGiven is_given (Err fault) = Unit {0}
 
 pub answered : (held : Held) (notes : Notes) (is_given : Given → Type 0) (n : ℕ) (regs : Bool) (answer : Result Ready Fault) (e : Ending) (note : List ℕ) (out : Printed)
-    → HasGiven is_given answer → TellsRun held notes n regs answer e note out → PrintsAnswerOf is_given n regs e note out
-answered held notes is_given n regs (Ok ready) e note out (given, is, of) (run, told) ran = (given, is, whole_answer n regs e note out ran given (told given of))
+    → HasGiven is_given answer → TellsRun held notes n regs answer e note out → PrintsGiven is_given n regs e note out
+answered held notes is_given n regs (Ok ready) e note out (given, is, of) (run, told) ran =
+    let tells = told given of in
+    (given, is, whole_statements n regs e note out ran given ready of tells.0, whole_answers n regs e note out ran given tells.1)
 answered held notes is_given n regs (Err fault) e note out none (told, keeps) ran = fault_failed held notes fault e note told ran
 
 -- ---- what is given

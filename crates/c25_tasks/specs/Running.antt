@@ -11,7 +11,7 @@ use Rattle.c25_report.specs.declared.ending.Ending.{Ending}
 use Rattle.c25_words.specs.Task.{text_of}
 use Rattle.c25_words.specs.declared.task.RunFiles.{RunFiles}
 use Rattle.c25_tasks.specs.Files.{AfterOptional, AfterSources, ComesTo, FailsWith, IsOptional, IsUnread, ReadsAll}
-use Rattle.c25_tasks.specs.Tells.{Printed, PrintsAnswerOf, TellsRun}
+use Rattle.c25_tasks.specs.Tells.{Printed, PrintsGiven, TellsRun}
 use Rattle.c25_tasks.specs.declared.notes.Notes.{Notes}
 use Rattle.c25_tasks.specs.declared.notes.Notes.TheVariants.{Nothing}
 
@@ -45,7 +45,7 @@ pub record IsGivenFrom (held : Held) (names : List (List ℕ)) (files : RunFiles
 abbrev pub RunsTold : Held → Notes → List (List ℕ) → ℕ → (regs : Bool) → RunFiles → Ending → (note : List ℕ) → Printed → Type 0
 RunsTold held notes names steps regs files e note out =
     ((answer : Result Ready Fault) × ReadiesFrom held names files answer × TellsRun held notes steps regs answer e note out)
-    × PrintsAnswerOf (IsGivenFrom held names files) steps regs e note out
+    × PrintsGiven (IsGivenFrom held names files) steps regs e note out
 
 -- ---- standard input
 
@@ -72,4 +72,4 @@ pub record IsGivenInput (held : Held) (input : Option (List ℕ)) (given : Given
 abbrev pub Runs : Held → Option (List ℕ) → Ending → (note : List ℕ) → Printed → Type 0
 Runs held input e note out =
     ((answer : Result Ready Fault) × ReadiesInput held input answer × TellsRun held Nothing 1000 false answer e note out)
-    × PrintsAnswerOf (IsGivenInput held input) 1000 false e note out
+    × PrintsGiven (IsGivenInput held input) 1000 false e note out
