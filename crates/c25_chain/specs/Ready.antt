@@ -3,7 +3,7 @@ use Rattle.std.specs.Prelude.{◌≡◌, ℕ, Result, Ok, Err}
 use Rattle.c25_meaning_common.specs.declared.failure.Failure.TheVariants as failure
 use Rattle.c25_meaning_processor.specs.Run.{Ending}
 use Rattle.c25_chain.specs.Built.{IsBuiltAs}
-use Rattle.c25_chain.specs.Chain.{Given, Inputs, IsAnswer, IsRefused, inputs_in, run_of}
+use Rattle.c25_chain.specs.Chain.{Given, IsAnswer, IsRefused, inputs_in, run_of}
 use Rattle.c25_chain.specs.Headline.{RunsItsWords, statements_run}
 use Rattle.c25_chain.specs.OutcomeText.{end_text, run_text}
 use Rattle.c25_chain.specs.Refusal.{Fault, refusal_of}

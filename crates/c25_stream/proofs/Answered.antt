@@ -1,17 +1,15 @@
 -- A run that is printed is what its sources say, and what the chain answers.
-use Rattle.std.proofs.Common.{◌≡◌, ◌∙◌, ℕ, Bool, List, Option, inl, inr, subst, sym}
+use Rattle.std.proofs.Common.{◌≡◌, ℕ, Bool, List, Option, inl, inr, subst, sym}
 use Rattle.std.specs.Io.KnownBytes.{Appends}
 use Rattle.c25_board.specs.declared.board.Outcome.{Outcome}
 use Rattle.c25_chain.specs.Chain.{Given, Inputs, IsAnswer, run_of}
-use Rattle.c25_chain.specs.OutcomeText.{end_text, outcome_of, run_text, steps_of}
+use Rattle.c25_chain.specs.OutcomeText.{outcome_of, run_text, steps_of}
 use Rattle.c25_chain.specs.Ready.{IsAnswerOf, IsReady, RunsReady}
 use Rattle.c25_chain.specs.Run.{EndsAs, last_state}
 use Rattle.c25_chain.specs.declared.chain.Chain.{Chain}
 use Rattle.c25_chain.specs.declared.ready.Ready.{Ready}
 use Rattle.c25_meaning_linking.specs.Linking.{ImageData}
 use Rattle.c25_meaning_processor.specs.Run.{Ending, Left, Ran}
-use Rattle.c25_meaning_processor.specs.State.{State}
-use Rattle.c25_meaning_stimulus.specs.declared.schedule.Entry.{Entry}
 use Rattle.c25_report.specs.Ending.{HasFront}
 use Rattle.c25_report.specs.declared.ending.Ending as report_ending
 use Rattle.c25_stream.proofs.Told.{RunsAsSaid}

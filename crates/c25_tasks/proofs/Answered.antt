@@ -1,6 +1,6 @@
 -- A run that ends with status 0 or 3 is printed as its statements run and as the chain answers.
-use Rattle.std.proofs.Common.{◌≡◌, ◌⊎◌, ◌∙◌, ap, inl, inr, refl, subst, sym, ℕ, Bool, false, List, [], ◌∷◌}
-use Rattle.std.specs.Io.KnownBytes.{Appends, Keeps}
+use Rattle.std.proofs.Common.{◌≡◌, ◌∙◌, ap, inl, inr, refl, subst, sym, ℕ, Bool, List, [], ◌∷◌}
+use Rattle.std.specs.Io.KnownBytes.{Appends}
 use Rattle.std.specs.Prelude.{Option, Result, Ok, Err}
 use Rattle.c25_chain.specs.Chain.{Given, given_of}
 use Rattle.c25_chain.specs.OutcomeText.{end_text, run_text}
@@ -13,7 +13,6 @@ use Rattle.c25_meaning_common.specs.declared.failure.Failure.TheVariants as fail
 use Rattle.c25_meaning_expansion.specs.Files.{Files}
 use Rattle.c25_report.specs.Ending.{IsShort, status_of}
 use Rattle.c25_report.specs.declared.ending.Ending.{Ending}
-use Rattle.c25_report.specs.declared.ending.Ending.TheVariants as ending
 use Rattle.c25_stream.specs.Run.{PrintsAnswer, PrintsStatements, PrintsText, TellsAnswer, TellsEnd}
 use Rattle.c25_words.specs.declared.task.RunFiles.{RunFiles}
 use Rattle.c25_tasks.specs.Running.{IsGivenFrom, IsGivenInput, ReadiesFrom, ReadiesInput, ReadiesOver, stdin}
