@@ -1,7 +1,7 @@
 -- A run that ends with status 0 or 3 is printed as its statements run and as the chain answers.
 use Rattle.std.proofs.Common.{◌≡◌, ◌∙◌, ap, inl, inr, refl, subst, sym, ℕ, Bool, List, [], ◌∷◌}
 use Rattle.std.specs.Io.KnownBytes.{Appends}
-use Rattle.std.specs.Prelude.{Option, Result, Ok, Err}
+use Rattle.std.specs.Prelude.{IfOk, Option, Result, Ok, Err}
 use Rattle.c25_chain.specs.Chain.{Given, given_of}
 use Rattle.c25_chain.specs.OutcomeText.{end_text, run_text}
 use Rattle.c25_chain.specs.Ready.{IsReady, statements_end}
@@ -13,10 +13,10 @@ use Rattle.c25_meaning_common.specs.declared.failure.Failure.TheVariants as fail
 use Rattle.c25_meaning_expansion.specs.Files.{Files}
 use Rattle.c25_report.specs.Ending.{IsShort, status_of}
 use Rattle.c25_report.specs.declared.ending.Ending.{Ending}
-use Rattle.c25_stream.specs.Run.{PrintsAnswer, PrintsStatements, PrintsText, TellsAnswer, TellsEnd}
+use Rattle.c25_stream.specs.Run.{PrintsAnswer, PrintsRun, PrintsStatements, PrintsText, TellsAnswer, TellsEnd}
 use Rattle.c25_words.specs.declared.task.RunFiles.{RunFiles}
 use Rattle.c25_tasks.specs.Running.{IsGivenFrom, IsGivenInput, ReadiesFrom, ReadiesInput, ReadiesOver, stdin}
-use Rattle.c25_tasks.specs.Tells.{IsReportOf, IsRun, IsRunOfAnswers, IsRunOfStatements, Printed, PrintsGiven, TellsRun}
+use Rattle.c25_tasks.specs.Tells.{IsOfSources, IsReportOf, IsRun, IsRunOfAnswers, IsRunOfStatements, Printed, PrintsGiven, TellsRun}
 use Rattle.c25_tasks.specs.declared.notes.Notes.{Notes}
 
 -- ---- other statuses
@@ -38,17 +38,28 @@ fault_failed held notes (failure.Fault f) e note (inr (short, none)) ran = short
 module _ (n : ℕ) (regs : Bool) (e : Ending) (note : List ℕ) (out : Printed) (ran : IsRun e) where
   whole_text : (text : List ℕ) (tells : Type 0) → PrintsText text tells e note out.0 out.1 → Appends out.0 out.1 text × tells
   whole_text text tells (inl printed) = printed
-  whole_text text tells (inr (is, rest)) = failed e (ap status_of is) ran
+  whole_text text tells (inr (is, none, front)) = failed e (ap status_of is) ran
 
   whole_statements : (given : Given) (ready : Ready) → IsReady given ready → PrintsStatements given ready n regs e note out.0 out.1 → IsRunOfStatements given n regs e note out
   whole_statements given ready is (inl printed) =
       let end = statements_end given ready n in
-      (ready, is, whole_text (end_text n end) (TellsEnd regs ready.built.linked.image ready.schedule n end e note) printed)
-  whole_statements given ready is (inr (short, rest)) = short_failed e short ran
+      let all = whole_text (end_text n end) (TellsEnd regs ready.built.linked.image ready.schedule n end e note) printed in
+      (ready, is, all.0, all.1)
+  whole_statements given ready is (inr (short, none, keeps)) = short_failed e short ran
 
   whole_answers : (given : Given) → PrintsAnswer given n regs e note out.0 out.1 → IsRunOfAnswers given n regs e note out
   whole_answers given (inl printed) chain a = whole_text (run_text chain) (TellsAnswer regs given n chain a e note) (printed chain a)
-  whole_answers given (inr (short, rest)) chain a = short_failed e short ran
+  whole_answers given (inr (short, none, keeps)) chain a = short_failed e short ran
+
+-- what is told of a program that is ready
+pub tells_ready : (held : Held) (notes : Notes) (n : ℕ) (regs : Bool) (answer : Result Ready Fault) (ready : Ready) (e : Ending) (note : List ℕ) (out : Printed) → answer ≡ Ok ready
+    → ((given : Given) → IsReady given ready → PrintsRun ready n regs e note out.0 out.1)
+    → ((given : Given) → IsReady given ready → PrintsStatements given ready n regs e note out.0 out.1)
+    → ((given : Given) → IsReady given ready → PrintsAnswer given n regs e note out.0 out.1)
+    → IfOk answer IsOfSources → TellsRun held notes n regs answer e note out
+tells_ready held notes n regs answer ready e note out is run statements answers =
+    subst (λ (a : Result Ready Fault). IfOk a IsOfSources → TellsRun held notes n regs a e note out) (sym is)
+    (λ of. (run of.0 of.1, λ given ready_of. (statements given ready_of, answers given ready_of)))
 
 -- what is ready is of something that is given so
 abbrev pub HasGiven : (Given → Type 0) → Result Ready Fault → Type 0
