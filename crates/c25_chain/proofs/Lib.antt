@@ -4,5 +4,6 @@ pub mod Ends
 pub mod Headline
 pub mod OneProgram
 pub mod OutputLines
+pub mod ReadyRuns
 pub mod Sourced
 pub mod Texts

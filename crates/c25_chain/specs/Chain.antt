@@ -25,6 +25,10 @@ pub record Given : Type 0 where
   pub samples : List ℕ
   pub schedule : List ℕ
 
+-- all of these
+abbrev pub given_of : Files → (names : List (List ℕ)) → (command samples schedule : List ℕ) → Given
+given_of files names command samples schedule = record { files = files; sources = names; command = command; samples = samples; schedule = schedule }
+
 -- ---- the texts beside its sources
 
 -- samples and the entries of a schedule

@@ -5,7 +5,7 @@ ghost use Rattle.c25_meaning_common.specs.Results.{MeetsBy, told};
 ghost use Rattle.c25_meaning_stimulus.specs.Samples.{samples_of};
 ghost use Rattle.c25_meaning_stimulus.specs.Schedule.{schedule_of};
 ghost use Rattle.c25_chain.specs.Refusal.{refusal_of};
-ghost use Rattle.c25_chain.specs.Chain.{Answers, run_of, texts_of};
+ghost use Rattle.c25_chain.specs.Chain.{Answers, given_of, run_of, texts_of};
 ghost use Rattle.c25_chain.specs.Headline.{CodeStays, HoldsSourceWords, MarksStatements, OfProgram, RunsAsSources, TellsStatementsRun};
 ghost use Rattle.c25_chain.specs.Linked as linked;
 ghost use Rattle.c25_chain.specs.Ready.{Readies};
@@ -91,7 +91,7 @@ pub fn make_ready(
     samples: &str,
     schedule: &str,
 ) -> Result<Ready, Fault>
-    ensures { Readies (record { files = files.now; sources = map string_bytes sources.now; command = command.now; samples = samples.now; schedule = schedule.now }) result }
+    ensures { Readies (given_of files.now (map string_bytes sources.now) command.now samples.now schedule.now) result }
 {
     let built = build(alloc, files, sources, command)?;
     let samples = samples_in(alloc, samples)?;
@@ -148,12 +148,12 @@ pub fn run_chain(
     schedule: &str,
     n: u32,
 ) -> Result<Chain, Fault>
-    ensures answer { Answers (record { files = files.now; sources = map string_bytes sources.now; command = command.now; samples = samples.now; schedule = schedule.now }) n result }
+    ensures answer { Answers (given_of files.now (map string_bytes sources.now) command.now samples.now schedule.now) n result }
     ensures hex_texts_hold_the_words { IfOk result (λ chain. OfProgram (HoldsSourceWords chain) files.now (map string_bytes sources.now) command.now chain) }
     ensures marks_are_statements { IfOk result (OfProgram MarksStatements files.now (map string_bytes sources.now) command.now) }
     ensures runs_agree { IfOk result (OfProgram RunsAsSources files.now (map string_bytes sources.now) command.now) }
     ensures code_stays { IfOk result (OfProgram CodeStays files.now (map string_bytes sources.now) command.now) }
-    ensures own_run_is_the_statements { IfOk result (TellsStatementsRun (record { files = files.now; sources = map string_bytes sources.now; command = command.now; samples = samples.now; schedule = schedule.now }) n) }
+    ensures own_run_is_the_statements { IfOk result (TellsStatementsRun (given_of files.now (map string_bytes sources.now) command.now samples.now schedule.now) n) }
 {
     answers_run_as_their_sources();
     let Ready {

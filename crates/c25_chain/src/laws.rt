@@ -1,16 +1,19 @@
 //! Laws of what the chain answers, each the contract of a function that calls the laws on which it
 //! rests and does nothing else.
 
-ghost use Rattle.std.specs.Prelude.{◌≡◌, List, ℕ};
+ghost use Rattle.std.specs.Prelude.{◌≡◌, ◌↔◌, List, ℕ};
 ghost use Rattle.c25_meaning_expansion.specs.Files.{Files};
 ghost use Rattle.c25_meaning_linking.specs.Linking.{ImageData};
+ghost use Rattle.c25_meaning_processor.specs.Run.{Ending};
 ghost use Rattle.c25_meaning_processor.specs.Statements.{IsImageOf};
 ghost use Rattle.c25_meaning_stimulus.specs.declared.sample.Sample.{Sample};
 ghost use Rattle.c25_chain.specs.Built.{IsBuilt};
 ghost use Rattle.c25_chain.specs.Chain.{Given, IsAnswer};
 ghost use Rattle.c25_chain.specs.Headline.{CodeStays, HoldsSourceWords, MarksStatements, OfProgram, RunsAsSources, TellsStatementsRun, first_state, source_statements};
 ghost use Rattle.c25_chain.specs.Linked.{LinkedTexts};
+ghost use Rattle.c25_chain.specs.Ready.{IsAnswerOf, IsReady, RunsReady, statements_end};
 ghost use Rattle.c25_chain.specs.declared.chain.Chain.{Chain};
+ghost use Rattle.c25_chain.specs.declared.ready.Ready.{Ready};
 
 use c25_cmd::laws::spelled_commands_keep_the_rules;
 use c25_hex::laws::written_texts_are_read_back;
@@ -22,7 +25,7 @@ use c25_linking_laws::laws::{
     modules_have_one_program, program_maps_have_their_form, program_words_have_16_bits,
 };
 use c25_module_laws::assembly_laws::sources_make_modules;
-use c25_run_laws::laws::steps_keep_the_words_of_code;
+use c25_run_laws::laws::{image_runs_as_statements, steps_keep_the_words_of_code, words_end_once};
 
 /// Sources and the text of a command come to one program at most: its words, its marks and its map
 /// are theirs alone, whatever the samples, the schedule and the number of steps are.
@@ -55,4 +58,23 @@ pub fn answers_run_as_their_sources()
     program_words_are_the_sources();
     linked_images_run_as_statements();
     steps_keep_the_words_of_code();
+}
+
+/// A program that is ready runs as its sources say: n steps of its words have one end, that of n steps of the
+/// statements of the sources.
+pub fn ready_programs_run_as_their_sources()
+    ensures { (g : Given) (ready : Ready) (n : ℕ) (end : Ending) → IsReady g ready → RunsReady ready n end ↔ (end ≡ statements_end g ready n) }
+{
+    answers_run_as_their_sources();
+    image_runs_as_statements();
+}
+
+/// A program that is ready runs as the chain answers: where n steps of its words end, that is the end of
+/// which each answer of the same texts tells outputs, registers, data memory, outcome and number of
+/// steps, and the text of that end is the answer's.
+pub fn ready_programs_run_as_answered()
+    ensures { (g : Given) (ready : Ready) (n : ℕ) (end : Ending) (c : Chain) → IsReady g ready → RunsReady ready n end → (a : IsAnswer g n c) → IsAnswerOf ready n end g c a }
+{
+    sources_have_one_program();
+    words_end_once();
 }

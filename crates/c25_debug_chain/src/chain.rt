@@ -1,6 +1,7 @@
 //! The chain to the debugger: from the texts of sources to the answers of a script.
 
 ghost use Rattle.std.specs.Prelude.{◌≡◌, IfOk, map, string_bytes, true};
+ghost use Rattle.c25_chain.specs.Chain.{given_of};
 ghost use Rattle.c25_debug_chain.specs.Debug.{Debugs, TellsStatements};
 ghost use Rattle.c25_meaning_debugger.specs.Debugger.{AnswersScript};
 ghost use Rattle.c25_meaning_image.specs.Marks.{fit_from, run_fit};
@@ -61,8 +62,8 @@ pub fn debug_chain(
     schedule: &str,
     script: &str,
 ) -> Result<String, Fault>
-    ensures answer { Debugs (record { files = files.now; sources = map string_bytes sources.now; command = command.now; samples = samples.now; schedule = schedule.now }) script.now result }
-    ensures debugger_agrees { IfOk result (TellsStatements (record { files = files.now; sources = map string_bytes sources.now; command = command.now; samples = samples.now; schedule = schedule.now }) script.now) }
+    ensures answer { Debugs (given_of files.now (map string_bytes sources.now) command.now samples.now schedule.now) script.now result }
+    ensures debugger_agrees { IfOk result (TellsStatements (given_of files.now (map string_bytes sources.now) command.now samples.now schedule.now) script.now) }
 {
     answers_run_as_their_sources();
     debuggers_answer_alike();

@@ -1,3 +1,4 @@
+pub mod Answered
 pub mod Joined
 pub mod Looped
 pub mod OutputLines

@@ -1,32 +1,25 @@
 -- What is told of a run that was printed.
-use Rattle.std.proofs.Common.{◌≡◌, ◌∙◌, ℕ, Bool, true, List, [], Option, None, Some, ap, inl, inr, map, refl, subst, sym, string_bytes}
+use Rattle.std.proofs.Common.{◌≡◌, ◌↔◌, ◌∙◌, ℕ, Bool, true, List, [], Option, None, Some, ap, inl, inr, refl, subst, sym}
 use Rattle.std.specs.FinMap as finite
 use Rattle.std.specs.Ordering.{nat_cmp}
 use Rattle.c25_board.specs.declared.board.Outcome.{Outcome}
-use Rattle.c25_chain.proofs.Answered.{is_built}
-use Rattle.c25_chain.specs.Built.{IsBuilt}
 use Rattle.c25_chain.specs.Chain.{Given}
-use Rattle.c25_chain.specs.Headline.{first_state, source_statements}
-use Rattle.c25_chain.specs.Linked as linked
-use Rattle.c25_chain.specs.Linked.{LinkedTexts}
+use Rattle.c25_chain.specs.Headline.{first_state}
 use Rattle.c25_chain.specs.OutcomeText.{outcome_of, steps_of}
-use Rattle.c25_chain.specs.Ready.{IsReady}
+use Rattle.c25_chain.specs.Ready.{IsReady, RunsReady, statements_end}
 use Rattle.c25_chain.specs.Run.{last_state}
 use Rattle.c25_chain.specs.declared.ready.Ready.{Ready}
 use Rattle.c25_debug_chain.specs.Inspection.{TellsWhere}
 use Rattle.c25_meaning_debugger.specs.Debugger.{IsFetchedLine, IsWhereBy, Point}
-use Rattle.c25_meaning_expansion.specs.Files.{Files}
 use Rattle.c25_meaning_image.specs.declared.mark.RunMark.{RunMark}
 use Rattle.c25_meaning_instructions.specs.declared.insn.Insn.{Insn}
 use Rattle.c25_meaning_linking.specs.Linking.{ImageData}
 use Rattle.c25_meaning_processor.specs.FirstState.{first_of_pages}
-use Rattle.c25_meaning_processor.specs.Run.{Ending, Runs, run_of}
+use Rattle.c25_meaning_processor.specs.Run.{Ending}
 use Rattle.c25_meaning_processor.specs.State.{State, World}
-use Rattle.c25_meaning_processor.specs.Statements.{IsImageOf, RunsAsStatements, Statements, statement_step}
-use Rattle.c25_meaning_processor.specs.WordStep.{IsFetchedBy, WordStep, mark_found}
+use Rattle.c25_meaning_processor.specs.WordStep.{IsFetchedBy, mark_found}
 use Rattle.c25_meaning_stimulus.specs.Samples.{samples_at}
 use Rattle.c25_meaning_stimulus.specs.Signals.{signals_of}
-use Rattle.c25_meaning_stimulus.specs.declared.sample.Sample.{Sample}
 use Rattle.c25_meaning_stimulus.specs.declared.schedule.Entry.{Entry}
 use Rattle.c25_output_laws.specs.Behind.{behind, world_behind}
 use Rattle.c25_report.specs.Ending as report
@@ -70,33 +63,23 @@ reports_end fetched regs image entries steps s o e text asked is where_is n end 
 
 -- ---- the run of a program that is ready
 
-abbrev pub FirstStates : Type 0
-FirstStates =
-    (files : Files) (names : List (List ℕ)) (command : List ℕ) (image : ImageData) (texts : LinkedTexts) (listings : List (List ℕ)) (samples : List Sample)
-    → IsBuilt files names command image texts listings → IsImageOf (source_statements files names image.described) (first_state image samples).world
+-- a program that is ready runs as its sources say
+abbrev pub RunsAsSaid : Type 0
+RunsAsSaid = (g : Given) (ready : Ready) (n : ℕ) (end : Ending) → IsReady g ready → RunsReady ready n end ↔ (end ≡ statements_end g ready n)
 
-abbrev pub RunAlike : Type 0
-RunAlike = (statements : Statements) (s : State) → IsImageOf statements s.world → RunsAsStatements statements s
-
-module _ (first : FirstStates) (alike : RunAlike) (joins : Joins) (put : PutFew) (once : EndOnce) (ready : Ready) (n : ℕ) (regs : Bool) (e : report_ending.Ending) (note : List ℕ) (old new : Option (List ℕ)) (given : Given) (is : IsReady given ready) where
+module _ (said : RunsAsSaid) (joins : Joins) (put : PutFew) (once : EndOnce) (ready : Ready) (n : ℕ) (regs : Bool) (e : report_ending.Ending) (note : List ℕ) (old new : Option (List ℕ)) (given : Given) (is : IsReady given ready) where
   abbrev pub image : ImageData
   image = ready.built.linked.image
 
   abbrev pub begin : State
   begin = first_state image ready.samples
 
-  abbrev pub statements : Statements
-  statements = source_statements given.files given.sources image.described
-
   abbrev pub end : Ending
-  end = run_of (statement_step statements) (signals_of ready.schedule) 0 n begin
+  end = statements_end given ready n
 
   -- the run has an end
-  ends : Runs WordStep (signals_of ready.schedule) 0 n begin end
-  ends =
-      let built = is_built given.files given.sources given.command ready.built is.built in
-      let holds = first given.files given.sources given.command image (linked.texts_of ready.built.linked) (map string_bytes ready.built.listings.items) ready.samples built in
-      (alike statements begin holds (signals_of ready.schedule) 0 n end).1 refl
+  ends : RunsReady ready n end
+  ends = (said given ready n end is).1 refl
 
   from_first : PrintsFrom regs image ready.schedule n begin e note old new → PrintsRun ready n regs e note old new
   from_first (inl (last, run, printed, told)) = inl (last, run, inl (printed, told))

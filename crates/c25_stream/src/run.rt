@@ -12,14 +12,14 @@ ghost use Rattle.c25_meaning_processor.specs.Run as runs;
 ghost use Rattle.c25_meaning_stimulus.specs.Samples.{samples_at};
 ghost use Rattle.c25_output_laws.specs.Behind.{behind};
 ghost use Rattle.c25_stream.specs.Printed.{IsFresh};
-ghost use Rattle.c25_stream.specs.Run.{PrintsFrom, PrintsRun, TellsEnd};
+ghost use Rattle.c25_stream.specs.Run.{PrintsAnswer, PrintsFrom, PrintsRun, PrintsStatements, TellsEnd};
 
 use crate::batch::Batch;
 use crate::printing::{BatchBoard, print_board};
 use c25_board::board::{Board, Outcome};
 use c25_board::samples::Samples;
 use c25_board::schedule::Schedule;
-use c25_chain::laws::answers_run_as_their_sources;
+use c25_chain::laws::{ready_programs_run_as_answered, ready_programs_run_as_their_sources};
 use c25_chain::linked::Linked;
 use c25_chain::ready::Ready;
 use c25_debug_chain::where_it_stands;
@@ -28,7 +28,7 @@ use c25_meaning_common::no_memory::NoMemory;
 use c25_output_laws::laws::{outputs_have_no_part_in_runs, steps_put_one_output_at_most};
 use c25_report::ending::{Ending, Report};
 use c25_report::printing::ending_of;
-use c25_run_laws::laws::{image_runs_as_statements, two_runs_are_one, words_end_once};
+use c25_run_laws::laws::{two_runs_are_one, words_end_once};
 use std::alloc::Global;
 use std::io::Write;
 
@@ -113,12 +113,19 @@ fn print_linked<O: Write>(
 ///
 /// Where the registers are asked for, the note tells where the board stands behind the run: what a debugger
 /// answers to `regs`, and then to `where`. Memory may be refused for it behind the printed run.
+///
+/// What is printed and told is the run of the statements of the sources, and what `run_chain` answers of the
+/// same texts: its outputs, its outcome and its number of steps, and its registers.
 pub fn print_run<O: Write>(alloc: Global, ready: Ready, n: u32, regs: bool, out: &mut O) -> Report
-    ensures { (given : Given) → IsReady given ready
+    ensures run { (given : Given) → IsReady given ready
         → PrintsRun ready n regs result.ending (string_bytes result.note) (O.contents out.old) (O.contents out.new) }
+    ensures statements { (given : Given) → IsReady given ready
+        → PrintsStatements given ready n regs result.ending (string_bytes result.note) (O.contents out.old) (O.contents out.new) }
+    ensures answer { (given : Given) → IsReady given ready
+        → PrintsAnswer given n regs result.ending (string_bytes result.note) (O.contents out.old) (O.contents out.new) }
 {
-    answers_run_as_their_sources();
-    image_runs_as_statements();
+    ready_programs_run_as_their_sources();
+    ready_programs_run_as_answered();
     steps_put_one_output_at_most();
     two_runs_are_one();
     words_end_once();

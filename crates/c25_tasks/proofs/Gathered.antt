@@ -4,6 +4,7 @@ use Rattle.std.proofs.lemmas.List.Elements.{All-nil}
 use Rattle.std.specs.Prelude.{IfOk, Option, Result, Ok, Err}
 use Rattle.std.specs.Result.{IsErrAnd}
 use Rattle.c25_chain.specs.Built.{Builds}
+use Rattle.c25_chain.specs.Chain.{given_of}
 use Rattle.c25_chain.specs.Refusal.{Fault}
 use Rattle.c25_chain.specs.declared.built.Built.{Built}
 use Rattle.c25_chain.specs.Ready.{Readies}
@@ -13,10 +14,9 @@ use Rattle.c25_meaning_expansion.specs.Files.{Files}
 use Rattle.c25_meaning_common.specs.Results.{IsNoMemory}
 use Rattle.c25_meaning_common.specs.declared.failure.Failure.TheVariants as failure
 use Rattle.c25_tasks.specs.Building.{BuildsOver}
-use Rattle.c25_words.specs.Task.{text_of}
 use Rattle.c25_words.specs.declared.task.RunFiles.{RunFiles}
 use Rattle.c25_tasks.specs.Files.{ComesTo, FailsWith, IsUnread}
-use Rattle.c25_tasks.specs.Running.{ReadiesFrom, ReadiesInput, ReadiesOver, ReadiesText, given_with, stdin}
+use Rattle.c25_tasks.specs.Running.{ReadiesFrom, ReadiesInput, ReadiesOver, ReadiesText, stdin}
 use Rattle.c25_tasks.specs.Tells.{IsOfSources}
 
 abbrev is_held : Held → List ℕ × List ℕ → Type 0
@@ -60,7 +60,7 @@ readies_over held given names sources command samples schedule command_shown sam
 
 pub readies_short : (held : Held) (given : Files) (names : List (List ℕ)) (command samples schedule : List ℕ) (fault : Fault) → IsNoMemory fault → ReadiesOver held given names command samples schedule (Err fault)
 readies_short held given names command samples schedule fault short =
-    over_short held given (λ all result. Readies (given_with all names (record { command = command; samples = samples; schedule = schedule })) result) fault short
+    over_short held given (λ all result. Readies (given_of all names command samples schedule) result) fault short
 
 pub readies_told : (held : Held) (given : Files) (names : List (List ℕ)) (command samples schedule : List ℕ) (answer : Result Ready Fault) → IsErrAnd answer IsNoMemory → ReadiesOver held given names command samples schedule answer
 readies_told held given names command samples schedule (Ok ready) short = absurd short
@@ -69,7 +69,7 @@ readies_told held given names command samples schedule (Err fault) short = readi
 -- what is ready is a program of sources
 of_sources : (held : Held) (given : Files) (names : List (List ℕ)) (command samples schedule : List ℕ) (answer : Result Ready Fault) → ReadiesOver held given names command samples schedule answer → IfOk answer IsOfSources
 of_sources held given names command samples schedule (Ok ready) (Ok told, (files, copied, is), same) =
-    subst IsOfSources (sym same) (given_with files names (record { command = command; samples = samples; schedule = schedule }), is)
+    subst IsOfSources (sym same) (given_of files names command samples schedule, is)
 of_sources held given names command samples schedule (Ok ready) (Err failure, over, same) = absurd same
 of_sources held given names command samples schedule (Err fault) comes = tt
 

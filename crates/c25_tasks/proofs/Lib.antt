@@ -2,6 +2,7 @@ pub mod Unread
 pub mod Quiet
 pub mod Noted
 pub mod Gathered
+pub mod Answered
 pub mod Debugged
 pub mod Done
 pub mod Joined

@@ -1,6 +1,7 @@
 -- Sessions of the debugger with sources from a disk.
 use Rattle.std.specs.Prelude.{ℕ, List, Result, String}
 use Rattle.std.specs.declared.alloc.Global.{Global}
+use Rattle.c25_chain.specs.Chain.{given_of}
 use Rattle.c25_chain.specs.Refusal.{Fault}
 use Rattle.c25_debug_chain.specs.Debug.{Debugs}
 use Rattle.c25_disk.specs.Held.{Held}
@@ -9,7 +10,6 @@ use Rattle.c25_report.specs.declared.ending.Ending.{Ending}
 use Rattle.c25_words.specs.Task.{text_of}
 use Rattle.c25_words.specs.declared.task.RunFiles.{RunFiles}
 use Rattle.c25_tasks.specs.Files.{AfterNamed, AfterOptional, AfterSources, ComesTo}
-use Rattle.c25_tasks.specs.Running.{given_with}
 use Rattle.c25_tasks.specs.Tells.{Printed, TellsAnswers}
 use Rattle.c25_tasks.specs.declared.notes.Notes.{Notes}
 
@@ -17,7 +17,7 @@ use Rattle.c25_tasks.specs.declared.notes.Notes.{Notes}
 -- them; or why there are none
 abbrev pub DebugsOver : Held → Files → List (List ℕ) → (command samples schedule script : List ℕ) → Result (String Global) Fault → Type 0
 DebugsOver held given names command samples schedule script answer =
-    ComesTo held given (λ all result. Debugs (given_with all names (record { command = command; samples = samples; schedule = schedule })) script result) answer
+    ComesTo held given (λ all result. Debugs (given_of all names command samples schedule) script result) answer
 
 -- the same of files on a disk, which are read in this order
 abbrev pub DebugsFrom : Held → List (List ℕ) → (script : List ℕ) → RunFiles → Result (String Global) Fault → Type 0

@@ -1,42 +1,27 @@
 -- Runs of sources from a disk and from standard input.
-use Rattle.std.specs.Prelude.{◌⊎◌, ℕ, Bool, false, List, [], ◌∷◌, codes, Option, Result}
-use Rattle.c25_chain.specs.Chain.{Given}
+use Rattle.std.specs.Prelude.{◌≡◌, ◌⊎◌, ℕ, Bool, false, List, [], ◌∷◌, codes, Option, Result, Ok}
+use Rattle.c25_chain.specs.Chain.{Given, given_of}
 use Rattle.c25_chain.specs.Ready.{Readies}
 use Rattle.c25_chain.specs.Refusal.{Fault}
 use Rattle.c25_chain.specs.declared.ready.Ready.{Ready}
+use Rattle.c25_disk.specs.Copies.{HasCopied}
 use Rattle.c25_disk.specs.Held.{Held, IsAllOf}
 use Rattle.c25_meaning_expansion.specs.Files.{Files}
 use Rattle.c25_report.specs.declared.ending.Ending.{Ending}
 use Rattle.c25_words.specs.Task.{text_of}
 use Rattle.c25_words.specs.declared.task.RunFiles.{RunFiles}
-use Rattle.c25_tasks.specs.Files.{AfterOptional, AfterSources, ComesTo, FailsWith, IsUnread}
-use Rattle.c25_tasks.specs.Tells.{Printed, TellsRun}
+use Rattle.c25_tasks.specs.Files.{AfterOptional, AfterSources, ComesTo, FailsWith, IsOptional, IsUnread, ReadsAll}
+use Rattle.c25_tasks.specs.Tells.{Printed, PrintsGiven, TellsRun}
 use Rattle.c25_tasks.specs.declared.notes.Notes.{Notes}
 use Rattle.c25_tasks.specs.declared.notes.Notes.TheVariants.{Nothing}
 
 -- ---- sources on a disk
 
--- the texts of the files beside the sources
-pub record Beside : Type 0 where
-  pub command : List ℕ
-  pub samples : List ℕ
-  pub schedule : List ℕ
-
--- what the chain is given of files
-abbrev pub given_with : Files → List (List ℕ) → Beside → Given
-given_with files names beside = record {
-  files = files;
-  sources = names;
-  command = beside.command;
-  samples = beside.samples;
-  schedule = beside.schedule;
-}
-
 -- what is ready to be run of the sources of names among given files and those that they copy, under these texts beside them; or why
 -- nothing is
 abbrev pub ReadiesOver : Held → Files → List (List ℕ) → (command samples schedule : List ℕ) → Result Ready Fault → Type 0
 ReadiesOver held given names command samples schedule answer =
-    ComesTo held given (λ all result. Readies (given_with all names (record { command = command; samples = samples; schedule = schedule })) result) answer
+    ComesTo held given (λ all result. Readies (given_of all names command samples schedule) result) answer
 
 -- the same of files on a disk, which are read in this order
 abbrev pub ReadiesFrom : Held → List (List ℕ) → RunFiles → Result Ready Fault → Type 0
@@ -46,10 +31,21 @@ ReadiesFrom held names files answer =
     AfterOptional held (text_of files.samples) (λ samples.
     AfterOptional held (text_of files.schedule) (ReadiesOver held given names command samples)))) answer
 
+-- what the chain is given of them: the sources of names and the files that they copy, and the texts beside them
+pub record IsGivenFrom (held : Held) (names : List (List ℕ)) (files : RunFiles) (given : Given) : Type 0 where
+  pub named : Files
+  pub read : ReadsAll held names (Ok named)
+  pub copied : HasCopied held named 256 given.files
+  pub sources : given.sources ≡ names
+  pub command : IsOptional held (text_of files.command) given.command
+  pub samples : IsOptional held (text_of files.samples) given.samples
+  pub schedule : IsOptional held (text_of files.schedule) given.schedule
+
 -- what is done with the sources of names
 abbrev pub RunsTold : Held → Notes → List (List ℕ) → ℕ → (regs : Bool) → RunFiles → Ending → (note : List ℕ) → Printed → Type 0
 RunsTold held notes names steps regs files e note out =
-    (answer : Result Ready Fault) × ReadiesFrom held names files answer × TellsRun held notes steps regs answer e note out
+    ((answer : Result Ready Fault) × ReadiesFrom held names files answer × TellsRun held notes steps regs answer e note out)
+    × PrintsGiven (IsGivenFrom held names files) steps regs e note out
 
 -- ---- standard input
 
@@ -65,6 +61,15 @@ ReadiesText held text answer = ReadiesOver held ((stdin, text) ∷ []) (stdin �
 abbrev pub ReadiesInput : Held → Option (List ℕ) → Result Ready Fault → Type 0
 ReadiesInput held input answer = ((text : List ℕ) × IsAllOf input text × ReadiesText held text answer) ⊎ FailsWith answer (IsUnread stdin)
 
+-- what the chain is given of it: that source and the files that it copies, and nothing beside it
+pub record IsGivenInput (held : Held) (input : Option (List ℕ)) (given : Given) : Type 0 where
+  pub text : List ℕ
+  pub read : IsAllOf input text
+  pub copied : HasCopied held ((stdin, text) ∷ []) 256 given.files
+  pub alone : given ≡ given_of given.files (stdin ∷ []) [] [] []
+
 -- what is done with standard input as the source: 1,000 steps of it are run
 abbrev pub Runs : Held → Option (List ℕ) → Ending → (note : List ℕ) → Printed → Type 0
-Runs held input e note out = (answer : Result Ready Fault) × ReadiesInput held input answer × TellsRun held Nothing 1000 false answer e note out
+Runs held input e note out =
+    ((answer : Result Ready Fault) × ReadiesInput held input answer × TellsRun held Nothing 1000 false answer e note out)
+    × PrintsGiven (IsGivenInput held input) 1000 false e note out

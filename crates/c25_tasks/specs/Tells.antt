@@ -1,12 +1,14 @@
 -- What the program prints and writes of answers, and what it comes to.
 use Rattle.std.specs.Prelude.{◌≡◌, ◌⊎◌, ℕ, Bool, List, [], map, Option, Result, Ok, Err, String, Vec}
-use Rattle.std.specs.Io.KnownBytes.{Keeps}
+use Rattle.std.specs.Io.KnownBytes.{Appends, Keeps}
 use Rattle.std.specs.String.{string_bytes}
 use Rattle.std.specs.declared.alloc.Global.{Global}
 use Rattle.c25_chain.specs.FaultText.{fault_text}
-use Rattle.c25_chain.specs.Chain.{Given}
-use Rattle.c25_chain.specs.Ready.{IsReady}
+use Rattle.c25_chain.specs.Chain.{Given, IsAnswer}
+use Rattle.c25_chain.specs.OutcomeText.{end_text, run_text}
+use Rattle.c25_chain.specs.Ready.{IsReady, statements_end}
 use Rattle.c25_chain.specs.Refusal.{Fault, IsRefusedAs}
+use Rattle.c25_chain.specs.declared.chain.Chain.{Chain}
 use Rattle.c25_chain.specs.declared.fault.Refusal.TheVariants.{File}
 use Rattle.c25_chain.specs.declared.ready.Ready.{Ready}
 use Rattle.c25_disk.specs.Held.{Adds, Held, Stay}
@@ -15,10 +17,10 @@ use Rattle.c25_disk.specs.declared.fault.FileFault.TheVariants.{CannotWrite}
 use Rattle.c25_disk.specs.declared.writing.Output.{Output}
 use Rattle.c25_meaning_common.specs.declared.failure.Failure.TheVariants as failure
 use Rattle.c25_meaning_expansion.specs.Files.{Files}
-use Rattle.c25_report.specs.Ending.{IsPrinted, IsShort}
+use Rattle.c25_report.specs.Ending.{IsPrinted, IsShort, status_of}
 use Rattle.c25_report.specs.declared.ending.Ending.{Ending}
 use Rattle.c25_report.specs.declared.ending.Ending.TheVariants as ending
-use Rattle.c25_stream.specs.Run.{PrintsRun}
+use Rattle.c25_stream.specs.Run.{PrintsAnswer, PrintsRun, PrintsStatements, TellsAnswer, TellsEnd}
 use Rattle.c25_tasks.specs.Notes.{IsNoted}
 use Rattle.c25_tasks.specs.declared.notes.Notes.{Notes}
 
@@ -56,10 +58,31 @@ IsReportOf held notes (failure.Fault f) e note = (HasFault (fault_text (failure.
 abbrev pub IsOfSources : Ready → Type 0
 IsOfSources ready = (g : Given) × IsReady g ready
 
--- what n steps of a program come to, or why there is none: they are printed as they go, and of a fault nothing goes to standard output
+-- what n steps of a program come to, or why there is none: they are printed as they go, and as the statements of its sources run and the
+-- chain answers, of whatever sources the program is; and of a fault nothing goes to standard output
 abbrev pub TellsRun : Held → Notes → ℕ → (regs : Bool) → Result Ready Fault → Ending → (note : List ℕ) → Printed → Type 0
-TellsRun held notes n regs (Ok ready) e note out = PrintsRun ready n regs e note out.0 out.1
+TellsRun held notes n regs (Ok ready) e note out =
+    PrintsRun ready n regs e note out.0 out.1
+    × ((given : Given) → IsReady given ready → PrintsStatements given ready n regs e note out.0 out.1 × PrintsAnswer given n regs e note out.0 out.1)
 TellsRun held notes n regs (Err fault) e note out = IsReportOf held notes fault e note × Keeps out.0 out.1
+
+-- it ends with status 0, or with 3, as a run that left the code
+abbrev pub IsRun : Ending → Type 0
+IsRun e = (status_of e ≡ 0) ⊎ (status_of e ≡ 3)
+
+-- behind what stood on standard output stands the text of n steps of the statements of the sources, and what is told is told of their end
+abbrev pub IsRunOfStatements : Given → ℕ → (regs : Bool) → Ending → (note : List ℕ) → Printed → Type 0
+IsRunOfStatements given n regs e note out =
+    (ready : Ready) × IsReady given ready × Appends out.0 out.1 (end_text n (statements_end given ready n))
+    × TellsEnd regs ready.built.linked.image ready.schedule n (statements_end given ready n) e note
+
+-- there stands the text of each answer that the chain has, and what is told is told of it
+abbrev pub IsRunOfAnswers : Given → ℕ → (regs : Bool) → Ending → (note : List ℕ) → Printed → Type 0
+IsRunOfAnswers given n regs e note out = (chain : Chain) → (a : IsAnswer given n chain) → Appends out.0 out.1 (run_text chain) × TellsAnswer regs given n chain a e note
+
+-- where it ends with these statuses, n steps of something that is given so are printed: as its statements run, and as the chain answers
+abbrev pub PrintsGiven : (Given → Type 0) → ℕ → (regs : Bool) → Ending → (note : List ℕ) → Printed → Type 0
+PrintsGiven is_given n regs e note out = IsRun e → (given : Given) × is_given given × IsRunOfStatements given n regs e note out × IsRunOfAnswers given n regs e note out
 
 -- what the answers of a debugger come to: they go to standard output, and of a fault nothing does
 abbrev pub TellsAnswers : Held → Notes → Result (String Global) Fault → Ending → (note : List ℕ) → Printed → Type 0

@@ -6,7 +6,7 @@ ghost use Rattle.c25_chain.specs.Built.{Builds};
 ghost use Rattle.c25_chain.specs.Ready.{Readies};
 ghost use Rattle.c25_debug_chain.specs.Debug.{Debugs};
 ghost use Rattle.c25_tasks.specs.Files.{ComesTo, missing_name};
-ghost use Rattle.c25_tasks.specs.View.{debugged_of, given_of};
+ghost use Rattle.c25_tasks.specs.View.{debugged_of, readied_of};
 
 use crate::files::{fault_of_copies, missing_name};
 use c25_chain::built::Built;
@@ -63,13 +63,13 @@ pub(crate) struct Run<'a> {
 impl<'a> Work for Run<'a> {
     ghost use Rattle.c25_chain.specs.Ready.{Readies};
     ghost use Rattle.c25_tasks.specs.Files.{missing_name};
-    ghost use Rattle.c25_tasks.specs.View.{given_of};
+    ghost use Rattle.c25_tasks.specs.View.{readied_of};
 
     type Answer = Ready;
 
     type Fault = Refusal<String>;
 
-    ghost comes_to = { λ work files result. Readies (given_of files work) result };
+    ghost comes_to = { λ work files result. Readies (readied_of files work) result };
 
     ghost missing_of = { missing_name };
 
@@ -155,7 +155,7 @@ pub(crate) fn ready_over<D: Disk>(
     files: Files,
     work: &Run<'_>,
 ) -> Result<Ready, Fault>
-    ensures { ComesTo (D.bytes_of disk.now) files (λ given result. Readies (given_of given work.now) result) result }
+    ensures { ComesTo (D.bytes_of disk.now) files (λ given result. Readies (readied_of given work.now) result) result }
 {
     match with_copies(alloc, disk, files, work) {
         Ok(ready) => Ok(ready),

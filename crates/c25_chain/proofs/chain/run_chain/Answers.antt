@@ -1,5 +1,5 @@
 use Rattle.std.proofs.Common.{string_bytes, map}
-use Rattle.c25_chain.specs.Chain.{Given}
+use Rattle.c25_chain.specs.Chain.{given_of}
 use Rattle.c25_chain.proofs.Answered.{answered, growth_refused}
 use Rattle.c25_chain.proofs.chain.run_chain.Goals as goal
 
@@ -8,7 +8,7 @@ returns-in_err-done-clause-answer c = growth_refused _ c.args.n c.from_residual-
 
 pub returns-clause-answer : goal.returns-clause-answer
 returns-clause-answer c =
-    let g : Given = record { files = c.args.files.now; sources = map string_bytes c.args.sources.now; command = c.args.command.now; samples = c.args.samples.now; schedule = c.args.schedule.now } in
+    let g = given_of c.args.files.now (map string_bytes c.args.sources.now) c.args.command.now c.args.samples.now c.args.schedule.now in
     answered g c.args.n c.in_ok-built.field-0.built c.in_ok-done.done c.chain_of.result c.in_ok-built.field-0.samples c.in_ok-built.field-0.schedule (c.in_ok-built.ensures).built (c.in_ok-built.ensures).read
     c.in_ok-done.ensures c.chain_of.ensures.texts c.chain_of.ensures.listings c.chain_of.ensures.run
 

@@ -1,10 +1,17 @@
+use Rattle.std.proofs.Common.{string_bytes}
 use Rattle.c25_words.specs.Task.{texts_of}
+use Rattle.c25_tasks.proofs.Answered.{answered, given_from}
 use Rattle.c25_tasks.proofs.Gathered.{of_files}
+use Rattle.c25_tasks.specs.Running.{IsGivenFrom}
 use Rattle.c25_tasks.proofs.running.run_sources.Goals as goal
 
 pub returns : goal.returns
-returns g c = (
-  c.answer-told.result,
-  c.answer-told.ensures,
-  c.report_run.ensures (of_files (g.D.Disk.bytes_of c.args.disk.now) (texts_of c.args.sources.now) c.args.beside c.answer-told.result c.answer-told.ensures),
-)
+returns g c =
+    let held = g.D.Disk.bytes_of c.args.disk.now in
+    let names = texts_of c.args.sources.now in
+    let beside = c.args.beside in
+    let told = c.answer-told.result in
+    let tells = c.report_run.ensures (of_files held names beside told c.answer-told.ensures) in (
+      (told, c.answer-told.ensures, tells),
+      answered held c.args.notes (IsGivenFrom held names beside) c.args.steps c.args.regs told c.report_run.result.ending (string_bytes c.report_run.result.note) _ (given_from held names beside told c.answer-told.ensures) tells,
+    )

@@ -1,9 +1,16 @@
+use Rattle.std.proofs.Common.{false, string_bytes}
+use Rattle.c25_tasks.proofs.Answered.{answered, given_input}
 use Rattle.c25_tasks.proofs.Gathered.{of_input}
+use Rattle.c25_tasks.specs.Running.{IsGivenInput}
+use Rattle.c25_tasks.specs.declared.notes.Notes.TheVariants.{Nothing}
 use Rattle.c25_tasks.proofs.standard_input.run_standard_input.Goals as goal
 
 pub returns : goal.returns
-returns g c = (
-  c.answer-told.result,
-  c.answer-told.ensures,
-  c.report_run.ensures (of_input (g.D.Disk.bytes_of c.args.disk.now) (g.R.Read.remaining c.args.input.now) c.answer-told.result c.answer-told.ensures),
-)
+returns g c =
+    let held = g.D.Disk.bytes_of c.args.disk.now in
+    let input = g.R.Read.remaining c.args.input.now in
+    let told = c.answer-told.result in
+    let tells = c.report_run.ensures (of_input held input told c.answer-told.ensures) in (
+      (told, c.answer-told.ensures, tells),
+      answered held Nothing (IsGivenInput held input) 1000 false told c.report_run.result.ending (string_bytes c.report_run.result.note) _ (given_input held input told c.answer-told.ensures) tells,
+    )

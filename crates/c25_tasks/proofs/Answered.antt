@@ -1,0 +1,102 @@
+-- A run that ends with status 0 or 3 is printed as its statements run and as the chain answers.
+use Rattle.std.proofs.Common.{◌≡◌, ◌∙◌, ap, inl, inr, refl, subst, sym, ℕ, Bool, List, [], ◌∷◌}
+use Rattle.std.specs.Io.KnownBytes.{Appends}
+use Rattle.std.specs.Prelude.{IfOk, Option, Result, Ok, Err}
+use Rattle.c25_chain.specs.Chain.{Given, given_of}
+use Rattle.c25_chain.specs.OutcomeText.{end_text, run_text}
+use Rattle.c25_chain.specs.Ready.{IsReady, statements_end}
+use Rattle.c25_chain.specs.Refusal.{Fault}
+use Rattle.c25_chain.specs.declared.ready.Ready.{Ready}
+use Rattle.c25_disk.specs.Copies.{HasCopied}
+use Rattle.c25_disk.specs.Held.{Held}
+use Rattle.c25_meaning_common.specs.declared.failure.Failure.TheVariants as failure
+use Rattle.c25_meaning_expansion.specs.Files.{Files}
+use Rattle.c25_report.specs.Ending.{IsShort, status_of}
+use Rattle.c25_report.specs.declared.ending.Ending.{Ending}
+use Rattle.c25_stream.specs.Run.{PrintsAnswer, PrintsRun, PrintsStatements, PrintsText, TellsAnswer, TellsEnd}
+use Rattle.c25_words.specs.declared.task.RunFiles.{RunFiles}
+use Rattle.c25_tasks.specs.Running.{IsGivenFrom, IsGivenInput, ReadiesFrom, ReadiesInput, ReadiesOver, stdin}
+use Rattle.c25_tasks.specs.Tells.{IsOfSources, IsReportOf, IsRun, IsRunOfAnswers, IsRunOfStatements, Printed, PrintsGiven, TellsRun}
+use Rattle.c25_tasks.specs.declared.notes.Notes.{Notes}
+
+-- ---- other statuses
+
+failed : {P : Type 0} (e : Ending) → status_of e ≡ 1 → IsRun e → P
+failed e one (inl none) = let clash = sym one ∙ none in absurd cc
+failed e one (inr three) = let clash = sym one ∙ three in absurd cc
+
+short_failed : {P : Type 0} (e : Ending) → IsShort e → IsRun e → P
+short_failed e (n, is) ran = failed e (ap status_of is) ran
+
+fault_failed : {P : Type 0} (held : Held) (notes : Notes) (fault : Fault) (e : Ending) (note : List ℕ) → IsReportOf held notes fault e note → IsRun e → P
+fault_failed held notes (failure.NoMemory n) e note (is, none) ran = failed e (ap status_of is) ran
+fault_failed held notes (failure.Fault f) e note (inl ((line, is, text), noted)) ran = failed e (ap status_of is) ran
+fault_failed held notes (failure.Fault f) e note (inr (short, none)) ran = short_failed e short ran
+
+-- ---- what is printed
+
+module _ (n : ℕ) (regs : Bool) (e : Ending) (note : List ℕ) (out : Printed) (ran : IsRun e) where
+  whole_text : (text : List ℕ) (tells : Type 0) → PrintsText text tells e note out.0 out.1 → Appends out.0 out.1 text × tells
+  whole_text text tells (inl printed) = printed
+  whole_text text tells (inr (is, none, front)) = failed e (ap status_of is) ran
+
+  whole_statements : (given : Given) (ready : Ready) → IsReady given ready → PrintsStatements given ready n regs e note out.0 out.1 → IsRunOfStatements given n regs e note out
+  whole_statements given ready is (inl printed) =
+      let end = statements_end given ready n in
+      let all = whole_text (end_text n end) (TellsEnd regs ready.built.linked.image ready.schedule n end e note) printed in
+      (ready, is, all.0, all.1)
+  whole_statements given ready is (inr (short, none, keeps)) = short_failed e short ran
+
+  whole_answers : (given : Given) → PrintsAnswer given n regs e note out.0 out.1 → IsRunOfAnswers given n regs e note out
+  whole_answers given (inl printed) chain a = whole_text (run_text chain) (TellsAnswer regs given n chain a e note) (printed chain a)
+  whole_answers given (inr (short, none, keeps)) chain a = short_failed e short ran
+
+-- what is told of a program that is ready
+pub tells_ready : (held : Held) (notes : Notes) (n : ℕ) (regs : Bool) (answer : Result Ready Fault) (ready : Ready) (e : Ending) (note : List ℕ) (out : Printed) → answer ≡ Ok ready
+    → ((given : Given) → IsReady given ready → PrintsRun ready n regs e note out.0 out.1)
+    → ((given : Given) → IsReady given ready → PrintsStatements given ready n regs e note out.0 out.1)
+    → ((given : Given) → IsReady given ready → PrintsAnswer given n regs e note out.0 out.1)
+    → IfOk answer IsOfSources → TellsRun held notes n regs answer e note out
+tells_ready held notes n regs answer ready e note out is run statements answers =
+    subst (λ (a : Result Ready Fault). IfOk a IsOfSources → TellsRun held notes n regs a e note out) (sym is)
+    (λ of. (run of.0 of.1, λ given ready_of. (statements given ready_of, answers given ready_of)))
+
+-- what is ready is of something that is given so
+abbrev pub HasGiven : (Given → Type 0) → Result Ready Fault → Type 0
+HasGiven is_given (Ok ready) = (given : Given) × is_given given × IsReady given ready
+HasGiven is_given (Err fault) = Unit {0}
+
+pub answered : (held : Held) (notes : Notes) (is_given : Given → Type 0) (n : ℕ) (regs : Bool) (answer : Result Ready Fault) (e : Ending) (note : List ℕ) (out : Printed)
+    → HasGiven is_given answer → TellsRun held notes n regs answer e note out → PrintsGiven is_given n regs e note out
+answered held notes is_given n regs (Ok ready) e note out (given, is, of) (run, told) ran =
+    let tells = told given of in
+    (given, is, whole_statements n regs e note out ran given ready of tells.0, whole_answers n regs e note out ran given tells.1)
+answered held notes is_given n regs (Err fault) e note out none (told, keeps) ran = fault_failed held notes fault e note told ran
+
+-- ---- what is given
+
+-- of sources that are ready over given files, the files that they are in the end and what copied them
+given_over : (held : Held) (named : Files) (names : List (List ℕ)) (command samples schedule : List ℕ) (ready : Ready) → ReadiesOver held named names command samples schedule (Ok ready)
+    → (all : Files) × HasCopied held named 256 all × IsReady (given_of all names command samples schedule) ready
+given_over held named names command samples schedule ready (Ok told, (all, copied, is), same) = (all, copied, subst (IsReady (given_of all names command samples schedule)) (sym same) is)
+given_over held named names command samples schedule ready (Err refusal, over, same) = absurd same
+
+pub given_from : (held : Held) (names : List (List ℕ)) (files : RunFiles) (answer : Result Ready Fault) → ReadiesFrom held names files answer → HasGiven (IsGivenFrom held names files) answer
+given_from held names files (Err fault) from = tt
+given_from held names files (Ok ready) (inl refused) = absurd refused
+given_from held names files (Ok ready) (inr (named, read, inl refused)) = absurd refused
+given_from held names files (Ok ready) (inr (named, read, inr (command, c, inl refused))) = absurd refused
+given_from held names files (Ok ready) (inr (named, read, inr (command, c, inr (samples, s, inl refused)))) = absurd refused
+given_from held names files (Ok ready) (inr (named, read, inr (command, c, inr (samples, s, inr (schedule, t, over))))) =
+    let g = given_over held named names command samples schedule ready over in (
+      given_of g.0 names command samples schedule,
+      record { named = named; read = read; copied = g.1; sources = refl; command = c; samples = s; schedule = t },
+      g.2,
+    )
+
+pub given_input : (held : Held) (input : Option (List ℕ)) (answer : Result Ready Fault) → ReadiesInput held input answer → HasGiven (IsGivenInput held input) answer
+given_input held input (Err fault) from = tt
+given_input held input (Ok ready) (inl (text, read, over)) =
+    let g = given_over held ((stdin, text) ∷ []) (stdin ∷ []) [] [] [] ready over in
+    (given_of g.0 (stdin ∷ []) [] [] [], record { text = text; read = read; copied = g.1; alone = refl }, g.2)
+given_input held input (Ok ready) (inr unread) = absurd unread
