@@ -5,6 +5,7 @@ ghost use Rattle.c25_meaning_intel_hex.specs.Hex as spec;
 ghost use Rattle.c25_hex.specs.Cells.{cells_map};
 
 use c25_meaning_common::no_memory::NoMemory;
+use c25_meaning_image::word_list::WordList;
 use c25_meaning_image::word_map::WordMap;
 use std::alloc::Global;
 
@@ -22,12 +23,13 @@ pub(crate) fn words_of(alloc: Global, cells: &[Option<u8>]) -> Result<WordMap, N
     requires { length cells.now ≡ 131072 }
     ensures { IfOk result (λ m. spec.HasWordsOf (cells_map cells.now) m) }
 {
-    let mut words = WordMap::new(alloc);
+    let mut words = WordList::new(alloc);
     for i in 0..65_536 {
         match word_of(cells[2 * i], cells[2 * i + 1]) {
-            Some(word) => words.insert(i as u16, word)?,
+            Some(word) => words.push(i as u16, word)?,
             None => {}
         }
     }
-    Ok(words)
+    let map = words.into_map(alloc)?;
+    Ok(map)
 }

@@ -20,7 +20,9 @@ use Rattle.c25_meaning_linking.specs.Linking.{HasWords}
 use Rattle.c25_link.specs.Bases.{HasRoom}
 use Rattle.c25_link.specs.Layout.{HasOnePart}
 use Rattle.c25_link.specs.Loading.{linked_at, loaded, HasWordBefore, HasWordsBefore, HavePagesBefore}
-use Rattle.c25_link.specs.declared.loading.Pages.{Pages}
+use Rattle.c25_link.specs.declared.loading.PageLists.{PageLists}
+use Rattle.c25_meaning_image.specs.WordMap.{put_all}
+use Rattle.c25_meaning_image.proofs.WordMaps.{put_more}
 use Rattle.c25_link.proofs.First.{none_of}
 
 -- ---- a word lies in its part
@@ -281,11 +283,12 @@ word_loaded base size w address a word_at old now at is before = by_test (eqb ad
       ap (λ b. cond b (Some w) now) (unsigned_tied address a ∙ e) ∙ before
       ∙ ap (λ b. cond b (Some (word_at (address - base))) old) (same_test base size address (λ h. eqb-false address a e (h ∙ sym at)))
 
-pub words_more : (base size w a : ℕ) (word_at : ℕ → ℕ) (first old new : finite.FinMap nat_cmp ℕ) → a ≡ base + size → w ≡ word_at size → new ≡ finite.insert old a w
-    → ((address : ℕ) → finite.get old address ≡ loaded base size word_at (finite.get first address) address) → (address : ℕ) → finite.get new address ≡ loaded base (size + 1) word_at (finite.get first address) address
+pub words_more : (base size w a : ℕ) (word_at : ℕ → ℕ) (first old new : List (ℕ × ℕ)) → a ≡ base + size → w ≡ word_at size → new ≡ old ++ (a, w) ∷ []
+    → ((address : ℕ) → finite.get (put_all old) address ≡ loaded base size word_at (finite.get (put_all first) address) address)
+    → (address : ℕ) → finite.get (put_all new) address ≡ loaded base (size + 1) word_at (finite.get (put_all first) address) address
 words_more base size w a word_at first old new at is put so address =
-    ap (λ (m : finite.FinMap nat_cmp ℕ). finite.get m address) put ∙ get-insert nat_cmp_total old a w address
-    ∙ word_loaded base size w address a word_at (finite.get first address) (finite.get old address) at is (so address)
+    ap (λ (m : finite.FinMap nat_cmp ℕ). finite.get m address) (ap put_all put ∙ put_more old (a, w)) ∙ get-insert nat_cmp_total (put_all old) a w address
+    ∙ word_loaded base size w address a word_at (finite.get (put_all first) address) (finite.get (put_all old) address) at is (so address)
 
 -- ---- both pages
 
@@ -315,11 +318,11 @@ other_page modules places number index page m section room part at differ =
     below_two : (n : ℕ) → n ≤ 1 → (n ≡ 0 → ⊥) → n ≡ 1
     below_two n le away = omega (arith, le, away)
 
-pub pages_uninitialised : (modules : List Contents) (places : List Place) (number index : ℕ) (m : Contents) (section : SectionData) (pages : Pages) → IsPart modules number index m section → body_words section.body ≡ []
+pub pages_uninitialised : (modules : List Contents) (places : List Place) (number index : ℕ) (m : Contents) (section : SectionData) (pages : PageLists) → IsPart modules number index m section → body_words section.body ≡ []
     → HavePagesBefore modules places number index pages → HavePagesBefore modules places number (index + 1) pages
 pages_uninitialised modules places number index m section pages part empty h = record {
-  program = section_passed modules places number index 0 pages.program (none_uninitialised modules places number index 0 m section part empty) h.program;
-  store = section_passed modules places number index 1 pages.store (none_uninitialised modules places number index 1 m section part empty) h.store;
+  program = section_passed modules places number index 0 (put_all pages.program) (none_uninitialised modules places number index 0 m section part empty) h.program;
+  store = section_passed modules places number index 1 (put_all pages.store) (none_uninitialised modules places number index 1 m section part empty) h.store;
 }
 
 -- words were loaded from the base of a section on
@@ -341,31 +344,31 @@ page_kept modules places number index page other m section words part on differ 
     section_passed modules places number index page words
     (none_elsewhere modules places number index page m section part (λ e. differ (e ∙ sym (on ∙ part_page places index m section part.section_is)))) before
 
-pub program_loaded : (modules : List Contents) (places : List Place) (number index base : ℕ) (words : List ℕ) (m : Contents) (section : SectionData) (old new : Pages) → IsPart modules number index m section → HasOnePart modules places → 0 ≡ section_page places m index
-    → section.body ≡ Initialised words → AreLoaded modules places number index base words m old.program new.program → new.store ≡ old.store → HavePagesBefore modules places number index old → HavePagesBefore modules places number (index + 1) new
+pub program_loaded : (modules : List Contents) (places : List Place) (number index base : ℕ) (words : List ℕ) (m : Contents) (section : SectionData) (old new : PageLists) → IsPart modules number index m section → HasOnePart modules places → 0 ≡ section_page places m index
+    → section.body ≡ Initialised words → AreLoaded modules places number index base words m (put_all old.program) (put_all new.program) → new.store ≡ old.store → HavePagesBefore modules places number index old → HavePagesBefore modules places number (index + 1) new
 program_loaded modules places number index base words m section old new part one on is loads kept h = record {
-  program = page_loaded modules places number index 0 base words m section old.program new.program part one on is loads h.program;
-  store = subst (HasWordsBefore modules places number (index + 1) 1) (sym kept) (page_kept modules places number index 1 0 m section old.store part on (λ e. omega arith) h.store);
+  program = page_loaded modules places number index 0 base words m section (put_all old.program) (put_all new.program) part one on is loads h.program;
+  store = subst (HasWordsBefore modules places number (index + 1) 1) (ap put_all (sym kept)) (page_kept modules places number index 1 0 m section (put_all old.store) part on (λ e. omega arith) h.store);
 }
 
-pub store_loaded : (modules : List Contents) (places : List Place) (number index base : ℕ) (words : List ℕ) (m : Contents) (section : SectionData) (old new : Pages) → IsPart modules number index m section → HasOnePart modules places → 1 ≡ section_page places m index
-    → section.body ≡ Initialised words → AreLoaded modules places number index base words m old.store new.store → new.program ≡ old.program → HavePagesBefore modules places number index old → HavePagesBefore modules places number (index + 1) new
+pub store_loaded : (modules : List Contents) (places : List Place) (number index base : ℕ) (words : List ℕ) (m : Contents) (section : SectionData) (old new : PageLists) → IsPart modules number index m section → HasOnePart modules places → 1 ≡ section_page places m index
+    → section.body ≡ Initialised words → AreLoaded modules places number index base words m (put_all old.store) (put_all new.store) → new.program ≡ old.program → HavePagesBefore modules places number index old → HavePagesBefore modules places number (index + 1) new
 store_loaded modules places number index base words m section old new part one on is loads kept h = record {
-  program = subst (HasWordsBefore modules places number (index + 1) 0) (sym kept) (page_kept modules places number index 0 1 m section old.program part on (λ e. omega arith) h.program);
-  store = page_loaded modules places number index 1 base words m section old.store new.store part one on is loads h.store;
+  program = subst (HasWordsBefore modules places number (index + 1) 0) (ap put_all (sym kept)) (page_kept modules places number index 0 1 m section (put_all old.program) part on (λ e. omega arith) h.program);
+  store = page_loaded modules places number index 1 base words m section (put_all old.store) (put_all new.store) part one on is loads h.store;
 }
 
-pub pages_of_module : (modules : List Contents) (places : List Place) (number index : ℕ) (m : Contents) (pages : Pages) → slice_get modules number ≡ Some m → length m.sections ≤ index
+pub pages_of_module : (modules : List Contents) (places : List Place) (number index : ℕ) (m : Contents) (pages : PageLists) → slice_get modules number ≡ Some m → length m.sections ≤ index
     → HavePagesBefore modules places number index pages → HavePagesBefore modules places (number + 1) 0 pages
 pages_of_module modules places number index m pages is le h = record {
-  program = module_loaded modules places number index 0 m pages.program is le h.program;
-  store = module_loaded modules places number index 1 m pages.store is le h.store;
+  program = module_loaded modules places number index 0 m (put_all pages.program) is le h.program;
+  store = module_loaded modules places number index 1 m (put_all pages.store) is le h.store;
 }
 
-pub no_pages : (modules : List Contents) (places : List Place) (pages : Pages) → pages.program ≡ finite.empty → pages.store ≡ finite.empty → HavePagesBefore modules places 0 0 pages
+pub no_pages : (modules : List Contents) (places : List Place) (pages : PageLists) → pages.program ≡ [] → pages.store ≡ [] → HavePagesBefore modules places 0 0 pages
 no_pages modules places pages none none_2 = record {
-  program = nothing_loaded modules places 0 pages.program (λ address. ap (λ (m : finite.FinMap nat_cmp ℕ). finite.get m address) none ∙ get-empty nat_cmp address);
-  store = nothing_loaded modules places 1 pages.store (λ address. ap (λ (m : finite.FinMap nat_cmp ℕ). finite.get m address) none_2 ∙ get-empty nat_cmp address);
+  program = nothing_loaded modules places 0 (put_all pages.program) (λ address. ap (λ (m : finite.FinMap nat_cmp ℕ). finite.get m address) (ap put_all none) ∙ get-empty nat_cmp address);
+  store = nothing_loaded modules places 1 (put_all pages.store) (λ address. ap (λ (m : finite.FinMap nat_cmp ℕ). finite.get m address) (ap put_all none_2) ∙ get-empty nat_cmp address);
 }
 
 -- ---- answers of calls

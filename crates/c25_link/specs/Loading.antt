@@ -7,7 +7,8 @@ use Rattle.c25_meaning_objects.specs.Module.{Contents}
 use Rattle.c25_meaning_placing.specs.Place.{Place}
 use Rattle.c25_meaning_linking.specs.Words.{HasWord, linked_word, relocation_at}
 use Rattle.c25_meaning_objects.specs.declared.object.Relocation.{Relocation}
-use Rattle.c25_link.specs.declared.loading.Pages.{Pages}
+use Rattle.c25_meaning_image.specs.WordMap.{put_all}
+use Rattle.c25_link.specs.declared.loading.PageLists.{PageLists}
 
 -- the relocation that a map has for a word
 abbrev pub found_at : {S : Type 0} → HashMap (ℕ × ℕ) Relocation S → ℕ → ℕ → Option Relocation
@@ -36,6 +37,6 @@ HasWordsBefore modules places number index page words =
     (address word : ℕ) → (finite.get words address ≡ Some word) ↔ HasWordBefore modules places number index page address word
 
 -- the words of both pages are
-pub record HavePagesBefore (modules : List Contents) (places : List Place) (number index : ℕ) (pages : Pages) : Type 0 where
-  pub program : HasWordsBefore modules places number index 0 pages.program
-  pub store : HasWordsBefore modules places number index 1 pages.store
+pub record HavePagesBefore (modules : List Contents) (places : List Place) (number index : ℕ) (pages : PageLists) : Type 0 where
+  pub program : HasWordsBefore modules places number index 0 (put_all pages.program)
+  pub store : HasWordsBefore modules places number index 1 (put_all pages.store)

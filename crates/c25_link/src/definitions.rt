@@ -87,10 +87,9 @@ fn by_name<'a>(
     let mut found = HashMap::new(alloc);
     for definition in list {
         let name = definition.symbol.name.as_str();
-        if found.get(name).is_some() {
+        if found.insert(name, *definition)?.is_some() {
             return Err(Failure::Fault(refusal(alloc, LinkFault::DefinedTwice, name)?));
         }
-        found.insert(name, *definition)?;
     }
     Ok(found)
 }

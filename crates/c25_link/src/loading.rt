@@ -3,6 +3,7 @@
 ghost use Rattle.std.specs.Prelude.{◌≡◌, ◌<◌, ◌≤◌, ◌+◌, ℕ, Some, true, length, IfOk, OnOk};
 ghost use Rattle.std.specs.FinMap as finite;
 ghost use Rattle.std.specs.Option.{option_map};
+ghost use Rattle.c25_meaning_image.specs.WordMap.{put_all};
 ghost use Rattle.c25_meaning_linking.specs.Linking.{HasWords};
 ghost use Rattle.c25_meaning_objects.specs.Module.{SectionData, body_size};
 ghost use Rattle.c25_meaning_linking.specs.Words.{relocated, section_base, section_page};
@@ -15,6 +16,7 @@ use crate::fields::{field_number, filled};
 use crate::layout::Layout;
 use crate::values::relocated_value;
 use c25_meaning_common::no_memory::NoMemory;
+use c25_meaning_image::word_list::WordList;
 use c25_meaning_image::word_map::WordMap;
 use c25_meaning_objects::object::Relocation;
 use c25_obj::{Body, Parts};
@@ -26,6 +28,13 @@ use std::collections::HashMap;
 pub(crate) struct Pages {
     pub program: WordMap,
     pub store: WordMap,
+}
+
+/// The words of both pages as they are loaded, section by section.
+#[derive(Drop)]
+struct PageLists {
+    program: WordList,
+    store: WordList,
 }
 
 /// The relocations of a module by the sections and offsets of their words.
@@ -76,20 +85,20 @@ fn load_words(
     section: u16,
     base: u32,
     words: &[u16],
-    page: &mut WordMap,
+    page: &mut WordList,
 ) -> Result<(), NoMemory>
     requires laid { IsLaidOut layout.now }
     requires owner { IsOwner layout.now number (contents owner.now) }
     requires relocations { KnowsRelocations relocations.now (contents owner.now) }
     requires within { base + length words.now ≤ 65536 }
-    ensures { (address : ℕ) → OnOk result (finite.get page.new address
-        ≡ loaded base (length words.now) (linked_at layout.now.modules.now (places_in layout.now) number (contents owner.now) section words.now) (finite.get page.old address) address) }
+    ensures { (address : ℕ) → OnOk result (finite.get (put_all page.new) address
+        ≡ loaded base (length words.now) (linked_at layout.now.modules.now (places_in layout.now) number (contents owner.now) section words.now) (finite.get (put_all page.old) address) address) }
 {
     for (offset, word) in words.iter().enumerate() {
         let address = (base as usize + offset) as u16;
         let relocation = relocations.get(&(section, offset as u16));
         let linked = linked_word(layout, number, owner, relocation, *word);
-        page.insert(address, linked)?;
+        page.push(address, linked)?;
     }
     Ok(())
 }
@@ -102,7 +111,7 @@ fn load_section(
     owner: &Parts,
     relocations: &ByWord,
     index: usize,
-    pages: &mut Pages,
+    pages: &mut PageLists,
 ) -> Result<(), NoMemory>
     requires laid { IsLaidOut layout.now }
     requires owner { IsOwner layout.now number (contents owner.now) }
@@ -151,7 +160,7 @@ fn load_module(
     layout: &Layout<'_, '_>,
     number: usize,
     owner: &Parts,
-    pages: &mut Pages,
+    pages: &mut PageLists,
 ) -> Result<(), NoMemory>
     requires laid { IsLaidOut layout.now }
     requires owner { IsOwner layout.now number (contents owner.now) }
@@ -172,12 +181,14 @@ pub(crate) fn load(alloc: Global, layout: &Layout<'_, '_>) -> Result<Pages, NoMe
     ensures program { IfOk result (λ p. HasWords layout.now.modules.now (places_in layout.now) 0 p.program) }
     ensures store { IfOk result (λ p. HasWords layout.now.modules.now (places_in layout.now) 1 p.store) }
 {
-    let mut pages = Pages {
-        program: WordMap::new(alloc),
-        store: WordMap::new(alloc),
+    let mut pages = PageLists {
+        program: WordList::new(alloc),
+        store: WordList::new(alloc),
     };
     for (number, module) in layout.modules.iter().enumerate() {
         load_module(alloc, layout, number, module.parts(), &mut pages)?;
     }
-    Ok(pages)
+    let program = pages.program.into_map(alloc)?;
+    let store = pages.store.into_map(alloc)?;
+    Ok(Pages { program, store })
 }

@@ -1,8 +1,8 @@
 -- A map from addresses as a finite map.
-use Rattle.std.proofs.Common.{◌≡◌, ℕ, List, [], ◌∷◌, Some, None, ◌^◌, ◌<◌, Bool, true, false, ◌&&◌, T, cond, refl, sym, ap, ◌∙◌, ◌==◌, arith}
+use Rattle.std.proofs.Common.{◌≡◌, ℕ, List, [], ◌∷◌, ◌++◌, Option, Some, None, ◌^◌, ◌<◌, Bool, true, false, ◌&&◌, T, cond, refl, sym, ap, subst, ◌∙◌, ◌==◌, arith}
 use Rattle.std.proofs.lemmas.Bool.Decides.{nat_tests}
 use Rattle.std.proofs.lemmas.Bool.{eqb-true}
-use Rattle.c25_meaning_image.specs.WordMap.{IsWordMap}
+use Rattle.c25_meaning_image.specs.WordMap.{AreWords, IsWord, IsWordMap, put_all}
 use Rattle.std.specs.Ordering.{nat_cmp, eq_by_cmp, is_lt}
 use Rattle.std.specs.declared.cmp.Ordering.TheVariants.{Less}
 use Rattle.std.specs.Cmp.{nat_cmp_total, unsigned_tied}
@@ -10,8 +10,9 @@ use Rattle.std.specs.FinMap as map
 use Rattle.std.specs.FinMap.{is_sorted, get-empty, get-from_entries, get-insert, same_map, nat_cmp-IsAntisymmetric}
 use Rattle.std.specs.BTreeMap as tree
 use Rattle.std.specs.BTreeMap.{BTreeMap}
-use Rattle.std.specs.Map.{lookup, keys_of}
-use Rattle.std.specs.List.{AllByRecursion}
+use Rattle.std.specs.Map.{lookup, keys_of, update, update_all}
+use Rattle.std.specs.List.{AllByRecursion, fold}
+use Rattle.std.proofs.lemmas.List.Elements.{All-head, All-tail}
 use Rattle.std.specs.List.Sorted.{IsStrictlySortedBy}
 use Rattle.std.specs.FinMap.Entries.{below_all}
 
@@ -82,3 +83,43 @@ in_range-insert m n k w e inside in_k in_w address word is =
 pub listed_view : (m : BTreeMap ℕ ℕ) (seen : map.FinMap nat_cmp ℕ) (listed : List (ℕ × ℕ)) → listed ≡ m.entries → tree.IsOrdered nat_cmp m → map.from_entries {R = nat_cmp} m.entries ≡ seen → listed ≡ map.entries seen
 listed_view m seen listed all ordered view =
     all ∙ entries_view m ordered ∙ ap (λ (n : map.FinMap nat_cmp ℕ). map.entries n) view
+
+-- ---- words that are put one behind another
+
+abbrev put : map.FinMap nat_cmp ℕ → ℕ × ℕ → map.FinMap nat_cmp ℕ
+put words entry = map.insert words entry.0 entry.1
+
+-- a map that has what a function gives has it still once the same is put into both
+all_put : (es : List (ℕ × ℕ)) (m : map.FinMap nat_cmp ℕ) (f : ℕ → Option ℕ) → ((q : ℕ) → f q ≡ map.get m q) → (q : ℕ) → update_all (eq_by_cmp nat_cmp) f es q ≡ map.get (fold put m es) q
+all_put [] m f same q = same q
+all_put (e ∷ es) m f same q =
+    all_put es (put m e) (update (eq_by_cmp nat_cmp) f e.0 (Some e.1))
+    (λ p. ap (λ b. cond b (Some e.1) (f p)) (turned p e.0) ∙ ap (cond (eq_by_cmp nat_cmp p e.0) (Some e.1)) (same p) ∙ sym (get-insert nat_cmp_total m e.0 e.1 p)) q
+
+-- what is collected of a list is the map of its words put one behind another
+pub collected_view : (m : BTreeMap ℕ ℕ) (es : List (ℕ × ℕ)) → tree.IsFromIterResult nat_cmp es m → map.from_entries {R = nat_cmp} m.entries ≡ put_all es
+collected_view m es made =
+    same_map nat_cmp_total nat_cmp-IsAntisymmetric (map.from_entries {R = nat_cmp} m.entries) (put_all es)
+    (λ q. get_view m q ∙ made.0 q ∙ all_put es map.empty (λ _. None) (λ p. sym (get-empty nat_cmp p)) q)
+
+all_in_range : (es : List (ℕ × ℕ)) (m : map.FinMap nat_cmp ℕ) → IsWordMap m → AreWords es → IsWordMap (fold put m es)
+all_in_range [] m inside are = inside
+all_in_range (e ∷ es) m inside are =
+    let here = All-head IsWord e es are in
+    all_in_range es (put m e) (in_range-insert m (put m e) e.0 e.1 refl inside here.0 here.1) (All-tail IsWord e es are)
+
+none_in_range : IsWordMap map.empty
+none_in_range address word is = let gone : None ≡ Some word = sym (get-empty nat_cmp address) ∙ is in cc gone
+
+-- words of 16 bits stay so
+pub in_range-collected : (m : BTreeMap ℕ ℕ) (es : List (ℕ × ℕ)) → tree.IsFromIterResult nat_cmp es m → AreWords es → IsWordMap (map.from_entries {R = nat_cmp} m.entries)
+in_range-collected m es made are =
+    subst IsWordMap (sym (collected_view m es made)) (all_in_range es map.empty none_in_range are)
+
+put_behind : (es : List (ℕ × ℕ)) (e : ℕ × ℕ) (m : map.FinMap nat_cmp ℕ) → fold put m (es ++ e ∷ []) ≡ put (fold put m es) e
+put_behind [] e m = refl
+put_behind (x ∷ es) e m = put_behind es e (put m x)
+
+-- one word more behind others
+pub put_more : (es : List (ℕ × ℕ)) (e : ℕ × ℕ) → put_all (es ++ e ∷ []) ≡ map.insert (put_all es) e.0 e.1
+put_more es e = put_behind es e map.empty

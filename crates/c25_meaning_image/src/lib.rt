@@ -3,4 +3,5 @@
 
 pub mod mark;
 pub mod marks;
+pub mod word_list;
 pub mod word_map;

@@ -1,11 +1,13 @@
 //! Words by their addresses.
 
-ghost use Rattle.std.specs.Prelude.{◌≡◌, OnOk, OnErr};
+ghost use Rattle.std.specs.Prelude.{◌≡◌, IfOk, OnOk, OnErr};
+ghost use Rattle.std.specs.BTreeMap as tree;
 ghost use Rattle.std.specs.FinMap as map;
-ghost use Rattle.c25_meaning_image.specs.WordMap.{IsWordMap};
+ghost use Rattle.std.specs.Ordering.{nat_cmp};
+ghost use Rattle.c25_meaning_image.specs.WordMap.{AreWords, IsWordMap, put_all};
 
 use c25_meaning_common::no_memory::NoMemory;
-use std::alloc::Global;
+use std::alloc::{AllocError, Global};
 use std::collections::BTreeMap;
 use std::collections::btree_map::Iter;
 use std::marker::Model;
@@ -32,6 +34,13 @@ impl Model for WordMap {
     ghost invariant = { λ m. IsWordMap (map.from_entries m.words.entries) };
 }
 
+/// A map of words with their addresses: at an address that stands twice it has the last one.
+fn collected(alloc: Global, words: Vec<(u16, u16)>) -> Result<BTreeMap<u16, u16>, AllocError>
+    ensures { IfOk result (tree.IsFromIterResult nat_cmp words.items) }
+{
+    words.into_iter().collect(alloc)
+}
+
 impl WordMap {
     /// A map without words. It takes no memory.
     pub fn new(alloc: Global) -> Self
@@ -40,6 +49,15 @@ impl WordMap {
         Self {
             words: BTreeMap::new(alloc),
         }
+    }
+
+    /// The words with their addresses, put into a map without words one behind another.
+    pub(crate) fn from_words(alloc: Global, words: Vec<(u16, u16)>) -> Result<Self, NoMemory>
+        requires { AreWords words.items }
+        ensures { IfOk result (λ m. m ≡ put_all words.items) }
+    {
+        let words = collected(alloc, words)?;
+        Ok(Self { words })
     }
 
     /// Sets the word at one address, whether or not there was one. Where memory is refused the

@@ -1,12 +1,9 @@
 -- The set of the names so far.
 use Rattle.std.proofs.Common.{◌≡◌, ◌<◌, ◌^◌, ℕ, Bool, true, false, not, ltb, ◌||◌, cond, List, [], ◌∷◌, ◌++◌, length, Ok, Some, refl, sym, ap, subst, ◌∙◌}
 use Rattle.std.specs.Str.{IsUtf8, bytes_eq, is_utf8}
-use Rattle.std.specs.BTreeSet.{BTreeSet, Updates}
-use Rattle.std.specs.Cmp.Lexicographic.{slice_cmp}
-use Rattle.std.specs.Ordering.{is_eq, nat_cmp}
+use Rattle.std.specs.HashSet.{HashSet, Updates}
 use Rattle.std.proofs.lemmas.Bool.{lt-ltb}
 use Rattle.std.proofs.lemmas.List.Folds.{list_any-append}
-use Rattle.std.proofs.lemmas.Map.Text.{is_eq-slice_cmp}
 use Rattle.std.proofs.lemmas.Str.{IsUtf8-from_is_utf8, is_utf8-from_IsUtf8}
 use Rattle.c25_meaning_objects.specs.Module.{SymbolData, has_symbol, has_file, file_fits}
 use Rattle.c25_meaning_objects.specs.RecordReading.{checked}
@@ -19,24 +16,21 @@ joined false true = refl
 joined false false = refl
 
 -- a set that has the names of symbols has those of one more, once its name is put in
-pub HasNames-push : {K : Type 0} (text : K → List ℕ) (old new : BTreeSet K) (ys : List SymbolData) (key : K) (y : SymbolData) → HasNames text old ys
-    → Updates (λ a b. slice_cmp nat_cmp (text a) (text b)) old new key true → y.name ≡ text key → HasNames text new (ys ++ y ∷ [])
+pub HasNames-push : {K S : Type 0} (text : K → List ℕ) (old new : HashSet K S) (ys : List SymbolData) (key : K) (y : SymbolData) → HasNames text old ys
+    → Updates (λ a b. bytes_eq (text a) (text b)) old new key true → y.name ≡ text key → HasNames text new (ys ++ y ∷ [])
 HasNames-push text old new ys key y has updates is q =
-    let here : is_eq (slice_cmp nat_cmp (text key) (text q)) ≡ bytes_eq y.name (text q) =
-    is_eq-slice_cmp (text key) (text q) ∙ ap (λ (name : List ℕ). bytes_eq name (text q)) (sym is) in
+    let here : bytes_eq (text key) (text q) ≡ bytes_eq y.name (text q) = ap (λ (name : List ℕ). bytes_eq name (text q)) (sym is) in
     let pushed : has_symbol (ys ++ y ∷ []) (text q) ≡ (has_symbol ys (text q) || (bytes_eq y.name (text q) || false)) =
     list_any-append (λ (x : SymbolData). bytes_eq x.name (text q)) ys (y ∷ []) in
-    let found = updates.0 q in
-    found ∙ rw (here, has q) (joined (bytes_eq y.name (text q)) (has_symbol ys (text q))) ∙ sym pushed
+    updates.0 q ∙ rw (here, has q) (joined (bytes_eq y.name (text q)) (has_symbol ys (text q))) ∙ sym pushed
 
 -- the same of names of files
-pub HasFiles-push : {K : Type 0} (text : K → List ℕ) (old new : BTreeSet K) (fs : List (List ℕ)) (key : K) → HasFiles text old fs
-    → Updates (λ a b. slice_cmp nat_cmp (text a) (text b)) old new key true → HasFiles text new (fs ++ text key ∷ [])
+pub HasFiles-push : {K S : Type 0} (text : K → List ℕ) (old new : HashSet K S) (fs : List (List ℕ)) (key : K) → HasFiles text old fs
+    → Updates (λ a b. bytes_eq (text a) (text b)) old new key true → HasFiles text new (fs ++ text key ∷ [])
 HasFiles-push text old new fs key has updates q =
-    let here : is_eq (slice_cmp nat_cmp (text key) (text q)) ≡ bytes_eq (text key) (text q) = is_eq-slice_cmp (text key) (text q) in
     let pushed : has_file (fs ++ text key ∷ []) (text q) ≡ (has_file fs (text q) || (bytes_eq (text key) (text q) || false)) =
     list_any-append (λ (f : List ℕ). bytes_eq f (text q)) fs (text key ∷ []) in
-    updates.0 q ∙ rw (here, has q) (joined (bytes_eq (text key) (text q)) (has_file fs (text q))) ∙ sym pushed
+    updates.0 q ∙ rw (has q) (joined (bytes_eq (text key) (text q)) (has_file fs (text q))) ∙ sym pushed
 
 -- bytes that are no text
 pub not_text : (bytes : List ℕ) → (IsUtf8 bytes → ⊥) → is_utf8 bytes ≡ false

@@ -17,7 +17,7 @@ use c25_meaning_common::failure::Failure;
 use c25_meaning_objects::object::{ObjectFault, Version};
 use c25_obj::{Module, Parts, module, used_with};
 use std::alloc::Global;
-use std::collections::BTreeSet;
+use std::collections::HashSet;
 
 /// A record: its tag, its payload, and the bytes behind it.
 #[derive(Clone, Copy)]
@@ -87,8 +87,8 @@ fn is_in_order(parts: &Parts, tag: u8) -> bool
 #[derive(Drop)]
 struct Reader<'a> {
     parts: Parts,
-    names: BTreeSet<&'a str>,
-    file_names: BTreeSet<&'a str>,
+    names: HashSet<&'a str>,
+    file_names: HashSet<&'a str>,
     used: u32,
 }
 
@@ -283,8 +283,8 @@ fn read_all(alloc: Global, version: Version, bytes: &[u8]) -> Result<Parts, Fail
             lines: Vec::new(alloc),
             blocks: Vec::new(alloc),
         },
-        names: BTreeSet::new(alloc),
-        file_names: BTreeSet::new(alloc),
+        names: HashSet::new(alloc),
+        file_names: HashSet::new(alloc),
         used: 0,
     };
     let mut rest = bytes;

@@ -18,7 +18,7 @@ use c25_obj::{
     symbol_stands,
 };
 use std::alloc::Global;
-use std::collections::BTreeSet;
+use std::collections::HashSet;
 
 fn text_of(bytes: &[u8]) -> &str
     requires { IsUtf8 bytes.now }
@@ -63,7 +63,7 @@ fn symbol_of(bytes: &[u8]) -> Option<SymbolRecord<'_>>
 /// Whether a symbol of that name may follow these; their names, which are given, gain it.
 fn takes_name<'a>(
     before: &[Symbol],
-    names: &mut BTreeSet<&'a str>,
+    names: &mut HashSet<&'a str>,
     name: &'a str,
 ) -> Result<bool, Failure<ObjectFault>>
     requires { HasNames (λ k. k.now) names.old (symbols_data before.now) }
@@ -80,7 +80,7 @@ pub(crate) fn symbol_after<'a>(
     version: Version,
     sections: &[Section],
     before: &[Symbol],
-    names: &mut BTreeSet<&'a str>,
+    names: &mut HashSet<&'a str>,
     bytes: &'a [u8],
 ) -> Result<Symbol, Failure<ObjectFault>>
     requires { HasNames (λ k. k.now) names.old (symbols_data before.now) }
@@ -182,7 +182,7 @@ pub(crate) fn section_after(
 pub(crate) fn file_after<'a>(
     alloc: Global,
     before: &[String],
-    names: &mut BTreeSet<&'a str>,
+    names: &mut HashSet<&'a str>,
     bytes: &'a [u8],
 ) -> Result<String, Failure<ObjectFault>>
     requires { HasFiles (λ k. k.now) names.old (files_data before.now) }

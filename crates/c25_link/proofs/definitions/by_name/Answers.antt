@@ -2,7 +2,6 @@ use Rattle.std.proofs.Common.{◌≡◌, ap, sym, ◌∙◌, Err, is_some, false
 use Rattle.c25_meaning_linking.specs.Linking.{refused_with}
 use Rattle.c25_meaning_placing.specs.declared.link_fault.LinkFault.TheVariants.{DefinedTwice}
 use Rattle.c25_place.specs.View.{named}
-use Rattle.c25_link.proofs.First.{copied_some}
 use Rattle.c25_link.proofs.Named.{twice, once, found_next}
 use Rattle.c25_link.proofs.definitions.by_name.Goals as goal
 
@@ -11,13 +10,13 @@ returns-then-is_some-clause-checked c =
     let is = c.loop-definition.invariant in
     ap (refused_with DefinedTwice)
     (twice c.args.list.now (named c.loop-definition.found) c.loop-definition.definition-index c.definition-item.result c.as_str-name.result.now c.loop-definition-test.true c.definition-item.is c.as_str-name.ensures.value is.0 is.1
-    (ap is_some (sym c.get.ensures.value) ∙ copied_some c.get.result ∙ sym c.if-is_some.ensures))
+    (ap is_some (sym c.in_ok-insert.ensures.old) ∙ sym c.if-is_some.ensures))
     ∙ ap Err (sym c.in_ok-refusal.ensures)
 
 pub loop-definition-preserved : goal.loop-definition-preserved
 loop-definition-preserved c =
     let is = c.loop-definition.invariant in
-    let fresh : is_some (named c.loop-definition.found c.as_str-name.result.now) ≡ false = ap is_some (sym c.get.ensures.value) ∙ copied_some c.get.result ∙ sym c.if-is_some.ensures in (
+    let fresh : is_some (named c.loop-definition.found c.as_str-name.result.now) ≡ false = ap is_some (sym c.in_ok-insert.ensures.old) ∙ sym c.if-is_some.ensures in (
       once c.args.list.now (named c.loop-definition.found) c.loop-definition.definition-index c.definition-item.result c.as_str-name.result.now c.loop-definition-test.true c.definition-item.is c.as_str-name.ensures.value is.0 is.1 fresh,
       λ name. found_next c.args.list.now (named c.loop-definition.found) c.loop-definition.definition-index c.definition-item.result c.as_str-name.result.now name _ c.loop-definition-test.true c.definition-item.is c.as_str-name.ensures.value is.1 fresh
           (c.in_ok-insert.ensures.updates.0 (record { ref_ptr = (0, 0); now = name })),

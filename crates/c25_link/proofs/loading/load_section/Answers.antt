@@ -3,11 +3,12 @@ use Rattle.std.specs.FinMap as finite
 use Rattle.std.proofs.lemmas.List.{length-map}
 use Rattle.c25_meaning_objects.specs.Module.{Initialised, body_words}
 use Rattle.c25_meaning_placing.specs.Place.{IsPart}
+use Rattle.c25_meaning_image.specs.WordMap.{put_all}
 use Rattle.c25_obj.specs.View.{contents, body_data, section_data}
 use Rattle.c25_obj.specs.declared.parts.Body.{Body}
 use Rattle.c25_link.specs.Layout.{places_in}
 use Rattle.c25_link.specs.Loading.{loaded, linked_at, HavePagesBefore}
-use Rattle.c25_link.specs.declared.loading.Pages.{Pages}
+use Rattle.c25_link.specs.declared.loading.PageLists.{PageLists}
 use Rattle.c25_link.proofs.Loaded.{part_ends, pages_uninitialised, program_loaded, store_loaded, other_page, on_ok}
 use Rattle.c25_link.proofs.Owned.{section_at, few_sections}
 use Rattle.c25_link.proofs.loading.load_section.Goals as goal
@@ -60,10 +61,10 @@ returns-then-part-eq0 c =
     let ws = c.deref.result.now in
     let base = c.get-part.result.base in
     let old = c.args.pages.now in
-    let new : Pages = record { program = c.load_words.new.page; store = old.store } in
+    let new : PageLists = record { program = c.load_words.new.page; store = old.store } in
     let lt : c.args.index < length c.args.owner.now.sections.items = omega (arith, c.requires.section, length-map c.args.owner.now.sections.items section_data) in
     let part : IsPart modules c.args.number c.args.index m (section_data s) = record { owner_is = c.requires.owner; section_is = section_at c.args.owner.now.sections.items c.args.index s lt c.index-section.ensures } in
-    on_ok (λ address. finite.get new.program address ≡ loaded base (length ws) (linked_at modules places c.args.number m c.args.index ws) (finite.get old.program address) address)
+    on_ok (λ address. finite.get (put_all new.program) address ≡ loaded base (length ws) (linked_at modules places c.args.number m c.args.index ws) (finite.get (put_all old.program) address) address)
     (HavePagesBefore modules places c.args.number (c.args.index + 1) new) c.load_words.result c.load_words.ensures (λ is.
     program_loaded modules places c.args.number c.args.index base ws m (section_data s) old new part c.requires.laid.parts
     (sym c.if-part-eq0.true ∙ c.get-part.ensures.page modules places m c.requires.laid.bases c.requires.owner)
@@ -79,12 +80,12 @@ returns-else-part-eq0 c =
     let ws = c.deref-else-part-eq0.result.now in
     let base = c.get-part.result.base in
     let old = c.args.pages.now in
-    let new : Pages = record { program = old.program; store = c.load_words-else-part-eq0.new.page } in
+    let new : PageLists = record { program = old.program; store = c.load_words-else-part-eq0.new.page } in
     let lt : c.args.index < length c.args.owner.now.sections.items = omega (arith, c.requires.section, length-map c.args.owner.now.sections.items section_data) in
     let part : IsPart modules c.args.number c.args.index m (section_data s) = record { owner_is = c.requires.owner; section_is = section_at c.args.owner.now.sections.items c.args.index s lt c.index-section.ensures } in
     let page = c.get-part.ensures.page modules places m c.requires.laid.bases c.requires.owner in
     let one : c.get-part.result.page ≡ 1 = other_page modules places c.args.number c.args.index c.get-part.result.page m (section_data s) c.requires.laid.room part page c.if-part-eq0.false in
-    on_ok (λ address. finite.get new.store address ≡ loaded base (length ws) (linked_at modules places c.args.number m c.args.index ws) (finite.get old.store address) address)
+    on_ok (λ address. finite.get (put_all new.store) address ≡ loaded base (length ws) (linked_at modules places c.args.number m c.args.index ws) (finite.get (put_all old.store) address) address)
     (HavePagesBefore modules places c.args.number (c.args.index + 1) new) c.load_words-else-part-eq0.result c.load_words-else-part-eq0.ensures (λ is.
     store_loaded modules places c.args.number c.args.index base ws m (section_data s) old new part c.requires.laid.parts (sym one ∙ page)
     (ap body_data c.in-Initialised.is ∙ ap (λ (xs : List ℕ). Initialised xs) (sym c.deref-else-part-eq0.ensures.value))

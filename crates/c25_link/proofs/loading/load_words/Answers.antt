@@ -17,4 +17,4 @@ loop-offset-preserved c =
     let word_at : ℕ → ℕ = linked_at modules places c.args.number m c.args.section c.args.words.now in
     let which : option_map (λ r. r.now) c.get-relocation.result ≡ relocation_at m c.args.section offset = copied_mapped c.get-relocation.result ∙ c.get-relocation.ensures.value ∙ c.requires.relocations c.args.section offset in
     let value : c.linked_word-linked.result ≡ word_at offset = c.linked_word-linked.ensures ∙ ap (λ (o : Option Relocation). relocated modules places c.args.number m o (get_or c.args.words.now offset 0)) which in
-    words_more c.args.base offset c.linked_word-linked.result (c.args.base + offset) word_at c.args.page.now c.loop-offset.page c.insert.new.self refl value c.in_ok-insert.ensures.ok c.loop-offset.invariant
+    words_more c.args.base offset c.linked_word-linked.result (c.args.base + offset) word_at c.args.page.now c.loop-offset.page c.push.new.self refl value c.in_ok-push.ensures.ok c.loop-offset.invariant
