@@ -7,7 +7,7 @@ use Rattle.c25_asm.specs.declared.passed.Passed.{Passed}
 
 -- the lines so far
 abbrev pub passed_of : Passed → source.Passed
-passed_of p = record { progress = progress_of p.progress; entries = entries_of p.entries.items }
+passed_of p = record { progress = progress_of p.progress.value; entries = entries_of p.entries.items }
 
 -- a module and its listing
 abbrev pub assembled_of : Listing → source.Assembled

@@ -109,7 +109,7 @@ pub fn assemble<'a>(
     ensures { MeetsBy fault_of assembled_of (source.assembled files.now name.now) result }
 {
     let Passed { progress, entries } = pass_all(alloc, files, name)?;
-    let parts = finish(progress)?;
+    let parts = finish(Box::into_inner(progress))?;
     Ok(Listing {
         module: module(parts),
         entries,

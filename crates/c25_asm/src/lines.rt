@@ -21,7 +21,7 @@ pub(crate) fn no_lines<'a>(alloc: Global) -> Result<Passed<'a>, NoMemory>
     ensures { IfOk result (λ p. passed_of p ≡ source.no_lines) }
 {
     Ok(Passed {
-        progress: Progress::new(alloc)?,
+        progress: Box::new(alloc, Progress::new(alloc)?)?,
         entries: Vec::new(alloc),
     })
 }

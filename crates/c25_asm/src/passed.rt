@@ -7,10 +7,11 @@ ghost use Rattle.c25_phases.specs.View.{progress_of};
 use c25_listing::listing::Entry;
 use c25_phases::Progress;
 
-/// What the lines so far have made, and their entries in the listing.
+/// What the lines so far have made, and their entries in the listing. The first is boxed, since it is
+/// handed on from line to line.
 #[derive(Drop)]
 pub(crate) struct Passed<'a> {
-    pub(crate) progress: Progress<'a>,
+    pub(crate) progress: Box<Progress<'a>>,
     pub(crate) entries: Vec<Entry<'a>>,
-    ghost few: { name_count (progress_of progress).names (progress_of progress).declared ≤ 65535 },
+    ghost few: { name_count (progress_of progress.value).names (progress_of progress.value).declared ≤ 65535 },
 }

@@ -45,16 +45,16 @@ pub(crate) struct Builder {
 impl Builder {
     ghost use Rattle.c25_expr.specs.View.{state_of, behind, trees_of, items_of};
 
-    /// Nothing so far.
-    pub(crate) fn new(alloc: Global) -> Self
-        ensures { state_of result ≡ start }
+    /// Nothing so far, with room for so many steps.
+    pub(crate) fn new(alloc: Global, room: usize) -> Result<Self, NoMemory>
+        ensures { IfOk result (λ b. state_of b ≡ start) }
     {
-        Builder {
+        Ok(Builder {
             alloc,
             frames: Vec::new(alloc),
-            items: Vec::new(alloc),
+            items: Vec::with_capacity(alloc, room)?,
             expects: true,
-        }
+        })
     }
 
     /// The last operand is whole: the unary operators right before it take it.

@@ -32,7 +32,7 @@ pub fn read_expr(alloc: Global, tokens: &[Token<'_>]) -> Result<Expr, Failure<Ex
     // The same as the result of a function of the tokens.
     ensures told { Meets tree_of (tree_in (map mark_of (pieces_of tokens.now))) result }
 {
-    let mut builder = Builder::new(alloc);
+    let mut builder = Builder::new(alloc, tokens.len())?;
     for (i, token) in tokens.iter().enumerate() {
         builder.take(token)?;
         if builder.nesting() > MOST_NESTED {

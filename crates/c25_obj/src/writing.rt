@@ -96,19 +96,25 @@ fn put_place(out: &mut Vec<u8>, section: u16, offset: u16) -> Result<(), NoMemor
     Ok(())
 }
 
-fn put_mark_payload(out: &mut Vec<u8>, mark: ModuleMark) -> Result<(), NoMemory>
-    ensures { OnOk result (out.new.items ≡ out.old.items ++ bytes.mark_payload mark) }
-{
-    put_place(out, mark.section, mark.offset)?;
-    out.push(mark.size)?;
-    Ok(())
-}
-
+/// The record of a mark. A module has as many of these as instructions, so its bytes are put at once.
 fn put_mark(out: &mut Vec<u8>, mark: ModuleMark) -> Result<(), NoMemory>
     ensures { OnOk result (out.new.items ≡ out.old.items ++ bytes.mark_entry mark) }
 {
-    put_head(out, 2, 5)?;
-    put_mark_payload(out, mark)
+    let [section, section_low] = mark.section.to_be_bytes();
+    let [offset, offset_low] = mark.offset.to_be_bytes();
+    out.extend_from_slice(&[
+        2,
+        0,
+        0,
+        0,
+        5,
+        section,
+        section_low,
+        offset,
+        offset_low,
+        mark.size,
+    ])?;
+    Ok(())
 }
 
 fn put_symbol_payload(out: &mut Vec<u8>, symbol: &Symbol) -> Result<(), NoMemory>
@@ -207,19 +213,14 @@ fn put_file(out: &mut Vec<u8>, name: &str) -> Result<(), NoMemory>
     Ok(())
 }
 
-fn put_line_payload(out: &mut Vec<u8>, line: LineMark) -> Result<(), NoMemory>
-    ensures { OnOk result (out.new.items ≡ out.old.items ++ bytes.line_payload line) }
-{
-    out.extend_from_slice(&line.file.to_be_bytes())?;
-    out.extend_from_slice(&line.line.to_be_bytes())?;
-    Ok(())
-}
-
+/// The record of a line, whose bytes are put at once too.
 fn put_line(out: &mut Vec<u8>, line: LineMark) -> Result<(), NoMemory>
     ensures { OnOk result (out.new.items ≡ out.old.items ++ bytes.line_entry line) }
 {
-    put_head(out, 6, 6)?;
-    put_line_payload(out, line)
+    let [file, file_low] = line.file.to_be_bytes();
+    let [first, second, third, last] = line.line.to_be_bytes();
+    out.extend_from_slice(&[6, 0, 0, 0, 6, file, file_low, first, second, third, last])?;
+    Ok(())
 }
 
 fn put_block_payload(out: &mut Vec<u8>, block: Block) -> Result<(), NoMemory>

@@ -14,14 +14,15 @@ use c25_meaning_language::statement::FaultKind;
 use c25_statements::read_statement;
 
 /// The first phase of one line: its text read, and what it says done. A refusal ends the source, so it
-/// leaves nothing of what the lines before have made.
+/// leaves nothing of what the lines before have made. What these have made is boxed, since it is handed on
+/// from line to line.
 pub fn read_and_pass<'a>(
-    progress: Progress<'a>,
+    progress: Box<Progress<'a>>,
     origin: Origin<'a>,
     text: &str,
-) -> Result<Progress<'a>, Failure<FaultKind>>
-    ensures told { Meets progress_of (text_passed (origin_of origin.entry) text.now (progress_of progress.entry)) result }
-    ensures few { IfOk result (λ p. name_count (progress_of p).names (progress_of p).declared ≤ 65535) }
+) -> Result<Box<Progress<'a>>, Failure<FaultKind>>
+    ensures told { Meets (λ p. progress_of p.value) (text_passed (origin_of origin.entry) text.now (progress_of progress.entry.value)) result }
+    ensures few { IfOk result (λ p. name_count (progress_of p.value).names (progress_of p.value).declared ≤ 65535) }
 {
     let mut progress = progress;
     let statement = read_statement(progress.alloc, text)?;

@@ -20,6 +20,7 @@ use c25_meaning_language::value::{Base, Value};
 use c25_meaning_objects::object::{Scope, SymbolKind, Version};
 use c25_obj::{Parts, Symbol};
 use std::alloc::Global;
+use std::mem;
 
 fn kind_of(base: Base) -> SymbolKind
     ensures { result ≡ emission.kind_of base }
@@ -137,5 +138,7 @@ pub fn finish(progress: Progress<'_>) -> Result<Parts, Failure<AsmFault<'_>>>
         &mut sheet,
         items.as_slice(),
     )?;
+    // They are not needed any more, and are most of what the lines take.
+    mem::drop(items);
     Ok(module_with(alloc, sections, &symbols, &exported)?)
 }

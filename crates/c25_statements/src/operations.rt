@@ -2,6 +2,7 @@
 
 ghost use Rattle.std.specs.Prelude.{◌≡◌, IfOk, map};
 ghost use Rattle.c25_meaning_assembly.specs.StatementLine.{spelled, operation_of};
+ghost use Rattle.c25_meaning_language.specs.Forms.{form_of};
 ghost use Rattle.c25_meaning_language.specs.Operands.{written_of};
 ghost use Rattle.c25_meaning_common.specs.Results.{Meets};
 ghost use Rattle.c25_statements.specs.Steps.{operation_with};
@@ -16,7 +17,7 @@ use c25_isa::mnemonic;
 use c25_meaning_common::failure::Failure;
 use c25_meaning_common::no_memory::NoMemory;
 use c25_meaning_instructions::mnemonic::Spelling;
-use c25_meaning_language::statement::{FaultKind, Written};
+use c25_meaning_language::statement::{FaultKind, Form, Written};
 use c25_text::tokens::Token;
 use std::alloc::Global;
 
@@ -38,6 +39,34 @@ fn kinds_of(alloc: Global, operands: &[&[Token<'_>]]) -> Result<Vec<Written>, No
     Ok(kinds)
 }
 
+/// The form that these operands have, of whatever number.
+fn form_of_many(
+    alloc: Global,
+    spelling: Spelling,
+    operands: &[&[Token<'_>]],
+) -> Result<Result<Form, FaultKind>, NoMemory>
+    ensures { IfOk result (λ form. form ≡ form_of spelling (map written_of (operands_view operands.now))) }
+{
+    let kinds = kinds_of(alloc, operands)?;
+    Ok(form_of(spelling, kinds.as_slice()))
+}
+
+/// The form that these operands have. Most lines have one or two, whose kinds take no memory.
+fn form_in(
+    alloc: Global,
+    spelling: Spelling,
+    operands: &[&[Token<'_>]],
+) -> Result<Result<Form, FaultKind>, NoMemory>
+    ensures { IfOk result (λ form. form ≡ form_of spelling (map written_of (operands_view operands.now))) }
+{
+    match operands {
+        [] => Ok(form_of(spelling, &[])),
+        [only] => Ok(form_of(spelling, &[written_of(only)])),
+        [first, second] => Ok(form_of(spelling, &[written_of(first), written_of(second)])),
+        _ => form_of_many(alloc, spelling, operands),
+    }
+}
+
 /// The instruction of these operands, or its first fault: too few or too many (51), one of another form
 /// than the instruction takes (52), one that is no expression (20), one that nests too deep (21).
 #[tactic(auto, unfolding(c25_meaning_assembly::specs::StatementLine::operation_of))]
@@ -48,8 +77,7 @@ pub fn operation_of(
 ) -> Result<Operation, Failure<FaultKind>>
     ensures { Meets view.operation_of (operation_of spelling (operands_view operands.now)) result }
 {
-    let kinds = kinds_of(alloc, operands)?;
-    match form_of(spelling, kinds.as_slice()) {
+    match form_in(alloc, spelling, operands)? {
         Ok(form) => {
             let trees = exprs_of(alloc, operands)?;
             Ok(Operation { form, trees })

@@ -1,6 +1,6 @@
 //! The expressions of a line's operands.
 
-ghost use Rattle.std.specs.Prelude.{◌≡◌};
+ghost use Rattle.std.specs.Prelude.{◌≡◌, IfOk};
 ghost use Rattle.c25_meaning_assembly.specs.StatementLine.{no_trees, with_operand, all_trees, trees_in};
 ghost use Rattle.c25_expr.specs.Pieces.{pieces_of, operands_view};
 ghost use Rattle.c25_meaning_common.specs.Results.{Meets};
@@ -10,6 +10,7 @@ use c25_expr::expression_reader::read_expr;
 use c25_expr::operands::written_of;
 use c25_expr::tree::Expr;
 use c25_meaning_common::failure::Failure;
+use c25_meaning_common::no_memory::NoMemory;
 use c25_meaning_language::expression::ExpressionFault;
 use c25_meaning_language::statement::{FaultKind, Written};
 use c25_text::tokens::Token;
@@ -23,14 +24,14 @@ struct Trees {
 }
 
 impl Trees {
-    /// No expressions.
-    fn new(alloc: Global) -> Trees
-        ensures { so_far result ≡ no_trees }
+    /// No expressions, with room for so many.
+    fn new(alloc: Global, room: usize) -> Result<Trees, NoMemory>
+        ensures { IfOk result (λ t. so_far t ≡ no_trees) }
     {
-        Trees {
-            exprs: Vec::new(alloc),
+        Ok(Trees {
+            exprs: Vec::with_capacity(alloc, room)?,
             deep: false,
-        }
+        })
     }
 
     /// One operand more.
@@ -72,7 +73,7 @@ pub(crate) fn exprs_of(
 ) -> Result<Vec<Expr>, Failure<FaultKind>>
     ensures { Meets (λ v. trees_of v.items) (trees_in (operands_view operands.now)) result }
 {
-    let mut trees = Trees::new(alloc);
+    let mut trees = Trees::new(alloc, operands.len())?;
     for operand in operands {
         trees.add(alloc, operand)?;
     }

@@ -1,9 +1,10 @@
 //! Names replaced by their texts in a line.
 
-ghost use Rattle.std.specs.Prelude.{◌≡◌, ◌-◌, ◌≤◌, ◌++◌, ◌∷◌, [], OnOk, length};
+ghost use Rattle.std.specs.Prelude.{◌≡◌, ◌-◌, ◌≤◌, ◌++◌, ◌∷◌, [], ℕ, IsTrue, OnOk, length};
 ghost use Rattle.std.specs.Cow.{cow_str_bytes};
 ghost use Rattle.c25_meaning_common.specs.Results.{Meets};
 ghost use Rattle.c25_meaning_language.specs.Substitution.{line_quoting, substituted, substituted_before_comma, unsubstituted, drafted, drafted_by};
+ghost use Rattle.c25_expansion_laws.specs.ExpansionLaws.{HasNoMark};
 ghost use Rattle.c25_substitution.specs.Fresh.{IsFresh};
 ghost use Rattle.c25_substitution.specs.View.{changed, names_of, fragment_of, written_so_far, IsAll, IsWithin, Writes};
 
@@ -113,6 +114,21 @@ fn line_quoting(line: &str) -> Quoting
     }
 }
 
+/// Whether no byte of a line is `?`.
+fn has_no_mark(line: &[u8]) -> bool
+    ensures { IsTrue result → HasNoMark line.now }
+{
+    !line.contains(&b'?')
+}
+
+/// Whether a line stays as it is: no name stands for anything, and no name in it is numbered. Most lines
+/// outside macros are such.
+fn stays(names: &Visible<'_>, line: &str) -> bool
+    ensures { IsTrue result → (number : ℕ) → substituted (names_of names.now) number line.now ≡ unsubstituted line.now }
+{
+    names.are_none() && has_no_mark(line.as_bytes())
+}
+
 /// A line with its names replaced. The number is that of the innermost expansion, 0 outside of all. A
 /// comment line is left as it is, and a line in which nothing is replaced is borrowed. It is a fault
 /// where it gets more than 1,024 bytes, its comment among them, or takes more than 1,024 replacements.
@@ -124,6 +140,9 @@ pub fn substitute<'a>(
 ) -> Result<CowStr<'a>, Failure<LongLine>>
     ensures { Meets cow_str_bytes (substituted (names_of names.now) number line.now) result }
 {
+    if stays(names, line) {
+        return unsubstituted(line);
+    }
     match first_change(names, &Aside::new(alloc), line_quoting(line), line) {
         None => unsubstituted(line),
         Some(change) => {

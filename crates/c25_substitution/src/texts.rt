@@ -1,6 +1,6 @@
 //! The names of `.asg` and `.eval`.
 
-ghost use Rattle.std.specs.Prelude.{◌≡◌, [], OnOk, OnErr};
+ghost use Rattle.std.specs.Prelude.{◌≡◌, [], IsTrue, OnOk, OnErr};
 ghost use Rattle.std.specs.Map.{lookup};
 ghost use Rattle.std.specs.Option.{option_map};
 ghost use Rattle.std.specs.Str.{bytes_eq};
@@ -37,6 +37,13 @@ impl SubstitutionTexts {
             alloc,
             entries: IndexMap::new(alloc),
         }
+    }
+
+    /// Whether there are none.
+    pub(crate) fn is_empty(&self) -> bool
+        ensures { IsTrue result → self.now ≡ [] }
+    {
+        self.entries.is_empty()
     }
 
     /// What a name stands for. Where there are no names, no hash is taken.

@@ -1,6 +1,6 @@
 //! What names stand for at a line.
 
-ghost use Rattle.std.specs.Prelude.{◌≡◌};
+ghost use Rattle.std.specs.Prelude.{◌≡◌, List, ℕ, None, IsTrue};
 ghost use Rattle.std.specs.Option.{option_map};
 ghost use Rattle.c25_substitution.specs.View.{names_of};
 
@@ -26,5 +26,15 @@ impl<'a> Visible<'a> {
             }
         }
         self.texts.get(name)
+    }
+
+    /// Whether no name stands for anything.
+    pub(crate) fn are_none(&self) -> bool
+        ensures { IsTrue result → (name : List ℕ) → names_of self.now name ≡ None }
+    {
+        match self.arguments {
+            Some(arguments) => arguments.is_empty() && self.texts.is_empty(),
+            None => self.texts.is_empty(),
+        }
     }
 }

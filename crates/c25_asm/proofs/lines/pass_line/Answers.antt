@@ -12,11 +12,11 @@ use Rattle.c25_asm.proofs.lines.pass_line.Goals as goal
 
 pub returns-in-Ok : goal.returns-in-Ok
 returns-in-Ok c =
-    line_passed (shown c.args.line) (passed_of c.args.passed) (progress_of c.in-Ok.progress) (entries_of c.push.new.self.items)
-    (ap (λ (t : List ℕ). text_passed (origin_of (shown c.args.line)) t (progress_of c.args.passed.progress)) (sym c.as_str.ensures.value) ∙ c.in-Ok.ensures.told)
+    line_passed (shown c.args.line) (passed_of c.args.passed) (progress_of c.in-Ok.progress.value) (entries_of c.push.new.self.items)
+    (ap (λ (t : List ℕ). text_passed (origin_of (shown c.args.line)) t (progress_of c.args.passed.progress.value)) (sym c.as_str.ensures.value) ∙ c.in-Ok.ensures.told)
     (ap entries_of c.in_ok-push-in-Ok.ensures.items ∙ map-append entry_of c.args.passed.entries.items _
     ∙ ap (λ (e : Entry). entries_of c.args.passed.entries.items ++ e ∷ [])
-    (entry_is (shown c.args.line) (progress_of c.args.passed.progress) (progress_of c.in-Ok.progress) _ _ _ c.size_at-offset.ensures.value c.size_at.ensures.value c.saturating_sub-count.ensures))
+    (entry_is (shown c.args.line) (progress_of c.args.passed.progress.value) (progress_of c.in-Ok.progress.value) _ _ _ c.size_at-offset.ensures.value c.size_at.ensures.value c.saturating_sub-count.ensures))
 
 pub returns-in_err-push-in-Ok : goal.returns-in_err-push-in-Ok
 returns-in_err-push-in-Ok c = refused_growth _ c.from_residual.result c.from_residual.ensures.1
