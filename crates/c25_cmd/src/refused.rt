@@ -1,6 +1,6 @@
 //! Where the command of a text is refused.
 
-ghost use Rattle.std.specs.Prelude.{◌≡◌, ◌≤◌, ◌<◌, ◌+◌, ◌^◌, length, IfOk, option_map};
+ghost use Rattle.std.specs.Prelude.{◌≡◌, ◌≤◌, ◌<◌, ◌+◌, ◌-◌, ◌^◌, IfOk, option_map};
 ghost use Rattle.c25_cmd.specs.Refused.{column_at, column_behind, refused_at, standing_at, standing_data};
 
 use crate::bytes::{behind, front, lexeme};
