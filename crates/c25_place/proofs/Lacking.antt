@@ -34,29 +34,29 @@ on_default ranges name false e none = ap (λ b. b || list_any (is_named_on name 
 
 -- which page has none
 of_program : (ranges : List RangeData) (s : Bool) → has_page ranges 0 ≡ false → has_page ranges 1 ≡ s → Told ranges Anywhere None true
-of_program ranges true off on = (OnPage 0, (λ i. missing_page (off i) (on i)), refl, off)
-of_program ranges false off on = (Any, (λ i. missing_page (off i) (on i)), off, on)
+of_program ranges true off on = (OnPage 0, (λ i. missing_page (off i) (on i)), (refl, off))
+of_program ranges false off on = (Any, (λ i. missing_page (off i) (on i)), (off, on))
 
 of_data : (ranges : List RangeData) (p : Bool) → has_page ranges 0 ≡ p → has_page ranges 1 ≡ false → Told ranges Anywhere None false
-of_data ranges true on off = (OnPage 1, (λ i. missing_page (on i) (off i)), refl, off)
-of_data ranges false on off = (Any, (λ i. missing_page (on i) (off i)), on, off)
+of_data ranges true on off = (OnPage 1, (λ i. missing_page (on i) (off i)), (refl, off))
+of_data ranges false on off = (Any, (λ i. missing_page (on i) (off i)), (on, off))
 
 pub lacks_so : (ranges : List RangeData) (target : TargetData) (page : Option ℕ) (initialised : Bool)
     → filter (is_usable target (unwrap_or page (default_page ranges target initialised))) ranges ≡ [] → Told ranges target page initialised
 lacks_so ranges (InRange name) (Some page) initialised none =
     let off = none_passes (is_named_on name page) ranges none in
-    (Named name (Some page), told_so (list_any (is_named_on name page) ranges) (Named name (Some page)) off, refl, refl, off)
+    (Named name (Some page), told_so (list_any (is_named_on name page) ranges) (Named name (Some page)) off, (refl, refl, off))
 lacks_so ranges (InRange name) None initialised none =
     let off = on_default ranges name (list_any (is_named_on name 0) ranges) refl none in
-    (Named name None, told_so (has_named ranges name None) (Named name None) off, refl, refl, off)
+    (Named name None, told_so (has_named ranges name None) (Named name None) off, (refl, refl, off))
 lacks_so ranges (At address) (Some page) initialised none =
     let off = none_passes (λ (r : RangeData). r.page == page) ranges none in
-    (OnPage page, told_so (has_page ranges page) (OnPage page) off, refl, off)
+    (OnPage page, told_so (has_page ranges page) (OnPage page) off, (refl, off))
 lacks_so ranges (At address) None initialised none =
     let off = none_passes (λ (r : RangeData). r.page == 0) ranges none in
-    (OnPage 0, told_so (has_page ranges 0) (OnPage 0) off, refl, off)
+    (OnPage 0, told_so (has_page ranges 0) (OnPage 0) off, (refl, off))
 lacks_so ranges Anywhere (Some page) initialised none =
     let off = none_passes (λ (r : RangeData). r.page == page) ranges none in
-    (OnPage page, told_so (has_page ranges page) (OnPage page) off, refl, off)
+    (OnPage page, told_so (has_page ranges page) (OnPage page) off, (refl, off))
 lacks_so ranges Anywhere None true none = of_program ranges (has_page ranges 1) (none_passes (λ (r : RangeData). r.page == 0) ranges none) refl
 lacks_so ranges Anywhere None false none = of_data ranges (has_page ranges 0) refl (none_passes (λ (r : RangeData). r.page == 1) ranges none)

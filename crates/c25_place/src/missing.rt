@@ -1,12 +1,13 @@
 //! The range that a command lacks for a section which has none to stand in.
 
-ghost use Rattle.std.specs.Prelude.{◌≡◌, IfOk};
+ghost use Rattle.std.specs.List.{list_any};
 ghost use Rattle.std.specs.Option.{option_map};
+ghost use Rattle.std.specs.Prelude.{◌≡◌, ◌==◌, IfOk};
+ghost use Rattle.std.specs.Str.{bytes_eq};
 ghost use Rattle.c25_cmd.specs.View.{command_data, placing_of, placings_of};
 ghost use Rattle.c25_meaning_placing.specs.GoodMap.{is_named_on};
-ghost use Rattle.std.specs.List.{list_any};
 ghost use Rattle.c25_place.specs.Missing.{has_named, has_page, missing_data, missing_for, missing_on, missing_page, missing_placing, missing_range, placing_named, unless};
-ghost use Rattle.c25_place.specs.View.{ranges_view, wanted_view};
+ghost use Rattle.c25_place.specs.View.{range_view, ranges_view, wanted_view};
 
 use crate::places::placings_of;
 use crate::ranges::{Range, ranges_for};
@@ -26,12 +27,33 @@ pub enum MissingRange<'a> {
     Any,
 }
 
+/// Whether a range is of a page.
+fn is_of_page(range: &Range<'_>, page: u8) -> bool
+    ensures { result ≡ ((range_view range.now).page == page) }
+{
+    range.page == page
+}
+
+/// Whether it has this name, too.
+fn is_named_on(range: &Range<'_>, name: &str, page: u8) -> bool
+    ensures { result ≡ is_named_on name.now page (range_view range.now) }
+{
+    range.page == page && name == range.name
+}
+
+/// Whether a section has this name.
+fn is_called(placing: &Placing, name: &str) -> bool
+    ensures { result ≡ bytes_eq (placing_of placing.now).name name.now }
+{
+    placing.name.as_str() == name
+}
+
 /// Whether a page has a range of this name.
 fn is_named(ranges: &[Range<'_>], name: &str, page: u8) -> bool
     ensures { result ≡ list_any (is_named_on name.now page) (ranges_view ranges.now) }
 {
     for range in ranges {
-        if range.page == page && name == range.name {
+        if is_named_on(range, name, page) {
             return true;
         }
     }
@@ -53,7 +75,7 @@ fn has_page(ranges: &[Range<'_>], page: u8) -> bool
     ensures { result ≡ has_page (ranges_view ranges.now) page }
 {
     for range in ranges {
-        if range.page == page {
+        if is_of_page(range, page) {
             return true;
         }
     }
@@ -113,7 +135,7 @@ fn placing_named<'a>(placings: &'a [Placing], name: &str) -> Option<&'a Placing>
     ensures { option_map (λ p. placing_of p.now) result ≡ placing_named name.now (placings_of placings.now) }
 {
     for placing in placings {
-        if placing.name.as_str() == name {
+        if is_called(placing, name) {
             return Some(placing);
         }
     }
