@@ -4,7 +4,7 @@ use Rattle.std.specs.List.{slice_get, zip}
 use Rattle.std.specs.Option.{option_map, option_map_or}
 use Rattle.std.proofs.lemmas.Bool.Decides.{nat_tests}
 use Rattle.c25_meaning_linking.specs.Words.{section_base}
-use Rattle.c25_meaning_objects.specs.Module.{Contents, Initialised, SectionBody, SectionData, SymbolData, Uninitialised, body_size, body_words, each_fits, field_is_clear, has_sections, is_module, lists_fit, relocation_fits, words_at}
+use Rattle.c25_meaning_objects.specs.Module.{Contents, Initialised, SectionBody, SectionData, SymbolData, Uninitialised, block_fits, body_size, body_words, each_fits, field_is_clear, file_fits, has_sections, is_module, line_fits, lists_fit, mark_fits, relocation_fits, section_fits, symbol_fits, told_by, words_at}
 use Rattle.c25_meaning_objects.specs.declared.object.LineMark.{LineMark}
 use Rattle.c25_meaning_objects.specs.declared.object.ModuleMark.{ModuleMark}
 use Rattle.c25_meaning_objects.specs.declared.object.Relocation.{Relocation}
@@ -51,8 +51,26 @@ both : (a b : Bool) → (a && b) ≡ true → (a ≡ true) × (b ≡ true)
 both true b h = (refl, h)
 both false b h = absurd cc
 
+-- what is asked of a module from a list on
+abbrev from_files : Contents → Bool
+from_files c = each_fits file_fits [] c.files && (each_fits (line_fits c.marks c.files) [] c.lines && (told_by c.version c && each_fits (block_fits c.sections) [] c.blocks))
+
+abbrev from_relocations : Contents → Bool
+from_relocations c = each_fits (relocation_fits c.version c.sections c.symbols) [] c.relocations && from_files c
+
+abbrev from_symbols : Contents → Bool
+from_symbols c = each_fits (symbol_fits c.version c.sections) [] c.symbols && from_relocations c
+
+abbrev from_marks : Contents → Bool
+from_marks c = each_fits (mark_fits c.sections) [] c.marks && from_symbols c
+
 relocations_of_module : (c : Contents) → is_module c ≡ true → each_fits (relocation_fits c.version c.sections c.symbols) [] c.relocations ≡ true
-relocations_of_module c h = (both _ _ (both _ _ (both _ _ (both _ _ (both (has_sections c) (lists_fit c) h).1).1).1).1).0
+relocations_of_module c h =
+    let lists = (both (has_sections c) (lists_fit c) h).1 in
+    let marks = (both (each_fits section_fits [] c.sections) (from_marks c) lists).1 in
+    let symbols = (both (each_fits (mark_fits c.sections) [] c.marks) (from_symbols c) marks).1 in
+    let relocations = (both (each_fits (symbol_fits c.version c.sections) [] c.symbols) (from_relocations c) symbols).1 in
+    (both (each_fits (relocation_fits c.version c.sections c.symbols) [] c.relocations) (from_files c) relocations).0
 
 within_words : (version : Version) (sections : List SectionData) (symbols : List SymbolData) (before : List Relocation) (r : Relocation) → relocation_fits version sections symbols before r ≡ true → r.offset < length (words_at sections r.section)
 within_words version sections symbols before r h =
