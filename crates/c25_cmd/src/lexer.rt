@@ -11,7 +11,8 @@ use crate::words::word_kind;
 use c25_meaning_commands::command_token::{Kind, Lexeme};
 use std::alloc::{AllocError, Global};
 
-fn text_of(bytes: &[u8]) -> &str
+/// Bytes that are a text.
+pub(crate) fn text_of(bytes: &[u8]) -> &str
     requires { IsUtf8 bytes.now }
     ensures { result.now ≡ bytes.now }
 {

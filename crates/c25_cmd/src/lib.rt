@@ -13,6 +13,7 @@ mod lexer;
 mod memory;
 mod parts;
 mod ranges;
+mod refused;
 mod sections;
 pub mod taken;
 mod token;
@@ -20,3 +21,4 @@ mod words;
 
 pub use command::{Command, MemoryRange, Placing, Target};
 pub use command_reader::read_command;
+pub use refused::{Standing, refused_at};

@@ -4,6 +4,7 @@ mod First
 mod Linked
 mod Loaded
 mod Marked
+mod Misplaced
 mod Named
 mod Owned
 mod Parted

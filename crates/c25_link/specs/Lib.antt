@@ -4,5 +4,6 @@ pub mod Layout
 pub mod Lines
 pub mod Link
 pub mod Loading
+pub mod Misfits
 pub mod Sound
 pub mod View

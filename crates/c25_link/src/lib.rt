@@ -11,9 +11,11 @@ mod lines;
 mod linking;
 mod loading;
 mod marks;
+mod misfits;
 mod uses;
 mod values;
 
 pub use c25_map::read_map;
 pub use image::Image;
 pub use linking::link;
+pub use misfits::{Misfit, SourceLine, first_misfit};

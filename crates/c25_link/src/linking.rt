@@ -30,7 +30,7 @@ use c25_place::{Refused, good_places, refusal};
 use std::alloc::Global;
 
 /// The name of the entry, where a command gives one.
-fn entry_of(command: &Command) -> Option<&str>
+pub(crate) fn entry_of(command: &Command) -> Option<&str>
     ensures { option_map (λ name. name.now) result ≡ (command_data command.now).entry }
 {
     match &command.entry {
@@ -40,7 +40,7 @@ fn entry_of(command: &Command) -> Option<&str>
 }
 
 /// The definitions of all modules, unless a name is defined twice, missing, or no entry.
-fn checked_definitions<'a>(
+pub(crate) fn checked_definitions<'a>(
     alloc: Global,
     modules: &'a [Module],
     entry: Option<&str>,

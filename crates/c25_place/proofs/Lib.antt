@@ -5,6 +5,8 @@ pub mod Commanded
 pub mod Elsewhere
 pub mod Fits
 pub mod Kept
+pub mod Lacked
+pub mod Lacking
 pub mod Listed
 pub mod Paged
 pub mod Placing

@@ -1,4 +1,5 @@
 pub mod Blocks
+pub mod Missing
 pub mod Outputs
 pub mod Placement
 pub mod Ranges

@@ -3,6 +3,8 @@
 
 mod blocks;
 mod faults;
+pub mod laws;
+mod missing;
 mod names;
 mod outputs;
 mod placement;
@@ -13,6 +15,7 @@ mod room;
 mod runs;
 
 pub use faults::{Refused, refusal};
+pub use missing::{MissingRange, missing_range};
 pub use outputs::body_size;
 pub use placement::Place;
 pub use places::good_places;

@@ -17,7 +17,7 @@ use c25_obj::Module;
 use std::alloc::Global;
 
 /// The sections that a command lists.
-fn placings_of(command: &Command) -> &[Placing]
+pub(crate) fn placings_of(command: &Command) -> &[Placing]
     ensures { placings_of result.now ≡ placings_for (command_data command.now) }
 {
     match &command.sections {

@@ -73,7 +73,10 @@ fn named_ranges<'a>(alloc: Global, memory: &'a [MemoryRange]) -> Result<Vec<Rang
 }
 
 /// The ranges of a command.
-fn ranges_for<'a>(alloc: Global, command: &'a Command) -> Result<Vec<Range<'a>>, AllocError>
+pub(crate) fn ranges_for<'a>(
+    alloc: Global,
+    command: &'a Command,
+) -> Result<Vec<Range<'a>>, AllocError>
     ensures { IfOk result (λ v. ranges_view v.items ≡ ranges_for (command_data command.now)) }
 {
     match &command.memory {

@@ -39,7 +39,7 @@ pub(crate) struct Request<'a> {
 }
 
 /// What a command says of the place.
-fn place_wanted(target: &Target) -> Wanted<'_>
+pub(crate) fn place_wanted(target: &Target) -> Wanted<'_>
     ensures { wanted_view result ≡ target_of target.now }
 {
     match target {

@@ -1,0 +1,55 @@
+-- What stands where the command of a text is refused.
+use Rattle.std.specs.Prelude.{ℕ, ◌+◌, ◌==◌, ◌&&◌, List, [], ◌∷◌, take, drop, Option, Some, None, Result, Ok, Err, nat_lt, nat_le, if◌then◌else◌}
+use Rattle.std.specs.List.{fold}
+use Rattle.c25_meaning_commands.specs.Command.{CommandData}
+use Rattle.c25_meaning_commands.specs.CommandText.{command_at}
+use Rattle.c25_meaning_commands.specs.CommandTokens.{lexeme, tokens}
+use Rattle.c25_meaning_commands.specs.declared.command_fault.CommandFault.{CommandFault}
+use Rattle.c25_meaning_commands.specs.declared.command_token.Lexeme.{Lexeme}
+use Rattle.c25_meaning_commands.specs.declared.command_token.Lexeme.TheVariants as piece
+use Rattle.c25_meaning_common.specs.declared.placed.Placed.{Placed}
+use Rattle.c25_cmd.specs.declared.refused.Standing.{Standing}
+use Rattle.c25_cmd.specs.declared.refused.Standing.TheVariants as standing
+
+-- what stands at a place of a text: a word or another byte, and the column of its line, or the end of the text
+pub data StandingData : Type 0 where
+  Word : ℕ → List ℕ → StandingData
+  Character : ℕ → ℕ → StandingData
+  End : StandingData
+
+-- the column behind a byte: a line end begins a line, and a byte that goes on a character of UTF-8 has that one's column
+abbrev pub column_behind : ℕ → ℕ → ℕ
+column_behind column b = if b == 10 then 1 else (if nat_le 128 b && nat_lt b 192 then column else column + 1)
+
+-- the column of a place, from 1
+abbrev pub column_at : List ℕ → ℕ → ℕ
+column_at text place = fold column_behind 1 (take place text)
+
+-- what a lexeme at the front of bytes is, where it is a word, and else the first of them
+abbrev pub written : Lexeme → ℕ → ℕ → List ℕ → StandingData
+written (piece.Word n) column b text = Word column (take n text)
+written _ column b text = Character column b
+
+-- what stands at the front of a text that begins in this column
+unfoldable pub at_front : ℕ → List ℕ → StandingData
+at_front column [] = End
+at_front column (b ∷ rest) = written (lexeme (b ∷ rest)) column b (b ∷ rest)
+
+-- what stands at a place
+abbrev pub standing_at : List ℕ → ℕ → StandingData
+standing_at text place = at_front (column_at text place) (drop place text)
+
+-- what stands where a command is refused; a command is not
+abbrev pub standing_of : List ℕ → Result CommandData (Placed ℕ CommandFault) → Option StandingData
+standing_of text (Ok command) = None
+standing_of text (Err fault) = Some (standing_at text fault.place)
+
+-- the same of the command of a text
+abbrev pub refused_at : List ℕ → Option StandingData
+refused_at text = standing_of text (command_at (tokens text))
+
+-- how the code has it
+abbrev pub standing_data : Standing → StandingData
+standing_data (standing.Word column text) = Word column text.now
+standing_data (standing.Character column byte) = Character column byte
+standing_data standing.End = End

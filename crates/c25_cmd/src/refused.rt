@@ -1,0 +1,85 @@
+//! Where the command of a text is refused.
+
+ghost use Rattle.std.specs.Prelude.{◌≡◌, ◌≤◌, ◌<◌, ◌+◌, ◌-◌, ◌^◌, IfOk, option_map};
+ghost use Rattle.c25_cmd.specs.Refused.{column_at, column_behind, refused_at, standing_at, standing_data};
+
+use crate::bytes::{behind, front, lexeme};
+use crate::lexer::{text_of, tokens};
+use crate::parts::command_at;
+use c25_meaning_commands::command_token::Lexeme;
+use c25_meaning_common::failure::Failure;
+use c25_meaning_common::no_memory::NoMemory;
+use std::alloc::Global;
+
+/// What stands in a text where its command is refused. Columns count the characters of a line from 1.
+#[derive(Clone, Copy, Debug)]
+pub enum Standing<'a> {
+    /// A word.
+    Word { column: usize, text: &'a str },
+    /// A sign, or the first byte of a character that can stand nowhere.
+    Character { column: usize, byte: u8 },
+    /// Nothing: the text ends there.
+    End,
+}
+
+/// The column behind a byte.
+fn column_behind(column: usize, byte: u8) -> usize
+    requires { column < 2 ^ 64 - 1 }
+    ensures value { result ≡ column_behind column byte }
+    ensures bound { result ≤ column + 1 }
+{
+    if byte == b'\n' {
+        1
+    } else if byte >= 0x80 && byte < 0xc0 {
+        column
+    } else {
+        column + 1
+    }
+}
+
+/// The column of a place.
+fn column_at(text: &[u8], place: usize) -> usize
+    ensures { result ≡ column_at text.now place }
+{
+    let before = front(text, place);
+    let mut column = 1;
+    for byte in before {
+        column = column_behind(column, *byte);
+    }
+    column
+}
+
+/// What stands at a place.
+#[tactic(auto, unfolding(crate::specs::Refused::at_front))]
+fn standing_at(text: &str, place: usize) -> Standing<'_>
+    ensures { standing_data result ≡ standing_at text.now place }
+{
+    let column = column_at(text.as_bytes(), place);
+    let rest = behind(text.as_bytes(), place);
+    match rest {
+        [] => Standing::End,
+        [byte, ..] => match lexeme(rest) {
+            Lexeme::Word(length) => Standing::Word {
+                column,
+                text: text_of(front(rest, length)),
+            },
+            _ => Standing::Character {
+                column,
+                byte: *byte,
+            },
+        },
+    }
+}
+
+/// What stands where the command of a text is refused, which [`read_command`](crate::read_command) tells
+/// the line of. It is `None` where the text is a command.
+pub fn refused_at(alloc: Global, text: &str) -> Result<Option<Standing<'_>>, NoMemory>
+    ensures { IfOk result (λ standing. option_map standing_data standing ≡ refused_at text.now) }
+{
+    let found = tokens(alloc, text.as_bytes())?;
+    match command_at(alloc, found.as_slice()) {
+        Ok(_) => Ok(None),
+        Err(Failure::NoMemory(error)) => Err(error),
+        Err(Failure::Fault(first)) => Ok(Some(standing_at(text, first.place))),
+    }
+}

@@ -1,0 +1,69 @@
+-- What is told beside the line of a fault, in whole lines.
+use Rattle.std.specs.Prelude.{ℕ, zero, suc, ◌&&◌, ℤ, pos, negsuc, List, [], ◌∷◌, ◌++◌, Option, Some, None, codes, nat_lt, if◌then◌else◌}
+use Rattle.std.specs.Fmt.{decimal, signed_decimal}
+use Rattle.c25_cmd.specs.Refused.{Character, End, StandingData, Word}
+use Rattle.c25_link.specs.Misfits.{MisfitData}
+use Rattle.c25_meaning_common.specs.Digits.{four_digits, two_digits}
+use Rattle.c25_meaning_common.specs.Faults.{placed_text}
+use Rattle.c25_meaning_objects.specs.declared.object.RelocationBase.{RelocationBase}
+use Rattle.c25_meaning_objects.specs.declared.object.RelocationBase.TheVariants as base
+use Rattle.c25_place.specs.Missing.{Any, MissingData, Named, OnPage}
+
+-- ---- a command that is refused: 60 to 63
+
+-- a visible character of ASCII as it is, any other byte by its digits
+abbrev pub byte_text : ℕ → List ℕ
+byte_text b = if nat_lt 32 b && nat_lt b 127 then b ∷ [] else codes "byte " ++ two_digits b ++ codes "h"
+
+-- what stands where it is refused, and in which column
+abbrev pub standing_text : StandingData → List ℕ
+standing_text (Word column text) = codes "column " ++ decimal column ++ codes ": " ++ text
+standing_text (Character column b) = codes "column " ++ decimal column ++ codes ": " ++ byte_text b
+standing_text End = codes "the text ends here"
+
+-- that, behind the line of its file
+abbrev pub refused_text : List ℕ → ℕ → StandingData → List ℕ
+refused_text file line standing = placed_text file line (standing_text standing) ++ codes "\n"
+
+-- ---- a section without a range: 72
+
+-- on which page, where the command names one
+abbrev pub page_text : Option ℕ → List ℕ
+page_text None = []
+page_text (Some page) = codes " on page " ++ decimal page
+
+-- where it is to stand, and what it lacks there
+abbrev pub lack_text : MissingData → List ℕ
+lack_text (Named name page) = codes "in " ++ name ++ codes ", and no range has this name" ++ page_text page
+lack_text (OnPage page) = codes "on page " ++ decimal page ++ codes ", which has no range"
+lack_text Any = codes "anywhere, and there is no range"
+
+-- the same of the section of this name, behind the name of the command file
+abbrev pub missing_text : List ℕ → List ℕ → MissingData → List ℕ
+missing_text file section range = file ++ codes ": " ++ section ++ codes " is to stand " ++ lack_text range ++ codes "\n"
+
+-- ---- a field that does not take its value: 75
+
+-- an addend with its sign; nothing for 0
+abbrev pub addend_text : ℤ → List ℕ
+addend_text (pos zero) = []
+addend_text (pos (suc n)) = codes "+" ++ signed_decimal (pos (suc n))
+addend_text (negsuc n) = signed_decimal (negsuc n)
+
+-- what an addend is added to, by its name
+abbrev pub base_text : RelocationBase → List ℕ → List ℕ
+base_text (base.Section index) name = name
+base_text (base.Loaded index) name = codes "load of " ++ name
+base_text (base.External index) name = name
+
+-- where the field is
+abbrev pub field_text : MisfitData → List ℕ
+field_text f = codes "the field at " ++ four_digits f.address ++ codes " in " ++ f.section
+
+-- the value that it does not take
+abbrev pub value_text : MisfitData → List ℕ
+value_text f = codes " does not take " ++ signed_decimal f.value ++ codes ", which is " ++ base_text f.base f.name ++ addend_text f.addend
+
+-- both, behind the name of the file of its module and its number
+abbrev pub misfit_text : List ℕ → MisfitData → List ℕ
+misfit_text file f = file ++ codes ": module " ++ decimal f.number ++ codes ": " ++ field_text f ++ value_text f ++ codes "\n"

@@ -1,0 +1,49 @@
+//! Ranges that a command lacks.
+
+ghost use Rattle.std.specs.Prelude.{◌≡◌, ◌++◌, IfOk, OnOk, string_bytes};
+ghost use Rattle.c25_details.specs.Details.{lack_text, missing_text, page_text};
+ghost use Rattle.c25_place.specs.Missing.{missing_data};
+
+use c25_meaning_common::no_memory::NoMemory;
+use c25_place::MissingRange;
+use std::alloc::Global;
+
+/// Appends on which page, where the command names one.
+fn push_page(text: &mut String, page: Option<u8>) -> Result<(), NoMemory>
+    ensures { OnOk result (string_bytes text.new ≡ string_bytes text.old ++ page_text page) }
+{
+    match page {
+        Some(page) => Ok(write!(text, " on page {page}")?),
+        None => Ok(()),
+    }
+}
+
+/// Appends where a section is to stand, and what it lacks there.
+fn push_lack(text: &mut String, range: MissingRange<'_>) -> Result<(), NoMemory>
+    ensures { OnOk result (string_bytes text.new ≡ string_bytes text.old ++ lack_text (missing_data range.entry)) }
+{
+    match range {
+        MissingRange::Named { name, page } => {
+            write!(text, "in {name}, and no range has this name")?;
+            push_page(text, page)
+        }
+        MissingRange::OnPage(page) => Ok(write!(text, "on page {page}, which has no range")?),
+        MissingRange::Any => Ok(text.push_str("anywhere, and there is no range")?),
+    }
+}
+
+/// Where the section of this name is to stand, and what it lacks there in the command of this file: a
+/// line of text.
+pub fn missing_text(
+    alloc: Global,
+    file: &str,
+    section: &str,
+    range: MissingRange<'_>,
+) -> Result<String, NoMemory>
+    ensures { IfOk result (λ text. string_bytes text ≡ missing_text file.now section.now (missing_data range.entry)) }
+{
+    let mut text = format!(in alloc; "{file}: {section} is to stand ")?;
+    push_lack(&mut text, range)?;
+    text.push_str("\n")?;
+    Ok(text)
+}
