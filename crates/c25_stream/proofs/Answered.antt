@@ -47,7 +47,7 @@ module _ (given : Given) (ready : Ready) (is : IsReady given ready) (n : ℕ) (r
         let inputs = subst (λ (x : Inputs). TellsOutcome regs image x.entries c.outcome c.steps (last_state (a.run).0) e note) (sym of.inputs) state in
         subst (λ (i : ImageData). TellsOutcome regs i (a.inputs).entries c.outcome c.steps (last_state (a.run).0) e note) (sym of.image) inputs
 
-    of_answer : PrintsEnd regs ready.built.linked.image ready.schedule n end e note old new → PrintsText (run_text c) (TellsAnswer regs given n c a e note) e note old new
+    of_answer : PrintsEnd regs ready.built.linked.image ready.schedule n end e note old new → PrintsText (run_text c) (TellsAnswer regs given n c a) e note old new
     of_answer (inl (printed, told)) = inl (subst (Appends old new) of.text printed, told_of_answer told)
     of_answer (inr (is_unprinted, none, front)) = inr (is_unprinted, none, subst (λ (t : List ℕ). HasFront t old new) of.text front)
 

@@ -13,7 +13,7 @@ use Rattle.c25_meaning_common.specs.declared.failure.Failure.TheVariants as fail
 use Rattle.c25_meaning_expansion.specs.Files.{Files}
 use Rattle.c25_report.specs.Ending.{IsShort, status_of}
 use Rattle.c25_report.specs.declared.ending.Ending.{Ending}
-use Rattle.c25_stream.specs.Run.{PrintsAnswer, PrintsRun, PrintsStatements, PrintsText, TellsAnswer, TellsEnd}
+use Rattle.c25_stream.specs.Run.{PrintsAnswer, PrintsRun, PrintsStatements, PrintsText, TellsAnswer, TellsEnd, Telling}
 use Rattle.c25_words.specs.declared.task.RunFiles.{RunFiles}
 use Rattle.c25_tasks.specs.Running.{IsGivenFrom, IsGivenInput, ReadiesFrom, ReadiesInput, ReadiesOver, stdin}
 use Rattle.c25_tasks.specs.Tells.{IsOfSources, IsReportOf, IsRun, IsRunOfAnswers, IsRunOfStatements, Printed, PrintsGiven, TellsRun}
@@ -36,19 +36,19 @@ fault_failed held notes (failure.Fault f) e note (inr (short, none)) ran = short
 -- ---- what is printed
 
 module _ (n : ℕ) (regs : Bool) (e : Ending) (note : List ℕ) (out : Printed) (ran : IsRun e) where
-  whole_text : (text : List ℕ) (tells : Type 0) → PrintsText text tells e note out.0 out.1 → Appends out.0 out.1 text × tells
+  whole_text : (text : List ℕ) (tells : Telling) → PrintsText text tells e note out.0 out.1 → Appends out.0 out.1 text × tells e note
   whole_text text tells (inl printed) = printed
   whole_text text tells (inr (is, none, front)) = failed e (ap status_of is) ran
 
   whole_statements : (given : Given) (ready : Ready) → IsReady given ready → PrintsStatements given ready n regs e note out.0 out.1 → IsRunOfStatements given n regs e note out
   whole_statements given ready is (inl printed) =
       let end = statements_end given ready n in
-      let all = whole_text (end_text n end) (TellsEnd regs ready.built.linked.image ready.schedule n end e note) printed in
+      let all = whole_text (end_text n end) (TellsEnd regs ready.built.linked.image ready.schedule n end) printed in
       (ready, is, all.0, all.1)
   whole_statements given ready is (inr (short, none, keeps)) = short_failed e short ran
 
   whole_answers : (given : Given) → PrintsAnswer given n regs e note out.0 out.1 → IsRunOfAnswers given n regs e note out
-  whole_answers given (inl printed) chain a = whole_text (run_text chain) (TellsAnswer regs given n chain a e note) (printed chain a)
+  whole_answers given (inl printed) chain a = whole_text (run_text chain) (TellsAnswer regs given n chain a) (printed chain a)
   whole_answers given (inr (short, none, keeps)) chain a = short_failed e short ran
 
 -- what is told of a program that is ready
