@@ -1,8 +1,12 @@
 -- Files that are copied one behind another.
-use Rattle.std.proofs.Common.{◌≡◌, ◌∙◌, sym, ap, ℕ, ◌+◌, ◌≤◌, List, [], ◌∷◌, ◌++◌, length, append_assoc, append-nil, length-append, arith}
+use Rattle.std.proofs.Common.{◌≡◌, ◌∙◌, sym, ap, ℕ, ◌+◌, ◌<◌, ◌≤◌, List, [], ◌∷◌, ◌++◌, length, take, subst, append_assoc, append-nil, length-append, arith}
+use Rattle.std.proofs.Math.Seq.{take-append_seam}
 use Rattle.std.proofs.lemmas.List.Elements.{All-append, All-nil, All-cons}
 use Rattle.c25_meaning_expansion.specs.Files.{Files}
-use Rattle.c25_disk.specs.Copies.{HasCopied}
+use Rattle.std.specs.Prelude.{Option, Result}
+use Rattle.c25_meaning_common.specs.declared.failure.Failure.{Failure}
+use Rattle.c25_disk.specs.declared.work.CopyFault.{CopyFault}
+use Rattle.c25_disk.specs.Copies.{EndsOver, HasCopied}
 use Rattle.c25_disk.specs.Held.{Held, IsAllOf}
 
 abbrev pub is_held : Held → List ℕ × List ℕ → Type 0
@@ -32,3 +36,28 @@ pub copied_most : (held : Held) (given files : Files) (n m : ℕ) → n ≤ m �
 copied_most held given files n m le so_far =
     let few = so_far.few in
     record { copies = so_far.copies; behind = so_far.behind; few = omega (arith, few, le); read = so_far.read }
+
+pub copied_given : (held : Held) (given files : Files) → files ≡ given → HasCopied held given 256 files
+copied_given held given files same = copied_most held given files 0 256 (omega arith) (copied_none held given files same)
+
+pub copied_same : (held : Held) (given files after : Files) → after ≡ files → HasCopied held given 256 files → HasCopied held given 256 after
+copied_same held given files after same so_far = subst (HasCopied held given 256) (sym same) so_far
+
+-- one more where there is room
+pub copied_room : (held : Held) (given files after : Files) (name : List ℕ) → HasCopied held given 256 files → length files < length given + 256
+    → ((text : List ℕ) × IsAllOf (held name) text × (after ≡ files ++ (name, text) ∷ [])) → HasCopied held given 256 after
+copied_room held given files after name so_far room added =
+    let long : length files ≡ length given + length so_far.copies = ap length so_far.behind ∙ length-append given so_far.copies in
+    let so : HasCopied held given (length so_far.copies) files = record { copies = so_far.copies; behind = so_far.behind; few = omega arith; read = so_far.read } in
+    copied_most held given after (length so_far.copies + 1) 256 (omega (arith, long, room)) (copied_more held given files after (length so_far.copies) name so added)
+
+-- the first of them are those that were given
+given_again : (held : Held) (given files : Files) (count : ℕ) → count ≡ length given → HasCopied held given 256 files → take count files ≡ given
+given_again held given files count is so_far =
+    ap (λ n. take n files) is ∙ ap (take (length given)) so_far.behind ∙ take-append_seam given so_far.copies
+
+-- what comes of work over these comes of it over those that were given
+pub ends_again : {A F : Type 0} (held : Held) (given files first : Files) (count : ℕ) (comes_to : Files → Result A (Failure F) → Type 0) (missing : F → Option (List ℕ)) (result : Result A (Failure (CopyFault F)))
+    → count ≡ length given → HasCopied held given 256 files → first ≡ take count files → EndsOver held first comes_to missing result → EndsOver held given comes_to missing result
+ends_again held given files first count comes_to missing result is so_far kept ends =
+    subst (λ f. EndsOver held f comes_to missing result) (kept ∙ given_again held given files count is so_far) ends

@@ -1,5 +1,5 @@
 -- Work over files, to which those that it asks for are added.
-use Rattle.std.specs.Prelude.{◌≡◌, ℕ, ◌≤◌, List, [], ◌∷◌, ◌++◌, length, Option, Some, IfSome, is_some, true, false, Result, Ok, Err, String}
+use Rattle.std.specs.Prelude.{◌≡◌, ℕ, ◌≤◌, List, [], ◌∷◌, ◌++◌, length, Option, Some, None, IfSome, is_some, true, false, Result, Ok, Err, String}
 use Rattle.std.specs.String.{string_bytes}
 use Rattle.std.specs.declared.alloc.Global.{Global}
 use Rattle.c25_meaning_expansion.specs.Files.{Files, text_named}
@@ -73,3 +73,9 @@ pub record HasCopied (held : Held) (given : Files) (most : ℕ) (files : Files) 
 abbrev pub EndsOver : {A F : Type 0} → Held → Files → (Files → Result A (Failure F) → Type 0) → (F → Option (List ℕ)) → Result A (Failure (CopyFault F)) → Type 0
 EndsOver held given comes_to missing result =
     (files : Files) × HasCopied held given 256 files × IsEnd (comes_to files) missing files result
+
+-- the same, or no answer yet
+abbrev pub EndsAhead : {A F : Type 0} → Held → Files → (Files → Result A (Failure F) → Type 0) → (F → Option (List ℕ)) → Result (Option A) (Failure (CopyFault F)) → Type 0
+EndsAhead held given comes_to missing (Ok (Some a)) = EndsOver held given comes_to missing (Ok a)
+EndsAhead held given comes_to missing (Ok None) = Unit {0}
+EndsAhead held given comes_to missing (Err failure) = EndsOver held given comes_to missing (Err failure)

@@ -1,9 +1,10 @@
 //! Files that the work asks for.
 
-ghost use Rattle.std.specs.Prelude.{◌≡◌, false, is_some};
+ghost use Rattle.std.specs.Prelude.{◌≡◌, OnOk, false, is_some};
 ghost use Rattle.c25_meaning_expansion.specs.Files.{text_named};
-ghost use Rattle.c25_disk.specs.Copies.{AddsCopy, EndsOver, IsEnd, IsFileFault};
+ghost use Rattle.c25_disk.specs.Copies.{AddsCopy, EndsAhead, EndsOver, HasCopied, IsEnd, IsFileFault};
 
+use crate::ahead::read_ahead;
 use crate::attempts::{Turn, attempt};
 use crate::disk::Disk;
 use crate::fault::{FileFault, fault_of_file};
@@ -11,6 +12,7 @@ use crate::sources::add_source;
 use crate::work::{CopyFault, Work};
 use c25_files::files::Files;
 use c25_meaning_common::failure::Failure;
+use c25_meaning_common::no_memory::NoMemory;
 use c25_meaning_common::placed::Placed;
 use std::alloc::Global;
 
@@ -60,11 +62,10 @@ fn last_attempt<W: Work>(
     }
 }
 
-/// Work over files to which those that it asks for are added: where it asks for one that is not there,
-/// that one is read, and the work begins again. At most 256 files are copied; the 257th is refused (8)
-/// without being read.
+/// Work over files to which those that it asks for are added one by one: each time the work begins
+/// again.
 #[tactic(auto, using(crate::proofs::Copied::copied_none, crate::proofs::Copied::copied_more, crate::proofs::Copied::copied_most))]
-pub fn with_copies<D: Disk, W: Work>(
+fn with_asked<D: Disk, W: Work>(
     alloc: Global,
     disk: &D,
     given: Files,
@@ -80,4 +81,62 @@ pub fn with_copies<D: Disk, W: Work>(
         }
     }
     last_attempt(alloc, &files, work)
+}
+
+/// Work over files to which those that it asks for are added, and once it asks for one, those that texts
+/// name plainly: so the work seldom begins again. It has no answer where it asks for one more than may
+/// be copied.
+#[tactic(auto, using(crate::proofs::Copied::copied_given, crate::proofs::Copied::copied_room))]
+fn with_named<D: Disk, W: Work>(
+    alloc: Global,
+    disk: &D,
+    files: &mut Files,
+    work: &W,
+) -> Result<Option<W::Answer>, Failure<CopyFault<W::Fault>>>
+    ensures ended { EndsAhead (D.bytes_of disk.now) files.old (W.comes_to work.now) W.missing_of result }
+    ensures kept { OnOk result (HasCopied (D.bytes_of disk.now) files.old 256 files.new) }
+{
+    let most = files.len().saturating_add(COPIES);
+    let mut first = 0;
+    for _ in 0..=COPIES {
+        match attempt(alloc, files, work)? {
+            Turn::Answered(answer) => return Ok(Some(answer)),
+            Turn::Lacks(name) => {
+                if files.len() >= most {
+                    return Ok(None);
+                }
+                add_copy(alloc, disk, files, name.as_str())?;
+                first = match read_ahead(alloc, disk, files, first, most) {
+                    Ok(next) => next,
+                    Err(error) => return Err(Failure::NoMemory(NoMemory::from(error))),
+                };
+            }
+        }
+    }
+    Ok(None)
+}
+
+/// Work over files to which those that it asks for are added: where it asks for one that is not there,
+/// that one is read, and those that lines of the texts show to be copied, and the work begins again. At
+/// most 256 files are copied; where the work then asks for one more, it is done anew with no file but
+/// those that it asks for, and the 257th of these is refused (8) without being read.
+#[tactic(auto, using(crate::proofs::Copied::ends_again))]
+pub fn with_copies<D: Disk, W: Work>(
+    alloc: Global,
+    disk: &D,
+    given: Files,
+    work: &W,
+) -> Result<W::Answer, Failure<CopyFault<W::Fault>>>
+    ensures { EndsOver (D.bytes_of disk.now) given (W.comes_to work.now) W.missing_of result }
+{
+    let count = given.len();
+    let mut files = given;
+    match with_named(alloc, disk, &mut files, work) {
+        Ok(Some(answer)) => Ok(answer),
+        Ok(None) => {
+            files.truncate(count);
+            with_asked(alloc, disk, files, work)
+        }
+        Err(failure) => Err(failure),
+    }
 }

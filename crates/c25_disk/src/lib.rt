@@ -3,6 +3,7 @@
 //! The work between stands on [`Disk`], so that contracts can say which text of which name goes where.
 #![tactic(auto)]
 
+mod ahead;
 mod attempts;
 mod binary;
 mod copies;

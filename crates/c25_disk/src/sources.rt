@@ -1,6 +1,6 @@
 //! Sources, read from a disk.
 
-ghost use Rattle.std.specs.Prelude.{◌≡◌, [], IfErr, IfOk, OnOk, false, is_some, map, string_bytes};
+ghost use Rattle.std.specs.Prelude.{◌≡◌, [], IfErr, IfOk, OnErr, OnOk, false, is_some, map, string_bytes};
 ghost use Rattle.c25_meaning_expansion.specs.Files.{text_named};
 ghost use Rattle.c25_files.specs.Added.{AddsAll};
 ghost use Rattle.c25_disk.specs.declared.fault.FileFault.TheVariants as kind;
@@ -50,10 +50,15 @@ pub(crate) fn is_among(files: &Files, name: &str) -> bool
     files.text(name).is_some()
 }
 
-/// Adds the text of a file under its name, which is new.
-fn add_file<D: Disk>(disk: &D, files: &mut Files, name: &str) -> Result<(), Failure<CannotRead>>
+/// Adds the text of a file under its name, which is new. After a refusal the files are as before.
+pub(crate) fn add_file<D: Disk>(
+    disk: &D,
+    files: &mut Files,
+    name: &str,
+) -> Result<(), Failure<CannotRead>>
     requires { is_some (text_named files.old name.now) ≡ false }
-    ensures { OnOk result (AddsAll (D.bytes_of disk.now name.now) name.now files.old files.new) }
+    ensures added { OnOk result (AddsAll (D.bytes_of disk.now name.now) name.now files.old files.new) }
+    ensures refused { OnErr result (files.new ≡ files.old) }
 {
     let Ok(reader) = disk.open(name) else {
         return Err(Failure::Fault(CannotRead));

@@ -1,6 +1,6 @@
 //! The texts of sources by their names.
 
-ghost use Rattle.std.specs.Prelude.{◌≡◌, ◌↔◌, [], ◌∷◌, ◌++◌, IsSome, IfSome, IsErrOf, OnOk, OnErr, is_some, false, string_bytes};
+ghost use Rattle.std.specs.Prelude.{◌≡◌, ◌↔◌, [], ◌∷◌, ◌++◌, IsSome, IfSome, IsErrOf, OnOk, OnErr, is_some, false, length, take, string_bytes};
 ghost use Rattle.std.specs.Option.{option_map};
 ghost use Rattle.std.specs.Io.KnownBytes.{IsAtEnd};
 ghost use Rattle.c25_meaning_expansion.specs.Files.{text_named, file_name};
@@ -85,6 +85,20 @@ impl Files {
             alloc,
             texts: IndexMap::new(alloc),
         }
+    }
+
+    /// How many there are.
+    pub fn len(&self) -> usize
+        ensures { result ≡ length self.now }
+    {
+        self.texts.len()
+    }
+
+    /// Keeps so many of the first ones.
+    pub fn truncate(&mut self, count: usize)
+        ensures { self.new ≡ take count self.old }
+    {
+        self.texts.truncate(count);
     }
 
     /// The text of a name, where there is one.

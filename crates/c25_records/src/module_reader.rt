@@ -331,7 +331,8 @@ fn made(alloc: Global, bytes: &[u8]) -> Result<Module, Failure<ObjectFault>>
 /// begin with `C25O`, then another version, and then for each record first that it is cut off, then
 /// that its tag is unknown or out of order, then that it has not the form of its tag or may not
 /// stand behind the records before it; and bytes after the last record. It refuses for want of
-/// memory too, and takes time near linear in the number of bytes.
+/// memory too, and takes time near linear in the number of bytes, unless names were chosen to have
+/// one hash.
 pub fn read_module(alloc: Global, bytes: &[u8]) -> Result<Module, Failure<ObjectFault>>
     // What is read is spelled so.
     ensures found { IfOk result (λ m. bytes.now ≡ spelling m) }

@@ -1,5 +1,5 @@
 use Rattle.c25_disk.proofs.Copied.{copied_more}
-use Rattle.c25_disk.proofs.copies.with_copies.Goals as goal
+use Rattle.c25_disk.proofs.copies.with_asked.Goals as goal
 
 pub loop-preserved : goal.loop-preserved
 loop-preserved g c =

@@ -1,0 +1,8 @@
+use Rattle.std.proofs.Common.{◌+◌, ◌≤◌, length}
+use Rattle.c25_meaning_expansion.specs.Files.{Files}
+use Rattle.c25_disk.specs.Copies.{HasCopied}
+use Rattle.c25_disk.proofs.ahead.read_all.Given as goal
+
+abbrev pub invariant-loop-name : goal.invariant-loop-name
+invariant-loop-name g l =
+    (given : Files) → l.most ≤ length given + 256 → HasCopied (g.D.Disk.bytes_of l.disk) given 256 l.fn.files → HasCopied (g.D.Disk.bytes_of l.disk) given 256 l.files

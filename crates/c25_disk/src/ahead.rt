@@ -1,0 +1,122 @@
+//! Files that texts name plainly, read before the work asks for them.
+
+ghost use Rattle.std.specs.Prelude.{◌≤◌, ◌<◌, ◌+◌, length};
+ghost use Rattle.c25_meaning_expansion.specs.Files.{Files};
+ghost use Rattle.c25_disk.specs.Copies.{HasCopied};
+
+use crate::disk::Disk;
+use crate::sources::{add_file, is_among};
+use c25_files::files::Files;
+use std::alloc::{AllocError, Global};
+
+/// The name of the file that a line copies, where the line shows it: a directive that copies, and a
+/// string without a quote in it.
+fn name_copied(line: &str) -> Option<&str> {
+    let line = line.trim_start();
+    let operand = match line.strip_prefix(".copy") {
+        Some(operand) => operand,
+        None => line.strip_prefix(".include")?,
+    };
+    let string = operand.trim_start().strip_prefix("\"")?;
+    match string.split_once("\"") {
+        Some((name, _)) => Some(name),
+        None => None,
+    }
+}
+
+/// Such names of a text that are none of these files', so many of the first ones.
+fn names_copied(
+    alloc: Global,
+    files: &Files,
+    text: &str,
+    most: usize,
+) -> Result<Vec<String>, AllocError> {
+    let mut names = Vec::new(alloc);
+    for line in text.lines() {
+        if names.len() >= most {
+            break;
+        }
+        match name_copied(line) {
+            Some(name) => {
+                if !is_among(files, name) {
+                    names.push(String::from_str(alloc, name)?)?;
+                }
+            }
+            None => {}
+        }
+    }
+    Ok(names)
+}
+
+/// Whether the file of a name is among these, or is read and joins them.
+#[tactic(auto, using(crate::proofs::Copied::copied_same))]
+fn joins<D: Disk>(disk: &D, files: &mut Files, name: &str) -> bool
+    ensures { (given : Files) → HasCopied (D.bytes_of disk.now) given 256 files.old → length files.old < length given + 256
+        → HasCopied (D.bytes_of disk.now) given 256 files.new }
+{
+    if is_among(files, name) {
+        return true;
+    }
+    match add_file(disk, files, name) {
+        Ok(()) => true,
+        Err(_) => false,
+    }
+}
+
+/// Reads the files of these names one by one, up to the first that cannot be had.
+fn read_all<D: Disk>(disk: &D, files: &mut Files, names: &[String], most: usize)
+    ensures { (given : Files) → most ≤ length given + 256 → HasCopied (D.bytes_of disk.now) given 256 files.old
+        → HasCopied (D.bytes_of disk.now) given 256 files.new }
+{
+    for name in names {
+        if files.len() >= most {
+            return;
+        }
+        if !joins(disk, files, name.as_str()) {
+            return;
+        }
+    }
+}
+
+/// Reads the files that the text of a number names plainly, as long as they can be had and there are
+/// not so many.
+fn read_named<D: Disk>(
+    alloc: Global,
+    disk: &D,
+    files: &mut Files,
+    number: usize,
+    most: usize,
+) -> Result<(), AllocError>
+    ensures { (given : Files) → most ≤ length given + 256 → HasCopied (D.bytes_of disk.now) given 256 files.old
+        → HasCopied (D.bytes_of disk.now) given 256 files.new }
+{
+    let names = match files.text(files.name(number)) {
+        Some(text) => names_copied(alloc, files, text, most)?,
+        None => return Ok(()),
+    };
+    read_all(disk, files, names.as_slice(), most);
+    Ok(())
+}
+
+/// Reads the files that texts name plainly, those of the files that join them too, from the text of a
+/// number on: the number behind the last text.
+pub(crate) fn read_ahead<D: Disk>(
+    alloc: Global,
+    disk: &D,
+    files: &mut Files,
+    first: usize,
+    most: usize,
+) -> Result<usize, AllocError>
+    ensures { (given : Files) → most ≤ length given + 256 → HasCopied (D.bytes_of disk.now) given 256 files.old
+        → HasCopied (D.bytes_of disk.now) given 256 files.new }
+{
+    let mut next = first;
+    for number in first..most {
+        if number >= files.len() {
+            break;
+        }
+        read_named(alloc, disk, files, number, most)?;
+        next = number + 1;
+    }
+    Ok(next)
+}

@@ -1,0 +1,3 @@
+        .copy   "first.inc"
+        .copy   "nowhere.inc"
+        .copy   "second.inc"

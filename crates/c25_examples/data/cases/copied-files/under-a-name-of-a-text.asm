@@ -1,0 +1,4 @@
+        .asg    "third",WHICH
+        .copy   "first.inc"
+        .copy   "second.inc"
+        .copy   ":WHICH:.inc"
