@@ -17,11 +17,12 @@ use Rattle.c25_asm.specs.View.{passed_of}
 use Rattle.c25_asm.specs.declared.passed.Passed as code
 
 -- the words by which the section of a line grew
-pub entry_is : (l : ExpandedLine) (old new : Progress) (offset size count : ℕ) → offset ≡ size_at old.sections old.current → size ≡ size_at new.sections old.current → count ≡ size - offset
-    → record { line = l.line; text = l.text; section = old.current; offset = offset; count = count } ≡ entry_of l old new
-entry_is l old new offset size count a b c =
-    let made : ℕ → ℕ → Entry = λ m n. record { line = l.line; text = l.text; section = old.current; offset = m; count = n } in
-    ap (made offset) (c ∙ ap (λ n. n - offset) b) ∙ ap (λ m. made m (size_at new.sections old.current - m)) a
+pub entry_is : (l : ExpandedLine) (old new : Progress) (section offset size count : ℕ) → section ≡ old.current → offset ≡ size_at old.sections section → size ≡ size_at new.sections section → count ≡ size - offset
+    → record { line = l.line; text = l.text; section = section; offset = offset; count = count } ≡ entry_of l old new
+entry_is l old new section offset size count s a b c =
+    let made : ℕ → ℕ → ℕ → Entry = λ t m n. record { line = l.line; text = l.text; section = t; offset = m; count = n } in
+    ap (made section offset) (c ∙ ap (λ n. n - offset) b) ∙ ap (λ m. made section m (size_at new.sections section - m)) a
+    ∙ ap (λ t. made t (size_at old.sections t) (size_at new.sections t - size_at old.sections t)) s
 
 -- a line that passes comes behind the others
 pub line_passed : (l : ExpandedLine) (a : Passed) (p : Progress) (entries : List Entry) → text_passed (origin_of l) l.text a.progress ≡ Ok p

@@ -7,6 +7,7 @@ use Rattle.c25_meaning_language.specs.Reading.{State}
 use Rattle.c25_text.specs.View.{piece_of}
 use Rattle.c25_text.specs.declared.tokens.Token.{Token}
 use Rattle.c25_expr.specs.Postfix.{item_of, built, last_tree, other_trees}
+use Rattle.c25_expr.specs.Steps.{steps_of}
 use Rattle.c25_expr.specs.declared.tree.Expr.{Expr}
 use Rattle.c25_expr.specs.declared.builder.Frame.{Frame}
 use Rattle.c25_expr.specs.declared.builder.Frame.TheVariants.{Open, Pending, After}
@@ -14,7 +15,7 @@ use Rattle.c25_expr.specs.declared.builder.Builder.{Builder}
 
 -- the tree of an expression
 abbrev pub tree_of : Expr → Tree
-tree_of e = last_tree (built (reverse (map item_of e.items.items)))
+tree_of e = last_tree (built (reverse (map item_of (steps_of e.steps))))
 
 -- what tokens are to an expression
 abbrev pub marks_of : List Token → List Mark

@@ -12,7 +12,7 @@ ghost use Rattle.c25_expr.specs.View.{tree_of, leaf_item, marks_of};
 
 use crate::completes::completes;
 use crate::signs::{LOOSEST, binary_of, level_of, unary_of};
-use crate::tree::{Expr, PostfixItem};
+use crate::tree::{Expr, PostfixItem, Steps};
 use c25_meaning_common::failure::Failure;
 use c25_meaning_common::no_memory::NoMemory;
 use c25_meaning_language::expression::{BinaryOperator, ExpressionFault, UnaryOperator};
@@ -211,7 +211,7 @@ impl Builder {
             return Err(Failure::Fault(ExpressionFault::BadExpression));
         }
         Ok(Expr {
-            items: builder.items,
+            steps: Steps::of(builder.items),
         })
     }
 }

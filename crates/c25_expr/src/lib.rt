@@ -9,6 +9,7 @@ pub mod laws;
 pub mod operands;
 mod operators;
 mod signs;
+mod steps;
 pub mod symbols;
 pub mod tree;
 pub mod value;

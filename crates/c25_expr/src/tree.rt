@@ -2,6 +2,7 @@
 
 ghost use Rattle.std.specs.Prelude.{◌≡◌, true, map};
 ghost use Rattle.c25_expr.specs.Postfix.{item_of, runs};
+ghost use Rattle.c25_expr.specs.Steps.{steps_of};
 
 use c25_meaning_language::expression::{BinaryOperator, UnaryOperator};
 
@@ -22,10 +23,17 @@ pub(crate) enum PostfixItem {
     Binary(BinaryOperator),
 }
 
+/// The steps of an expression. Most have one, which takes no memory of its own.
+#[derive(Drop)]
+pub(crate) enum Steps {
+    One(PostfixItem),
+    Several(Vec<PostfixItem>),
+}
+
 /// An expression. It is kept in postfix order, so that neither its value nor its end takes a
 /// recursion that is as deep as the expression is long.
 #[derive(Drop)]
 pub struct Expr {
-    pub(crate) items: Vec<PostfixItem>,
-    ghost whole: { runs (map item_of items.items) 0 ≡ true },
+    pub(crate) steps: Steps,
+    ghost whole: { runs (map item_of (steps_of steps)) 0 ≡ true },
 }

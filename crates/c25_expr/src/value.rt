@@ -5,6 +5,7 @@ ghost use Rattle.arrayvec.specs.ArrayVec.{array_vec_len};
 ghost use Rattle.c25_meaning_language.specs.Value.{value_of, value_named};
 ghost use Rattle.c25_expr.specs.Postfix.{item_of, fits, is_room, with_result};
 ghost use Rattle.c25_expr.specs.Stack.{applied};
+ghost use Rattle.c25_expr.specs.Steps.{steps_of};
 ghost use Rattle.c25_expr.specs.View.{tree_of};
 
 use crate::operators::{binary_value, plain_value, unary_value};
@@ -25,7 +26,8 @@ const FEW: usize = 8;
 pub fn value(expr: &Expr, symbols: &Symbols) -> Result<Value, ValueFault>
     ensures { result ≡ value_of (value_named symbols.now) symbols.now.here (tree_of expr.now) }
 {
-    if expr.items.len() <= FEW {
+    let steps = expr.steps.as_slice();
+    if steps.len() <= FEW {
         value_over(expr, symbols, &mut ArrayVec::<Value, FEW>::new())
     } else {
         value_of_many(expr, symbols)
@@ -48,10 +50,10 @@ fn value_over<const ROOM: usize>(
     waiting: &mut ArrayVec<Value, ROOM>,
 ) -> Result<Value, ValueFault>
     requires empty { waiting.old.items ≡ [] }
-    requires room { is_room ROOM (length expr.now.items.items) ≡ true }
+    requires room { is_room ROOM (length (steps_of expr.now.steps)) ≡ true }
     ensures { result ≡ value_of (value_named symbols.now) symbols.now.here (tree_of expr.now) }
 {
-    for item in &expr.items {
+    for item in expr.steps.as_slice() {
         apply(item, waiting, symbols)?;
     }
     Ok(last_of(waiting))

@@ -4,6 +4,7 @@ use Rattle.c25_meaning_language.specs.Value.{value_named, value_of}
 use Rattle.c25_meaning_language.specs.declared.value.ValueFault.{ValueFault}
 use Rattle.c25_expr.specs.Postfix.{item_of, fits, runs, built, last_tree, is_room}
 use Rattle.c25_expr.specs.Stack.{applied}
+use Rattle.c25_expr.specs.Steps.{steps_of}
 use Rattle.c25_expr.specs.declared.tree.PostfixItem.{PostfixItem}
 use Rattle.c25_expr.proofs.Few.{at_first, room_found, room_left, one_more, some_left}
 use Rattle.c25_expr.proofs.Valued.{runs_more, values_more, err_stays}
@@ -11,7 +12,7 @@ use Rattle.c25_expr.proofs.value.value_over.Goals as goal
 
 pub apply-requires : goal.apply-requires
 apply-requires g c =
-    let items = c.deref-item-items.result.now in
+    let items = c.as_slice-item-items.result.now in
     let left = c.loop-item.invariant.left in
     let item = c.item-item.result in
     let found = ap (λ (x : PostfixItem). fits (item_of x) (length c.loop-item.waiting.items)) c.item-item.is ∙ (runs_more item_of items c.loop-item.item-index item _ c.loop-item-test.true left).0 in
@@ -19,7 +20,7 @@ apply-requires g c =
 
 pub loop-item-preserved : goal.loop-item-preserved
 loop-item-preserved g c =
-    let items = c.deref-item-items.result.now in
+    let items = c.as_slice-item-items.result.now in
     let names = value_named c.args.symbols.now in
     let here = c.args.symbols.now.here in
     let old = c.loop-item.waiting.items in
@@ -35,11 +36,11 @@ loop-item-preserved g c =
 pub returns-in_err-apply : goal.returns-in_err-apply
 returns-in_err-apply g c =
     let p = err_from_is_err_and c.from_residual.result c.from_residual.ensures.1 in
-    let items = c.deref-item-items.result.now in
+    let items = c.as_slice-item-items.result.now in
     let names = value_named c.args.symbols.now in
     let here = c.args.symbols.now.here in
     let old = c.loop-item.waiting.items in
-    let same = c.deref-item-items.ensures.value in
+    let same = c.as_slice-item-items.ensures in
     p.1 ∙ ap (λ (f : ValueFault). Err f) p.2
     ∙ sym (err_stays names here item_of items c.loop-item.item-index c.item-item.result old c.in_err-apply.field-0.0 c.loop-item-test.true c.loop-item.invariant.valued c.loop-item.invariant.left
     (ap (λ (x : PostfixItem). applied names here (item_of x) (reverse old)) (sym c.item-item.is) ∙ c.in_err-apply.ensures)
@@ -48,5 +49,5 @@ returns-in_err-apply g c =
 
 pub loop-item-init : goal.loop-item-init
 loop-item-init g c =
-    let same = c.deref-item-items.ensures.value in
-    record { valued = rw c.requires.empty refl; left = rw (c.requires.empty, same) c.args.expr.now.whole; room = at_first g.row.ROOM c.args.waiting.now.items c.deref-item-items.result.now c.args.expr.now.items.items c.requires.empty same c.requires.room }
+    let same = c.as_slice-item-items.ensures in
+    record { valued = rw c.requires.empty refl; left = rw (c.requires.empty, same) c.args.expr.now.whole; room = at_first g.row.ROOM c.args.waiting.now.items c.as_slice-item-items.result.now (steps_of c.args.expr.now.steps) c.requires.empty same c.requires.room }

@@ -1,7 +1,9 @@
-use Rattle.std.proofs.Common.{sym, ap, ◌∙◌, Option}
+use Rattle.std.proofs.Common.{sym, ap, ◌∙◌, List, map, Option}
 use Rattle.std.specs.Option.{ok_or, option_map}
 use Rattle.c25_meaning_language.specs.Reading.{Found}
 use Rattle.c25_meaning_language.specs.declared.expression.ExpressionFault.TheVariants.{BadExpression}
+use Rattle.c25_expr.specs.Postfix.{item_of, runs}
+use Rattle.c25_expr.specs.declared.tree.PostfixItem.{PostfixItem}
 use Rattle.c25_expr.proofs.Finishes.{finished_none, finished_runs}
 use Rattle.c25_expr.proofs.builder.Builder.finish.Goals as goal
 
@@ -11,5 +13,5 @@ returns-then-not-is_empty c =
 
 pub invariant_of-result : goal.invariant_of-result
 invariant_of-result c = record {
-  whole = finished_runs c.args.self c.reduce.new.self c.if-builder.false c.in_ok-reduce.ensures.ok (sym c.is_empty.ensures ∙ c.if-not-is_empty.false) c.requires;
+  whole = ap (λ (xs : List PostfixItem). runs (map item_of xs) 0) c.of.ensures ∙ finished_runs c.args.self c.reduce.new.self c.if-builder.false c.in_ok-reduce.ensures.ok (sym c.is_empty.ensures ∙ c.if-not-is_empty.false) c.requires;
 }
