@@ -5,3 +5,4 @@ pub mod Alone
 pub mod Numbers
 pub mod Powers
 pub mod Steady
+pub mod Between

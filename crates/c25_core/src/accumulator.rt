@@ -6,7 +6,6 @@ ghost use Rattle.c25_meaning_arithmetic.specs.Arithmetic.{scaled};
 ghost use Rattle.c25_meaning_processor.specs.Effect.{become, minus, minus_high, minus_product, plus, plus_high, plus_product, product_word, word_product};
 
 use crate::alu::{add, product, scaled, shifted_product, subtract};
-use c25_meaning_arithmetic::accumulator::Acc;
 use c25_meaning_processor::registers::Registers;
 
 /// A word with its sign.
@@ -24,30 +23,6 @@ pub fn word_product(first: u16, second: u16) -> u32
     product(signed_word(first), signed_word(second))
 }
 
-/// The accumulator, read field by field: one that was just written alone is then not read as a part
-/// of a wider word, for which a processor has to wait.
-#[inline(always)]
-fn acc_of(registers: &Registers) -> Acc
-    ensures { result ≡ registers.now.acc }
-{
-    Acc {
-        value: registers.acc.value,
-        ov: registers.acc.ov,
-        c: registers.acc.c,
-    }
-}
-
-/// Writes the accumulator, field by field.
-#[inline(always)]
-fn set_acc(registers: &mut Registers, acc: Acc)
-    ensures { registers.new ≡ record registers.old { acc = acc } }
-{
-    let Acc { value, ov, c } = acc;
-    registers.acc.value = value;
-    registers.acc.ov = ov;
-    registers.acc.c = c;
-}
-
 /// P as PM hands it on.
 #[inline(always)]
 pub fn product_word(registers: &Registers) -> u32
@@ -61,8 +36,8 @@ pub fn product_word(registers: &Registers) -> u32
 pub fn plus(registers: &mut Registers, addend: u32)
     ensures { registers.new ≡ plus (signed addend 32) registers.old }
 {
-    let acc = add(acc_of(registers), addend, registers.ovm);
-    set_acc(registers, acc);
+    let ovm = registers.ovm;
+    add(&mut registers.acc, addend, ovm);
 }
 
 /// A -= v, where v is the signed number of these bits.
@@ -70,8 +45,8 @@ pub fn plus(registers: &mut Registers, addend: u32)
 pub fn minus(registers: &mut Registers, amount: u32)
     ensures { registers.new ≡ minus (signed amount 32) registers.old }
 {
-    let acc = subtract(acc_of(registers), amount, registers.ovm);
-    set_acc(registers, acc);
+    let ovm = registers.ovm;
+    subtract(&mut registers.acc, amount, ovm);
 }
 
 /// A += a number below 2^31.

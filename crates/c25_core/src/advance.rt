@@ -62,3 +62,16 @@ pub fn count(registers: &mut Registers)
     registers.rptc -= 1;
     registers.repeated = registers.repeated.wrapping_add(1);
 }
+
+/// The same behind the last repetition of a repeat, which ends.
+#[inline(always)]
+#[tactic(auto, using(crate::proofs::Alone::ended))]
+pub fn end_repeat(registers: &mut Registers, size: u16)
+    requires shadowed { registers.old.shadowed ≡ false }
+    requires last { registers.old.rptc ≡ 0 }
+    ensures { registers.new ≡ advanced size registers.old }
+{
+    registers.pc = registers.pc.wrapping_add(size);
+    registers.repeating = false;
+    registers.repeated = 0;
+}

@@ -6,7 +6,7 @@ mod division;
 mod multiplication;
 mod shifts;
 
-pub(crate) use addition::{absolute_value, add, negate, subtract};
+pub(crate) use addition::{add, negate, subtract, take_absolute_value};
 pub(crate) use division::subc;
 pub(crate) use multiplication::{product, shifted_product};
 pub(crate) use shifts::{

@@ -5,6 +5,7 @@ mod accumulator;
 mod advance;
 mod alu;
 mod ar_mem;
+mod awake;
 mod bit;
 mod bus;
 mod copied;
@@ -30,6 +31,7 @@ mod status;
 mod step;
 mod streak;
 
+pub use awake::Streak;
 pub use bus::{Bus, Halt, SinkFailed, Tick};
 pub use copied::CopiedInsn;
 pub use processor::Core;

@@ -4,6 +4,7 @@
 ghost use Rattle.std.specs.Prelude.{◌≡◌, ◌<◌, slice_index};
 ghost use Rattle.c25_meaning_processor.specs.Operand.{address_of, changed, after_operand, with_change, with_next, without_next};
 ghost use Rattle.c25_meaning_instructions.specs.Table.{AddrInRange, NextInRange};
+ghost use Rattle.c25_core.specs.Groups.{UsesAr0};
 
 use c25_bits::{reverse_add, reverse_sub};
 use c25_meaning_instructions::insn::{Addr, Change};
@@ -28,20 +29,36 @@ pub fn address_of(operand: &Addr, registers: &Registers) -> u16
     }
 }
 
-/// An auxiliary register after its change.
+/// An auxiliary register after a change by AR0.
+#[inline(never)]
+fn changed_by_ar0(change: Change, ar: u16, ar0: u16) -> u16
+    requires { UsesAr0 change }
+    ensures { result ≡ changed change ar ar0 }
+{
+    match change {
+        Change::ReverseSubtract => reverse_sub(ar, ar0),
+        Change::Subtract => ar.wrapping_sub(ar0),
+        Change::Add => ar.wrapping_add(ar0),
+        _ => reverse_add(ar, ar0),
+    }
+}
+
+/// An auxiliary register after its change. The usual ones are asked for one by one; those by AR0 have
+/// code of their own.
 #[inline(always)]
 fn changed(change: Change, ar: u16, ar0: u16) -> u16
     ensures { result ≡ changed change ar ar0 }
 {
-    match change {
-        Change::Keep => ar,
-        Change::Decrement => ar.wrapping_sub(1),
-        Change::Increment => ar.wrapping_add(1),
-        Change::ReverseSubtract => reverse_sub(ar, ar0),
-        Change::Subtract => ar.wrapping_sub(ar0),
-        Change::Add => ar.wrapping_add(ar0),
-        Change::ReverseAdd => reverse_add(ar, ar0),
+    if let Change::Keep = change {
+        return ar;
     }
+    if let Change::Decrement = change {
+        return ar.wrapping_sub(1);
+    }
+    if let Change::Increment = change {
+        return ar.wrapping_add(1);
+    }
+    changed_by_ar0(change, ar, ar0)
 }
 
 /// Changes the auxiliary register of a number.

@@ -6,7 +6,7 @@ ghost use Rattle.c25_meaning_arithmetic.specs.Arithmetic.{normalized};
 
 use crate::accumulator::{low_half, minus_product, plus_product, product_word};
 use crate::alu::{
-    absolute_value, negate, norm, rotate_left, rotate_right, shift_left_once, shift_right_once,
+    negate, norm, rotate_left, rotate_right, shift_left_once, shift_right_once, take_absolute_value,
 };
 use crate::operand::{change_ar, current};
 use crate::stack::{call, pop, push};
@@ -111,12 +111,18 @@ pub fn plain(registers: &mut Registers, name: PlainName, operand: &PlainOperand)
         PlainName::Spac => minus_product(registers),
         PlainName::Sfl => registers.acc = shift_left_once(registers.acc),
         PlainName::Sfr => registers.acc = shift_right_once(registers.acc, registers.sxm),
-        PlainName::Abs => registers.acc = absolute_value(registers.acc, registers.ovm),
+        PlainName::Abs => {
+            let ovm = registers.ovm;
+            take_absolute_value(&mut registers.acc, ovm);
+        }
         PlainName::Push => push(registers, low_half(registers.acc.value)),
         PlainName::Pop => registers.acc.value = u32::from(pop(registers)),
         PlainName::Trap => call(registers, 0x1E),
         PlainName::Idle => sleep(registers),
-        PlainName::Neg => registers.acc = negate(registers.acc, registers.ovm),
+        PlainName::Neg => {
+            let ovm = registers.ovm;
+            negate(&mut registers.acc, ovm);
+        }
         PlainName::Cala => call(registers, low_half(registers.acc.value)),
         PlainName::Bacc => registers.pc = low_half(registers.acc.value),
         PlainName::Ret => registers.pc = pop(registers),

@@ -1,6 +1,6 @@
 //! The processor.
 
-ghost use Rattle.std.specs.Prelude.{◌≡◌, ◌↔◌, ◌&&◌, ℕ, Bool, Some, not, true, OnErr, IfOk};
+ghost use Rattle.std.specs.Prelude.{◌≡◌, ◌↔◌, ◌&&◌, ℕ, nat_le, Bool, Some, not, true, OnErr, IfOk};
 ghost use Rattle.c25_meaning_processor.specs.State.{StepResult, data_at, program_at, state_of};
 ghost use Rattle.c25_meaning_processor.specs.Reset.{reset};
 ghost use Rattle.c25_meaning_processor.specs.Status.{regs_of};
@@ -93,6 +93,14 @@ impl Core {
         ensures { result ≡ self.now.pc }
     {
         self.registers.pc
+    }
+
+    /// Whether PC lies within block B0, where B0 is seen as program memory.
+    #[inline(always)]
+    pub fn is_in_b0(&self) -> bool
+        ensures { result ≡ (self.now.cnf && nat_le 0xFF00 self.now.pc) }
+    {
+        self.registers.cnf && 0xFF00 <= self.registers.pc
     }
 
     /// Whether the next step begins an instruction: no repeat is running, and the processor is

@@ -1,6 +1,6 @@
 //! Sums and differences in the accumulator.
 
-ghost use Rattle.std.specs.Prelude.{◌≡◌, ◌+ℤ◌, ◌-ℤ◌, ℤ, pos, unsigned_abs};
+ghost use Rattle.std.specs.Prelude.{◌≡◌, ◌+ℤ◌, ◌-ℤ◌, ℤ, pos, unsigned_abs, if◌then◌else◌};
 ghost use Rattle.c25_bits.specs.Cut.{signed};
 ghost use Rattle.c25_meaning_arithmetic.specs.Arithmetic.{absolute_value, difference, negated, sum, with_total};
 ghost use Rattle.c25_core.specs.Total.{IsTotal};
@@ -30,7 +30,7 @@ fn total_sum(first: u32, second: u32) -> Total
 {
     let bits = first.wrapping_add(second);
     let negative = first >= LOWEST;
-    let overflows = negative == (second >= LOWEST) && negative != (bits >= LOWEST);
+    let overflows = negative != (bits >= LOWEST) && (second >= LOWEST) != (bits >= LOWEST);
     Total {
         bits,
         overflows,
@@ -68,65 +68,76 @@ fn total_absolute(bits: u32) -> Total
     }
 }
 
-/// The accumulator with a new value: where that leaves 32 signed bits, OV is set, and with `ovm` the
-/// end of the range stands in its place.
-#[inline(always)]
-fn kept(acc: Acc, total: Total, carry: bool, ovm: bool) -> Acc
-    ensures { (number : ℤ) → IsTotal total number → result ≡ with_total number ovm carry acc }
+/// The value that stands in the accumulator for a total that leaves 32 signed bits: with `ovm` the end of the
+/// range that was left.
+#[inline(never)]
+fn beyond(bits: u32, negative: bool, ovm: bool) -> u32
+    ensures { result ≡ (if ovm then (if negative then 0x8000_0000 else 0x7FFF_FFFF) else bits) }
 {
-    let value = match (total.overflows && ovm, total.negative) {
-        (false, _) => total.bits,
+    match (ovm, negative) {
+        (false, _) => bits,
         (true, true) => LOWEST,
         (true, false) => HIGHEST,
-    };
-    Acc {
-        value,
-        ov: acc.ov || total.overflows,
-        c: carry,
     }
 }
 
-/// The accumulator after `A += v`, where v is the signed number of the bits of `addend`. C is the
-/// carry out of the 32 bits. Where the sum leaves 32 signed bits, OV is set, and with `ovm` the
-/// accumulator takes the end of the range that was left.
+/// Gives the accumulator a new value: where that leaves 32 signed bits, OV is set, and with `ovm` the end
+/// of the range stands in its place. That has code of its own.
+#[inline(always)]
+fn keep(acc: &mut Acc, total: Total, carry: bool, ovm: bool)
+    ensures { (number : ℤ) → IsTotal total number → acc.new ≡ with_total number ovm carry acc.old }
+{
+    acc.c = carry;
+    if total.overflows {
+        acc.ov = true;
+        acc.value = beyond(total.bits, total.negative, ovm);
+        return;
+    }
+    acc.value = total.bits;
+}
+
+/// `A += v`, where v is the signed number of the bits of `addend`. C is the carry out of the 32 bits.
+/// Where the sum leaves 32 signed bits, OV is set, and with `ovm` the accumulator takes the end of the
+/// range that was left.
 #[tactic(auto, unfolding(c25_meaning_arithmetic::specs::Arithmetic::sum))]
 #[inline(always)]
-pub(crate) fn add(acc: Acc, addend: u32, ovm: bool) -> Acc
-    ensures { result ≡ sum acc (signed addend 32) ovm }
+pub(crate) fn add(acc: &mut Acc, addend: u32, ovm: bool)
+    ensures { acc.new ≡ sum acc.old (signed addend 32) ovm }
 {
+    let total = total_sum(acc.value, addend);
     let (_, carry) = acc.value.overflowing_add(addend);
-    kept(acc, total_sum(acc.value, addend), carry, ovm)
+    keep(acc, total, carry, ovm);
 }
 
-/// The accumulator after `A -= v`, where v is the signed number of the bits of `amount`. C is 0
-/// where the 32 bits borrow. OV and saturation are as for [`add`].
+/// `A -= v`, where v is the signed number of the bits of `amount`. C is 0 where the 32 bits borrow. OV
+/// and saturation are as for [`add`].
 #[tactic(auto, unfolding(c25_meaning_arithmetic::specs::Arithmetic::difference))]
 #[inline(always)]
-pub(crate) fn subtract(acc: Acc, amount: u32, ovm: bool) -> Acc
-    ensures { result ≡ difference acc (signed amount 32) ovm }
+pub(crate) fn subtract(acc: &mut Acc, amount: u32, ovm: bool)
+    ensures { acc.new ≡ difference acc.old (signed amount 32) ovm }
 {
-    kept(
-        acc,
-        total_difference(acc.value, amount),
-        acc.value >= amount,
-        ovm,
-    )
+    let total = total_difference(acc.value, amount);
+    let carry = acc.value >= amount;
+    keep(acc, total, carry, ovm);
 }
 
-/// The accumulator after `ABS`: its absolute value, and C 0. 80000000h has none in 32 signed bits,
-/// so there OV is set, and with `ovm` the value is 7FFFFFFFh.
+/// `ABS`: the accumulator's absolute value, and C 0. 80000000h has none in 32 signed bits, so there OV is
+/// set, and with `ovm` the value is 7FFFFFFFh.
 #[tactic(auto, unfolding(c25_meaning_arithmetic::specs::Arithmetic::absolute_value))]
-pub(crate) fn absolute_value(acc: Acc, ovm: bool) -> Acc
-    ensures { result ≡ absolute_value acc ovm }
+pub(crate) fn take_absolute_value(acc: &mut Acc, ovm: bool)
+    ensures { acc.new ≡ absolute_value acc.old ovm }
 {
-    kept(acc, total_absolute(acc.value), false, ovm)
+    let total = total_absolute(acc.value);
+    keep(acc, total, false, ovm);
 }
 
-/// The accumulator after `NEG`: its negative, and C 1 at 0 alone. At 80000000h OV is set, and with
-/// `ovm` the value is 7FFFFFFFh.
+/// `NEG`: the accumulator's negative, and C 1 at 0 alone. At 80000000h OV is set, and with `ovm` the value
+/// is 7FFFFFFFh.
 #[tactic(auto, unfolding(c25_meaning_arithmetic::specs::Arithmetic::negated))]
-pub(crate) fn negate(acc: Acc, ovm: bool) -> Acc
-    ensures { result ≡ negated acc ovm }
+pub(crate) fn negate(acc: &mut Acc, ovm: bool)
+    ensures { acc.new ≡ negated acc.old ovm }
 {
-    kept(acc, total_difference(0, acc.value), acc.value == 0, ovm)
+    let total = total_difference(0, acc.value);
+    let carry = acc.value == 0;
+    keep(acc, total, carry, ovm);
 }

@@ -15,8 +15,9 @@ pub(crate) fn product(first: i16, second: i16) -> u32
 }
 
 /// The product as PM hands it on, cut to 32 bits. The shift to the right keeps the sign.
+#[inline(never)]
 #[tactic(auto, unfolding(c25_meaning_arithmetic::specs::Arithmetic::shifted_product))]
-pub(crate) fn shifted_product(p: u32, shift: ProductShift) -> u32
+fn shifted_by(p: u32, shift: ProductShift) -> u32
     ensures { result ≡ shifted_product p shift }
 {
     match shift {
@@ -25,4 +26,16 @@ pub(crate) fn shifted_product(p: u32, shift: ProductShift) -> u32
         ProductShift::Left4 => p.wrapping_mul(16),
         ProductShift::Right6 => (p.cast_signed() >> 6).cast_unsigned(),
     }
+}
+
+/// The same. The PM that shifts nothing, which most programs have, is asked for first.
+#[inline(always)]
+#[tactic(auto, unfolding(c25_meaning_arithmetic::specs::Arithmetic::shifted_product))]
+pub(crate) fn shifted_product(p: u32, shift: ProductShift) -> u32
+    ensures { result ≡ shifted_product p shift }
+{
+    if let ProductShift::None = shift {
+        return p;
+    }
+    shifted_by(p, shift)
 }

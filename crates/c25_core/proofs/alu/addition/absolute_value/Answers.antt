@@ -1,6 +1,0 @@
-use Rattle.c25_meaning_arithmetic.specs.Arithmetic.{absolute_value}
-use Rattle.c25_core.proofs.alu.addition.absolute_value.Goals as goal
-
-pub returns : goal.returns
-unfolding absolute_value
-returns c = c.kept.ensures _ c.total_absolute.ensures
