@@ -8,15 +8,29 @@ ghost use Rattle.c25_meaning_common.specs.Digits.{four_digits, hex_digit, two_di
 use arrayvec::ArrayString;
 
 /// A hexadecimal digit.
+#[inline(always)]
 fn hex_digit(number: u16) -> u8
     requires { number < 16 }
     ensures digit { result ≡ hex_digit number }
     ensures ascii { result < 128 }
 {
-    if number < 10 {
-        b'0' + number as u8
-    } else {
-        b'A' + (number - 10) as u8
+    match number {
+        0 => b'0',
+        1 => b'1',
+        2 => b'2',
+        3 => b'3',
+        4 => b'4',
+        5 => b'5',
+        6 => b'6',
+        7 => b'7',
+        8 => b'8',
+        9 => b'9',
+        10 => b'A',
+        11 => b'B',
+        12 => b'C',
+        13 => b'D',
+        14 => b'E',
+        _ => b'F',
     }
 }
 
@@ -56,4 +70,17 @@ pub fn four(word: u16) -> ArrayString<4>
     add_byte(&mut digits, word / 256);
     add_byte(&mut digits, word);
     digits
+}
+
+/// The bytes of the four digits of a word.
+#[inline(always)]
+pub fn four_bytes(word: u16) -> [u8; 4]
+    ensures { result ≡ four_digits word }
+{
+    [
+        hex_digit(word / 4096 % 16),
+        hex_digit(word / 256 % 16),
+        hex_digit(word / 16 % 16),
+        hex_digit(word % 16),
+    ]
 }

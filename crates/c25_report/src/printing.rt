@@ -32,13 +32,13 @@ fn write_some<O: Write>(bytes: &[u8], out: &mut O) -> Result<usize, Unwritten>
     }
 }
 
-/// Prints a text. Where it cannot be written to its end, a front of it stands.
+/// Prints the bytes of a text. Where they cannot be written to their end, a front of them stands.
 #[tactic(auto, using(crate::proofs::Fronts::more_written))]
-pub fn print_text<O: Write>(text: &str, out: &mut O) -> Result<(), Unwritten>
-    ensures ok { OnOk result (Appends (O.contents out.old) (O.contents out.new) text.now) }
-    ensures err { OnErr result (HasFront text.now (O.contents out.old) (O.contents out.new)) }
+pub fn print_bytes<O: Write>(bytes: &[u8], out: &mut O) -> Result<(), Unwritten>
+    ensures ok { OnOk result (Appends (O.contents out.old) (O.contents out.new) bytes.now) }
+    ensures err { OnErr result (HasFront bytes.now (O.contents out.old) (O.contents out.new)) }
 {
-    let mut rest = text.as_bytes();
+    let mut rest = bytes;
     for _turn in 0..u64::MAX {
         if rest.is_empty() {
             return Ok(());
@@ -49,6 +49,14 @@ pub fn print_text<O: Write>(text: &str, out: &mut O) -> Result<(), Unwritten>
         }
     }
     Err(Unwritten)
+}
+
+/// Prints a text. Where it cannot be written to its end, a front of it stands.
+pub fn print_text<O: Write>(text: &str, out: &mut O) -> Result<(), Unwritten>
+    ensures ok { OnOk result (Appends (O.contents out.old) (O.contents out.new) text.now) }
+    ensures err { OnErr result (HasFront text.now (O.contents out.old) (O.contents out.new)) }
+{
+    print_bytes(text.as_bytes(), out)
 }
 
 /// What a run comes to that is printed.

@@ -1,5 +1,7 @@
 -- Lines of outputs, one after another.
-use Rattle.std.proofs.Common.{◌≡◌, ℕ, ◌+◌, ◌<◌, ◌≤◌, List, [], ◌++◌, length, drop, get_or}
+use Rattle.std.proofs.Common.{◌≡◌, ◌∙◌, ap, arith, ℕ, ◌+◌, ◌/◌, ◌%◌, ◌<◌, ◌≤◌, List, [], ◌∷◌, ◌++◌, length, drop, get_or}
+use Rattle.std.specs.Fmt.{decimal}
+use Rattle.std.proofs.lemmas.Fmt.{decimal_digit, decimal_step}
 use Rattle.std.proofs.lemmas.List.{at_drop_more, at_drop_all}
 use Rattle.c25_meaning_processor.specs.RunText.{output_line, outputs_text}
 
@@ -8,3 +10,7 @@ outputs_more outputs i d h = at_drop_more outputs_text outputs i d h
 
 pub outputs_none : (outputs : List (ℕ × ℕ)) (i : ℕ) → length outputs ≤ i → outputs_text (drop i outputs) ≡ []
 outputs_none outputs i h = at_drop_all outputs_text outputs i h
+
+-- a number of two digits
+pub two_digits : (n : ℕ) → 10 ≤ n → n < 100 → decimal n ≡ (48 + n / 10) ∷ (48 + n % 10) ∷ []
+two_digits n some few = decimal_step n some (omega arith) ∙ ap (λ ds. ds ++ (48 + n % 10) ∷ []) (decimal_digit (n / 10) (omega arith))

@@ -5,11 +5,11 @@ ghost use Rattle.c25_board.specs.Board.{entries, signals, state, steps};
 ghost use Rattle.c25_stream.specs.Printed.{BreaksOff, IsFresh, PrintsAll, PrintsFront, PrintsSome};
 
 use crate::batch::{Batch, STEPS};
-use crate::lines::{Text, put_outcome, put_outputs};
+use crate::lines::{Lines, OutcomeLine, put_outcome, put_outputs};
 use c25_board::board::{Board, Outcome};
 use c25_board::samples::Samples;
 use c25_output_laws::laws::{outputs_have_no_part_in_runs, steps_put_one_output_at_most};
-use c25_report::printing::{Unwritten, print_text};
+use c25_report::printing::{Unwritten, print_bytes, print_text};
 use c25_run_laws::laws::two_runs_are_one;
 use std::io::Write;
 
@@ -19,7 +19,7 @@ pub(crate) type BatchBoard = Board<Samples, Batch>;
 /// Runs some steps of a board, and prints their outputs.
 fn print_some<O: Write>(
     board: &mut BatchBoard,
-    text: &mut Text,
+    lines: &mut Lines,
     n: u32,
     out: &mut O,
 ) -> Result<Outcome, Unwritten>
@@ -35,8 +35,8 @@ fn print_some<O: Write>(
 {
     steps_put_one_output_at_most();
     let outcome = board.run(n);
-    put_outputs(text, board.sink().outputs());
-    if let Err(unwritten) = print_text(text.as_str(), out) {
+    put_outputs(lines, board.sink().outputs());
+    if let Err(unwritten) = print_bytes(lines.as_slice(), out) {
         return Err(unwritten);
     }
     board.sink_mut().clear();
@@ -46,7 +46,7 @@ fn print_some<O: Write>(
 /// Runs n steps of a board, or those up to the one that stops, and prints their outputs as they go.
 fn print_steps<O: Write>(
     board: &mut BatchBoard,
-    text: &mut Text,
+    lines: &mut Lines,
     n: u32,
     out: &mut O,
 ) -> Result<Outcome, Unwritten>
@@ -64,7 +64,7 @@ fn print_steps<O: Write>(
     let mut done = 0;
     while done < n {
         let some = STEPS.min(n - done);
-        match print_some(board, text, some, out) {
+        match print_some(board, lines, some, out) {
             Ok(Outcome::Ran) => done += some,
             Ok(Outcome::Left(at, stop)) => return Ok(Outcome::Left(at, stop)),
             Ok(Outcome::SinkFault(at)) => return Ok(Outcome::SinkFault(at)),
@@ -88,13 +88,14 @@ pub(crate) fn print_board<O: Write>(
         (O.contents out.old) (O.contents out.new)) }
     ensures schedule { entries board.new ≡ entries board.old }
 {
-    let mut text = Text::new();
-    let outcome = match print_steps(board, &mut text, n, out) {
+    let mut lines = Lines::new();
+    let outcome = match print_steps(board, &mut lines, n, out) {
         Ok(outcome) => outcome,
         Err(unwritten) => return Err(unwritten),
     };
-    put_outcome(&mut text, outcome, board.steps());
-    match print_text(text.as_str(), out) {
+    let mut line = OutcomeLine::new();
+    put_outcome(&mut line, outcome, board.steps());
+    match print_text(line.as_str(), out) {
         Ok(()) => Ok(outcome),
         Err(unwritten) => Err(unwritten),
     }

@@ -9,6 +9,6 @@ returns-clause-ok g c =
     let board = c.args.board.now in
     let ran = c.run-outcome.new.self in
     some_printed c.steps_put_one_output_at_most.ensures (signals board) (steps board) c.args.n (state board) (state ran) (steps ran) _ ran.devices.sink.failures c.requires.fresh.0 c.requires.few ran.devices.sink.full
-    c.run-outcome.result _ (g.O.Write.contents c.args.out.now) (g.O.Write.contents c.print_text.new.out) c.run-outcome.ensures.run
+    c.run-outcome.result _ (g.O.Write.contents c.args.out.now) (g.O.Write.contents c.print_bytes.new.out) c.run-outcome.ensures.run
     (ap (λ xs. record (state ran) { world = record (state ran).world { outputs = xs } }) c.clear.ensures.outputs)
-    (subst (Appends (g.O.Write.contents c.args.out.now) (g.O.Write.contents c.print_text.new.out)) (search rules) c.in_default.ensures.ok)
+    (subst (Appends (g.O.Write.contents c.args.out.now) (g.O.Write.contents c.print_bytes.new.out)) (search rules) c.in_default.ensures.ok)
