@@ -3,12 +3,13 @@ use Rattle.std.specs.Prelude.{ℕ, ◌<◌, ◌≤◌, Bool, true, false, length
 use Rattle.c25_meaning_assembly.specs.OperandFields.{target_size}
 use Rattle.c25_meaning_assembly.specs.declared.assembly.Target.{Target}
 use Rattle.c25_meaning_assembly.specs.declared.assembly.Target.TheVariants as target
+use Rattle.c25_statements.specs.Exprs.{exprs_in}
 use Rattle.c25_phases.specs.declared.item.Content.{Content}
 use Rattle.c25_phases.specs.declared.item.Content.TheVariants as content
 
 -- the words of what waits
 abbrev pub content_size : Content → ℕ
-content_size (content.Operands target operands) = target_size target (length operands.items)
+content_size (content.Operands target operands) = target_size target (length (exprs_in operands))
 content_size (content.Words words) = length words.items
 content_size (content.Zeros count) = count
 content_size (content.Exported names) = 0

@@ -1,6 +1,7 @@
 -- What the types of both phases stand for.
 use Rattle.std.specs.Prelude.{map}
 use Rattle.std.specs.String.{string_bytes}
+use Rattle.c25_statements.specs.Exprs.{exprs_in}
 use Rattle.c25_statements.specs.View.{trees_of}
 use Rattle.c25_meaning_language.specs.ExpansionFault as answer
 use Rattle.c25_meaning_assembly.specs.Sections as sections
@@ -16,7 +17,7 @@ use Rattle.c25_phases.specs.declared.progress.Progress.{Progress}
 
 -- what waits
 abbrev pub content_of : Content → sections.Content
-content_of (content.Operands target operands) = sections.Operands target (trees_of operands.items)
+content_of (content.Operands target operands) = sections.Operands target (trees_of (exprs_in operands))
 content_of (content.Words words) = sections.Words words.items
 content_of (content.Zeros count) = sections.Zeros count
 content_of (content.Exported names) = sections.Exported (bytes_of_names names.items)

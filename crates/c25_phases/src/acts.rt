@@ -7,6 +7,7 @@ ghost use Rattle.std.specs.Option.{option_map};
 ghost use Rattle.c25_meaning_common.specs.Results.{Meets};
 ghost use Rattle.c25_meaning_assembly.specs.Sections as meaning;
 ghost use Rattle.c25_expr.specs.View.{tree_of};
+ghost use Rattle.c25_statements.specs.Exprs.{exprs_in};
 ghost use Rattle.c25_statements.specs.View.{act_of, room_in, room_of, statement_of, texts_of, trees_of};
 ghost use Rattle.c25_phases.specs.Names.{bytes_of_names};
 ghost use Rattle.c25_phases.specs.Origins.{origin_of};
@@ -24,7 +25,7 @@ use c25_meaning_common::failure::Failure;
 use c25_meaning_common::no_memory::NoMemory;
 use c25_meaning_language::statement::FaultKind;
 use c25_meaning_language::value::{Base, Value};
-use c25_statements::statement::{AssemblyAct, Room, Statement};
+use c25_statements::statement::{AssemblyAct, Exprs, Room, Statement};
 use std::alloc::Global;
 
 fn any_predefined(names: &[&str]) -> bool
@@ -196,11 +197,11 @@ impl<'a> Progress<'a> {
         &mut self,
         origin: Origin<'a>,
         target: Target,
-        operands: Vec<Expr>,
+        operands: Exprs,
     ) -> Result<(), Failure<FaultKind>>
-        ensures { Meets (λ _. progress_of self.new) (meaning.put (origin_of origin.entry) target (trees_of operands.items) (progress_of self.old)) result }
+        ensures { Meets (λ _. progress_of self.new) (meaning.put (origin_of origin.entry) target (trees_of (exprs_in operands)) (progress_of self.old)) result }
     {
-        let words = target_size(target, operands.len());
+        let words = target_size(target, operands.as_slice().len());
         let section = self.current;
         let offset = self.sections.size_at(section);
         self.lay(origin, Content::Operands(target, operands), words)?;

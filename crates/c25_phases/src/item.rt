@@ -3,8 +3,8 @@
 ghost use Rattle.std.specs.Prelude.{◌≤◌, ◌+◌};
 ghost use Rattle.c25_phases.specs.Sizes.{content_size};
 
-use c25_expr::tree::Expr;
 use c25_meaning_assembly::assembly::Target;
+use c25_statements::statement::Exprs;
 
 /// A line.
 #[derive(Clone, Copy)]
@@ -28,7 +28,7 @@ pub(crate) struct SourceLine<'a> {
 #[derive(Drop)]
 pub(crate) enum Content {
     /// Operands without their values.
-    Operands(Target, Vec<Expr>),
+    Operands(Target, Exprs),
     /// Words, in their turn.
     Words(Vec<u16>),
     /// So many zeros.

@@ -1,2 +1,3 @@
+pub mod Exprs
 pub mod Steps
 pub mod View

@@ -14,6 +14,7 @@ use Rattle.c25_statements.specs.declared.statement.Room.{Room}
 use Rattle.c25_statements.specs.declared.statement.AssemblyAct.{AssemblyAct}
 use Rattle.c25_statements.specs.declared.statement.AssemblyAct.TheVariants as act
 use Rattle.c25_statements.specs.declared.statement.Statement.{Statement}
+use Rattle.c25_statements.specs.Exprs.{exprs_in}
 use Rattle.c25_statements.specs.declared.trees.Trees.{Trees}
 
 -- texts
@@ -30,7 +31,7 @@ so_far t = record { trees = trees_of t.exprs.items; deep = t.deep }
 
 -- an instruction as it is written
 abbrev pub operation_of : Operation → line.Operation
-operation_of o = record { form = o.form; trees = trees_of o.trees.items }
+operation_of o = record { form = o.form; trees = trees_of (exprs_in o.trees) }
 
 -- a count, or what is wrong with it
 abbrev pub count_tree : Result Expr FaultKind → Result Tree FaultKind
@@ -52,7 +53,7 @@ act_of act.Nothing = says.Nothing
 act_of (act.Enter section) = says.Enter (string_bytes section)
 act_of (act.Reserve section name room) = says.Reserve (string_bytes section) name.now (room_in room)
 act_of (act.Equate name value) = says.Equate name.now (tree_of value)
-act_of (act.Put target operands) = says.Put target (trees_of operands.items)
+act_of (act.Put target operands) = says.Put target (trees_of (exprs_in operands))
 act_of (act.Load words) = says.Load words.items
 act_of (act.Space bits) = says.Space (tree_of bits)
 act_of (act.Declare names) = says.Declare (texts_of names.items)

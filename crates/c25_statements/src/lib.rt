@@ -3,6 +3,7 @@
 #![tactic(auto)]
 
 mod directives;
+pub mod exprs;
 pub mod fields;
 pub mod forms;
 mod names;

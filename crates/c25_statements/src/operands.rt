@@ -6,9 +6,10 @@ ghost use Rattle.c25_meaning_assembly.specs.AssemblyLine as says;
 ghost use Rattle.c25_meaning_common.specs.Results.{Meets};
 ghost use Rattle.c25_expr.specs.Pieces.{pieces_of, operands_view};
 ghost use Rattle.c25_expr.specs.View.{tree_of};
+ghost use Rattle.c25_statements.specs.Exprs.{exprs_in};
 ghost use Rattle.c25_statements.specs.View.{texts_of, trees_of, count_tree, room_in};
 
-use crate::statement::Room;
+use crate::statement::{Exprs, Room};
 use crate::trees::exprs_of;
 use c25_expr::operands::written_of;
 use c25_expr::tree::Expr;
@@ -89,8 +90,8 @@ fn all_expressions(operands: &[&[Token<'_>]]) -> Result<(), FaultKind>
 pub(crate) fn expressions_in(
     alloc: Global,
     operands: &[&[Token<'_>]],
-) -> Result<Vec<Expr>, Failure<FaultKind>>
-    ensures { Meets (λ v. trees_of v.items) (says.expressions_in (operands_view operands.now)) result }
+) -> Result<Exprs, Failure<FaultKind>>
+    ensures { Meets (λ v. trees_of (exprs_in v)) (says.expressions_in (operands_view operands.now)) result }
 {
     match some(operands) {
         Ok(()) => match all_expressions(operands) {

@@ -4,11 +4,18 @@ use c25_expr::tree::Expr;
 use c25_meaning_assembly::assembly::Target;
 use c25_meaning_language::statement::{FaultKind, Form};
 
+/// The expressions of a line's operands. Most lines have one, which takes no memory of its own.
+#[derive(Drop)]
+pub enum Exprs {
+    One(Expr),
+    Several(Vec<Expr>),
+}
+
 /// An instruction as it is written: a form, and an expression for each operand that is one.
 #[derive(Drop)]
 pub struct Operation {
     pub form: Form,
-    pub trees: Vec<Expr>,
+    pub trees: Exprs,
 }
 
 /// How much room is reserved.
@@ -40,7 +47,7 @@ pub enum AssemblyAct<'a> {
         value: Expr,
     },
     /// The operands make an instruction or words.
-    Put(Target, Vec<Expr>),
+    Put(Target, Exprs),
     /// These words are loaded.
     Load(Vec<u16>),
     /// So many bits of zeros are loaded, rounded up to words.

@@ -4,8 +4,10 @@ ghost use Rattle.std.specs.Prelude.{◌≡◌, IfOk};
 ghost use Rattle.c25_meaning_assembly.specs.StatementLine.{no_trees, with_operand, all_trees, trees_in};
 ghost use Rattle.c25_expr.specs.Pieces.{pieces_of, operands_view};
 ghost use Rattle.c25_meaning_common.specs.Results.{Meets};
+ghost use Rattle.c25_statements.specs.Exprs.{exprs_in};
 ghost use Rattle.c25_statements.specs.View.{trees_of, so_far};
 
+use crate::statement::Exprs;
 use c25_expr::expression_reader::read_expr;
 use c25_expr::operands::written_of;
 use c25_expr::tree::Expr;
@@ -54,14 +56,14 @@ impl Trees {
     }
 
     /// All of them, or TooDeep (21) where one was told: a token list that is no expression comes before it.
-    fn finish(self) -> Result<Vec<Expr>, Failure<FaultKind>>
-        ensures { Meets (λ v. trees_of v.items) (all_trees (so_far self)) result }
+    fn finish(self) -> Result<Exprs, Failure<FaultKind>>
+        ensures { Meets (λ v. trees_of (exprs_in v)) (all_trees (so_far self)) result }
     {
         let Trees { exprs, deep } = self;
         if deep {
             Err(Failure::Fault(FaultKind::TooDeep))
         } else {
-            Ok(exprs)
+            Ok(Exprs::of(exprs))
         }
     }
 }
@@ -70,8 +72,8 @@ impl Trees {
 pub(crate) fn exprs_of(
     alloc: Global,
     operands: &[&[Token<'_>]],
-) -> Result<Vec<Expr>, Failure<FaultKind>>
-    ensures { Meets (λ v. trees_of v.items) (trees_in (operands_view operands.now)) result }
+) -> Result<Exprs, Failure<FaultKind>>
+    ensures { Meets (λ v. trees_of (exprs_in v)) (trees_in (operands_view operands.now)) result }
 {
     let mut trees = Trees::new(alloc, operands.len())?;
     for operand in operands {
