@@ -1,6 +1,6 @@
 //! Lines that are read one after another, with those read since a mark.
 
-ghost use Rattle.std.specs.Prelude.{List, ◌≡◌, ◌∷◌, ◌++◌, [], option_to_list, IfNone};
+ghost use Rattle.std.specs.Prelude.{List, ◌≡◌, ◌∷◌, ◌++◌, [], option_map, option_to_list, slice_get, IfNone};
 ghost use Rattle.c25_meaning_expansion.specs.Rows.{Row};
 ghost use Rattle.c25_lines.specs.Passages.{IsRange, rows_in};
 
@@ -74,6 +74,18 @@ impl<'a> Passage<'a> {
         self.count -= 1;
         self.passed += 1;
         Some(Row::new(place, text))
+    }
+
+    /// Where the next line stands, if one comes.
+    pub fn next_place(&self) -> Option<SourcePlace>
+        ensures { result ≡ option_map (λ row. row.place) (slice_get self.now.rest 0) }
+    {
+        if self.count == 0 {
+            return None;
+        }
+        let file = self.file;
+        let line = self.line;
+        Some(SourcePlace { file, line })
     }
 
     /// The mark stands here.

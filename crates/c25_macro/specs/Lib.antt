@@ -7,3 +7,4 @@ pub mod Scopes
 pub mod Macros
 pub mod Refusals
 pub mod Stages
+pub mod Tracers

@@ -23,6 +23,8 @@ mod stage;
 mod standing;
 mod state;
 mod step;
+pub mod tracer;
+mod tracing;
 mod values;
 
 pub use c25_files::files;

@@ -157,6 +157,13 @@ impl<'a> Stack<'a> {
         self.sources.is_empty()
     }
 
+    #[tactic(auto, using(crate::proofs::Trails::length_scopes))]
+    pub(crate) fn len(&self) -> usize
+        ensures { result ≡ length (scopes self.now) }
+    {
+        self.sources.len()
+    }
+
     /// Whether one of them is such a block.
     pub(crate) fn has(&self, block: Block) -> bool
         ensures { result ≡ list_any (λ f. test_of block f.kind) (scopes self.now) }

@@ -47,7 +47,7 @@ pub(crate) enum Stage<'a> {
 type Answer<'a> = Result<Option<ExpLine<'a>>, Failure<ExpandFault<'a>>>;
 
 /// A line with the name of its file.
-fn show<'a>(files: &'a Files, given: Line<'a>) -> ExpLine<'a>
+pub(crate) fn show<'a>(files: &'a Files, given: Line<'a>) -> ExpLine<'a>
     ensures { shown result ≡ expanded_line files.now given.entry }
 {
     let SourcePlace { file, line } = given.place();

@@ -121,7 +121,7 @@ impl<'a> State<'a> {
 
     /// One rewriting.
     #[tactic(auto, unfolding(c25_meaning_expansion::specs::ExpansionRuns::rewrite))]
-    fn step(
+    pub(crate) fn step(
         &mut self,
         files: &'a Files,
         symbols: &Symbols,

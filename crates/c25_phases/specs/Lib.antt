@@ -6,3 +6,4 @@ pub mod Refusals
 pub mod Sizes
 pub mod Steps
 pub mod View
+pub mod Wrong

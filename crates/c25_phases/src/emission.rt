@@ -176,7 +176,7 @@ fn zeros(alloc: Global, count: usize) -> Result<Vec<u16>, NoMemory>
 }
 
 /// An item's words.
-fn emit(
+pub(crate) fn emit(
     alloc: Global,
     symbols: &mut Symbols,
     sections: &mut Sections<'_>,

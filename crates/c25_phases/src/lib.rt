@@ -25,9 +25,11 @@ mod section;
 mod sections;
 mod sheet;
 mod targets;
+mod wrong;
 
 pub use item::Origin;
 pub use line_reader::read_and_pass;
 pub use making::finish;
 pub use progress::Progress;
 pub use refusal::at_origin;
+pub use wrong::{WrongItem, first_wrong};

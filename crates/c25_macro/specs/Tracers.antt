@@ -1,0 +1,83 @@
+-- What callers see of a tracer, and of its steps.
+use Rattle.std.specs.Prelude.{◌≡◌, ℕ, ◌<◌, List, [], Option, Some, None, Result, Ok, Err, reverse}
+use Rattle.std.specs.String.{string_bytes}
+use Rattle.c25_meaning_common.specs.declared.failure.Failure.{Failure}
+use Rattle.c25_meaning_common.specs.declared.failure.Failure.TheVariants.{NoMemory, Fault}
+use Rattle.c25_meaning_expansion.specs.Expansion.{Config, Rewriting, Goes, Finishes}
+use Rattle.c25_meaning_expansion.specs.ExpansionAnswers.{expanded_line, given_by, fault_by}
+use Rattle.c25_meaning_expansion.specs.ExpansionBounds.{IsBounded}
+use Rattle.c25_meaning_expansion.specs.ExpansionRuns.{rewrite, start_of, weight}
+use Rattle.c25_meaning_expansion.specs.Files.{Files}
+use Rattle.c25_meaning_expansion.specs.declared.expansion.SourcePlace.{SourcePlace}
+use Rattle.c25_meaning_language.specs.ExpansionFault as meant
+use Rattle.c25_meaning_language.specs.ExpansionFault.{ExpansionFault}
+use Rattle.c25_meaning_language.specs.Value.{Table}
+use Rattle.c25_meaning_trail.specs.Trail.{trail_after}
+use Rattle.c25_macro.specs.Config.{config, refused_by}
+use Rattle.c25_macro.specs.Expander.{shown}
+use Rattle.c25_macro.specs.declared.refusal.Refusal.{Refusal}
+use Rattle.c25_macro.specs.declared.state.Progress.{Progress}
+use Rattle.c25_macro.specs.declared.state.Progress.TheVariants as progress
+use Rattle.c25_macro.specs.declared.tracer.Step.{Step}
+use Rattle.c25_macro.specs.declared.tracer.Step.TheVariants.{Given, Went, Finished}
+use Rattle.c25_macro.specs.declared.tracer.StepFault.{StepFault}
+use Rattle.c25_macro.specs.declared.tracer.StepFault.TheVariants.{Faulty, Missing}
+use Rattle.c25_macro.specs.declared.tracer.Tracer.{Tracer}
+
+-- an expansion of these files, where it stands, and the lines that opened what is open, the innermost first
+pub record Trace : Type 0 where
+  pub files : Files
+  pub at : Config
+  pub trail : List SourcePlace
+
+-- what a tracer stands for
+abbrev pub trace_of : Tracer → Trace
+trace_of t = record { files = t.files.now; at = config t.state.value; trail = reverse t.trail.items }
+
+-- a tracer stands before the first line of the module of a name
+abbrev pub BeginsAt : Files → Option Config → Trace → Type 0
+BeginsAt files start t = (start ≡ Some t.at) × (t.trail ≡ []) × (t.files ≡ files) × IsBounded t.at
+
+-- the same of one, if there is such a module
+abbrev pub Begins : Files → List ℕ → Option Tracer → Type 0
+Begins files name None = start_of files name ≡ None
+Begins files name (Some t) = BeginsAt files (start_of files name) (trace_of t)
+
+-- why a rewriting comes to nothing
+abbrev pub fault_in : StepFault → ExpansionFault
+fault_in (Faulty f) = meant.Faulty f.place.file.now f.place.line f.fault
+fault_in (Missing file line name) = meant.Missing file.now line (string_bytes name)
+
+-- it has gone on from here to there
+pub record Moved (old : Trace) (new : Trace) : Type 0 where
+  pub files : new.files ≡ old.files
+  pub trail : new.trail ≡ trail_after old.at new.at old.trail
+  pub lighter : weight new.at < weight old.at
+  pub bounded : IsBounded new.at
+
+-- what is answered is this rewriting of one trace, and leads to the other
+abbrev pub Comes : Rewriting → Trace → Result Step (Failure StepFault) → Trace → Type 0
+Comes r old (Ok (Given line)) new = (given_by old.files r ≡ Some (shown line, new.at)) × Moved old new
+Comes r old (Ok Went) new = (r ≡ Goes new.at) × Moved old new
+Comes r old (Ok Finished) new = (c : Config) × (r ≡ Finishes c)
+Comes r old (Err (NoMemory n)) new = Unit {0}
+Comes r old (Err (Fault f)) new = (fault_by old.files r ≡ Some (fault_in f)) × (new.trail ≡ old.trail)
+
+-- what is answered is the next rewriting
+abbrev pub Steps : Table → Trace → Result Step (Failure StepFault) → Trace → Type 0
+Steps s old result new = Comes (rewrite old.files s old.at) old result new
+
+-- ---- what is answered, by what the state answers
+
+-- what a rewriting comes to, with the name of the line's file
+abbrev pub Shows : Files → Progress → Step → Type 0
+Shows files (progress.Given row) (Given line) = shown line ≡ expanded_line files row
+Shows files progress.Went Went = Unit {0}
+Shows files progress.Finished Finished = Unit {0}
+Shows files progress step = ⊥
+
+-- why it comes to nothing, with the name of the line's file
+abbrev pub IsToldAs : Files → Failure Refusal → Failure StepFault → Type 0
+IsToldAs files (NoMemory n) (NoMemory m) = Unit {0}
+IsToldAs files (Fault refusal) (Fault f) = fault_by files (refused_by refusal) ≡ Some (fault_in f)
+IsToldAs files refusal told = ⊥

@@ -1,0 +1,150 @@
+//! Expansion, one rewriting after another.
+
+ghost use Rattle.std.specs.Prelude.{◌≡◌, ◌∷◌, ◌-◌, [], IfOk, OnErr, OnOk, Some, drop, length, nat_lt, reverse, if◌then◌else◌};
+ghost use Rattle.c25_meaning_expansion.specs.ExpansionAnswers.{fault_by};
+ghost use Rattle.c25_meaning_expansion.specs.ExpansionBounds.{IsBounded};
+ghost use Rattle.c25_meaning_trail.specs.Trail.{line_of, next_place};
+ghost use Rattle.c25_macro.specs.Config.{config, refused_by};
+ghost use Rattle.c25_macro.specs.Tracers.{Begins, IsToldAs, Shows, Steps, fault_in, trace_of};
+
+use crate::refusal::Refusal;
+use crate::stage::show;
+use crate::state::{Mode, Progress, State};
+use crate::tracer::{Step, StepFault, Tracer};
+use c25_expr::symbols::Symbols;
+use c25_files::files::Files;
+use c25_meaning_common::failure::Failure;
+use c25_meaning_common::no_memory::NoMemory;
+use c25_meaning_common::placed::{FileLine, Placed};
+use c25_meaning_expansion::expansion::SourcePlace;
+use std::alloc::Global;
+
+impl State<'_> {
+    /// The next line, or else the last one of what ends.
+    fn next_place(&self) -> SourcePlace
+        ensures { result ≡ next_place (config self.now).lines (config self.now).scope.last }
+    {
+        match self.top.lines.next_place() {
+            Some(place) => place,
+            None => self.top.scope.last,
+        }
+    }
+
+    /// The line that the next rewriting is of.
+    fn line(&self) -> SourcePlace
+        ensures { result ≡ line_of (config self.now) }
+    {
+        match &self.mode {
+            Mode::Acting { place, .. } => *place,
+            Mode::Reading => self.next_place(),
+            Mode::InMacro { .. } => self.next_place(),
+            Mode::InLoop { .. } => self.next_place(),
+        }
+    }
+}
+
+/// Why a rewriting comes to nothing, with the name of the line's file.
+fn told(files: &Files, refusal: Refusal) -> StepFault<'_>
+    ensures { fault_by files.now (refused_by refusal) ≡ Some (fault_in result) }
+{
+    match refusal {
+        Refusal::Faulty { place, kind } => {
+            let place = FileLine {
+                file: files.name(place.file),
+                line: place.line,
+            };
+            StepFault::Faulty(Placed { place, fault: kind })
+        }
+        Refusal::Missing { place, name } => {
+            let file = files.name(place.file);
+            let line = place.line;
+            StepFault::Missing { file, line, name }
+        }
+    }
+}
+
+/// The same of a failure.
+fn told_failure(files: &Files, failure: Failure<Refusal>) -> Failure<StepFault<'_>>
+    ensures { IsToldAs files.now failure result }
+{
+    match failure {
+        Failure::NoMemory(error) => Failure::NoMemory(error),
+        Failure::Fault(refusal) => Failure::Fault(told(files, refusal)),
+    }
+}
+
+/// What a rewriting comes to, with the name of the line's file.
+fn shown<'a>(files: &'a Files, progress: Progress<'a>) -> Step<'a>
+    ensures { Shows files.now progress.entry result }
+{
+    match progress {
+        Progress::Given(given) => Step::Given(show(files, given)),
+        Progress::Went => Step::Went,
+        Progress::Finished => Step::Finished,
+    }
+}
+
+/// The lines that opened what is open, the outermost first, behind a rewriting of this line before and
+/// after which so many are.
+fn follow(
+    trail: &mut Vec<SourcePlace>,
+    line: SourcePlace,
+    before: usize,
+    after: usize,
+) -> Result<(), NoMemory>
+    ensures followed { OnOk result (reverse trail.new.items ≡ (if nat_lt before after then line ∷ reverse trail.old.items else drop (before - after) (reverse trail.old.items))) }
+    ensures kept { OnErr result (trail.new.items ≡ trail.old.items) }
+{
+    if before < after {
+        trail.push(line)?;
+        return Ok(());
+    }
+    let left = trail.len().saturating_sub(before - after);
+    trail.truncate(left);
+    Ok(())
+}
+
+impl<'a> Tracer<'a> {
+    /// Before the first line of the module of a name, if there is one.
+    pub fn new(alloc: Global, files: &'a Files, name: &str) -> Result<Option<Tracer<'a>>, NoMemory>
+        ensures { IfOk result (Begins files.now name.now) }
+    {
+        let Some((file, text)) = files.find(name) else {
+            return Ok(None);
+        };
+        let state = Box::new(alloc, State::new(alloc, file, text))?;
+        let trail = Vec::new(alloc);
+        Ok(Some(Tracer {
+            files,
+            state,
+            trail,
+        }))
+    }
+
+    /// One rewriting, under the symbols that the lines before it have defined.
+    pub fn step(&mut self, symbols: &Symbols) -> Result<Step<'a>, Failure<StepFault<'a>>>
+        requires { IsBounded (trace_of self.old).at }
+        ensures { Steps symbols.now (trace_of self.old) result (trace_of self.new) }
+    {
+        let files = self.files;
+        let line = self.state.line();
+        let before = self.state.below.len();
+        match self.state.step(files, symbols) {
+            Ok(progress) => {
+                let after = self.state.below.len();
+                follow(&mut self.trail, line, before, after)?;
+                Ok(shown(files, progress))
+            }
+            Err(failure) => Err(told_failure(files, failure)),
+        }
+    }
+
+    /// The lines that opened what is open, the innermost first.
+    pub fn into_trail(self) -> Vec<SourcePlace>
+        ensures { result.items ≡ (trace_of self.entry).trail }
+    {
+        let mut trail = self.trail;
+        trail.reverse();
+        trail
+    }
+}

@@ -1,0 +1,2 @@
+//! Where the files, expansions and turns that are open were opened.
+#![tactic(auto)]

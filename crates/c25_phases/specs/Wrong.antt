@@ -1,0 +1,29 @@
+-- The first item that is wrong.
+use Rattle.std.specs.Prelude.{ℕ, ◌+◌, List, [], ◌∷◌, Option, Some, None, Result, Ok, Err}
+use Rattle.c25_meaning_assembly.specs.Emission.{all_names, emit}
+use Rattle.c25_meaning_assembly.specs.Sections.{Definitions, Section, Origin, LaidContent, Progress}
+use Rattle.c25_meaning_language.specs.declared.statement.FaultKind.{FaultKind}
+use Rattle.c25_phases.specs.Origins.{origin_of}
+use Rattle.c25_phases.specs.declared.wrong.WrongItem.{WrongItem}
+
+-- an item that is wrong: its number among all, its line, and what is wrong with it
+pub record Wrong : Type 0 where
+  pub number : ℕ
+  pub origin : Origin
+  pub kind : FaultKind
+
+-- the first of these items that is wrong behind so many that were emitted, if one is
+abbrev pub wrong_from : ℕ → Definitions → List Section → List LaidContent → Option Wrong
+wrong_from number names sections [] = None
+wrong_from number names sections (item ∷ items) = elim (emit names item.section item.offset sections item.content) [
+  | Ok next ↦ wrong_from (number + 1) names next items
+  | Err kind ↦ Some (record { number = number; origin = item.origin; kind = kind })
+]
+
+-- the first item of all lines that is wrong under all names
+abbrev pub first_wrong : Progress → Option Wrong
+first_wrong p = wrong_from 0 (all_names p) p.sections p.items
+
+-- an item that is wrong
+abbrev pub wrong_of : WrongItem → Wrong
+wrong_of w = record { number = w.number; origin = origin_of w.origin; kind = w.kind }

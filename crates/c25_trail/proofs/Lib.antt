@@ -1,0 +1,3 @@
+pub mod FromStart
+pub mod Refusals
+pub mod Walking

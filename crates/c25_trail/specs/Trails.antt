@@ -1,0 +1,79 @@
+-- The lines that opened what is open where the source of a name is refused.
+use Rattle.std.specs.Prelude.{◌≡◌, ◌⊎◌, ℕ, ◌<◌, ◌≤◌, List, [], length, Some, None, Ok, Err}
+use Rattle.c25_meaning_assembly.specs.Sections.{Progress, start, table}
+use Rattle.c25_meaning_expansion.specs.Expansion.{Config, Goes, Finishes}
+use Rattle.c25_meaning_expansion.specs.ExpansionAnswers.{ExpandedLine, given_by, fault_by}
+use Rattle.c25_meaning_expansion.specs.ExpansionRuns.{rewrite, start_of}
+use Rattle.c25_meaning_expansion.specs.Files.{Files}
+use Rattle.c25_meaning_expansion.specs.declared.expansion.SourcePlace.{SourcePlace}
+use Rattle.c25_meaning_language.specs.ExpansionFault.{ExpansionFault, Faulty}
+use Rattle.c25_meaning_sources.specs.ModuleOfSource.{read_and_pass}
+use Rattle.c25_meaning_trail.specs.Trail.{trail_after}
+use Rattle.c25_phases.specs.Wrong.{Wrong, first_wrong}
+
+-- rewritings from the first line of the module of a name on, and the lines that they give passed one after another, lead to this
+-- configuration, to what the lines have made, and to the lines that opened what is open, the innermost first
+pub data Reaches (files : Files) (name : List ℕ) : Config → Progress → List SourcePlace → Type 0 where
+  begins : {c : Config} {p : Progress} {trail : List SourcePlace} → start_of files name ≡ Some c → p ≡ start → trail ≡ [] → Reaches files name c p trail
+  goes : {c d : Config} {p : Progress} {trail after : List SourcePlace} → Reaches files name c p trail
+      → rewrite files (table p) c ≡ Goes d → after ≡ trail_after c d trail → Reaches files name d p after
+  passes : {c d : Config} {p q : Progress} {trail after : List SourcePlace} (line : ExpandedLine) → Reaches files name c p trail
+      → given_by files (rewrite files (table p) c) ≡ Some (line, d) → read_and_pass line p ≡ Ok q → after ≡ trail_after c d trail → Reaches files name d q after
+
+-- all lines pass, and have made this
+pub record PassesAll (files : Files) (name : List ℕ) (p : Progress) : Type 0 where
+  pub at : Config
+  pub trail : List SourcePlace
+  pub reaches : Reaches files name at p trail
+  pub last : Config
+  pub ends : rewrite files (table p) at ≡ Finishes last
+
+-- a rewriting is refused
+pub record IsUnexpanded (files : Files) (name : List ℕ) (fault : ExpansionFault) (trail : List SourcePlace) : Type 0 where
+  pub at : Config
+  pub made : Progress
+  pub reaches : Reaches files name at made trail
+  pub refused : fault_by files (rewrite files (table made) at) ≡ Some fault
+
+-- a line is given behind these
+pub record Gives (files : Files) (name : List ℕ) (made : Progress) (line : ExpandedLine) (trail : List SourcePlace) : Type 0 where
+  pub at : Config
+  pub before : List SourcePlace
+  pub reaches : Reaches files name at made before
+  pub next : Config
+  pub given : given_by files (rewrite files (table made) at) ≡ Some (line, next)
+  pub behind : trail ≡ trail_after at next before
+
+-- a line that is given is refused
+pub record IsWrongLine (files : Files) (name : List ℕ) (fault : ExpansionFault) (trail : List SourcePlace) : Type 0 where
+  pub made : Progress
+  pub line : ExpandedLine
+  pub gives : Gives files name made line trail
+  pub refused : read_and_pass line made ≡ Err fault
+
+-- the item of this number comes with a line
+pub record ComesWith (files : Files) (name : List ℕ) (number : ℕ) (trail : List SourcePlace) : Type 0 where
+  pub made : Progress
+  pub line : ExpandedLine
+  pub gives : Gives files name made line trail
+  pub after : Progress
+  pub passes : read_and_pass line made ≡ Ok after
+  pub not_before : length made.items ≤ number
+  pub by_then : number < length after.items
+
+-- all lines pass, and then the first item that is wrong is one that came with this line
+pub record IsWrongItem (files : Files) (name : List ℕ) (fault : ExpansionFault) (trail : List SourcePlace) : Type 0 where
+  pub made : Progress
+  pub passes : PassesAll files name made
+  pub wrong : Wrong
+  pub refused : first_wrong made ≡ Some wrong
+  pub told : fault ≡ Faulty wrong.origin.file wrong.origin.line wrong.kind
+  pub line : ComesWith files name wrong.number trail
+
+-- the source of a name is refused with this fault, and these lines opened what is open there, the innermost first
+abbrev pub IsTrail : Files → (name : List ℕ) → ExpansionFault → List SourcePlace → Type 0
+IsTrail files name fault trail = IsUnexpanded files name fault trail ⊎ IsWrongLine files name fault trail ⊎ IsWrongItem files name fault trail
+
+-- the source of a name is assembled
+abbrev pub IsWhole : Files → (name : List ℕ) → Type 0
+IsWhole files name = (p : Progress) × PassesAll files name p × (first_wrong p ≡ None)

@@ -1,0 +1,85 @@
+//! Where a source is refused.
+
+ghost use Rattle.std.specs.Prelude.{IfOk};
+ghost use Rattle.c25_phases.specs.Wrong.{wrong_of};
+ghost use Rattle.c25_trail.specs.Traces.{HasWrongItem, IsRefused, IsTraced};
+
+use crate::walk::{End, walk};
+use c25_macro::files::Files;
+use c25_macro::tracer::{StepFault, Tracer};
+use c25_meaning_common::no_memory::NoMemory;
+use c25_meaning_common::placed::{FileLine, Placed};
+use c25_meaning_expansion::expansion::SourcePlace;
+use c25_phases::{Progress, WrongItem, first_wrong};
+use std::alloc::Global;
+
+/// Why a source is refused, and what is open there.
+#[derive(Drop)]
+pub struct Refused<'a> {
+    pub fault: StepFault<'a>,
+    /// The lines that opened the copied files, expansions and turns that are open, the innermost first.
+    pub trail: Vec<SourcePlace>,
+}
+
+/// What becomes of a source.
+#[derive(Drop)]
+pub enum Traced<'a> {
+    /// It is not there.
+    Absent,
+    /// It is assembled.
+    Whole,
+    Refused(Refused<'a>),
+}
+
+/// Where the first item that is wrong came from.
+fn trace_item<'a>(
+    alloc: Global,
+    files: &'a Files,
+    name: &str,
+    wrong: WrongItem<'a>,
+) -> Result<Refused<'a>, NoMemory>
+    requires { HasWrongItem files.now name.now (wrong_of wrong) }
+    ensures { IfOk result (IsRefused files.now name.now) }
+{
+    let Some(mut tracer) = Tracer::new(alloc, files, name)? else {
+        unreachable!();
+    };
+    let progress = Progress::new(alloc)?;
+    match walk(&mut tracer, progress, Some(wrong.number))? {
+        End::Reached => {
+            let place = FileLine {
+                file: wrong.origin.file,
+                line: wrong.origin.line,
+            };
+            let fault = StepFault::Faulty(Placed {
+                place,
+                fault: wrong.kind,
+            });
+            let trail = tracer.into_trail();
+            Ok(Refused { fault, trail })
+        }
+        End::Passed(_) => unreachable!(),
+        End::Refused(_) => unreachable!(),
+    }
+}
+
+/// What becomes of the source of a name, and if it is refused, what is open there.
+pub fn trace<'a>(alloc: Global, files: &'a Files, name: &str) -> Result<Traced<'a>, NoMemory>
+    ensures { IfOk result (IsTraced files.now name.now) }
+{
+    let Some(mut tracer) = Tracer::new(alloc, files, name)? else {
+        return Ok(Traced::Absent);
+    };
+    let progress = Progress::new(alloc)?;
+    match walk(&mut tracer, progress, None)? {
+        End::Reached => unreachable!(),
+        End::Refused(fault) => {
+            let trail = tracer.into_trail();
+            Ok(Traced::Refused(Refused { fault, trail }))
+        }
+        End::Passed(progress) => match first_wrong(progress)? {
+            Some(wrong) => Ok(Traced::Refused(trace_item(alloc, files, name, wrong)?)),
+            None => Ok(Traced::Whole),
+        },
+    }
+}
