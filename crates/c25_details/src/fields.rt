@@ -1,8 +1,9 @@
 //! Fields that do not take their values.
 
 ghost use Rattle.std.specs.Prelude.{◌≡◌, ◌++◌, IfOk, OnOk, string_bytes};
-ghost use Rattle.c25_details.specs.Details.{addend_text, base_text, field_text, misfit_text, value_text};
+ghost use Rattle.c25_details.specs.Details.{addend_text, base_text, field_text, misfit_text, place_text, untaken_text, value_text};
 ghost use Rattle.c25_link.specs.Misfits.{misfit_data};
+ghost use Rattle.c25_meaning_common.specs.Digits.{four_digits};
 
 use c25_digits::four;
 use c25_link::Misfit;
@@ -33,22 +34,45 @@ fn push_base(text: &mut String, base: RelocationBase, name: &str) -> Result<(), 
     }
 }
 
+/// Appends the digits of an address.
+fn push_address(text: &mut String, address: u16) -> Result<(), NoMemory>
+    ensures { OnOk result (string_bytes text.new ≡ string_bytes text.old ++ four_digits address) }
+{
+    Ok(text.push_str(four(address).as_str())?)
+}
+
+/// Appends the section behind an address.
+#[tactic(auto, unfolding(crate::specs::Details::place_text))]
+fn push_place(text: &mut String, section: &str) -> Result<(), NoMemory>
+    ensures { OnOk result (string_bytes text.new ≡ string_bytes text.old ++ place_text section.now) }
+{
+    Ok(write!(text, " in {section}")?)
+}
+
 /// Appends where a field is.
+#[tactic(auto, unfolding(crate::specs::Details::field_text))]
 fn push_field(text: &mut String, misfit: &Misfit<'_>) -> Result<(), NoMemory>
     ensures { OnOk result (string_bytes text.new ≡ string_bytes text.old ++ field_text (misfit_data misfit.now)) }
 {
-    let address = four(misfit.address);
-    let address = address.as_str();
-    let section = misfit.section;
-    Ok(write!(text, "the field at {address} in {section}")?)
+    text.push_str("the field at ")?;
+    push_address(text, misfit.address)?;
+    push_place(text, misfit.section)
 }
 
 /// Appends the value that it does not take.
+#[tactic(auto, unfolding(crate::specs::Details::untaken_text))]
+fn push_untaken(text: &mut String, value: i64) -> Result<(), NoMemory>
+    ensures { OnOk result (string_bytes text.new ≡ string_bytes text.old ++ untaken_text value) }
+{
+    Ok(write!(text, " does not take {value}, which is ")?)
+}
+
+/// Appends that, and what it is.
+#[tactic(auto, unfolding(crate::specs::Details::value_text))]
 fn push_value(text: &mut String, misfit: &Misfit<'_>) -> Result<(), NoMemory>
     ensures { OnOk result (string_bytes text.new ≡ string_bytes text.old ++ value_text (misfit_data misfit.now)) }
 {
-    let value = misfit.value;
-    write!(text, " does not take {value}, which is ")?;
+    push_untaken(text, misfit.value)?;
     push_base(text, misfit.base, misfit.base_name)?;
     push_addend(text, misfit.addend)
 }

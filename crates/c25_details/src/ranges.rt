@@ -24,11 +24,14 @@ fn push_lack(text: &mut String, range: MissingRange<'_>) -> Result<(), NoMemory>
 {
     match range {
         MissingRange::Named { name, page } => {
-            write!(text, "in {name}, and no range has this name")?;
+            write!(text, " is to stand in {name}, and no range has this name")?;
             push_page(text, page)
         }
-        MissingRange::OnPage(page) => Ok(write!(text, "on page {page}, which has no range")?),
-        MissingRange::Any => Ok(text.push_str("anywhere, and there is no range")?),
+        MissingRange::OnPage(page) => Ok(write!(
+            text,
+            " is to stand on page {page}, which has no range"
+        )?),
+        MissingRange::Any => Ok(text.push_str(" is to stand anywhere, and there is no range")?),
     }
 }
 
@@ -42,7 +45,7 @@ pub fn missing_text(
 ) -> Result<String, NoMemory>
     ensures { IfOk result (λ text. string_bytes text ≡ missing_text file.now section.now (missing_data range.entry)) }
 {
-    let mut text = format!(in alloc; "{file}: {section} is to stand ")?;
+    let mut text = format!(in alloc; "{file}: {section}")?;
     push_lack(&mut text, range)?;
     text.push_str("\n")?;
     Ok(text)
