@@ -32,11 +32,23 @@ abbrev pub page_text : Option ℕ → List ℕ
 page_text None = []
 page_text (Some page) = codes " on page " ++ decimal page
 
+-- it is to stand in a range of this name
+unfoldable pub in_text : List ℕ → List ℕ
+in_text name = codes " is to stand in " ++ name ++ codes ", and no range has this name"
+
+-- on this page
+unfoldable pub on_text : ℕ → List ℕ
+on_text page = codes " is to stand on page " ++ decimal page ++ codes ", which has no range"
+
+-- anywhere
+unfoldable pub anywhere_text : List ℕ
+anywhere_text = codes " is to stand anywhere, and there is no range"
+
 -- where it is to stand, and what it lacks there
 abbrev pub lack_text : MissingData → List ℕ
-lack_text (Named name page) = codes " is to stand in " ++ name ++ codes ", and no range has this name" ++ page_text page
-lack_text (OnPage page) = codes " is to stand on page " ++ decimal page ++ codes ", which has no range"
-lack_text Any = codes " is to stand anywhere, and there is no range"
+lack_text (Named name page) = in_text name ++ page_text page
+lack_text (OnPage page) = on_text page
+lack_text Any = anywhere_text
 
 -- the same of the section of this name, behind the name of the command file
 abbrev pub missing_text : List ℕ → List ℕ → MissingData → List ℕ
@@ -56,12 +68,15 @@ base_text (base.Section index) name = name
 base_text (base.Loaded index) name = codes "load of " ++ name
 base_text (base.External index) name = name
 
--- where a field is: the section behind its address
+-- where a field is: its address, and its section
+unfoldable pub address_text : ℕ → List ℕ
+address_text address = codes "the field at " ++ four_digits address
+
 unfoldable pub place_text : List ℕ → List ℕ
 place_text section = codes " in " ++ section
 
 unfoldable pub field_text : MisfitData → List ℕ
-field_text f = codes "the field at " ++ four_digits f.address ++ place_text f.section
+field_text f = address_text f.address ++ place_text f.section
 
 -- the value that it does not take, and what that is
 unfoldable pub untaken_text : ℤ → List ℕ

@@ -1,9 +1,8 @@
 //! Fields that do not take their values.
 
 ghost use Rattle.std.specs.Prelude.{◌≡◌, ◌++◌, IfOk, OnOk, string_bytes};
-ghost use Rattle.c25_details.specs.Details.{addend_text, base_text, field_text, misfit_text, place_text, untaken_text, value_text};
+ghost use Rattle.c25_details.specs.Details.{addend_text, address_text, base_text, field_text, misfit_text, place_text, untaken_text, value_text};
 ghost use Rattle.c25_link.specs.Misfits.{misfit_data};
-ghost use Rattle.c25_meaning_common.specs.Digits.{four_digits};
 
 use c25_digits::four;
 use c25_link::Misfit;
@@ -34,10 +33,12 @@ fn push_base(text: &mut String, base: RelocationBase, name: &str) -> Result<(), 
     }
 }
 
-/// Appends the digits of an address.
+/// Appends the address of a field.
+#[tactic(auto, unfolding(crate::specs::Details::address_text))]
 fn push_address(text: &mut String, address: u16) -> Result<(), NoMemory>
-    ensures { OnOk result (string_bytes text.new ≡ string_bytes text.old ++ four_digits address) }
+    ensures { OnOk result (string_bytes text.new ≡ string_bytes text.old ++ address_text address) }
 {
+    text.push_str("the field at ")?;
     Ok(text.push_str(four(address).as_str())?)
 }
 
@@ -54,7 +55,6 @@ fn push_place(text: &mut String, section: &str) -> Result<(), NoMemory>
 fn push_field(text: &mut String, misfit: &Misfit<'_>) -> Result<(), NoMemory>
     ensures { OnOk result (string_bytes text.new ≡ string_bytes text.old ++ field_text (misfit_data misfit.now)) }
 {
-    text.push_str("the field at ")?;
     push_address(text, misfit.address)?;
     push_place(text, misfit.section)
 }
