@@ -69,14 +69,17 @@ base_text (base.Loaded index) name = codes "load of " ++ name
 base_text (base.External index) name = name
 
 -- where a field is: its address, and its section
+unfoldable pub at_text : List ℕ
+at_text = codes "the field at "
+
 unfoldable pub address_text : ℕ → List ℕ
-address_text address = codes "the field at " ++ four_digits address
+address_text address = four_digits address
 
 unfoldable pub place_text : List ℕ → List ℕ
 place_text section = codes " in " ++ section
 
 unfoldable pub field_text : MisfitData → List ℕ
-field_text f = address_text f.address ++ place_text f.section
+field_text f = at_text ++ address_text f.address ++ place_text f.section
 
 -- the value that it does not take, and what that is
 unfoldable pub untaken_text : ℤ → List ℕ

@@ -1,7 +1,7 @@
 //! Fields that do not take their values.
 
 ghost use Rattle.std.specs.Prelude.{◌≡◌, ◌++◌, IfOk, OnOk, string_bytes};
-ghost use Rattle.c25_details.specs.Details.{addend_text, address_text, base_text, field_text, misfit_text, place_text, untaken_text, value_text};
+ghost use Rattle.c25_details.specs.Details.{addend_text, address_text, at_text, base_text, field_text, misfit_text, place_text, untaken_text, value_text};
 ghost use Rattle.c25_link.specs.Misfits.{misfit_data};
 
 use c25_digits::four;
@@ -33,12 +33,19 @@ fn push_base(text: &mut String, base: RelocationBase, name: &str) -> Result<(), 
     }
 }
 
-/// Appends the address of a field.
+/// Appends that a field is somewhere.
+#[tactic(auto, unfolding(crate::specs::Details::at_text))]
+fn push_at(text: &mut String) -> Result<(), NoMemory>
+    ensures { OnOk result (string_bytes text.new ≡ string_bytes text.old ++ at_text) }
+{
+    Ok(text.push_str("the field at ")?)
+}
+
+/// Appends the digits of an address.
 #[tactic(auto, unfolding(crate::specs::Details::address_text))]
 fn push_address(text: &mut String, address: u16) -> Result<(), NoMemory>
     ensures { OnOk result (string_bytes text.new ≡ string_bytes text.old ++ address_text address) }
 {
-    text.push_str("the field at ")?;
     Ok(text.push_str(four(address).as_str())?)
 }
 
@@ -55,6 +62,7 @@ fn push_place(text: &mut String, section: &str) -> Result<(), NoMemory>
 fn push_field(text: &mut String, misfit: &Misfit<'_>) -> Result<(), NoMemory>
     ensures { OnOk result (string_bytes text.new ≡ string_bytes text.old ++ field_text (misfit_data misfit.now)) }
 {
+    push_at(text)?;
     push_address(text, misfit.address)?;
     push_place(text, misfit.section)
 }
