@@ -51,6 +51,16 @@ LIBRARY = ("read_hex", "read_map", "run_chain", "line_of", "values")
 OTHERS = ("ls", "od ", "cmp ")
 # The subcommands that explain a fault where they are asked to.
 EXPLAINING = ("asm", "link", "build", "run", "debug")
+# Of the examples whose fault is told in a body or in a copied file, the lines of `a.asm` that led there, the innermost first, and how
+# often each did: calls, `.copy`, and `.endloop`, which opens the turns of its loop.
+LED = {
+    "a.asm:2: 53 FieldRange, 1": [(4, 1)],
+    "a.asm:3: 31 OpenBlock, 1": [(4, 1)],
+    "a.asm:2: 33 Depth, 1": [(2, 31), (4, 1)],
+    "a.asm:1: 33 Depth, 1": [(1, 32)],
+    "a.asm:2: 34 Lines, 1": [(3, 1)],
+    "a.asm:3: 38 LongLine, 1": [(4, 1)],
+}
 
 
 def lines_of(path):
@@ -234,9 +244,15 @@ def is_run(told):
     return told.startswith(("left ", "ran "))
 
 
-def note_of(files, told):
+def led(files, name):
+    """The lines that led to an example's fault, as `--explain` shows them."""
+    lines = files.get("a.asm", [])
+    return "".join("  from a.asm:%d: %s\n" % (at, lines[at - 1]) * times for at, times in LED.get(name, []))
+
+
+def note_of(files, name, told):
     """What `--explain` tells of an example's fault: the line where it is, if it is told of one that is there, or that a file is not
-    there, and what it means."""
+    there, what led to it, and what it means."""
     place, fault = told.rsplit(": ", 1)
     file, _, number = place.rpartition(":")
     lines, shown = files.get(file, []), ""
@@ -244,7 +260,7 @@ def note_of(files, told):
         shown = "%s: %s\n" % (place, lines[int(number) - 1])
     elif fault == "8 CannotRead" and place not in files:
         shown = "%s: it cannot be opened\n" % place
-    return shown + notes()[fault.split()[0]]
+    return shown + led(files, name) + notes()[fault.split()[0]]
 
 
 def packed_case(name, files, words, told, note=""):
@@ -323,7 +339,7 @@ def faults(data):
 def explained(data):
     """The same of faults that are explained."""
     return write_packed(data, "explained.cases", (
-        (name, files, words + ["--explain"], told, note_of(files, told))
+        (name, files, words + ["--explain"], told, note_of(files, name, told))
         for name, files, words, told in program_faults() if words[0] in EXPLAINING and not is_run(told)))
 
 

@@ -11,11 +11,13 @@ where there are more than N requests (400), for the first N/2 and N/2 of the oth
   told   status 1, `memory: 9 NoMemory` on standard error, nothing on standard output (of a run with `--regs` all of it or nothing),
          and no file written or changed
   full   the status, the outputs and the files of the run with every request granted: the request could be done without, or only
-         what `--explain` tells behind a fault's line is less: nothing, or what a fault means without the line that is shown
+         what `--explain` tells behind a fault's line is less: nothing, or what a fault means without the line that is shown or without
+         those that led to it
 
 It prints a row for each group, then what was neither, and ends with status 1 if anything was. PROGRAM must be linked dynamically;
 `cc` makes the library that refuses (tools/refuse.c), in a temporary folder.
 """
+import itertools
 import os
 import shutil
 import subprocess
@@ -44,9 +46,13 @@ class Answer:
         return (self.status, self.output, self.errors, self.written) == (other.status, other.output, other.errors, other.written)
 
     def explains_less(self, other):
-        """Whether it is the other answer, a fault, but for a note that is not there or shows no line."""
+        """Whether it is the other answer, a fault, but for a note that is not there, shows no line, or none of those that led to it."""
         line, _, note = other.errors.partition(b"\n")
-        less = (line + b"\n", line + b"\n" + note.partition(b"\n")[2])
+        shown, _, behind = note.partition(b"\n")
+        rows = behind.splitlines(keepends=True)
+        led = sum(1 for _ in itertools.takewhile(lambda row: row.startswith(b"  from "), rows))
+        meant = b"".join(rows[led:])
+        less = (line + b"\n", line + b"\n" + behind, line + b"\n" + shown + b"\n" + meant, line + b"\n" + meant)
         return (self.status, self.output, self.written) == (1, b"", {}) and other.status == 1 and self.errors in less
 
     def is_told(self):

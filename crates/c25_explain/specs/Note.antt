@@ -41,6 +41,7 @@ example_line number = codes "Example: c25 explain " ++ decimal number
 abbrev pub note_with : (shown meant example : List ℕ) → List ℕ
 note_with shown meant example = shown ++ codes "\n" ++ meant ++ codes "\n" ++ example ++ codes "\n"
 
--- a note of this fault that shows this
-abbrev pub IsNoteOf : AnyFault → Shown → List ℕ → Type 0
-IsNoteOf fault shown note = (e : Explanation) × IsExplanationOf fault e × (note ≡ note_with (shown_text shown) (lesson e) (example_line e.number))
+-- a note of this fault that shows this, and these lines behind it
+abbrev pub IsNoteOf : AnyFault → Shown → (behind : List ℕ) → List ℕ → Type 0
+IsNoteOf fault shown behind note =
+    (e : Explanation) × IsExplanationOf fault e × (note ≡ note_with (shown_text shown ++ behind) (lesson e) (example_line e.number))

@@ -86,6 +86,15 @@ fn shown_line(alloc: Global, shown: Shown<'_>) -> Result<String, NoMemory>
     }
 }
 
+/// What a note shows, and the lines behind it.
+fn shown_lines(alloc: Global, shown: Shown<'_>, behind: &str) -> Result<String, NoMemory>
+    ensures { IfOk result (λ text. string_bytes text ≡ shown_text shown.entry ++ behind.now) }
+{
+    let mut text = shown_line(alloc, shown)?;
+    text.push_str(behind)?;
+    Ok(text)
+}
+
 /// What a fault means and what to do.
 fn lesson(alloc: Global, explanation: &Explanation) -> Result<String, NoMemory>
     ensures { IfOk result (λ text. string_bytes text ≡ lesson explanation.now) }
@@ -109,13 +118,18 @@ fn note_with(alloc: Global, shown: &str, lesson: &str, example: &str) -> Result<
     Ok(format!(in alloc; "{shown}\n{lesson}\n{example}\n")?)
 }
 
-/// The note of a fault, in whole lines: what is shown, what the fault means, what to do, and where its
-/// example is.
-pub fn explained(alloc: Global, fault: AnyFault, shown: Shown<'_>) -> Result<String, NoMemory>
-    ensures { IfOk result (λ note. IsNoteOf fault shown.entry (string_bytes note)) }
+/// The note of a fault, in whole lines: what is shown, these lines behind it, what the fault means, what
+/// to do, and where its example is.
+pub fn explained(
+    alloc: Global,
+    fault: AnyFault,
+    shown: Shown<'_>,
+    behind: &str,
+) -> Result<String, NoMemory>
+    ensures { IfOk result (λ note. IsNoteOf fault shown.entry behind.now (string_bytes note)) }
 {
     let explanation = explanation_of(fault);
-    let shown = shown_line(alloc, shown)?;
+    let shown = shown_lines(alloc, shown, behind)?;
     let lesson = lesson(alloc, &explanation)?;
     let example = example_line(alloc, explanation.number)?;
     note_with(alloc, shown.as_str(), lesson.as_str(), example.as_str())

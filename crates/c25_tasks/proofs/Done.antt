@@ -1,5 +1,5 @@
 -- What is done for a task, and what a fault comes to.
-use Rattle.std.proofs.Common.{◌≡◌, ◌∙◌, ap, inl, refl, sym, subst, ℕ, Bool, List, [], Bor, Option, string_bytes}
+use Rattle.std.proofs.Common.{◌≡◌, ◌∙◌, ap, inl, refl, sym, subst, ℕ, Bool, List, [], ◌∷◌, Bor, Option, string_bytes}
 use Rattle.std.specs.Io.KnownBytes.{Keeps}
 use Rattle.std.specs.Prelude.{Some, None, Result, String, Vec}
 use Rattle.std.specs.declared.alloc.Global.{Global}
@@ -20,8 +20,8 @@ use Rattle.c25_tasks.specs.Assembly.{Assembles}
 use Rattle.c25_tasks.specs.Building.{WritesProgram}
 use Rattle.c25_tasks.specs.Debugging.{DebugsTold}
 use Rattle.c25_tasks.specs.Linking.{LinksFrom}
-use Rattle.c25_tasks.specs.Notes.{IsNoted, notes_for}
-use Rattle.c25_tasks.specs.Program.{Does, Effect, effect_of, notes_under}
+use Rattle.c25_tasks.specs.Notes.{AreNotesFor, IsNoted}
+use Rattle.c25_tasks.specs.Program.{AreNotesUnder, Does, Effect, effect_of}
 use Rattle.c25_tasks.specs.Running.{RunsTold}
 use Rattle.c25_tasks.specs.Symbols.{BuildsToDisk}
 use Rattle.c25_tasks.specs.Tells.{IsEndingOf, IsLineOf, IsReportOf, Printed, Wrote}
@@ -49,35 +49,33 @@ pub does : (held : Held) (input : Option (List ℕ)) (task given : Task) (e : Ef
 does held input task given e is done = subst (λ (t : Task). Does held input t e) (sym is) done
 
 pub does_assemble : (held : Held) (input : Option (List ℕ)) (task : Task) (source object : Bor (List ℕ)) (listing : Option (Bor (List ℕ))) (explain : Bool) (notes : Notes) (e : Effect)
-    → task ≡ Assemble source object listing explain → notes ≡ notes_under explain None → Assembles held notes source.now object.now (text_of listing) e.ending e.note e.written → Keeps e.out.0 e.out.1 → Does held input task e
+    → task ≡ Assemble source object listing explain → AreNotesUnder explain None (source.now ∷ []) notes → Assembles held notes source.now object.now (text_of listing) e.ending e.note e.written → Keeps e.out.0 e.out.1 → Does held input task e
 does_assemble held input task source object listing explain notes e is asked writes keeps =
-    let noted = subst (λ (n : Notes). Assembles held n source.now object.now (text_of listing) e.ending e.note e.written) asked writes in
-    subst (λ (t : Task). Does held input t e) (sym is) (noted, keeps)
+    subst (λ (t : Task). Does held input t e) (sym is) ((notes, asked, writes), keeps)
 
 pub does_link : (held : Held) (input : Option (List ℕ)) (task : Task) (command : Bor (List ℕ)) (objects : Vec (Bor (List ℕ)) Global) (base : Bor (List ℕ)) (explain : Bool) (notes : Notes) (names : List (Bor (List ℕ))) (told : Result Built Fault) (e : Effect)
-    → task ≡ Link command objects base explain → notes ≡ notes_under explain (Some command) → names ≡ objects.items → LinksFrom held command.now (texts_of names) told → WritesProgram held notes base.now told e.ending e.note e.written → Keeps e.out.0 e.out.1 → Does held input task e
+    → task ≡ Link command objects base explain → AreNotesUnder explain (Some command) [] notes → names ≡ objects.items → LinksFrom held command.now (texts_of names) told → WritesProgram held notes base.now told e.ending e.note e.written → Keeps e.out.0 e.out.1 → Does held input task e
 does_link held input task command objects base explain notes names told e is asked same comes writes keeps =
     let of_objects = subst (λ (ns : List (Bor (List ℕ))). LinksFrom held command.now (texts_of ns) told) same comes in
-    let noted = subst (λ (n : Notes). WritesProgram held n base.now told e.ending e.note e.written) asked writes in
-    subst (λ (t : Task). Does held input t e) (sym is) ((told, of_objects, noted), keeps)
+    subst (λ (t : Task). Does held input t e) (sym is) ((notes, asked, (told, of_objects, writes)), keeps)
 
-pub does_build : (held : Held) (input : Option (List ℕ)) (task : Task) (sources : Vec (Bor (List ℕ)) Global) (base : Bor (List ℕ)) (command symbols : Option (Bor (List ℕ))) (explain : Bool) (notes : Notes) (names : List (Bor (List ℕ))) (e : Effect)
-    → task ≡ Build sources base command symbols explain → notes ≡ notes_under explain command → names ≡ sources.items → BuildsToDisk held notes (texts_of names) (text_of command) base.now (text_of symbols) e.ending e.note e.written → Keeps e.out.0 e.out.1 → Does held input task e
-does_build held input task sources base command symbols explain notes names e is asked same told keeps =
+pub does_build : (held : Held) (input : Option (List ℕ)) (task : Task) (sources : Vec (Bor (List ℕ)) Global) (base : Bor (List ℕ)) (command symbols : Option (Bor (List ℕ))) (explain : Bool) (notes : Notes) (noted names : List (Bor (List ℕ))) (e : Effect)
+    → task ≡ Build sources base command symbols explain → noted ≡ sources.items → AreNotesUnder explain command (texts_of noted) notes → names ≡ sources.items → BuildsToDisk held notes (texts_of names) (text_of command) base.now (text_of symbols) e.ending e.note e.written → Keeps e.out.0 e.out.1 → Does held input task e
+does_build held input task sources base command symbols explain notes noted names e is of asked same told keeps =
     let of_sources = subst (λ (ns : List (Bor (List ℕ))). BuildsToDisk held notes (texts_of ns) (text_of command) base.now (text_of symbols) e.ending e.note e.written) same told in
-    let noted = subst (λ (n : Notes). BuildsToDisk held n (texts_of sources.items) (text_of command) base.now (text_of symbols) e.ending e.note e.written) asked of_sources in
-    subst (λ (t : Task). Does held input t e) (sym is) (noted, keeps)
+    let of_noted = subst (λ (ns : List (Bor (List ℕ))). AreNotesUnder explain command (texts_of ns) notes) of asked in
+    subst (λ (t : Task). Does held input t e) (sym is) ((notes, of_noted, of_sources), keeps)
 
-pub does_run : (held : Held) (input : Option (List ℕ)) (task : Task) (sources : Vec (Bor (List ℕ)) Global) (steps : ℕ) (files : RunFiles) (regs explain : Bool) (notes : Notes) (names : List (Bor (List ℕ))) (e : Effect)
-    → task ≡ Run sources steps files regs explain → notes ≡ notes_for explain files None → names ≡ sources.items → RunsTold held notes (texts_of names) steps regs files e.ending e.note e.out → Stay e.written.0 e.written.1 → Does held input task e
-does_run held input task sources steps files regs explain notes names e is asked same told stay =
+pub does_run : (held : Held) (input : Option (List ℕ)) (task : Task) (sources : Vec (Bor (List ℕ)) Global) (steps : ℕ) (files : RunFiles) (regs explain : Bool) (notes : Notes) (noted names : List (Bor (List ℕ))) (e : Effect)
+    → task ≡ Run sources steps files regs explain → noted ≡ sources.items → AreNotesFor explain files None (texts_of noted) notes → names ≡ sources.items → RunsTold held notes (texts_of names) steps regs files e.ending e.note e.out → Stay e.written.0 e.written.1 → Does held input task e
+does_run held input task sources steps files regs explain notes noted names e is of asked same told stay =
     let of_sources = subst (λ (ns : List (Bor (List ℕ))). RunsTold held notes (texts_of ns) steps regs files e.ending e.note e.out) same told in
-    let noted = subst (λ (n : Notes). RunsTold held n (texts_of sources.items) steps regs files e.ending e.note e.out) asked of_sources in
-    subst (λ (t : Task). Does held input t e) (sym is) (noted, stay)
+    let of_noted = subst (λ (ns : List (Bor (List ℕ))). AreNotesFor explain files None (texts_of ns) notes) of asked in
+    subst (λ (t : Task). Does held input t e) (sym is) ((notes, of_noted, of_sources), stay)
 
-pub does_debug : (held : Held) (input : Option (List ℕ)) (task : Task) (sources : Vec (Bor (List ℕ)) Global) (script : Bor (List ℕ)) (files : RunFiles) (explain : Bool) (notes : Notes) (names : List (Bor (List ℕ))) (e : Effect)
-    → task ≡ Debug sources script files explain → notes ≡ notes_for explain files (Some script) → names ≡ sources.items → DebugsTold held notes (texts_of names) script.now files e.ending e.note e.out → Stay e.written.0 e.written.1 → Does held input task e
-does_debug held input task sources script files explain notes names e is asked same told stay =
+pub does_debug : (held : Held) (input : Option (List ℕ)) (task : Task) (sources : Vec (Bor (List ℕ)) Global) (script : Bor (List ℕ)) (files : RunFiles) (explain : Bool) (notes : Notes) (noted names : List (Bor (List ℕ))) (e : Effect)
+    → task ≡ Debug sources script files explain → noted ≡ sources.items → AreNotesFor explain files (Some script) (texts_of noted) notes → names ≡ sources.items → DebugsTold held notes (texts_of names) script.now files e.ending e.note e.out → Stay e.written.0 e.written.1 → Does held input task e
+does_debug held input task sources script files explain notes noted names e is of asked same told stay =
     let of_sources = subst (λ (ns : List (Bor (List ℕ))). DebugsTold held notes (texts_of ns) script.now files e.ending e.note e.out) same told in
-    let noted = subst (λ (n : Notes). DebugsTold held n (texts_of sources.items) script.now files e.ending e.note e.out) asked of_sources in
-    subst (λ (t : Task). Does held input t e) (sym is) (noted, stay)
+    let of_noted = subst (λ (ns : List (Bor (List ℕ))). AreNotesFor explain files (Some script) (texts_of ns) notes) of asked in
+    subst (λ (t : Task). Does held input t e) (sym is) ((notes, of_noted, of_sources), stay)

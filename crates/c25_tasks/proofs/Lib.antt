@@ -8,3 +8,4 @@ pub mod Joined
 pub mod Words
 pub mod Disassembled
 pub mod WithSymbols
+pub mod Openings

@@ -44,15 +44,15 @@ refused_so : (f : Placed (String Global) FileFault) (r : Refusal (String Global)
 refused_so f r name told named kind = ap refusal_of told ∙ same_refusal f name named kind
 
 -- the explanation of a file's fault that is not told of reading it is so whatever the disk holds
-explained_anew : (held other : Held) (f : Placed (String Global) FileFault) (kind : FileFault) (note : List ℕ) → kind ≡ CannotWrite → IsExplainedBy held None (name_by kind (string_bytes f.place)) (any.File f.fault) note → IsExplainedBy other None (name_by kind (string_bytes f.place)) (any.File f.fault) note
-explained_anew held other f kind note is explained =
-    let With : Held → FileFault → Type 0 = λ h k. IsExplainedBy h None (name_by k (string_bytes f.place)) (any.File f.fault) note in
+explained_anew : (held other : Held) (f : Placed (String Global) FileFault) (kind : FileFault) (trail note : List ℕ) → kind ≡ CannotWrite → IsExplainedBy held None (name_by kind (string_bytes f.place)) trail (any.File f.fault) note → IsExplainedBy other None (name_by kind (string_bytes f.place)) trail (any.File f.fault) note
+explained_anew held other f kind trail note is explained =
+    let With : Held → FileFault → Type 0 = λ h k. IsExplainedBy h None (name_by k (string_bytes f.place)) trail (any.File f.fault) note in
     subst (λ (k : FileFault). With other k) (sym is) (subst (λ (k : FileFault). With held k) is explained)
 
 noted_anew : (held other : Held) (notes : Notes) (f : Placed (String Global) FileFault) (note : List ℕ) → f.fault ≡ CannotWrite → IsNoted held notes (File f) note → IsNoted other notes (File f) note
 noted_anew held other Nothing f note is noted = noted
-noted_anew held other (Explanations files script) f note is (inl explained) = inl (explained_anew held other f f.fault note is explained)
-noted_anew held other (Explanations files script) f note is (inr none) = inr none
+noted_anew held other (Explanations files script sources) f note is (inl (trail, none, explained)) = inl (trail, none, explained_anew held other f f.fault trail note is explained)
+noted_anew held other (Explanations files script sources) f note is (inr none) = inr none
 
 of_refusal_anew : (held other : Held) (notes : Notes) (f : Placed (String Global) FileFault) (e : Ending) (note : List ℕ) → f.fault ≡ CannotWrite → IsReportOf held notes (failure.Fault (File f)) e note → IsReportOf other notes (failure.Fault (File f)) e note
 of_refusal_anew held other notes f e note is (inl (line, noted)) = inl (line, noted_anew held other notes f note is noted)

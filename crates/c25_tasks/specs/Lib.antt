@@ -1,5 +1,6 @@
 pub mod Symbols
 pub mod Tells
+pub mod Trails
 pub mod Files
 pub mod View
 pub mod Assembly

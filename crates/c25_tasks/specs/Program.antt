@@ -1,5 +1,5 @@
 -- What the program reads, prints, writes and answers.
-use Rattle.std.specs.Prelude.{◌≡◌, ◌⊎◌, ℕ, ◌<◌, ◌≤◌, Bool, List, [], length, Option, Some, None, Result, Ok, Err}
+use Rattle.std.specs.Prelude.{◌≡◌, ◌⊎◌, ℕ, ◌<◌, ◌≤◌, Bool, List, [], ◌∷◌, length, Option, Some, None, Result, Ok, Err}
 use Rattle.std.specs.Borrow.{Bor}
 use Rattle.std.specs.Io.KnownBytes.{Keeps}
 use Rattle.std.specs.String.{string_bytes}
@@ -21,7 +21,7 @@ use Rattle.c25_tasks.specs.Debugging.{DebugsTold}
 use Rattle.c25_tasks.specs.Disassembly.{DisassemblesTold}
 use Rattle.c25_tasks.specs.Explaining.{Explained}
 use Rattle.c25_tasks.specs.Linking.{LinksFrom}
-use Rattle.c25_tasks.specs.Notes.{notes_for}
+use Rattle.c25_tasks.specs.Notes.{AreNotesFor}
 use Rattle.c25_tasks.specs.Running.{Runs, RunsTold}
 use Rattle.c25_tasks.specs.Symbols.{BuildsToDisk}
 use Rattle.c25_tasks.specs.Tells.{Printed, Wrote}
@@ -53,23 +53,34 @@ abbrev pub WritesBuilt : Held → Notes → (Result Built Fault → Type 0) → 
 WritesBuilt held notes comes base e = (told : Result Built Fault) × comes told × WritesProgram held notes base told e.ending e.note e.written
 
 -- explanations where they are asked for; of a fault of the command file that is told by this name its line
-abbrev pub notes_under : Bool → (command : Option (Bor (List ℕ))) → Notes
-notes_under explain command = notes_for explain (record { command = command; samples = None; schedule = None }) None
+abbrev pub AreNotesUnder : Bool → (command : Option (Bor (List ℕ))) → (sources : List (List ℕ)) → Notes → Type 0
+AreNotesUnder explain command sources notes = AreNotesFor explain (record { command = command; samples = None; schedule = None }) None sources notes
+
+-- what is done with some such notes
+abbrev pub Noting : (Notes → Type 0) → (Notes → Type 0) → Type 0
+Noting asked done = (notes : Notes) × asked notes × done notes
 
 -- what the program does for a task, with what is known of standard input and of the files on the disk
 abbrev pub Does : Held → Option (List ℕ) → Task → Effect → Type 0
 Does held input RunStandardInput e = Runs held input e.ending e.note e.out × Stay e.written.0 e.written.1
 Does held input (Assemble source object listing explain) e =
-    Assembles held (notes_under explain None) source.now object.now (text_of listing) e.ending e.note e.written × Keeps e.out.0 e.out.1
+    Noting (AreNotesUnder explain None (source.now ∷ [])) (λ notes. Assembles held notes source.now object.now (text_of listing) e.ending e.note e.written)
+    × Keeps e.out.0 e.out.1
 Does held input (Link command objects base explain) e =
-    WritesBuilt held (notes_under explain (Some command)) (LinksFrom held command.now (texts_of objects.items)) base.now e × Keeps e.out.0 e.out.1
+    Noting (AreNotesUnder explain (Some command) []) (λ notes. WritesBuilt held notes (LinksFrom held command.now (texts_of objects.items)) base.now e)
+    × Keeps e.out.0 e.out.1
 Does held input (Build sources base command symbols explain) e =
-    BuildsToDisk held (notes_under explain command) (texts_of sources.items) (text_of command) base.now (text_of symbols) e.ending e.note e.written
+    Noting (AreNotesUnder explain command (texts_of sources.items))
+    (λ notes. BuildsToDisk held notes (texts_of sources.items) (text_of command) base.now (text_of symbols) e.ending e.note e.written)
     × Keeps e.out.0 e.out.1
 Does held input (Run sources steps files regs explain) e =
-    RunsTold held (notes_for explain files None) (texts_of sources.items) steps regs files e.ending e.note e.out × Stay e.written.0 e.written.1
+    Noting (AreNotesFor explain files None (texts_of sources.items))
+    (λ notes. RunsTold held notes (texts_of sources.items) steps regs files e.ending e.note e.out)
+    × Stay e.written.0 e.written.1
 Does held input (Debug sources script files explain) e =
-    DebugsTold held (notes_for explain files (Some script)) (texts_of sources.items) script.now files e.ending e.note e.out × Stay e.written.0 e.written.1
+    Noting (AreNotesFor explain files (Some script) (texts_of sources.items))
+    (λ notes. DebugsTold held notes (texts_of sources.items) script.now files e.ending e.note e.out)
+    × Stay e.written.0 e.written.1
 Does held input (Explain number) e = Explained number e.ending e.out × OnlyPrints e
 Does held input (Disassemble file from) e = DisassemblesTold held file.now (text_of from) e.ending e.out × OnlyPrints e
 

@@ -20,5 +20,6 @@ mod standard_input;
 mod symbols;
 mod task;
 mod texts;
+mod trails;
 
 pub use program::{run_program, run_words};

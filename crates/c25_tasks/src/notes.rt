@@ -2,10 +2,11 @@
 
 ghost use Rattle.std.specs.Option.{option_map};
 ghost use Rattle.std.specs.Prelude.{◌≡◌, IfOk, string_bytes};
-ghost use Rattle.c25_words.specs.Task.{text_of};
-ghost use Rattle.c25_tasks.specs.Notes.{IsExplained, IsExplainedAt, IsExplainedUnread, IsLineOf, IsLineOfNoText, IsNoted, IsWhy, at_line, notes_for, place_of, unread_name};
+ghost use Rattle.c25_words.specs.Task.{text_of, texts_of};
+ghost use Rattle.c25_tasks.specs.Notes.{AreNotesFor, IsExplained, IsExplainedAt, IsExplainedUnread, IsLineOf, IsLineOfNoText, IsNoted, IsWhy, at_line, place_of, unread_name};
 
 use crate::refusals::of_refusal;
+use crate::trails::trail_text;
 use c25_chain::fault::Refusal;
 use c25_disk::disk::Disk;
 use c25_disk::fault::FileFault;
@@ -21,11 +22,13 @@ use std::alloc::Global;
 #[derive(Clone, Copy)]
 pub(crate) enum Notes<'a> {
     Nothing,
-    /// What it means, behind the line of the file where it is told. Of a command file, samples, a
-    /// schedule and a script a fault tells the number of the line alone: these are their names.
+    /// What it means, behind the line of the file where it is told, and the lines that led there. Of a
+    /// command file, samples, a schedule and a script a fault tells the number of the line alone: these
+    /// are their names. Those of the sources say where a line was called or copied.
     Explanations {
         files: RunFiles<'a>,
         script: Option<&'a str>,
+        sources: &'a [&'a str],
     },
 }
 
@@ -34,11 +37,16 @@ pub(crate) fn notes_for<'a>(
     explain: bool,
     files: RunFiles<'a>,
     script: Option<&'a str>,
+    sources: &'a [&'a str],
 ) -> Notes<'a>
-    ensures { result ≡ notes_for explain files.entry script.entry }
+    ensures { AreNotesFor explain files.entry script.entry (texts_of sources.entry.now) result }
 {
     if explain {
-        Notes::Explanations { files, script }
+        Notes::Explanations {
+            files,
+            script,
+            sources,
+        }
     } else {
         Notes::Nothing
     }
@@ -90,19 +98,21 @@ fn line_shown<'a>(file: &'a str, number: usize, text: &'a str) -> Shown<'a>
     }
 }
 
-/// The explanation of a fault that is told in this line of a file, behind that line.
+/// The explanation of a fault that is told in this line of a file, behind that line and those that led
+/// there.
 fn explained_at<D: Disk>(
     alloc: Global,
     disk: &D,
     fault: AnyFault,
     file: &str,
     number: usize,
+    trail: &str,
 ) -> Result<String, NoMemory>
-    ensures { IfOk result (λ note. IsExplainedAt (D.bytes_of disk.now) file.now number fault (string_bytes note)) }
+    ensures { IfOk result (λ note. IsExplainedAt (D.bytes_of disk.now) file.now number trail.now fault (string_bytes note)) }
 {
     match read_file(alloc, disk, file) {
-        Ok(text) => explained(alloc, fault, line_shown(file, number, text.as_str())),
-        Err(_) => explained(alloc, fault, Shown::Nothing),
+        Ok(text) => explained(alloc, fault, line_shown(file, number, text.as_str()), trail),
+        Err(_) => explained(alloc, fault, Shown::Nothing, trail),
     }
 }
 
@@ -159,29 +169,32 @@ fn explained_unread<D: Disk>(
     ensures { IfOk result (λ note. IsExplainedUnread (D.bytes_of disk.now) file.now fault (string_bytes note)) }
 {
     match why_unread(alloc, disk, file) {
-        Some(why) => explained(alloc, fault, Shown::Unread { file, why }),
-        None => explained(alloc, fault, Shown::Nothing),
+        Some(why) => explained(alloc, fault, Shown::Unread { file, why }, ""),
+        None => explained(alloc, fault, Shown::Nothing, ""),
     }
 }
 
-/// The explanation of a refusal, behind the line of a file where it is told, or behind why a file cannot
-/// be read. The file is read again for that; where it cannot be, or has no such line, none is shown.
+/// The explanation of a refusal, behind the line of a file where it is told and those that led there, or
+/// behind why a file cannot be read. The files are read again for that; where they cannot be, or have no
+/// such line, none is shown.
 fn explanation_of<D: Disk>(
     alloc: Global,
     disk: &D,
     refusal: &Refusal<String>,
     files: RunFiles<'_>,
     script: Option<&str>,
+    sources: &[&str],
 ) -> Result<String, NoMemory>
-    ensures { IfOk result (λ note. IsExplained (D.bytes_of disk.now) (place_of files.entry script.entry refusal.now) refusal.now (string_bytes note)) }
+    ensures { IfOk result (λ note. IsExplained (D.bytes_of disk.now) (place_of files.entry script.entry refusal.now) (texts_of sources.now) refusal.now (string_bytes note)) }
 {
     let fault = of_refusal(refusal);
+    let trail = trail_text(alloc, disk, sources, refusal);
     if let Some(place) = place_of(refusal, files, script) {
-        return explained_at(alloc, disk, fault, place.file, place.line);
+        return explained_at(alloc, disk, fault, place.file, place.line, trail.as_str());
     }
     match unread_name(refusal) {
         Some(file) => explained_unread(alloc, disk, fault, file),
-        None => explained(alloc, fault, Shown::Nothing),
+        None => explained(alloc, fault, Shown::Nothing, ""),
     }
 }
 
@@ -194,10 +207,15 @@ pub(crate) fn note_of<D: Disk>(
 ) -> String
     ensures { IsNoted (D.bytes_of disk.now) notes.entry refusal.now (string_bytes result) }
 {
-    let Notes::Explanations { files, script } = notes else {
+    let Notes::Explanations {
+        files,
+        script,
+        sources,
+    } = notes
+    else {
         return String::new(alloc);
     };
-    match explanation_of(alloc, disk, refusal, files, script) {
+    match explanation_of(alloc, disk, refusal, files, script, sources) {
         Ok(note) => note,
         Err(_) => String::new(alloc),
     }

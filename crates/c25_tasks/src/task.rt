@@ -4,7 +4,7 @@ ghost use Rattle.std.specs.Prelude.{◌≡◌, string_bytes};
 ghost use Rattle.c25_words.specs.Task.{text_of, texts_of};
 ghost use Rattle.c25_tasks.specs.Assembly.{Assembles};
 ghost use Rattle.c25_tasks.specs.Building.{WritesProgram};
-ghost use Rattle.c25_tasks.specs.Program.{Does, effect_of, notes_under};
+ghost use Rattle.c25_tasks.specs.Program.{AreNotesUnder, Does, effect_of};
 ghost use Rattle.c25_tasks.specs.Symbols.{BuildsToDisk, WritesWithSymbols};
 ghost use Rattle.c25_tasks.specs.Tells.{WritesTold};
 
@@ -140,16 +140,16 @@ fn build_to_disk<D: Disk>(
 }
 
 /// Explanations where they are asked for; of a fault of the command file that is told by this name its
-/// line.
-fn notes_under<'a>(explain: bool, command: Option<&'a str>) -> Notes<'a>
-    ensures { result ≡ notes_under explain command.entry }
+/// line, and of one of these sources the lines that led there.
+fn notes_under<'a>(explain: bool, command: Option<&'a str>, sources: &'a [&'a str]) -> Notes<'a>
+    ensures { AreNotesUnder explain command.entry (texts_of sources.entry.now) result }
 {
     let files = RunFiles {
         command,
         samples: None,
         schedule: None,
     };
-    notes_for(explain, files, None)
+    notes_for(explain, files, None, sources)
 }
 
 /// Does what the words ask for.
@@ -171,7 +171,8 @@ pub(crate) fn do_task<D: Disk, R: Read, O: Write>(
             listing,
             explain,
         } => {
-            let notes = notes_under(*explain, None);
+            let sources = [*source];
+            let notes = notes_under(*explain, None, &sources);
             assemble_to_disk(alloc, source, object, *listing, notes, disk)
         }
         Task::Link {
@@ -181,7 +182,7 @@ pub(crate) fn do_task<D: Disk, R: Read, O: Write>(
             explain,
         } => {
             let told = linked(alloc, disk, command, objects);
-            let notes = notes_under(*explain, Some(*command));
+            let notes = notes_under(*explain, Some(*command), &[]);
             write_program(alloc, base, told, notes, disk)
         }
         Task::Build {
@@ -191,7 +192,7 @@ pub(crate) fn do_task<D: Disk, R: Read, O: Write>(
             symbols,
             explain,
         } => {
-            let notes = notes_under(*explain, *command);
+            let notes = notes_under(*explain, *command, sources);
             build_to_disk(alloc, sources, base, *command, *symbols, notes, disk)
         }
         Task::Run {
@@ -201,7 +202,7 @@ pub(crate) fn do_task<D: Disk, R: Read, O: Write>(
             regs,
             explain,
         } => {
-            let notes = notes_for(*explain, *files, None);
+            let notes = notes_for(*explain, *files, None, sources);
             run_sources(alloc, sources, *steps, *regs, *files, notes, disk, out)
         }
         Task::Debug {
@@ -210,7 +211,7 @@ pub(crate) fn do_task<D: Disk, R: Read, O: Write>(
             files,
             explain,
         } => {
-            let notes = notes_for(*explain, *files, Some(*script));
+            let notes = notes_for(*explain, *files, Some(*script), sources);
             debug_sources(alloc, sources, script, *files, notes, disk, out)
         }
         Task::Explain { number } => {

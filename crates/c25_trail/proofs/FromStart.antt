@@ -1,18 +1,18 @@
 -- A walk from the first line on, and the item that is wrong.
-use Rattle.std.proofs.Common.{◌≡◌, ℕ, ◌<◌, ◌≤◌, Bool, false, nat_lt, List, Option, Some, None, arith, inl, inr, length, option_map, refl, ap, sym, ◌∙◌, subst}
+use Rattle.std.proofs.Common.{◌≡◌, ℕ, ◌<◌, ◌≤◌, false, nat_lt, List, Option, Some, None, arith, inl, inr, length, refl, ap, sym, ◌∙◌, subst}
 use Rattle.std.proofs.lemmas.Bool.Decides.{nat_tests}
-use Rattle.c25_macro.specs.Tracers.{Begins, BeginsAt, Trace, trace_of, fault_in}
+use Rattle.c25_macro.specs.Tracers.{BeginsAt, Trace, fault_in}
 use Rattle.c25_macro.specs.declared.tracer.StepFault.{StepFault}
 use Rattle.c25_meaning_assembly.specs.Sections.{Progress, start}
 use Rattle.c25_meaning_expansion.specs.ExpansionRuns.{start_of}
 use Rattle.c25_meaning_expansion.specs.Files.{Files}
 use Rattle.c25_meaning_expansion.specs.declared.expansion.SourcePlace.{SourcePlace}
-use Rattle.c25_meaning_language.specs.ExpansionFault.{ExpansionFault, Faulty}
+use Rattle.c25_meaning_language.specs.ExpansionFault.{Faulty}
 use Rattle.c25_phases.specs.View.{progress_of}
 use Rattle.c25_phases.specs.Wrong.{Wrong, first_wrong}
 use Rattle.c25_phases.specs.declared.progress.Progress as code
 use Rattle.c25_trail.specs.Traces.{HasWrongItem}
-use Rattle.c25_trail.specs.Trails.{Reaches, begins, ComesWith, IsTrail, IsWhole, PassesAll}
+use Rattle.c25_trail.specs.Trails.{begins, ComesWith, IsTrail, IsWhole}
 use Rattle.c25_trail.specs.Walks.{Ends, EndsWalk, HasFewNames, has_come}
 use Rattle.c25_trail.specs.declared.walk.End.{End}
 use Rattle.c25_trail.specs.declared.walk.End.TheVariants as end

@@ -17,7 +17,7 @@ use Rattle.c25_meaning_language.specs.ExpansionFault.{ExpansionFault, Faulty}
 use Rattle.c25_meaning_language.specs.Value.{Table}
 use Rattle.c25_meaning_language.specs.declared.statement.FaultKind.{FaultKind}
 use Rattle.c25_meaning_objects.specs.Module.{Contents}
-use Rattle.c25_meaning_sources.specs.ModuleOfSource.{Assembled, Passed, assembled, completed, entry_of, no_lines, pass_line, passed, passed_by, passed_from, read_and_pass}
+use Rattle.c25_meaning_sources.specs.ModuleOfSource.{Passed, assembled, completed, entry_of, no_lines, pass_line, passed, passed_by, passed_from, read_and_pass}
 use Rattle.c25_phases.specs.Wrong.{Wrong, first_wrong, wrong_from}
 use Rattle.c25_trail.specs.Trails.{Reaches, begins, goes, passes, IsTrail, IsUnexpanded, IsWrongItem, IsWrongLine, PassesAll}
 

@@ -1,31 +1,23 @@
 -- What one rewriting of a walk leads to.
-use Rattle.std.proofs.Common.{◌≡◌, ℕ, ◌<◌, ◌≤◌, Bool, true, false, nat_lt, List, Option, Some, None, Result, Ok, Err, IfOk, length, arith, inl, inr, sym, ◌∙◌, subst}
+use Rattle.std.proofs.Common.{◌≡◌, ℕ, true, false, List, Option, Some, None, Result, Ok, Err, IfOk, arith, inr, sym, ◌∙◌, subst}
 use Rattle.std.proofs.lemmas.Bool.Decides.{nat_tests}
 use Rattle.c25_macro.specs.Expander.{shown}
 use Rattle.c25_macro.specs.Tracers.{Trace, Steps, fault_in}
 use Rattle.c25_macro.specs.declared.answer.ExpLine.{ExpLine}
 use Rattle.c25_macro.specs.declared.tracer.Step.TheVariants as step
-use Rattle.c25_macro.specs.declared.tracer.StepFault.{StepFault}
 use Rattle.c25_meaning_assembly.specs.Sections.{Progress, table}
-use Rattle.c25_meaning_common.specs.declared.failure.Failure.TheVariants as failure
 use Rattle.c25_meaning_common.specs.declared.no_memory.NoMemory.{NoMemory}
-use Rattle.c25_meaning_expansion.specs.ExpansionAnswers.{given_by, fault_by}
+use Rattle.c25_meaning_expansion.specs.ExpansionAnswers.{given_by}
 use Rattle.c25_meaning_expansion.specs.ExpansionRuns.{rewrite}
-use Rattle.c25_meaning_expansion.specs.Files.{Files}
-use Rattle.c25_meaning_expansion.specs.declared.expansion.SourcePlace.{SourcePlace}
 use Rattle.c25_meaning_language.specs.ExpansionFault.{ExpansionFault}
 use Rattle.c25_meaning_language.specs.Value.{Table}
 use Rattle.c25_meaning_sources.specs.ModuleOfSource.{read_and_pass}
 use Rattle.c25_phases.specs.View.{progress_of}
-use Rattle.c25_phases.specs.declared.progress.Progress as code
-use Rattle.c25_trail.specs.Trails.{Reaches, goes, passes, PassesAll, IsUnexpanded, Gives, IsWrongLine, ComesWith}
-use Rattle.c25_trail.specs.Walks.{Advances, ComesSought, Ends, EndsWalk, HasFewNames, LeadsOn, Passes, has_come}
-use Rattle.c25_trail.specs.declared.walk.End.{End}
+use Rattle.c25_trail.specs.Trails.{Reaches, goes, passes, Gives, IsWrongLine}
+use Rattle.c25_trail.specs.Walks.{Advances, ComesSought, HasFewNames, LeadsOn, Passes, has_come}
 use Rattle.c25_trail.specs.declared.walk.End.TheVariants as end
 use Rattle.c25_trail.specs.declared.walk.Turn.{Turn}
 use Rattle.c25_trail.specs.declared.walk.Turn.TheVariants as turn
-
--- ---- one rewriting
 
 module _ (old new : Trace) (s : Table) (p : Progress) (here : s ≡ table p) (name : List ℕ) (reached : Reaches old.files name old.at p old.trail) where
   rewriting : rewrite old.files s old.at ≡ rewrite old.files (table p) old.at
@@ -59,17 +51,6 @@ module _ (old new : Trace) (s : Table) (p : Progress) (here : s ≡ table p) (na
     by_then = grind (arith, nat_tests, then);
   }
 
-  unexpanded : (f : StepFault) → Steps s old (Err (failure.Fault f)) new → IsUnexpanded old.files name (fault_in f) new.trail
-  unexpanded f h = record {
-    at = old.at;
-    made = p;
-    reaches = subst (λ (t : List SourcePlace). Reaches old.files name old.at p t) (sym h.1) reached;
-    refused = sym (λ i. fault_by old.files (rewriting i)) ∙ h.0;
-  }
-
-  ended : Steps s old (Ok step.Finished) new → PassesAll old.files name p
-  ended h = record { at = old.at; trail = old.trail; reaches = reached; last = h.0; ends = sym rewriting ∙ h.1 }
-
 module _ (old new : Trace) (s : Table) (p : Progress) (sought : Option ℕ) (here : s ≡ table p) (few : HasFewNames p) (before : has_come sought p.items ≡ false) where
   -- it goes on
   pub goes_on : (q : Progress) → q ≡ p → Steps s old (Ok step.Went) new → LeadsOn old p sought new q
@@ -96,29 +77,3 @@ module _ (old new : Trace) (s : Table) (p : Progress) (sought : Option ℕ) (her
       → IfOk result (Passes line q sought) → IfOk result (Advances old p sought new)
   gives_line q same line (Ok t) h passed = by_turn line t h (subst (λ (x : Progress). Passes line x sought t) same passed)
   gives_line q same line (Err e) h passed = tt
-
-  -- no line comes any more
-  pub ends_all : (q : code.Progress) → progress_of q ≡ p → Steps s old (Ok step.Finished) new → EndsWalk old p sought new (end.Passed q)
-  ends_all q same h name reached =
-      subst (λ (x : Progress). PassesAll old.files name x × HasFewNames x × (has_come sought x.items ≡ false)) (sym same)
-      (ended old new s p here name reached h, few, before)
-
-  -- it is refused
-  pub refused : (f : StepFault) → Steps s old (Err (failure.Fault f)) new → EndsWalk old p sought new (end.Refused f)
-  refused f h name reached = inl (unexpanded old new s p here name reached f h)
-
--- ---- many of them
-
-module _ (start old new : Trace) (made p : Progress) (sought : Option ℕ) (same : old.files ≡ start.files)
-    (leads : (name : List ℕ) → Reaches start.files name start.at made start.trail → Reaches start.files name old.at p old.trail) where
-  here : (name : List ℕ) → Reaches start.files name start.at made start.trail → Reaches old.files name old.at p old.trail
-  here name reached = subst (λ (f : Files). Reaches f name old.at p old.trail) (sym same) (leads name reached)
-
-  -- one more that goes on
-  pub further : (q : Progress) → LeadsOn old p sought new q
-      → (name : List ℕ) → Reaches start.files name start.at made start.trail → Reaches start.files name new.at q new.trail
-  further q on name reached = subst (λ (f : Files). Reaches f name new.at q new.trail) same (on.leads name (here name reached))
-
-  -- the last one
-  pub at_last : (e : End) → EndsWalk old p sought new e → EndsWalk start made sought new e
-  at_last e ends name reached = subst (λ (f : Files). Ends f name sought new.trail e) same (ends name (here name reached))

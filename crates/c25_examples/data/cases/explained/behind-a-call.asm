@@ -1,0 +1,6 @@
+EMPTY .macro
+ NOP
+ .mexit
+ .endm
+ EMPTY
+ FOO

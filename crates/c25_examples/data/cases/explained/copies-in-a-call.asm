@@ -1,0 +1,5 @@
+READ .macro
+ .copy "copied.inc"
+ .endm
+ NOP
+ READ

@@ -1,0 +1,3 @@
+ NOP
+ .copy "copies-a-copy.inc"
+ NOP

@@ -1,0 +1,4 @@
+STOP .macro
+ FOO
+ .endm
+ STOP

@@ -1,0 +1,5 @@
+LOAD .macro n
+ LACK n
+ .endm
+ NOP
+HERE LOAD 256

@@ -1,0 +1,207 @@
+//! The lines that led to a line of a source that is refused.
+
+ghost use Rattle.std.specs.Option.{option_map};
+ghost use Rattle.std.specs.Prelude.{◌≡◌, IfOk, IsTrue, string_bytes};
+ghost use Rattle.c25_macro.specs.Tracers.{fault_in};
+ghost use Rattle.c25_meaning_language.specs.ExpansionFault.{Faulty};
+ghost use Rattle.c25_words.specs.Task.{texts_of};
+ghost use Rattle.c25_tasks.specs.Trails.{IsFirstTrail, IsTrailText, ShowsTrailOver, openings_text, opening_text, text_at, wanted_by};
+
+use c25_chain::fault::Refusal;
+use c25_disk::disk::Disk;
+use c25_disk::work::Work;
+use c25_disk::{read_sources, with_copies};
+use c25_explain::note::line_of;
+use c25_macro::files::Files;
+use c25_macro::tracer::StepFault;
+use c25_meaning_common::failure::Failure;
+use c25_meaning_common::no_memory::NoMemory;
+use c25_meaning_expansion::expansion::SourcePlace;
+use c25_meaning_language::statement::FaultKind;
+use c25_trail::{Refused, Traced, trace};
+use std::alloc::Global;
+
+/// A line of a source that is refused.
+#[derive(Clone, Copy)]
+struct FaultyLine<'a> {
+    file: &'a str,
+    line: usize,
+    kind: FaultKind,
+}
+
+/// The sources of which the first that is refused is so for this line.
+#[derive(Clone, Copy)]
+struct Trace<'a> {
+    sources: &'a [&'a str],
+    refused: FaultyLine<'a>,
+}
+
+/// Why no line is shown.
+#[derive(Drop)]
+enum NoTrail {
+    /// The file of this name is not there.
+    Missing(String),
+    /// The sources are not refused so.
+    Other,
+}
+
+/// The text of the line at a place.
+fn text_at<'a>(files: &'a Files, place: SourcePlace) -> &'a str
+    ensures { result.now ≡ text_at files.now place }
+{
+    let Some(text) = files.text(files.name(place.file)) else {
+        return "";
+    };
+    match line_of(text, place.line) {
+        Some(line) => line,
+        None => "",
+    }
+}
+
+/// Such a line as it is shown.
+fn opening_text(alloc: Global, files: &Files, place: SourcePlace) -> Result<String, NoMemory>
+    ensures { IfOk result (λ text. string_bytes text ≡ opening_text files.now place) }
+{
+    let file = files.name(place.file);
+    let line = place.line;
+    let text = text_at(files, place);
+    Ok(format!(in alloc; "  from {file}:{line}: {text}\n")?)
+}
+
+/// Such lines as they are shown.
+#[tactic(auto, using(crate::proofs::Openings::openings_more, crate::proofs::Openings::openings_none))]
+fn openings_text(alloc: Global, files: &Files, trail: &[SourcePlace]) -> Result<String, NoMemory>
+    ensures { IfOk result (λ text. string_bytes text ≡ openings_text files.now trail.now) }
+{
+    let mut text = String::new(alloc);
+    for place in trail {
+        text.push_str(opening_text(alloc, files, *place)?.as_str())?;
+    }
+    Ok(text)
+}
+
+/// Whether this is why that line is refused.
+fn is_same(fault: &StepFault<'_>, refused: &FaultyLine<'_>) -> bool
+    ensures { IsTrue result → fault_in fault.now ≡ Faulty refused.now.file.now refused.now.line refused.now.kind }
+{
+    match fault {
+        StepFault::Faulty(fault) => {
+            fault.place.line == refused.line
+                && fault.fault == refused.kind
+                && fault.place.file == refused.file
+        }
+        StepFault::Missing { .. } => false,
+    }
+}
+
+/// The lines that opened what is open where a source is refused, if it is for this line.
+fn trail_of<'a>(
+    source: Refused<'a>,
+    refused: &FaultyLine<'_>,
+) -> Result<Vec<SourcePlace>, Failure<NoTrail>>
+    ensures { IfOk result (λ trail. (fault_in source.entry.fault ≡ Faulty refused.now.file.now refused.now.line refused.now.kind) × (trail.items ≡ source.entry.trail.items)) }
+{
+    let Refused { fault, trail } = source;
+    if is_same(&fault, refused) {
+        return Ok(trail);
+    }
+    match fault {
+        StepFault::Missing { name, .. } => Err(Failure::Fault(NoTrail::Missing(name))),
+        StepFault::Faulty(_) => Err(Failure::Fault(NoTrail::Other)),
+    }
+}
+
+/// The same of the first of some sources that is refused.
+fn trail_among(
+    alloc: Global,
+    files: &Files,
+    sources: &[&str],
+    refused: &FaultyLine<'_>,
+) -> Result<Vec<SourcePlace>, Failure<NoTrail>>
+    ensures { IfOk result (λ trail. IsFirstTrail files.now (texts_of sources.now) (Faulty refused.now.file.now refused.now.line refused.now.kind) trail.items) }
+{
+    for source in sources {
+        match trace(alloc, files, source)? {
+            Traced::Whole => {}
+            Traced::Refused(found) => return trail_of(found, refused),
+            Traced::Absent => return Err(Failure::Fault(NoTrail::Other)),
+        }
+    }
+    Err(Failure::Fault(NoTrail::Other))
+}
+
+impl Work for Trace<'_> {
+    ghost use Rattle.std.specs.Prelude.{IfOk, string_bytes};
+    ghost use Rattle.c25_meaning_language.specs.ExpansionFault.{Faulty};
+    ghost use Rattle.c25_words.specs.Task.{texts_of};
+    ghost use Rattle.c25_tasks.specs.Trails.{ShowsTrail, wanted_by};
+
+    /// The lines as they are shown.
+    type Answer = String;
+
+    type Fault = NoTrail;
+
+    ghost comes_to = { λ work files result. IfOk result (λ text. ShowsTrail files (texts_of work.sources.now) (Faulty work.refused.file.now work.refused.line work.refused.kind) (string_bytes text)) };
+
+    ghost missing_of = { wanted_by };
+
+    fn answer(&self, alloc: Global, files: &Files) -> Result<String, Failure<NoTrail>> {
+        let trail = trail_among(alloc, files, self.sources, &self.refused)?;
+        Ok(openings_text(alloc, files, trail.as_slice())?)
+    }
+
+    fn missing(fault: &NoTrail) -> Option<&str>
+        ensures { option_map (λ name. name.now) result ≡ wanted_by fault.now }
+    {
+        match fault {
+            NoTrail::Missing(name) => Some(name.as_str()),
+            NoTrail::Other => None,
+        }
+    }
+}
+
+/// The lines that led to a line of a source, as they are shown, over what the disk has now; no text
+/// where the sources cannot be read again, are not refused for that line, or memory runs out.
+fn trail_over<D: Disk>(alloc: Global, disk: &D, sources: &[&str], refused: FaultyLine<'_>) -> String
+    ensures { ShowsTrailOver (D.bytes_of disk.now) (texts_of sources.now) (Faulty refused.entry.file.now refused.entry.line refused.entry.kind) (string_bytes result) }
+{
+    let Ok(files) = read_sources(alloc, disk, sources) else {
+        return String::new(alloc);
+    };
+    let work = Trace { sources, refused };
+    match with_copies(alloc, disk, files, &work) {
+        Ok(text) => text,
+        Err(_) => String::new(alloc),
+    }
+}
+
+/// The lines that led to where a refusal is told, as they are shown: of a source's line those that
+/// called, copied or repeated it.
+pub(crate) fn trail_text<D: Disk>(
+    alloc: Global,
+    disk: &D,
+    sources: &[&str],
+    refusal: &Refusal<String>,
+) -> String
+    ensures { IsTrailText (D.bytes_of disk.now) (texts_of sources.now) refusal.now (string_bytes result) }
+{
+    match refusal {
+        Refusal::Source(placed) => {
+            let refused = FaultyLine {
+                file: placed.place.file.as_str(),
+                line: placed.place.line,
+                kind: placed.fault,
+            };
+            trail_over(alloc, disk, sources, refused)
+        }
+        Refusal::NoFile { .. }
+        | Refusal::Object(_)
+        | Refusal::Command(_)
+        | Refusal::Link(_)
+        | Refusal::Hex(_)
+        | Refusal::Schedule { .. }
+        | Refusal::Samples { .. }
+        | Refusal::Script { .. }
+        | Refusal::File(_) => String::new(alloc),
+    }
+}
