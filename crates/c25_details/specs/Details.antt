@@ -32,15 +32,27 @@ abbrev pub page_text : Option ℕ → List ℕ
 page_text None = []
 page_text (Some page) = codes " on page " ++ decimal page
 
+-- it is to stand in a range of this name
+unfoldable pub in_text : List ℕ → List ℕ
+in_text name = codes " is to stand in " ++ name ++ codes ", and no range has this name"
+
+-- on this page
+unfoldable pub on_text : ℕ → List ℕ
+on_text page = codes " is to stand on page " ++ decimal page ++ codes ", which has no range"
+
+-- anywhere
+unfoldable pub anywhere_text : List ℕ
+anywhere_text = codes " is to stand anywhere, and there is no range"
+
 -- where it is to stand, and what it lacks there
 abbrev pub lack_text : MissingData → List ℕ
-lack_text (Named name page) = codes "in " ++ name ++ codes ", and no range has this name" ++ page_text page
-lack_text (OnPage page) = codes "on page " ++ decimal page ++ codes ", which has no range"
-lack_text Any = codes "anywhere, and there is no range"
+lack_text (Named name page) = in_text name ++ page_text page
+lack_text (OnPage page) = on_text page
+lack_text Any = anywhere_text
 
 -- the same of the section of this name, behind the name of the command file
 abbrev pub missing_text : List ℕ → List ℕ → MissingData → List ℕ
-missing_text file section range = file ++ codes ": " ++ section ++ codes " is to stand " ++ lack_text range ++ codes "\n"
+missing_text file section range = file ++ codes ": " ++ section ++ lack_text range ++ codes "\n"
 
 -- ---- a field that does not take its value: 75
 
@@ -56,13 +68,25 @@ base_text (base.Section index) name = name
 base_text (base.Loaded index) name = codes "load of " ++ name
 base_text (base.External index) name = name
 
--- where the field is
-abbrev pub field_text : MisfitData → List ℕ
-field_text f = codes "the field at " ++ four_digits f.address ++ codes " in " ++ f.section
+-- where a field is: its address, and its section
+unfoldable pub at_text : List ℕ
+at_text = codes "the field at "
 
--- the value that it does not take
-abbrev pub value_text : MisfitData → List ℕ
-value_text f = codes " does not take " ++ signed_decimal f.value ++ codes ", which is " ++ base_text f.base f.name ++ addend_text f.addend
+unfoldable pub address_text : ℕ → List ℕ
+address_text address = four_digits address
+
+unfoldable pub place_text : List ℕ → List ℕ
+place_text section = codes " in " ++ section
+
+unfoldable pub field_text : MisfitData → List ℕ
+field_text f = at_text ++ address_text f.address ++ place_text f.section
+
+-- the value that it does not take, and what that is
+unfoldable pub untaken_text : ℤ → List ℕ
+untaken_text value = codes " does not take " ++ signed_decimal value ++ codes ", which is "
+
+unfoldable pub value_text : MisfitData → List ℕ
+value_text f = untaken_text f.value ++ base_text f.base f.name ++ addend_text f.addend
 
 -- both, behind the name of the file of its module and its number
 abbrev pub misfit_text : List ℕ → MisfitData → List ℕ

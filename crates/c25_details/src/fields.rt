@@ -1,7 +1,7 @@
 //! Fields that do not take their values.
 
 ghost use Rattle.std.specs.Prelude.{◌≡◌, ◌++◌, IfOk, OnOk, string_bytes};
-ghost use Rattle.c25_details.specs.Details.{addend_text, base_text, field_text, misfit_text, value_text};
+ghost use Rattle.c25_details.specs.Details.{addend_text, address_text, at_text, base_text, field_text, misfit_text, place_text, untaken_text, value_text};
 ghost use Rattle.c25_link.specs.Misfits.{misfit_data};
 
 use c25_digits::four;
@@ -33,22 +33,54 @@ fn push_base(text: &mut String, base: RelocationBase, name: &str) -> Result<(), 
     }
 }
 
+/// Appends that a field is somewhere.
+#[tactic(auto, unfolding(crate::specs::Details::at_text))]
+fn push_at(text: &mut String) -> Result<(), NoMemory>
+    ensures { OnOk result (string_bytes text.new ≡ string_bytes text.old ++ at_text) }
+{
+    Ok(text.push_str("the field at ")?)
+}
+
+/// Appends the digits of an address.
+#[tactic(auto, unfolding(crate::specs::Details::address_text))]
+fn push_address(text: &mut String, address: u16) -> Result<(), NoMemory>
+    ensures { OnOk result (string_bytes text.new ≡ string_bytes text.old ++ address_text address) }
+{
+    Ok(text.push_str(four(address).as_str())?)
+}
+
+/// Appends the section behind an address.
+#[tactic(auto, unfolding(crate::specs::Details::place_text))]
+fn push_place(text: &mut String, section: &str) -> Result<(), NoMemory>
+    ensures { OnOk result (string_bytes text.new ≡ string_bytes text.old ++ place_text section.now) }
+{
+    Ok(write!(text, " in {section}")?)
+}
+
 /// Appends where a field is.
+#[tactic(auto, unfolding(crate::specs::Details::field_text))]
 fn push_field(text: &mut String, misfit: &Misfit<'_>) -> Result<(), NoMemory>
     ensures { OnOk result (string_bytes text.new ≡ string_bytes text.old ++ field_text (misfit_data misfit.now)) }
 {
-    let address = four(misfit.address);
-    let address = address.as_str();
-    let section = misfit.section;
-    Ok(write!(text, "the field at {address} in {section}")?)
+    push_at(text)?;
+    push_address(text, misfit.address)?;
+    push_place(text, misfit.section)
 }
 
 /// Appends the value that it does not take.
+#[tactic(auto, unfolding(crate::specs::Details::untaken_text))]
+fn push_untaken(text: &mut String, value: i64) -> Result<(), NoMemory>
+    ensures { OnOk result (string_bytes text.new ≡ string_bytes text.old ++ untaken_text value) }
+{
+    Ok(write!(text, " does not take {value}, which is ")?)
+}
+
+/// Appends that, and what it is.
+#[tactic(auto, unfolding(crate::specs::Details::value_text))]
 fn push_value(text: &mut String, misfit: &Misfit<'_>) -> Result<(), NoMemory>
     ensures { OnOk result (string_bytes text.new ≡ string_bytes text.old ++ value_text (misfit_data misfit.now)) }
 {
-    let value = misfit.value;
-    write!(text, " does not take {value}, which is ")?;
+    push_untaken(text, misfit.value)?;
     push_base(text, misfit.base, misfit.base_name)?;
     push_addend(text, misfit.addend)
 }

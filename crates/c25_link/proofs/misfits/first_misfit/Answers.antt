@@ -1,11 +1,10 @@
 use Rattle.std.proofs.Common.{◌≡◌, List, Ok, All, ap, sym, subst, ◌∙◌}
-use Rattle.std.specs.Option.{option_map}
 use Rattle.c25_cmd.specs.View.{command_data}
 use Rattle.c25_meaning_placing.specs.GoodMap.{IsGoodMap}
 use Rattle.c25_meaning_linking.specs.Linking.{names_checked}
 use Rattle.c25_link.specs.Bases.{HasRoom, KnowsBases}
 use Rattle.c25_link.specs.Layout.{HasOnePart, RunApart}
-use Rattle.c25_link.specs.Misfits.{first_misfit, misfit_data}
+use Rattle.c25_link.specs.Misfits.{first_misfit}
 use Rattle.c25_link.proofs.Linked.{all_modules, within_pages, low_bases, has_room, has_one_part}
 use Rattle.c25_place.specs.Placement.{IsWithin}
 use Rattle.c25_place.specs.View.{places_view}

@@ -1,4 +1,4 @@
-use Rattle.std.proofs.Common.{◌≡◌, ◌+◌, ap, ◌∙◌, arith, rules, to_z, of_z, w32, w64, ℤ}
+use Rattle.std.proofs.Common.{◌≡◌, ◌+◌, ap, ◌∙◌, arith, rules, to_z, of_z, w32, w64}
 use Rattle.c25_meaning_linking.specs.Words.{relocated_value, section_base}
 use Rattle.c25_obj.specs.View.{contents}
 use Rattle.c25_link.specs.Layout.{places_in}
