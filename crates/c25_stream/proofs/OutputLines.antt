@@ -1,5 +1,5 @@
 -- Lines of outputs, one after another.
-use Rattle.std.proofs.Common.{◌≡◌, ◌∙◌, ap, arith, ℕ, ◌+◌, ◌/◌, ◌%◌, ◌<◌, ◌≤◌, List, [], ◌∷◌, ◌++◌, length, drop, get_or}
+use Rattle.std.proofs.Common.{◌≡◌, ◌∙◌, ap, sym, append_assoc, arith, ℕ, ◌+◌, ◌/◌, ◌%◌, ◌<◌, ◌≤◌, List, [], ◌∷◌, ◌++◌, length, drop, get_or}
 use Rattle.std.specs.Fmt.{decimal}
 use Rattle.std.proofs.lemmas.Fmt.{decimal_digit, decimal_step}
 use Rattle.std.proofs.lemmas.List.{at_drop_more, at_drop_all}
@@ -14,3 +14,7 @@ outputs_none outputs i h = at_drop_all outputs_text outputs i h
 -- a number of two digits
 pub two_digits : (n : ℕ) → 10 ≤ n → n < 100 → decimal n ≡ (48 + n / 10) ∷ (48 + n % 10) ∷ []
 two_digits n some few = decimal_step n some (omega arith) ∙ ap (λ ds. ds ++ (48 + n % 10) ∷ []) (decimal_digit (n / 10) (omega arith))
+
+pub two_behind : (xs ys zs : List ℕ) (n : ℕ) → 10 ≤ n → n < 100 → ys ≡ xs ++ (48 + n / 10) ∷ [] → zs ≡ ys ++ (48 + n % 10) ∷ [] → zs ≡ xs ++ decimal n
+two_behind xs ys zs n some few first second =
+    second ∙ ap (λ ds. ds ++ (48 + n % 10) ∷ []) first ∙ append_assoc xs ((48 + n / 10) ∷ []) ((48 + n % 10) ∷ []) ∙ ap (λ ds. xs ++ ds) (sym (two_digits n some few))

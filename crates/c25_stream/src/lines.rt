@@ -20,7 +20,7 @@ pub(crate) type OutcomeLine = ArrayString<32>;
 
 /// Appends the number of a port.
 #[inline(always)]
-#[tactic(auto, using(std::proofs::lemmas::Fmt::decimal_digit, crate::proofs::OutputLines::two_digits))]
+#[tactic(auto, using(std::proofs::lemmas::Fmt::decimal_digit))]
 fn push_port(lines: &mut Lines, port: u16)
     requires { array_vec_len lines.old + 5 ≤ 45056 }
     ensures bytes { lines.new.items ≡ lines.old.items ++ decimal port }
