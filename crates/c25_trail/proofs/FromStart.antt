@@ -1,5 +1,7 @@
 -- A walk from the first line on, and the item that is wrong.
 use Rattle.std.proofs.Common.{◌≡◌, ℕ, ◌<◌, ◌≤◌, false, nat_lt, List, Option, Some, None, arith, inl, inr, length, refl, ap, sym, ◌∙◌, subst}
+use Rattle.std.specs.Prelude.{Box}
+use Rattle.std.specs.declared.alloc.Global.{Global}
 use Rattle.std.proofs.lemmas.Bool.Decides.{nat_tests}
 use Rattle.c25_macro.specs.Tracers.{BeginsAt, Trace, fault_in}
 use Rattle.c25_macro.specs.declared.tracer.StepFault.{StepFault}
@@ -42,14 +44,14 @@ refused files name sought trail shown f same (inl h) = subst (λ (t : List Sourc
 refused files name sought trail shown f same (inr h) = subst (λ (t : List SourcePlace). IsTrail files name (fault_in f) t) (sym same) (inr (inl h))
 
 -- all lines pass, and no item is wrong
-pub whole : (files : Files) (name : List ℕ) (sought : Option ℕ) (trail : List SourcePlace) (p : code.Progress) → Ends files name sought trail (end.Passed p)
-    → None ≡ first_wrong (progress_of p) → IsWhole files name
-whole files name sought trail p h none = (progress_of p, h.0, sym none)
+pub whole : (files : Files) (name : List ℕ) (sought : Option ℕ) (trail : List SourcePlace) (p : Box code.Progress Global) → Ends files name sought trail (end.Passed p)
+    → None ≡ first_wrong (progress_of p.value) → IsWhole files name
+whole files name sought trail p h none = (progress_of p.value, h.0, sym none)
 
 -- all lines pass, and an item is wrong
-pub wrong : (files : Files) (name : List ℕ) (sought : Option ℕ) (trail : List SourcePlace) (p : code.Progress) (w : Wrong) → Ends files name sought trail (end.Passed p)
-    → Some w ≡ first_wrong (progress_of p) → HasWrongItem files name w
-wrong files name sought trail p w h is = record { made = progress_of p; passes = h.0; refused = sym is }
+pub wrong : (files : Files) (name : List ℕ) (sought : Option ℕ) (trail : List SourcePlace) (p : Box code.Progress Global) (w : Wrong) → Ends files name sought trail (end.Passed p)
+    → Some w ≡ first_wrong (progress_of p.value) → HasWrongItem files name w
+wrong files name sought trail p w h is = record { made = progress_of p.value; passes = h.0; refused = sym is }
 
 -- ---- the lines once more, up to that item
 
@@ -65,10 +67,10 @@ module _ (files : Files) (name : List ℕ) (w : Wrong) (has : HasWrongItem files
   pub not_refused : (trail : List SourcePlace) (f : StepFault) → Ends files name (Some w.number) trail (end.Refused f) → ⊥
   not_refused trail f h = none_refused files name has.made (fault_in f) trail has.passes h
 
-  pub not_passed : (trail : List SourcePlace) (p : code.Progress) → Ends files name (Some w.number) trail (end.Passed p) → ⊥
+  pub not_passed : (trail : List SourcePlace) (p : Box code.Progress Global) → Ends files name (Some w.number) trail (end.Passed p) → ⊥
   not_passed trail p h =
       let number = wrong_within has.made w has.refused in
-      let same : has.made ≡ progress_of p = made_once files name has.made (progress_of p) has.passes h.0 in
-      let beyond : length (progress_of p).items ≤ w.number = grind (arith, nat_tests, h.2) in
-      let within : w.number < length (progress_of p).items = subst (λ (x : Progress). w.number < length x.items) same number in
+      let same : has.made ≡ progress_of p.value = made_once files name has.made (progress_of p.value) has.passes h.0 in
+      let beyond : length (progress_of p.value).items ≤ w.number = grind (arith, nat_tests, h.2) in
+      let within : w.number < length (progress_of p.value).items = subst (λ (x : Progress). w.number < length x.items) same number in
       absurd (omega (arith, beyond, within))

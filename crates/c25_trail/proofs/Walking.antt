@@ -66,7 +66,7 @@ module _ (old new : Trace) (s : Table) (p : Progress) (sought : Option ℕ) (her
     moved = h.1;
     few = passed.1;
     before = passed.2;
-    leads = λ name reached. gave old new s p here name reached line (progress_of q) h passed.0;
+    leads = λ name reached. gave old new s p here name reached line (progress_of q.value) h passed.0;
   }
   by_turn line (turn.Ended (end.Passed q)) h passed = absurd passed
   by_turn line (turn.Ended end.Reached) h (q, passed, then) = λ name reached. came old new s p here name reached line q sought h passed before then

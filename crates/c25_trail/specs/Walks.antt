@@ -26,7 +26,7 @@ has_come (Some number) items = nat_lt number (length items)
 -- what a line behind these leads to
 abbrev pub Passes : ExpLine → Progress → (sought : Option ℕ) → Turn → Type 0
 Passes line p sought (turn.On q) =
-    (read_and_pass (shown line) p ≡ Ok (progress_of q)) × HasFewNames (progress_of q) × (has_come sought (progress_of q).items ≡ false)
+    (read_and_pass (shown line) p ≡ Ok (progress_of q.value)) × HasFewNames (progress_of q.value) × (has_come sought (progress_of q.value).items ≡ false)
 Passes line p sought (turn.Ended (end.Passed q)) = ⊥
 Passes line p sought (turn.Ended end.Reached) = (q : Progress) × (read_and_pass (shown line) p ≡ Ok q) × (has_come sought q.items ≡ true)
 Passes line p sought (turn.Ended (end.Refused f)) = read_and_pass (shown line) p ≡ Err (fault_in f)
@@ -39,7 +39,7 @@ ComesSought files name (Some number) trail = ComesWith files name number trail
 -- how a walk through the lines of the module of a name ends, with these lines that opened what is open
 abbrev pub Ends : Files → (name : List ℕ) → (sought : Option ℕ) → List SourcePlace → End → Type 0
 Ends files name sought trail (end.Passed p) =
-    PassesAll files name (progress_of p) × HasFewNames (progress_of p) × (has_come sought (progress_of p).items ≡ false)
+    PassesAll files name (progress_of p.value) × HasFewNames (progress_of p.value) × (has_come sought (progress_of p.value).items ≡ false)
 Ends files name sought trail end.Reached = ComesSought files name sought trail
 Ends files name sought trail (end.Refused f) = IsUnexpanded files name (fault_in f) trail ⊎ IsWrongLine files name (fault_in f) trail
 
@@ -56,5 +56,5 @@ pub record LeadsOn (old : Trace) (made : Progress) (sought : Option ℕ) (new : 
 
 -- what one rewriting more leads to
 abbrev pub Advances : Trace → Progress → (sought : Option ℕ) → Trace → Turn → Type 0
-Advances old made sought new (turn.On q) = LeadsOn old made sought new (progress_of q)
+Advances old made sought new (turn.On q) = LeadsOn old made sought new (progress_of q.value)
 Advances old made sought new (turn.Ended e) = EndsWalk old made sought new e

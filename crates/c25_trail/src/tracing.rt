@@ -44,7 +44,8 @@ fn trace_item<'a>(
     let Some(mut tracer) = Tracer::new(alloc, files, name)? else {
         unreachable!();
     };
-    let progress = Progress::new(alloc)?;
+    let empty = Progress::new(alloc)?;
+    let progress = Box::new(alloc, empty)?;
     match walk(&mut tracer, progress, Some(wrong.number))? {
         End::Reached => {
             let place = FileLine {
@@ -70,14 +71,15 @@ pub fn trace<'a>(alloc: Global, files: &'a Files, name: &str) -> Result<Traced<'
     let Some(mut tracer) = Tracer::new(alloc, files, name)? else {
         return Ok(Traced::Absent);
     };
-    let progress = Progress::new(alloc)?;
+    let empty = Progress::new(alloc)?;
+    let progress = Box::new(alloc, empty)?;
     match walk(&mut tracer, progress, None)? {
         End::Reached => unreachable!(),
         End::Refused(fault) => {
             let trail = tracer.into_trail();
             Ok(Traced::Refused(Refused { fault, trail }))
         }
-        End::Passed(progress) => match first_wrong(progress)? {
+        End::Passed(progress) => match first_wrong(Box::into_inner(progress))? {
             Some(wrong) => Ok(Traced::Refused(trace_item(alloc, files, name, wrong)?)),
             None => Ok(Traced::Whole),
         },

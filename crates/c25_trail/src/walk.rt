@@ -17,7 +17,7 @@ use c25_phases::{Origin, Progress, read_and_pass};
 #[derive(Drop)]
 pub(crate) enum End<'a> {
     /// All lines have passed.
-    Passed(Progress<'a>),
+    Passed(Box<Progress<'a>>),
     /// The item that was sought came with the last line.
     Reached,
     /// A line is refused.
@@ -28,7 +28,7 @@ pub(crate) enum End<'a> {
 #[derive(Drop)]
 pub(crate) enum Turn<'a> {
     /// The lines have made this.
-    On(Progress<'a>),
+    On(Box<Progress<'a>>),
     Ended(End<'a>),
 }
 
@@ -44,11 +44,11 @@ fn has_come(progress: &Progress<'_>, sought: Option<usize>) -> bool
 
 /// One line more.
 fn pass<'a>(
-    progress: Progress<'a>,
+    progress: Box<Progress<'a>>,
     line: ExpLine<'a>,
     sought: Option<usize>,
 ) -> Result<Turn<'a>, NoMemory>
-    ensures { IfOk result (Passes line.entry (progress_of progress.entry) sought) }
+    ensures { IfOk result (Passes line.entry (progress_of progress.entry.value) sought) }
 {
     let ExpLine { file, line, text } = line;
     let origin = Origin { file, line };
@@ -72,13 +72,13 @@ fn pass<'a>(
 /// One rewriting more.
 fn advance<'a>(
     tracer: &mut Tracer<'a>,
-    progress: Progress<'a>,
+    progress: Box<Progress<'a>>,
     sought: Option<usize>,
 ) -> Result<Turn<'a>, NoMemory>
     requires bounded { IsBounded (trace_of tracer.old).at }
-    requires few { HasFewNames (progress_of progress) }
-    requires before { has_come sought (progress_of progress).items ≡ false }
-    ensures { IfOk result (Advances (trace_of tracer.old) (progress_of progress.entry) sought (trace_of tracer.new)) }
+    requires few { HasFewNames (progress_of progress.value) }
+    requires before { has_come sought (progress_of progress.value).items ≡ false }
+    ensures { IfOk result (Advances (trace_of tracer.old) (progress_of progress.entry.value) sought (trace_of tracer.new)) }
 {
     let mut progress = progress;
     progress.move_here();
@@ -94,13 +94,13 @@ fn advance<'a>(
 /// The lines from here on, up to the one with which the item of the number that is sought comes, if one is.
 pub(crate) fn walk<'a>(
     tracer: &mut Tracer<'a>,
-    progress: Progress<'a>,
+    progress: Box<Progress<'a>>,
     sought: Option<usize>,
 ) -> Result<End<'a>, NoMemory>
     requires bounded { IsBounded (trace_of tracer.old).at }
-    requires few { HasFewNames (progress_of progress) }
-    requires before { has_come sought (progress_of progress).items ≡ false }
-    ensures { IfOk result (EndsWalk (trace_of tracer.old) (progress_of progress.entry) sought (trace_of tracer.new)) }
+    requires few { HasFewNames (progress_of progress.value) }
+    requires before { has_come sought (progress_of progress.value).items ≡ false }
+    ensures { IfOk result (EndsWalk (trace_of tracer.old) (progress_of progress.entry.value) sought (trace_of tracer.new)) }
 {
     let mut progress = progress;
     loop {

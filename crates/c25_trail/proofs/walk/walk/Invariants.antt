@@ -10,12 +10,12 @@ use Rattle.c25_trail.proofs.walk.walk.Given as goal
 abbrev pub invariant-loop-passed : goal.invariant-loop-passed
 invariant-loop-passed l = record {
   bounded : IsBounded (trace_of l.tracer).at;
-  few : HasFewNames (progress_of l.progress);
-  before : has_come l.sought (progress_of l.progress).items ≡ false;
+  few : HasFewNames (progress_of l.progress.value);
+  before : has_come l.sought (progress_of l.progress.value).items ≡ false;
   files : (trace_of l.tracer).files ≡ (trace_of l.initial.tracer).files;
   leads : (name : List ℕ)
-      → Reaches (trace_of l.initial.tracer).files name (trace_of l.initial.tracer).at (progress_of l.initial.progress) (trace_of l.initial.tracer).trail
-      → Reaches (trace_of l.initial.tracer).files name (trace_of l.tracer).at (progress_of l.progress) (trace_of l.tracer).trail;
+      → Reaches (trace_of l.initial.tracer).files name (trace_of l.initial.tracer).at (progress_of l.initial.progress.value) (trace_of l.initial.tracer).trail
+      → Reaches (trace_of l.initial.tracer).files name (trace_of l.tracer).at (progress_of l.progress.value) (trace_of l.tracer).trail;
 }
 
 abbrev pub decreases-loop-passed : goal.decreases-loop-passed
