@@ -63,7 +63,7 @@ LED = {
 }
 
 # Of the examples with a fault of the command file, or a section or a field that linking refuses, what is told beside it.
-BESIDE = {
+KNOWN = {
     "command:1: 60 Syntax, 1": ["command:1: the text ends here"],
     "command:1: 60 Syntax, 2": ["command:1: column 18: >"],
     "command:1: 60 Syntax, 3": ["command:1: column 22: a.obj"],
@@ -286,7 +286,7 @@ def led(files, name):
 
 def beside(name):
     """What is told beside an example's fault."""
-    return "".join(line + "\n" for line in BESIDE.get(name, []))
+    return "".join(line + "\n" for line in KNOWN.get(name, []))
 
 
 def note_of(files, name, told):
