@@ -62,6 +62,40 @@ LED = {
     "a.asm:3: 38 LongLine, 1": [(4, 1)],
 }
 
+# Of the examples with a fault of the command file, or a section or a field that linking refuses, what is told beside it.
+KNOWN = {
+    "command:1: 60 Syntax, 1": ["command:1: the text ends here"],
+    "command:1: 60 Syntax, 2": ["command:1: column 18: >"],
+    "command:1: 60 Syntax, 3": ["command:1: column 22: a.obj"],
+    "command:1: 60 Syntax, 4": ["command:1: column 24: .data"],
+    "command:1: 60 Syntax, 5": ["command:1: column 34: ="],
+    "command:1: 60 Syntax, 6": ["command:1: column 34: PROG"],
+    "command:1: 60 Syntax, 7": ["command:1: column 34: >"],
+    "command:1: 60 Syntax, 8": ["command:1: column 33: PAGE"],
+    "command:1: 60 Syntax, 9": ["command:1: column 25: }"],
+    "command:1: 60 Syntax, 10": ["command:1: column 18: 010"],
+    "command:1: 60 Syntax, 11": ["command:1: column 15: 2"],
+    "command:1: 60 Syntax, 12": ["command:1: column 1: a.obj"],
+    "command:1: 60 Syntax, 13": ["command:1: column 1: -o"],
+    "command:1: 60 Syntax, 14": ["command:1: the text ends here"],
+    "command:2: 61 RangeOverlap, 1": ["command:2: column 25: 2"],
+    "command:1: 62 RangeSize, 1": ["command:1: column 25: 0"],
+    "command:1: 62 RangeSize, 2": ["command:1: column 30: 101h"],
+    "command:1: 62 RangeSize, 3": ["command:1: column 25: 10001h"],
+    "command:2: 63 Twice, 1": ["command:2: column 1: -e"],
+    "command:1: 63 Twice, 1": ["command:1: column 12: MEMORY"],
+    "command:1: 63 Twice, 2": ["command:1: column 27: A"],
+    "command:1: 63 Twice, 3": ["command:1: column 27: .text"],
+    "link:.text: 72 NoRange, 1": ["command: .text is to stand in ROM, and no range has this name"],
+    "link:.text: 72 NoRange, 2": ["command: .text is to stand on page 0, which has no range"],
+    "link:.text: 72 NoRange, 3": ["command: .text is to stand in DATA, and no range has this name on page 0"],
+    "link:.text: 75 RelocRange, 1": [
+        "a.asm:1: X LAC X-1",
+        "a.asm: module 0: the field at 0000 in .text does not take -1, which is .text-1",
+    ],
+    "link:.text: 75 RelocRange, 2": ["a.asm: module 0: the field at 0000 in .text does not take 65536, which is A"],
+}
+
 
 def lines_of(path):
     with open(path, encoding="utf-8") as file:
@@ -250,9 +284,14 @@ def led(files, name):
     return "".join("  from a.asm:%d: %s\n" % (at, lines[at - 1]) * times for at, times in LED.get(name, []))
 
 
+def beside(name):
+    """What is told beside an example's fault."""
+    return "".join(line + "\n" for line in KNOWN.get(name, []))
+
+
 def note_of(files, name, told):
     """What `--explain` tells of an example's fault: the line where it is, if it is told of one that is there, or that a file is not
-    there, what led to it, and what it means."""
+    there, what led to it or is told beside it, and what it means."""
     place, fault = told.rsplit(": ", 1)
     file, _, number = place.rpartition(":")
     lines, shown = files.get(file, []), ""
@@ -260,7 +299,7 @@ def note_of(files, name, told):
         shown = "%s: %s\n" % (place, lines[int(number) - 1])
     elif fault == "8 CannotRead" and place not in files:
         shown = "%s: it cannot be opened\n" % place
-    return shown + led(files, name) + notes()[fault.split()[0]]
+    return shown + led(files, name) + beside(name) + notes()[fault.split()[0]]
 
 
 def packed_case(name, files, words, told, note=""):

@@ -10,3 +10,4 @@ pub mod Words
 pub mod Disassembled
 pub mod WithSymbols
 pub mod Openings
+pub mod Misfitted

@@ -7,6 +7,8 @@ pub mod Assembly
 pub mod Objects
 pub mod Building
 pub mod Linking
+pub mod Fields
+pub mod Details
 pub mod Notes
 pub mod Running
 pub mod Debugging

@@ -18,15 +18,16 @@ use Rattle.c25_explain.specs.declared.note.Unread.TheVariants.{NotOpened, NotRea
 use Rattle.c25_explanation_laws.specs.Lines.{of_refusal}
 use Rattle.c25_words.specs.Task.{text_of, texts_of}
 use Rattle.c25_words.specs.declared.task.RunFiles.{RunFiles}
-use Rattle.c25_tasks.specs.Trails.{IsTrailText}
+use Rattle.c25_tasks.specs.Details.{IsBehind}
 use Rattle.c25_tasks.specs.declared.notes.Notes.{Notes}
 use Rattle.c25_tasks.specs.declared.notes.Notes.TheVariants.{Nothing, Explanations}
 
 -- explanations where they are asked for
-abbrev pub AreNotesFor : Bool → RunFiles → Option (Bor (List ℕ)) → (sources : List (List ℕ)) → Notes → Type 0
-AreNotesFor true files script sources (Explanations f s names) = (f ≡ files) × (s ≡ script) × (texts_of names.now ≡ sources)
-AreNotesFor true files script sources Nothing = ⊥
-AreNotesFor false files script sources notes = notes ≡ Nothing
+abbrev pub AreNotesFor : Bool → RunFiles → Option (Bor (List ℕ)) → (sources objects : List (List ℕ)) → Notes → Type 0
+AreNotesFor true files script sources objects (Explanations f s names others) =
+    (f ≡ files) × (s ≡ script) × (texts_of names.now ≡ sources) × (texts_of others.now ≡ objects)
+AreNotesFor true files script sources objects Nothing = ⊥
+AreNotesFor false files script sources objects notes = notes ≡ Nothing
 
 -- ---- the line that is shown
 
@@ -100,27 +101,27 @@ IsUnread held file (shown.Unread of_file why) = (of_file.now ≡ file) × IsWhy 
 
 -- ---- notes
 
--- the explanation of a fault that is told in this line of a file, to which these lines led
-abbrev pub IsExplainedAt : Held → (file : List ℕ) → (number : ℕ) → (trail : List ℕ) → AnyFault → List ℕ → Type 0
-IsExplainedAt held file number trail fault note = (shows : Shown) × IsLineAt held file number shows × IsNoteOf fault shows trail note
+-- the explanation of a fault that is told in this line of a file, with what is told behind that line
+abbrev pub IsExplainedAt : Held → (file : List ℕ) → (number : ℕ) → (behind : List ℕ) → AnyFault → List ℕ → Type 0
+IsExplainedAt held file number behind fault note = (shows : Shown) × IsLineAt held file number shows × IsNoteOf fault shows behind note
 
 -- the explanation of a fault of a file that cannot be read
 abbrev pub IsExplainedUnread : Held → (file : List ℕ) → AnyFault → List ℕ → Type 0
 IsExplainedUnread held file fault note = (shows : Shown) × IsUnread held file shows × IsNoteOf fault shows [] note
 
 -- the explanation of a fault that is told in this line of a file, if of one, and else of this file that cannot be read, if there is one
-abbrev pub IsExplainedBy : Held → (place : Option (List ℕ × ℕ)) → (unread : Option (List ℕ)) → (trail : List ℕ) → AnyFault → List ℕ → Type 0
-IsExplainedBy held (Some place) unread trail fault note = IsExplainedAt held place.0 place.1 trail fault note
-IsExplainedBy held None (Some file) trail fault note = IsExplainedUnread held file fault note
-IsExplainedBy held None None trail fault note = IsNoteOf fault shown.Nothing [] note
+abbrev pub IsExplainedBy : Held → (place : Option (List ℕ × ℕ)) → (unread : Option (List ℕ)) → (behind : List ℕ) → AnyFault → List ℕ → Type 0
+IsExplainedBy held (Some place) unread behind fault note = IsExplainedAt held place.0 place.1 behind fault note
+IsExplainedBy held None (Some file) behind fault note = IsExplainedUnread held file fault note
+IsExplainedBy held None None behind fault note = IsNoteOf fault shown.Nothing behind note
 
--- the explanation of a refusal that is told at this place, of these sources
-abbrev pub IsExplained : Held → (place : Option (List ℕ × ℕ)) → (sources : List (List ℕ)) → Refusal (String Global) → List ℕ → Type 0
-IsExplained held place sources refusal note =
-    (trail : List ℕ) × IsTrailText held sources refusal trail × IsExplainedBy held place (unread_name refusal) trail (of_refusal refusal) note
+-- the explanation of a refusal that is told at this place, of these sources or objects under this command file
+abbrev pub IsExplained : Held → (place : Option (List ℕ × ℕ)) → (command : Option (List ℕ)) → (sources objects : List (List ℕ)) → Refusal (String Global) → List ℕ → Type 0
+IsExplained held place command sources objects refusal note =
+    (behind : List ℕ) × IsBehind held command sources objects refusal behind × IsExplainedBy held place (unread_name refusal) behind (of_refusal refusal) note
 
 -- what is noted of a refusal: its explanation where that is asked for, unless memory runs out
 abbrev pub IsNoted : Held → Notes → Refusal (String Global) → List ℕ → Type 0
 IsNoted held Nothing refusal note = note ≡ []
-IsNoted held (Explanations files script sources) refusal note =
-    IsExplained held (place_of files script refusal) (texts_of sources.now) refusal note ⊎ (note ≡ [])
+IsNoted held (Explanations files script sources objects) refusal note =
+    IsExplained held (place_of files script refusal) (text_of files.command) (texts_of sources.now) (texts_of objects.now) refusal note ⊎ (note ≡ [])

@@ -53,8 +53,9 @@ abbrev pub WritesBuilt : Held → Notes → (Result Built Fault → Type 0) → 
 WritesBuilt held notes comes base e = (told : Result Built Fault) × comes told × WritesProgram held notes base told e.ending e.note e.written
 
 -- explanations where they are asked for; of a fault of the command file that is told by this name its line
-abbrev pub AreNotesUnder : Bool → (command : Option (Bor (List ℕ))) → (sources : List (List ℕ)) → Notes → Type 0
-AreNotesUnder explain command sources notes = AreNotesFor explain (record { command = command; samples = None; schedule = None }) None sources notes
+abbrev pub AreNotesUnder : Bool → (command : Option (Bor (List ℕ))) → (sources objects : List (List ℕ)) → Notes → Type 0
+AreNotesUnder explain command sources objects notes =
+    AreNotesFor explain (record { command = command; samples = None; schedule = None }) None sources objects notes
 
 -- what is done with some such notes
 abbrev pub Noting : (Notes → Type 0) → (Notes → Type 0) → Type 0
@@ -64,21 +65,21 @@ Noting asked done = (notes : Notes) × asked notes × done notes
 abbrev pub Does : Held → Option (List ℕ) → Task → Effect → Type 0
 Does held input RunStandardInput e = Runs held input e.ending e.note e.out × Stay e.written.0 e.written.1
 Does held input (Assemble source object listing explain) e =
-    Noting (AreNotesUnder explain None (source.now ∷ [])) (λ notes. Assembles held notes source.now object.now (text_of listing) e.ending e.note e.written)
+    Noting (AreNotesUnder explain None (source.now ∷ []) []) (λ notes. Assembles held notes source.now object.now (text_of listing) e.ending e.note e.written)
     × Keeps e.out.0 e.out.1
 Does held input (Link command objects base explain) e =
-    Noting (AreNotesUnder explain (Some command) []) (λ notes. WritesBuilt held notes (LinksFrom held command.now (texts_of objects.items)) base.now e)
+    Noting (AreNotesUnder explain (Some command) [] (texts_of objects.items)) (λ notes. WritesBuilt held notes (LinksFrom held command.now (texts_of objects.items)) base.now e)
     × Keeps e.out.0 e.out.1
 Does held input (Build sources base command symbols explain) e =
-    Noting (AreNotesUnder explain command (texts_of sources.items))
+    Noting (AreNotesUnder explain command (texts_of sources.items) [])
     (λ notes. BuildsToDisk held notes (texts_of sources.items) (text_of command) base.now (text_of symbols) e.ending e.note e.written)
     × Keeps e.out.0 e.out.1
 Does held input (Run sources steps files regs explain) e =
-    Noting (AreNotesFor explain files None (texts_of sources.items))
+    Noting (AreNotesFor explain files None (texts_of sources.items) [])
     (λ notes. RunsTold held notes (texts_of sources.items) steps regs files e.ending e.note e.out)
     × Stay e.written.0 e.written.1
 Does held input (Debug sources script files explain) e =
-    Noting (AreNotesFor explain files (Some script) (texts_of sources.items))
+    Noting (AreNotesFor explain files (Some script) (texts_of sources.items) [])
     (λ notes. DebugsTold held notes (texts_of sources.items) script.now files e.ending e.note e.out)
     × Stay e.written.0 e.written.1
 Does held input (Explain number) e = Explained number e.ending e.out × OnlyPrints e

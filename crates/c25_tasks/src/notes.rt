@@ -3,8 +3,10 @@
 ghost use Rattle.std.specs.Option.{option_map};
 ghost use Rattle.std.specs.Prelude.{◌≡◌, IfOk, string_bytes};
 ghost use Rattle.c25_words.specs.Task.{text_of, texts_of};
+ghost use Rattle.c25_tasks.specs.Details.{IsBehind};
 ghost use Rattle.c25_tasks.specs.Notes.{AreNotesFor, IsExplained, IsExplainedAt, IsExplainedUnread, IsLineOf, IsLineOfNoText, IsNoted, IsWhy, at_line, place_of, unread_name};
 
+use crate::details::{link_text, standing_text};
 use crate::refusals::of_refusal;
 use crate::trails::trail_text;
 use c25_chain::fault::Refusal;
@@ -24,11 +26,13 @@ pub(crate) enum Notes<'a> {
     Nothing,
     /// What it means, behind the line of the file where it is told, and the lines that led there. Of a
     /// command file, samples, a schedule and a script a fault tells the number of the line alone: these
-    /// are their names. Those of the sources say where a line was called or copied.
+    /// are their names. Those of the sources say where a line was called or copied, and those of sources or
+    /// objects what is linked again.
     Explanations {
         files: RunFiles<'a>,
         script: Option<&'a str>,
         sources: &'a [&'a str],
+        objects: &'a [&'a str],
     },
 }
 
@@ -38,14 +42,16 @@ pub(crate) fn notes_for<'a>(
     files: RunFiles<'a>,
     script: Option<&'a str>,
     sources: &'a [&'a str],
+    objects: &'a [&'a str],
 ) -> Notes<'a>
-    ensures { AreNotesFor explain files.entry script.entry (texts_of sources.entry.now) result }
+    ensures { AreNotesFor explain files.entry script.entry (texts_of sources.entry.now) (texts_of objects.entry.now) result }
 {
     if explain {
         Notes::Explanations {
             files,
             script,
             sources,
+            objects,
         }
     } else {
         Notes::Nothing
@@ -98,21 +104,26 @@ fn line_shown<'a>(file: &'a str, number: usize, text: &'a str) -> Shown<'a>
     }
 }
 
-/// The explanation of a fault that is told in this line of a file, behind that line and those that led
-/// there.
+/// The explanation of a fault that is told in this line of a file, behind that line and what is told
+/// beside it.
 fn explained_at<D: Disk>(
     alloc: Global,
     disk: &D,
     fault: AnyFault,
     file: &str,
     number: usize,
-    trail: &str,
+    behind: &str,
 ) -> Result<String, NoMemory>
-    ensures { IfOk result (λ note. IsExplainedAt (D.bytes_of disk.now) file.now number trail.now fault (string_bytes note)) }
+    ensures { IfOk result (λ note. IsExplainedAt (D.bytes_of disk.now) file.now number behind.now fault (string_bytes note)) }
 {
     match read_file(alloc, disk, file) {
-        Ok(text) => explained(alloc, fault, line_shown(file, number, text.as_str()), trail),
-        Err(_) => explained(alloc, fault, Shown::Nothing, trail),
+        Ok(text) => explained(
+            alloc,
+            fault,
+            line_shown(file, number, text.as_str()),
+            behind,
+        ),
+        Err(_) => explained(alloc, fault, Shown::Nothing, behind),
     }
 }
 
@@ -174,7 +185,33 @@ fn explained_unread<D: Disk>(
     }
 }
 
-/// The explanation of a refusal, behind the line of a file where it is told and those that led there, or
+/// What is told beside the line of a refusal: of a line of a source those that led there, of the command
+/// file what stands where it is refused, of linking the range or the field.
+fn behind_text<D: Disk>(
+    alloc: Global,
+    disk: &D,
+    command: Option<&str>,
+    sources: &[&str],
+    objects: &[&str],
+    refusal: &Refusal<String>,
+) -> String
+    ensures { IsBehind (D.bytes_of disk.now) (text_of command.entry) (texts_of sources.now) (texts_of objects.now) refusal.now (string_bytes result) }
+{
+    match refusal {
+        Refusal::Command(placed) => standing_text(alloc, disk, command, placed.place),
+        Refusal::Link(placed) => link_text(alloc, disk, command, sources, objects, placed),
+        Refusal::Source(_) => trail_text(alloc, disk, sources, refusal),
+        Refusal::NoFile { .. }
+        | Refusal::Object(_)
+        | Refusal::Hex(_)
+        | Refusal::Schedule { .. }
+        | Refusal::Samples { .. }
+        | Refusal::Script { .. }
+        | Refusal::File(_) => String::new(alloc),
+    }
+}
+
+/// The explanation of a refusal, behind the line of a file where it is told and what is told beside it, or
 /// behind why a file cannot be read. The files are read again for that; where they cannot be, or have no
 /// such line, none is shown.
 fn explanation_of<D: Disk>(
@@ -184,17 +221,18 @@ fn explanation_of<D: Disk>(
     files: RunFiles<'_>,
     script: Option<&str>,
     sources: &[&str],
+    objects: &[&str],
 ) -> Result<String, NoMemory>
-    ensures { IfOk result (λ note. IsExplained (D.bytes_of disk.now) (place_of files.entry script.entry refusal.now) (texts_of sources.now) refusal.now (string_bytes note)) }
+    ensures { IfOk result (λ note. IsExplained (D.bytes_of disk.now) (place_of files.entry script.entry refusal.now) (text_of files.entry.command) (texts_of sources.now) (texts_of objects.now) refusal.now (string_bytes note)) }
 {
     let fault = of_refusal(refusal);
-    let trail = trail_text(alloc, disk, sources, refusal);
+    let behind = behind_text(alloc, disk, files.command, sources, objects, refusal);
     if let Some(place) = place_of(refusal, files, script) {
-        return explained_at(alloc, disk, fault, place.file, place.line, trail.as_str());
+        return explained_at(alloc, disk, fault, place.file, place.line, behind.as_str());
     }
     match unread_name(refusal) {
         Some(file) => explained_unread(alloc, disk, fault, file),
-        None => explained(alloc, fault, Shown::Nothing, ""),
+        None => explained(alloc, fault, Shown::Nothing, behind.as_str()),
     }
 }
 
@@ -211,11 +249,12 @@ pub(crate) fn note_of<D: Disk>(
         files,
         script,
         sources,
+        objects,
     } = notes
     else {
         return String::new(alloc);
     };
-    match explanation_of(alloc, disk, refusal, files, script, sources) {
+    match explanation_of(alloc, disk, refusal, files, script, sources, objects) {
         Ok(note) => note,
         Err(_) => String::new(alloc),
     }

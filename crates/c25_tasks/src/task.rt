@@ -140,16 +140,21 @@ fn build_to_disk<D: Disk>(
 }
 
 /// Explanations where they are asked for; of a fault of the command file that is told by this name its
-/// line, and of one of these sources the lines that led there.
-fn notes_under<'a>(explain: bool, command: Option<&'a str>, sources: &'a [&'a str]) -> Notes<'a>
-    ensures { AreNotesUnder explain command.entry (texts_of sources.entry.now) result }
+/// line, and of one of these sources the lines that led there; these sources or objects are linked again.
+fn notes_under<'a>(
+    explain: bool,
+    command: Option<&'a str>,
+    sources: &'a [&'a str],
+    objects: &'a [&'a str],
+) -> Notes<'a>
+    ensures { AreNotesUnder explain command.entry (texts_of sources.entry.now) (texts_of objects.entry.now) result }
 {
     let files = RunFiles {
         command,
         samples: None,
         schedule: None,
     };
-    notes_for(explain, files, None, sources)
+    notes_for(explain, files, None, sources, objects)
 }
 
 /// Does what the words ask for.
@@ -172,7 +177,7 @@ pub(crate) fn do_task<D: Disk, R: Read, O: Write>(
             explain,
         } => {
             let sources = [*source];
-            let notes = notes_under(*explain, None, &sources);
+            let notes = notes_under(*explain, None, &sources, &[]);
             assemble_to_disk(alloc, source, object, *listing, notes, disk)
         }
         Task::Link {
@@ -182,7 +187,7 @@ pub(crate) fn do_task<D: Disk, R: Read, O: Write>(
             explain,
         } => {
             let told = linked(alloc, disk, command, objects);
-            let notes = notes_under(*explain, Some(*command), &[]);
+            let notes = notes_under(*explain, Some(*command), &[], objects);
             write_program(alloc, base, told, notes, disk)
         }
         Task::Build {
@@ -192,7 +197,7 @@ pub(crate) fn do_task<D: Disk, R: Read, O: Write>(
             symbols,
             explain,
         } => {
-            let notes = notes_under(*explain, *command, sources);
+            let notes = notes_under(*explain, *command, sources, &[]);
             build_to_disk(alloc, sources, base, *command, *symbols, notes, disk)
         }
         Task::Run {
@@ -202,7 +207,7 @@ pub(crate) fn do_task<D: Disk, R: Read, O: Write>(
             regs,
             explain,
         } => {
-            let notes = notes_for(*explain, *files, None, sources);
+            let notes = notes_for(*explain, *files, None, sources, &[]);
             run_sources(alloc, sources, *steps, *regs, *files, notes, disk, out)
         }
         Task::Debug {
@@ -211,7 +216,7 @@ pub(crate) fn do_task<D: Disk, R: Read, O: Write>(
             files,
             explain,
         } => {
-            let notes = notes_for(*explain, *files, Some(*script), sources);
+            let notes = notes_for(*explain, *files, Some(*script), sources, &[]);
             debug_sources(alloc, sources, script, *files, notes, disk, out)
         }
         Task::Explain { number } => {

@@ -1,0 +1,1 @@
+X LAC X-4 ; no such place

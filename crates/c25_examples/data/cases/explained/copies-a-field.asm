@@ -1,0 +1,2 @@
+ NOP
+ .copy "before-its-section.asm"

@@ -1,0 +1,2 @@
+/* where everything goes */
+SECTIONS { .text : > ROM }

@@ -1,0 +1,4 @@
+ .ref Y
+ .data
+ .word 1
+ .word Y+1

@@ -1,0 +1,258 @@
+//! The field of a program that does not take its value, found again.
+
+ghost use Rattle.std.specs.Option.{option_map};
+ghost use Rattle.std.specs.Prelude.{◌≡◌, IfOk, IfSome, map, string_bytes};
+ghost use Rattle.c25_link.specs.Misfits.{misfit_data};
+ghost use Rattle.c25_link.specs.Misfits as misfits;
+ghost use Rattle.c25_words.specs.Task.{text_of, texts_of};
+ghost use Rattle.c25_tasks.specs.Fields.{IsFieldNote, IsFieldOfObjects, IsFieldOfSources, IsFieldOver, IsLineText, IsNoteOfField, ShowsField, ShowsFieldOver, line_text, line_view, name_at};
+
+use crate::files::{missing_name, names_of, read_optional};
+use crate::objects::{modules_of, read_objects};
+use c25_chain::assemble_all;
+use c25_chain::fault::{Fault, Refusal};
+use c25_cmd::read_command;
+use c25_details::misfit_text;
+use c25_disk::disk::Disk;
+use c25_disk::work::Work;
+use c25_disk::{read_file, read_sources, with_copies};
+use c25_explain::note::line_of;
+use c25_link::{Misfit, SourceLine, first_misfit};
+use c25_macro::files::Files;
+use c25_meaning_common::no_memory::NoMemory;
+use c25_meaning_common::placed::FileLine;
+use c25_obj::Module;
+use std::alloc::Global;
+
+/// What is told of a field, and the line where its instruction stands.
+#[derive(Drop)]
+pub(crate) struct FieldNote {
+    text: String,
+    line: Option<FileLine<String>>,
+}
+
+/// The sources whose modules have the field, and the text of the command that they are linked under.
+#[derive(Clone, Copy)]
+struct Fields<'a> {
+    sources: &'a [String],
+    command: &'a str,
+}
+
+/// A line of a file.
+fn owned_line(
+    alloc: Global,
+    line: Option<SourceLine<'_>>,
+) -> Result<Option<FileLine<String>>, NoMemory>
+    ensures { IfOk result (λ owned. line_view owned ≡ option_map misfits.line_of line.entry) }
+{
+    match line {
+        Some(line) => Ok(Some(FileLine {
+            file: String::from_str(alloc, line.file)?,
+            line: line.line as usize,
+        })),
+        None => Ok(None),
+    }
+}
+
+/// The file of a module's number.
+fn name_at(names: &[String], number: usize) -> &str
+    ensures { result.now ≡ name_at (map string_bytes names.now) number }
+{
+    match names.get(number) {
+        Some(name) => name,
+        None => "",
+    }
+}
+
+/// What is told of a field of modules of the files of these names.
+fn note_of_field(
+    alloc: Global,
+    names: &[String],
+    misfit: &Misfit<'_>,
+) -> Result<FieldNote, NoMemory>
+    ensures { IfOk result (IsNoteOfField (map string_bytes names.now) (misfit_data misfit.now)) }
+{
+    let text = misfit_text(alloc, name_at(names, misfit.number), misfit)?;
+    let line = owned_line(alloc, misfit.line)?;
+    Ok(FieldNote { text, line })
+}
+
+/// What is told of the first field that does not take its value, of modules of the files of these names
+/// under the text of a command.
+fn field_of(
+    alloc: Global,
+    names: &[String],
+    modules: &[Module],
+    command: &str,
+) -> Result<Option<FieldNote>, NoMemory>
+    ensures { IfOk result (λ note. IfSome note (IsFieldNote (map string_bytes names.now) modules.now command.now)) }
+{
+    let Ok(command) = read_command(alloc, command) else {
+        return Ok(None);
+    };
+    match first_misfit(alloc, modules, &command) {
+        Ok(Some(misfit)) => Ok(Some(note_of_field(alloc, names, &misfit)?)),
+        Ok(None) | Err(_) => Ok(None),
+    }
+}
+
+impl Work for Fields<'_> {
+    ghost use Rattle.std.specs.Prelude.{IfOk, IfSome, map, string_bytes};
+    ghost use Rattle.c25_tasks.specs.Fields.{IsFieldAmong};
+    ghost use Rattle.c25_tasks.specs.Files.{missing_name};
+
+    type Answer = Option<FieldNote>;
+
+    type Fault = Refusal<String>;
+
+    ghost comes_to = { λ work files result. IfOk result (λ note. IfSome note (IsFieldAmong files (map string_bytes work.sources.now) work.command.now)) };
+
+    ghost missing_of = { missing_name };
+
+    fn answer(&self, alloc: Global, files: &Files) -> Result<Option<FieldNote>, Fault> {
+        let all = assemble_all(alloc, files, self.sources)?;
+        match field_of(alloc, self.sources, all.modules.as_slice(), self.command) {
+            Ok(note) => Ok(note),
+            Err(error) => Err(error.into()),
+        }
+    }
+
+    fn missing(fault: &Refusal<String>) -> Option<&str>
+        ensures { option_map (λ name. name.now) result ≡ missing_name fault.now }
+    {
+        missing_name(fault)
+    }
+}
+
+/// What is told of the first such field of sources.
+fn field_of_sources<D: Disk>(
+    alloc: Global,
+    disk: &D,
+    command: Option<&str>,
+    sources: &[&str],
+) -> Option<FieldNote>
+    ensures { IfSome result (IsFieldOfSources (D.bytes_of disk.now) (texts_of sources.now) (text_of command.entry)) }
+{
+    let Ok(files) = read_sources(alloc, disk, sources) else {
+        return None;
+    };
+    let Ok(command) = read_optional(alloc, disk, command) else {
+        return None;
+    };
+    let Ok(names) = names_of(alloc, sources) else {
+        return None;
+    };
+    let work = Fields {
+        sources: names.as_slice(),
+        command: command.as_str(),
+    };
+    match with_copies(alloc, disk, files, &work) {
+        Ok(note) => note,
+        Err(_) => None,
+    }
+}
+
+/// What is told of the first such field of objects.
+fn field_of_objects<D: Disk>(
+    alloc: Global,
+    disk: &D,
+    command: Option<&str>,
+    objects: &[&str],
+) -> Option<FieldNote>
+    ensures { IfSome result (IsFieldOfObjects (D.bytes_of disk.now) (texts_of objects.now) (text_of command.entry)) }
+{
+    let Ok(command) = read_optional(alloc, disk, command) else {
+        return None;
+    };
+    let Ok(read) = read_objects(alloc, disk, objects) else {
+        return None;
+    };
+    let Ok(modules) = modules_of(alloc, read.as_slice()) else {
+        return None;
+    };
+    let Ok(names) = names_of(alloc, objects) else {
+        return None;
+    };
+    match field_of(
+        alloc,
+        names.as_slice(),
+        modules.as_slice(),
+        command.as_str(),
+    ) {
+        Ok(note) => note,
+        Err(_) => None,
+    }
+}
+
+/// What is told of the first such field of objects, if there are any, and else of sources.
+fn field_over<D: Disk>(
+    alloc: Global,
+    disk: &D,
+    command: Option<&str>,
+    sources: &[&str],
+    objects: &[&str],
+) -> Option<FieldNote>
+    ensures { IfSome result (IsFieldOver (D.bytes_of disk.now) (text_of command.entry) (texts_of sources.now) (texts_of objects.now)) }
+{
+    match objects {
+        [] => field_of_sources(alloc, disk, command, sources),
+        [_, ..] => field_of_objects(alloc, disk, command, objects),
+    }
+}
+
+/// A line of a file's text, or nothing where there is no such line.
+fn line_text(alloc: Global, file: &str, number: usize, text: &str) -> Result<String, NoMemory>
+    ensures { IfOk result (λ shown. string_bytes shown ≡ line_text file.now number text.now) }
+{
+    match line_of(text, number) {
+        Some(row) => Ok(format!(in alloc; "{file}:{number}: {row}\n")?),
+        None => Ok(String::new(alloc)),
+    }
+}
+
+/// A line of what a file has, or nothing.
+fn line_shown<D: Disk>(
+    alloc: Global,
+    disk: &D,
+    line: &Option<FileLine<String>>,
+) -> Result<String, NoMemory>
+    ensures { IfOk result (λ shown. IsLineText (D.bytes_of disk.now) (line_view line.now) (string_bytes shown)) }
+{
+    let Some(line) = line else {
+        return Ok(String::new(alloc));
+    };
+    match read_file(alloc, disk, line.file.as_str()) {
+        Ok(text) => line_text(alloc, line.file.as_str(), line.line, text.as_str()),
+        Err(_) => Ok(String::new(alloc)),
+    }
+}
+
+/// What is told of a field, behind the line of its instruction.
+fn field_shown<D: Disk>(alloc: Global, disk: &D, note: &FieldNote) -> Result<String, NoMemory>
+    ensures { IfOk result (λ shown. ShowsField (D.bytes_of disk.now) note.now (string_bytes shown)) }
+{
+    let mut shown = line_shown(alloc, disk, &note.line)?;
+    shown.push_str(note.text.as_str())?;
+    Ok(shown)
+}
+
+/// What is told of the first field that does not take its value, behind the line of its instruction: of
+/// objects, if there are any, and else of sources, linked again over what the disk has now. It is no text
+/// where they cannot be linked so, all fields take their values, or memory runs out.
+pub(crate) fn field_text<D: Disk>(
+    alloc: Global,
+    disk: &D,
+    command: Option<&str>,
+    sources: &[&str],
+    objects: &[&str],
+) -> String
+    ensures { ShowsFieldOver (D.bytes_of disk.now) (text_of command.entry) (texts_of sources.now) (texts_of objects.now) (string_bytes result) }
+{
+    let Some(note) = field_over(alloc, disk, command, sources, objects) else {
+        return String::new(alloc);
+    };
+    match field_shown(alloc, disk, &note) {
+        Ok(text) => text,
+        Err(_) => String::new(alloc),
+    }
+}
