@@ -2,8 +2,8 @@
 
 ghost use Rattle.std.specs.Prelude.{◌≡◌, ◌<◌, None, Some, IfSome, length, true};
 ghost use Rattle.std.specs.Char.{to_ascii_lowercase};
-ghost use Rattle.c25_isa.specs.Letters as letters;
-ghost use Rattle.c25_isa.specs.Letters.{are_bytes, lower};
+ghost use Rattle.c25_mnemonics.specs.Letters as letters;
+ghost use Rattle.c25_mnemonics.specs.Letters.{are_bytes, lower};
 ghost use Rattle.c25_meaning_instructions.specs.Table.{SameLetters, spelling_text};
 ghost use Rattle.c25_meaning_instructions.specs.declared.mnemonic.Spelling.{Spelling};
 

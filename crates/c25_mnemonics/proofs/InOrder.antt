@@ -10,7 +10,7 @@ use Rattle.std.specs.Result.{result_ok}
 use Rattle.std.proofs.lemmas.Bool.{and_parts, cases_lt}
 use Rattle.std.proofs.lemmas.List.{get_or-map, length-map}
 use Rattle.std.proofs.lemmas.List.Sorted.{searched}
-use Rattle.c25_isa.specs.Letters.{AreInOrder, are_bytes, is_short, lower, number, spelling_number}
+use Rattle.c25_mnemonics.specs.Letters.{AreInOrder, are_bytes, is_short, lower, number, spelling_number}
 use Rattle.c25_meaning_instructions.specs.Spellings.{spellings}
 use Rattle.c25_meaning_instructions.specs.Table.{SameLetters, spelling_text}
 use Rattle.c25_meaning_instructions.specs.declared.mnemonic.Spelling.{Spelling}

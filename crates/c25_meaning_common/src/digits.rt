@@ -15,8 +15,7 @@ pub fn digit(b: u8) -> u8
     }
 }
 
-/// Whether each byte is a digit of a base.
-pub fn all_digits(base: u8, text: &[u8]) -> bool
+fn all_digits(base: u8, text: &[u8]) -> bool
     ensures { result ≡ all_digits base text.now }
 {
     text.iter().all(|b| digit(*b) < base)

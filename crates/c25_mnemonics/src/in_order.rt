@@ -2,7 +2,7 @@
 
 ghost use Rattle.std.specs.Prelude.{◌≡◌, true, length, map};
 ghost use Rattle.std.specs.List.{Contains, list_all};
-ghost use Rattle.c25_isa.specs.Letters.{AreInOrder, is_short, spelling_number};
+ghost use Rattle.c25_mnemonics.specs.Letters.{AreInOrder, is_short, spelling_number};
 ghost use Rattle.c25_meaning_instructions.specs.declared.mnemonic.Spelling.{Spelling};
 
 use c25_meaning_instructions::mnemonic::Mnemonic::{

@@ -1,8 +1,8 @@
 use Rattle.std.proofs.Common.{refl}
 use Rattle.c25_meaning_instructions.specs.Spellings.{spellings}
-use Rattle.c25_isa.specs.declared.in_order.TheConstants.{IN_ORDER, NUMBERS}
-use Rattle.c25_isa.proofs.InOrder.{in_order, has_each}
-use Rattle.c25_isa.proofs.in_order.table.Goals as goal
+use Rattle.c25_mnemonics.specs.declared.in_order.TheConstants.{IN_ORDER, NUMBERS}
+use Rattle.c25_mnemonics.proofs.InOrder.{in_order, has_each}
+use Rattle.c25_mnemonics.proofs.in_order.table.Goals as goal
 
 pub returns-clause-rise : goal.returns-clause-rise
 returns-clause-rise c = in_order NUMBERS refl
