@@ -46,7 +46,7 @@ FAULTS = "docs/FAULTS.md"
 # Programs whose samples are made of another file, and the words with which examples/tools/signals.py makes them.
 RECORDED = {"mulaw": ["samples.wav"], "fir": ["samples.csv", "--column", "2", "--fractions"]}
 # Calls of libraries that no word of the program makes (crates/c25_examples/src/library.rt).
-LIBRARY = ("read_hex", "read_map", "run_chain", "line_of", "values")
+LIBRARY = ("read_hex", "read_map", "run_chain", "line_of", "list", "values")
 # Commands that show something and are none of the program's: what they show is not looked at.
 OTHERS = ("ls", "od ", "cmp ")
 # The subcommands that explain a fault where they are asked to.

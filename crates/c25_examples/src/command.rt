@@ -50,6 +50,8 @@ pub(crate) enum Command<'a> {
     RunChain(&'a str),
     /// `line_of COMMAND OBJECT..`.
     LineOf(&'a str),
+    /// `list COMMAND OBJECT..`.
+    List(&'a str),
     /// `values FILE`.
     Values(&'a str),
 }
@@ -113,6 +115,7 @@ fn library_call(line: &str) -> Option<Command<'_>> {
         "read_map" => Some(Command::ReadMap(files)),
         "run_chain" => Some(Command::RunChain(files)),
         "line_of" => Some(Command::LineOf(files)),
+        "list" => Some(Command::List(files)),
         "values" => Some(Command::Values(files)),
         _ => None,
     }

@@ -1,6 +1,10 @@
 //! Calls of the libraries that no word of the program makes, over the files of a session's folder.
 
-use anyhow::{Context, Result};
+use anyhow::{Context, Result, bail};
+use c25_board::board::Board;
+use c25_board::ports::ListSink;
+use c25_board::samples::{Samples, read_samples};
+use c25_board::schedule::read_schedule;
 use c25_chain::chain::Chain;
 use c25_chain::fault::{Fault, Refusal};
 use c25_chain::{run_chain, write_fault, write_run};
@@ -10,9 +14,13 @@ use c25_link::{Image, link};
 use c25_macro::files::Files as Sources;
 use c25_map::{GlobalSymbol, Map, OutputSection, read_map, write_map};
 use c25_meaning_common::failure::Failure;
+use c25_meaning_image::marks::{marks_fit, run_marks_fit};
 use c25_meaning_image::word_map::WordMap;
+use c25_meaning_stimulus::script::Cmd;
 use c25_obj::Module;
 use c25_records::read_module;
+use c25_session::session::Session;
+use std::alloc::Global;
 use std::fs;
 use std::rt::Files;
 
@@ -179,12 +187,46 @@ fn show_places<R: Print>(rt: &R, image: &Image) -> Result<()> {
     Ok(())
 }
 
-/// `line_of COMMAND OBJECT..`: the instructions of these objects, linked as the command file says, with their lines.
-pub(crate) fn show_line_of<R: Files + Print + AllocGlobal>(rt: &R, names: &str) -> Result<()> {
+/// The program of objects, linked as a command file says: the command file's name stands in front of theirs.
+fn image_of<R: Files + AllocGlobal>(rt: &R, names: &str) -> Result<Image> {
     let (command, objects) = names.split_once(' ').context("no objects")?;
     let command = read_command(rt.alloc(), &fs::read_to_string(rt, command)?)?;
     let modules = modules_of(rt, objects)?;
-    let image = link(rt.alloc(), &modules, &command)?;
+    Ok(link(rt.alloc(), &modules, &command)?)
+}
+
+/// `line_of COMMAND OBJECT..`: the instructions of these objects, linked as the command file says, with their lines.
+pub(crate) fn show_line_of<R: Files + Print + AllocGlobal>(rt: &R, names: &str) -> Result<()> {
+    let image = image_of(rt, names)?;
     show_places(rt, &image)?;
     show_copied(rt, &image)
+}
+
+/// A board that runs a program, with no samples and an empty schedule.
+fn board_of(alloc: Global, image: &Image) -> Result<Board<Samples, ListSink>> {
+    if !marks_fit(image.marks()) {
+        bail!("these are no places of instructions");
+    }
+    if !run_marks_fit(image.marks(), image.run_marks()) {
+        bail!("these are no places of instructions that run in block B0");
+    }
+    Ok(Board::new(
+        alloc,
+        image.words(0),
+        image.words(1),
+        image.marks(),
+        image.run_marks(),
+        read_schedule(alloc, "")?,
+        read_samples(alloc, "")?,
+        ListSink::new(alloc),
+    )?)
+}
+
+/// `list COMMAND OBJECT..`: what a session answers to `list` of all instructions over the program of these objects.
+pub(crate) fn show_list<R: Files + Print + AllocGlobal>(rt: &R, names: &str) -> Result<()> {
+    let image = image_of(rt, names)?;
+    let board = board_of(rt.alloc(), &image)?;
+    let mut session = Session::new(rt.alloc(), board, &image);
+    rt.print(session.command(&Cmd::List(u32::MAX))?)?;
+    Ok(())
 }

@@ -1,7 +1,7 @@
 //! Sessions: commands that are run in the order of their lines.
 
 use crate::command::{Call, Command, Input, Lines, command_of};
-use crate::library::{show_chain, show_hex, show_line_of, show_map};
+use crate::library::{show_chain, show_hex, show_line_of, show_list, show_map};
 use crate::values::show_values;
 use anyhow::{Result, bail};
 use c25_disk::system::System;
@@ -97,6 +97,7 @@ fn run_command<R: Files + Print + AllocGlobal>(
         Command::ReadMap(name) => show_map(rt, name)?,
         Command::RunChain(names) => show_chain(rt, names)?,
         Command::LineOf(names) => show_line_of(rt, names)?,
+        Command::List(names) => show_list(rt, names)?,
         Command::Values(name) => show_values(rt, name)?,
     }
     Ok(())

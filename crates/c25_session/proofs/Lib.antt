@@ -1,2 +1,5 @@
 pub mod Ended
 pub mod Fetched
+pub mod Joined
+pub mod Listed
+pub mod Rows

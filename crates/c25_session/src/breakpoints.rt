@@ -5,7 +5,7 @@ ghost use Rattle.c25_meaning_breakpoints.specs.Goes.{is_breakpoint};
 ghost use Rattle.c25_meaning_breakpoints.specs.Set.{can_set, with_breakpoint, without_breakpoint};
 ghost use Rattle.c25_meaning_debugger.specs.Texts.{cleared_text, set_text};
 
-use c25_answers::{push_cleared, push_set};
+use crate::answers::{push_cleared, push_set};
 use c25_breaks::breakpoints::{Breakpoints, MOST};
 use c25_meaning_common::no_memory::NoMemory;
 use std::alloc::Global;

@@ -2,7 +2,7 @@
 
 ghost use Rattle.c25_board.specs.Board.{state};
 
-use c25_answers::memory::Memory;
+use crate::answers::memory::Memory;
 use c25_board::board::Board;
 use c25_board::ports::{Feed, Sink};
 

@@ -2,7 +2,7 @@
 
 ghost use Rattle.c25_meaning_debugger.specs.Debugger.{source_line_at};
 
-use c25_answers::program::Program;
+use crate::answers::program::Program;
 use c25_link::Image;
 use c25_meaning_image::word_map::WordMap;
 

@@ -8,11 +8,11 @@ ghost use Rattle.c25_meaning_image.specs.Marks as marks;
 ghost use Rattle.c25_meaning_processor.specs.Status.{regs_of};
 ghost use Rattle.c25_meaning_processor.specs.WordStep.{mark_found};
 
-use crate::memories::{DataMemory, ProgramMemory};
-use crate::program::ImageProgram;
-use c25_answers::{
+use crate::answers::{
     push_copied, push_instruction, push_instructions, push_registers, push_stack, push_words,
 };
+use crate::memories::{DataMemory, ProgramMemory};
+use crate::program::ImageProgram;
 use c25_board::board::Board;
 use c25_board::ports::{Feed, Sink};
 use c25_link::Image;

@@ -3,12 +3,12 @@
 ghost use Rattle.std.specs.Prelude.{◌≡◌, ◌≤◌, ◌+◌, ◌++◌, ℕ, List, false, true, IfOk, IsOk, OnErr, string_bytes, string_len};
 ghost use Rattle.c25_board.specs.Board.{entries, signals};
 ghost use Rattle.std.specs.String.{string_capacity};
-ghost use Rattle.c25_answers.specs.View.{halting_of};
+ghost use Rattle.c25_session.specs.View.{halting_of};
 ghost use Rattle.c25_meaning_debugger.specs.Texts.{halting_text, sink_text};
 ghost use Rattle.c25_session.specs.Told.{StepsTold, end_text, is_sunk, point_of};
 
-use c25_answers::halt::Halt;
-use c25_answers::{MOST_BYTES, push_halting, push_sink};
+use crate::answers::halt::Halt;
+use crate::answers::{MOST_BYTES, push_halting, push_sink};
 use c25_board::board::Board;
 use c25_board::ports::{Feed, Sink};
 use c25_board::run_to::Halted;
