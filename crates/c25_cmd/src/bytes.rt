@@ -3,10 +3,18 @@
 ghost use Rattle.std.specs.Prelude.{◌≡◌, ◌≤◌, ◌<◌, ◌-◌, ◌+◌, ◌^◌, length, IfSome, drop, take};
 ghost use Rattle.std.specs.List.{prefix_len};
 ghost use Rattle.std.specs.Option.{option_map_or};
+ghost use Rattle.c25_meaning_common.specs.Bytes.{is_space};
 ghost use Rattle.c25_meaning_commands.specs.CommandTokens.{sign_of, is_word, comment_len, lexeme, covered};
 
-use c25_bytes::{byte_at, is_space};
 use c25_meaning_commands::command_token::{Lexeme, Sign};
+use c25_meaning_common::bytes::{byte_at, is_blank};
+
+/// Whether a byte is a blank, a tab, or a character of a line's end, LF or CR.
+fn is_space(byte: u8) -> bool
+    ensures { result ≡ is_space byte }
+{
+    is_blank(byte) || byte == b'\n' || byte == b'\r'
+}
 
 fn sign_of(byte: u8) -> Option<Sign>
     ensures { result ≡ sign_of byte }

@@ -6,8 +6,9 @@ ghost use Rattle.c25_meaning_commands.specs.CommandTokens.{word_numeral, is_nume
 ghost use Rattle.c25_cmd.specs.View.{numeral_of};
 
 use crate::bytes::{behind, front};
-use c25_bytes::{are_digits, byte_at, digit, value_in};
 use c25_meaning_commands::command_token::{Keyword, Kind};
+use c25_meaning_common::bytes::byte_at;
+use c25_meaning_common::digits::{are_digits, digit, value_in};
 use std::alloc::{AllocError, Global};
 
 /// The base and the digits of a number.

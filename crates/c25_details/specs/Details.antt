@@ -68,23 +68,27 @@ base_text (base.Section index) name = name
 base_text (base.Loaded index) name = codes "load of " ++ name
 base_text (base.External index) name = name
 
--- where a field is: its address, and its section
+-- what stands before the address of a field
 unfoldable pub at_text : List ℕ
 at_text = codes "the field at "
 
+-- an address, in four hexadecimal digits
 unfoldable pub address_text : ℕ → List ℕ
 address_text address = four_digits address
 
+-- the section that it is in
 unfoldable pub place_text : List ℕ → List ℕ
 place_text section = codes " in " ++ section
 
+-- where a field is: its address, and its section
 unfoldable pub field_text : MisfitData → List ℕ
 field_text f = at_text ++ address_text f.address ++ place_text f.section
 
--- the value that it does not take, and what that is
+-- the value that it does not take
 unfoldable pub untaken_text : ℤ → List ℕ
 untaken_text value = codes " does not take " ++ signed_decimal value ++ codes ", which is "
 
+-- that value, and what it is: the base that it counts from, and the addend
 unfoldable pub value_text : MisfitData → List ℕ
 value_text f = untaken_text f.value ++ base_text f.base f.name ++ addend_text f.addend
 

@@ -68,8 +68,8 @@ pub record HasCopied (held : Held) (given : Files) (most : ℕ) (files : Files) 
   pub few : length copies ≤ most
   pub read : AreAsHeld held copies
 
--- what comes of work over given files and at most 256 others that it asks for: what it comes to over the files that are there in
--- the end, and if these lack one that it asks for, that this one cannot be had (8)
+-- what comes of work over given files and at most 256 others, each as the disk holds it: what it comes to over the files that are
+-- there in the end, and if these lack one that it asks for, that this one cannot be had (8)
 abbrev pub EndsOver : {A F : Type 0} → Held → Files → (Files → Result A (Failure F) → Type 0) → (F → Option (List ℕ)) → Result A (Failure (CopyFault F)) → Type 0
 EndsOver held given comes_to missing result =
     (files : Files) × HasCopied held given 256 files × IsEnd (comes_to files) missing files result

@@ -1,19 +1,27 @@
 //! A hex text as far as it has been read.
 
 ghost use Rattle.std.specs.Prelude.{◌≡◌, ◌≤◌, ◌<◌, ◌+◌, ◌^◌, length, slice_index, is_some, IsTrue, OnOk, MatchResult, Ok, Err, vec_len};
-ghost use Rattle.std.specs.List.{list_any};
+ghost use Rattle.std.specs.List.{list_all, list_any};
 ghost use Rattle.c25_meaning_intel_hex.specs.Hex as spec;
 ghost use Rattle.c25_hex.specs.Cells.{cells_map, has_odd_pair, same_given};
+ghost use Rattle.c25_meaning_common.specs.Bytes.{is_blank};
 ghost use Rattle.c25_meaning_common.specs.Results.{Meets};
 ghost use Rattle.c25_hex.specs.View.{code_of, hex_state};
 
 use crate::kind::Kind;
 use crate::line::{bytes_of, kind_of};
 use crate::state::Reader;
-use c25_bytes::all_blank;
+use c25_meaning_common::bytes::is_blank;
 use c25_meaning_common::failure::Failure;
 use c25_meaning_intel_hex::hex_fault::HexFault;
 use std::alloc::Global;
+
+/// Whether a line has nothing but blanks and tabs.
+fn all_blank(line: &[u8]) -> bool
+    ensures { result ≡ list_all is_blank line.now }
+{
+    line.iter().all(|b| is_blank(*b))
+}
 
 fn any_given(cells: &[Option<u8>]) -> bool
     ensures { result ≡ list_any is_some cells.now }

@@ -1,5 +1,5 @@
 //! The instruction set of the TMS320C25 (SPRU014, "Assembly Language Instructions"): the words of
-//! an instruction, the instruction of words, names and printed texts.
+//! an instruction, the instruction of words, and printed texts.
 //!
 //! Each family of instructions has a module. Its macro holds the family's rows of the opcode table,
 //! each once.
@@ -12,12 +12,10 @@ ghost use Rattle.c25_meaning_instructions.specs.declared.insn.Insn.{Insn};
 mod addr;
 mod ar_mem;
 mod bit;
-mod in_order;
 mod jump;
 mod long;
 mod long_mem;
 mod mem;
-mod names;
 mod plain;
 mod port;
 mod rows;
@@ -28,7 +26,6 @@ mod text;
 use arrayvec::ArrayVec;
 use c25_meaning_instructions::insn::Insn;
 use c25_meaning_instructions::mnemonic::Mnemonic;
-pub use names::mnemonic;
 pub use text::show;
 
 /// The one or two words of an instruction, in the order of their addresses.

@@ -1,8 +1,9 @@
 //! The names of instructions.
 
 use crate::cases::{OF_ONE_WORD, OF_TWO_WORDS};
-use c25_isa::{mnemonic, size_of};
+use c25_isa::size_of;
 use c25_meaning_instructions::mnemonic::{MemName, Mnemonic, PlainName, Spelling};
+use c25_mnemonics::mnemonic;
 use std::alloc::Global;
 use std::process::Abort;
 use std::test::Fail;

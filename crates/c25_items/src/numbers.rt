@@ -3,7 +3,7 @@
 ghost use Rattle.std.specs.Prelude.{◌≡◌, ◌≤◌, IfSome};
 ghost use Rattle.c25_meaning_common.specs.Digits.{decimal_of, hexadecimal_of};
 
-use c25_bytes::{are_digits, value_in};
+use c25_meaning_common::digits::{are_digits, value_in};
 
 /// The digits of the largest 16-bit word.
 const MOST_DIGITS: usize = 4;

@@ -5,7 +5,7 @@ ghost use Rattle.std.specs.Str.{str_eq_ignore_ascii_case};
 ghost use Rattle.std.specs.Str.Lines.{lines};
 ghost use Rattle.c25_meaning_common.specs.Items.{line_words};
 
-use c25_bytes::is_blank;
+use c25_meaning_common::bytes::is_blank;
 use std::alloc::{AllocError, Global};
 
 /// The lines of a text, without the CR LF or LF that ends them.

@@ -1,9 +1,8 @@
 //! Lines, from outside.
 
-use c25_bytes::{
-    all_blank, all_go_on_name, all_space, are_digits, begins_name, byte_at, constant_run, digit,
-    goes_on_name, is_blank, is_digit, is_letter, is_space, name_run, value_in,
-};
+use c25_meaning_common::bytes::{begins_name, byte_at, is_blank, is_digit};
+use c25_meaning_common::digits::{are_digits, digit, value_in};
+use c25_meaning_common::runs::{all_go_on_name, constant_run, name_run};
 use c25_meaning_lines::line::{Sign, TokenKind};
 use c25_text::line::{first_word, split_line};
 use c25_text::{constant_value, past_blanks, past_field, quoted_len};
@@ -49,9 +48,6 @@ fn bytes_are_of_their_kinds(rt: HostRuntime) {
     assert_eq!(rt; (is_blank(b'\t'), is_blank(b';')), (true, false));
     assert_eq!(rt; (is_digit(b'9'), is_digit(b'A')), (true, false));
     assert_eq!(rt; (begins_name(b'_'), begins_name(b'$')), (true, false));
-    assert_eq!(rt; (goes_on_name(b'$'), goes_on_name(b'.')), (true, false));
-    assert_eq!(rt; (is_space(b'\r'), is_space(b';')), (true, false));
-    assert_eq!(rt; (is_letter(b'z'), is_letter(b'0')), (true, false));
     let text = "ab".as_bytes();
     assert_eq!(rt; (byte_at(text, 1), byte_at(text, 2)), (b'b', 0));
 }
@@ -62,8 +58,6 @@ fn runs_end_before_another_byte(rt: HostRuntime) {
     assert_eq!(rt; constant_run("12h_".as_bytes()), 3);
     assert_eq!(rt; past_blanks(" \tb".as_bytes(), 0), 2);
     assert_eq!(rt; past_field("a;b".as_bytes(), 0), 1);
-    assert_eq!(rt; (all_blank(b" \t"), all_blank(b" \n")), (true, false));
-    assert_eq!(rt; (all_space(b" \r\n"), all_space(b"\n;")), (true, false));
     assert_eq!(rt;
         (all_go_on_name(b"1$_"), all_go_on_name(b"a.")),
         (true, false)

@@ -32,6 +32,7 @@ impl<'a> Row<'a> {
         Row { place, text }
     }
 
+    /// Where it stands.
     pub fn place(&self) -> SourcePlace
         ensures { result ≡ self.now.place }
     {
@@ -128,6 +129,7 @@ impl<'a> Rows<'a> {
         Passage::new(self.text, self.file, self.line, self.count)
     }
 
+    /// Whether no line is to come.
     pub fn is_empty(&self) -> bool
         ensures { result ≡ is_empty self.now }
     {

@@ -6,7 +6,7 @@ ghost use Rattle.c25_meaning_expansion.specs.Acts.{directive_of};
 ghost use Rattle.c25_meaning_expansion.specs.ExpansionRules.{directive_in};
 ghost use Rattle.c25_meaning_lines.specs.Line.{first_word};
 
-use c25_bytes::byte_at;
+use c25_meaning_common::bytes::byte_at;
 use c25_meaning_expansion::expansion::Directive;
 use c25_text::line::first_word;
 

@@ -8,8 +8,8 @@ ghost use Rattle.c25_meaning_common.specs.Results.{Meets};
 ghost use Rattle.c25_map.specs.Reading.{is_upper_digit, word_of, address_of, long_of, size_of, page_of};
 
 use crate::map_fault::MapFault;
-use c25_bytes::is_digit;
 use c25_items::{decimal_of, hexadecimal_of};
+use c25_meaning_common::bytes::is_digit;
 use c25_meaning_common::failure::Failure;
 
 /// How many digits a size has.

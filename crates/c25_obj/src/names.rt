@@ -4,7 +4,8 @@ ghost use Rattle.std.specs.Prelude.{◌≡◌};
 ghost use Rattle.std.specs.List.{list_all};
 ghost use Rattle.c25_meaning_objects.specs.Module as spec;
 
-use c25_bytes::{all_go_on_name, begins_name};
+use c25_meaning_common::bytes::begins_name;
+use c25_meaning_common::runs::all_go_on_name;
 
 fn is_section_byte(byte: u8) -> bool
     ensures { result ≡ spec.is_section_byte byte }

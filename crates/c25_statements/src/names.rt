@@ -4,8 +4,8 @@ ghost use Rattle.std.specs.Prelude.{◌≡◌, ◌==◌, slice_index};
 ghost use Rattle.c25_meaning_assembly.specs.AssemblyLine.{directive_of, directive_in, is_ignored};
 ghost use Rattle.c25_meaning_lines.specs.Line.{first_word};
 
-use c25_bytes::byte_at;
 use c25_meaning_assembly::assembly::Directive;
+use c25_meaning_common::bytes::byte_at;
 use c25_text::line::first_word;
 
 /// Whether the word begins with a point, as each directive's name does.

@@ -13,7 +13,8 @@ ghost use Rattle.c25_substitution.specs.View.{names_of, fragment_of};
 use crate::aside::Aside;
 use crate::quoting::inside;
 use crate::visible::Visible;
-use c25_bytes::{begins_name, byte_at, constant_run, is_digit, name_run};
+use c25_meaning_common::bytes::{begins_name, byte_at, is_digit};
+use c25_meaning_common::runs::{constant_run, name_run};
 use c25_meaning_language::quoting::Quoting;
 
 /// A fragment of a text.

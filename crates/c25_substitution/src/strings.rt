@@ -6,7 +6,7 @@ ghost use Rattle.std.specs.String.{string_bytes};
 ghost use Rattle.c25_meaning_language.specs.Arguments.{before_quote, folded, is_one_string, past_quote, string_text, trimmed, trimmed_end, trimmed_start, unquoted};
 ghost use Rattle.c25_meaning_common.specs.Bytes.{is_blank};
 
-use c25_bytes::{byte_at, is_blank};
+use c25_meaning_common::bytes::{byte_at, is_blank};
 use c25_meaning_common::no_memory::NoMemory;
 use c25_text::{past_blanks, quoted_len};
 use std::alloc::Global;

@@ -14,7 +14,7 @@ use crate::fragments::{Fragment, first_fragment};
 use crate::output::{LIMIT, Output};
 use crate::quoting::{behind, last_comma_len};
 use crate::visible::Visible;
-use c25_bytes::byte_at;
+use c25_meaning_common::bytes::byte_at;
 use c25_meaning_common::failure::Failure;
 use c25_meaning_language::long_line::LongLine;
 use c25_meaning_language::quoting::Quoting;

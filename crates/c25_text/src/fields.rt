@@ -5,7 +5,14 @@ ghost use Rattle.std.specs.List.{prefix_len};
 ghost use Rattle.c25_meaning_common.specs.Bytes.{is_blank, is_field};
 ghost use Rattle.c25_meaning_lines.specs.Line.{past_blanks, past_field};
 
-use c25_bytes::{is_blank, is_field};
+use c25_meaning_common::bytes::is_blank;
+
+/// Whether a byte is neither a blank nor `;`.
+fn is_field(b: u8) -> bool
+    ensures { result ≡ is_field b }
+{
+    !(is_blank(b) || b == b';')
+}
 
 fn blank_run(text: &[u8]) -> usize
     ensures value { result ≡ prefix_len is_blank text.now }

@@ -1,13 +1,15 @@
 //! What stands at the front of a text.
 
 ghost use Rattle.std.specs.Prelude.{◌≡◌, ◌<◌, ◌≤◌, length, true, slice_index, IfSome, min, ◌^◌};
+ghost use Rattle.std.specs.List.{list_all};
+ghost use Rattle.c25_meaning_common.specs.Bytes.{is_plain};
+ghost use Rattle.c25_meaning_common.specs.Digits.{all_digits};
 ghost use Rattle.c25_meaning_lines.specs.Constant.{suffix_base, numeral, is_constant, constant_value};
 ghost use Rattle.c25_meaning_lines.specs.Lexeme.{name_of, constant_of, character_of, quoted_len, quoted_by, dotted_of, double_sign, single_sign, sign_by, lexeme};
 
-use c25_bytes::{
-    all_digits, all_plain, begins_name, byte_at, constant_run, is_blank, is_digit, is_plain,
-    name_run, value_in,
-};
+use c25_meaning_common::bytes::{begins_name, byte_at, is_blank, is_digit};
+use c25_meaning_common::digits::{digit, value_in};
+use c25_meaning_common::runs::{constant_run, name_run};
 use c25_meaning_lines::line::{Lexeme, LineFault, Sign, TokenKind};
 
 fn suffix_base(b: u8) -> Option<u8>
@@ -33,6 +35,12 @@ fn numeral(text: &[u8]) -> (u8, &[u8])
         Some(base) => (base, front),
         None => (10, text),
     }
+}
+
+fn all_digits(base: u8, text: &[u8]) -> bool
+    ensures { result ≡ all_digits base text.now }
+{
+    text.iter().all(|b| digit(*b) < base)
 }
 
 fn is_constant(text: &[u8]) -> bool
@@ -69,6 +77,19 @@ fn name_of(length: usize) -> Lexeme
     } else {
         Lexeme::Fault(LineFault::BadLabel)
     }
+}
+
+/// Whether a byte may stand outside comments: 20h to 7Eh, or a tab.
+fn is_plain(b: u8) -> bool
+    ensures { result ≡ is_plain b }
+{
+    b >= b' ' && b <= b'~' || b == b'\t'
+}
+
+fn all_plain(text: &[u8]) -> bool
+    ensures { result ≡ list_all is_plain text.now }
+{
+    text.iter().all(|b| is_plain(*b))
 }
 
 /// A character behind its quote, by the next three bytes.

@@ -1,13 +1,16 @@
 //! The parts of a line.
 
 ghost use Rattle.std.specs.Prelude.{◌≡◌, ℕ, List, Ok, Err, length, slice_index, drop, nat_le, ◌&&◌, ◌<◌, ◌≤◌, MatchResult};
+ghost use Rattle.std.specs.List.{list_all};
 ghost use Rattle.std.specs.Option.{option_map};
+ghost use Rattle.c25_meaning_common.specs.Bytes.{is_visible};
 ghost use Rattle.c25_meaning_lines.specs.Line.{line_of, part_from, label_of, word_of, without_colon, is_name, is_comment_line, first_word, Operands, scan_from};
 ghost use Rattle.c25_text.specs.View.{parts_of, part_of, pieces_left};
 
 use crate::fields::{past_blanks, past_field};
 use crate::tokens::{Tokens, comment_from};
-use c25_bytes::{all_go_on_name, all_visible, begins_name, byte_at};
+use c25_meaning_common::bytes::{begins_name, byte_at};
+use c25_meaning_common::runs::all_go_on_name;
 use c25_meaning_lines::line::LineFault;
 
 /// A part of a line that is no token: the place of its first byte, and its text, which is the slice of
@@ -131,6 +134,19 @@ fn is_label(name: &[u8]) -> bool
         return false;
     };
     begins_name(*first) && all_go_on_name(name) && name.len() <= 128
+}
+
+/// Whether a byte is one of 21h to 7Eh.
+fn is_visible(b: u8) -> bool
+    ensures { result ≡ is_visible b }
+{
+    b >= b'!' && b <= b'~'
+}
+
+fn all_visible(text: &[u8]) -> bool
+    ensures { result ≡ list_all is_visible text.now }
+{
+    text.iter().all(|b| is_visible(*b))
 }
 
 /// The mnemonic or directive.
