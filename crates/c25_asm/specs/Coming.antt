@@ -15,8 +15,12 @@ StillComes files name (Stands c) a meant = (n : ℕ) × (c.left < n) × (source.
 StillComes files name Absent a meant = meant ≡ Err (Missing name 0 name)
 StillComes files name (Failed f) a meant = ⊥
 
--- the answer is what all lines make behind lines that have made this
+-- the same behind lines that are alike to these
+pub record Comes (listed : Bool) (files : Files) (name : List ℕ) (stage : Stage) (made : source.Passed) (meant : Result source.Passed ExpansionFault) : Type 0 where
+  pub behind : source.Passed
+  pub alike : AreAlike listed behind made
+  pub still : StillComes files name stage behind meant
+
+-- the answer is what all lines make
 abbrev pub IsRest : (listed : Bool) → Expansion → source.Passed → Result Passed (Failure AsmFault) → Type 0
-IsRest listed e made result =
-    (a : source.Passed) (meant : Result source.Passed ExpansionFault) → AreAlike listed a made → StillComes e.files e.name e.stage a meant
-    → Passes listed meant result
+IsRest listed e made result = (meant : Result source.Passed ExpansionFault) → Comes listed e.files e.name e.stage made meant → Passes listed meant result

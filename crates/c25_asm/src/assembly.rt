@@ -97,7 +97,6 @@ fn pass_all<'a>(
 
 /// The module of the source of a name, with the entries of its lines where a listing is wanted, and else
 /// without entries.
-#[tactic(auto, unfolding(c25_meaning_sources::specs::ModuleOfSource::assembled), using(crate::proofs::Made::lists_are_a_module))]
 fn assemble_lines<'a>(
     alloc: Global,
     files: &'a Files,
