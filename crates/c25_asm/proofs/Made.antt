@@ -8,12 +8,14 @@ use Rattle.c25_meaning_expansion.specs.ExpansionRuns.{start_of}
 use Rattle.c25_meaning_files.specs.Files.{Files}
 use Rattle.c25_meaning_objects.specs.Module.{Contents, is_module}
 use Rattle.c25_meaning_sources.specs.ModuleOfSource.{Assembled, Passed, assembled, completed, passed_from}
-use Rattle.c25_meaning_common.specs.Results.{◌>>=◌, FailsBy}
+use Rattle.c25_meaning_common.specs.Results.{◌>>=◌, FailsBy, MeetsBy}
 use Rattle.c25_meaning_common.specs.declared.failure.Failure.{Failure}
 use Rattle.c25_meaning_common.specs.declared.failure.Failure.TheVariants.{NoMemory, Fault}
 use Rattle.c25_phases.specs.View.{fault_of}
 use Rattle.c25_phases.specs.declared.fault.AsmFault.{AsmFault}
-use Rattle.c25_asm.specs.Listed.{AreAlike, IsListed, module_of}
+use Rattle.c25_listing.specs.declared.listing.Listing.{Listing}
+use Rattle.c25_asm.specs.Listed.{AreAlike, Assembles, IsListed, module_of}
+use Rattle.c25_asm.specs.View.{assembled_of}
 use Rattle.c25_asm.proofs.Alike.{same_made}
 
 -- the lists of lines that pass and whose operands are right
@@ -71,3 +73,9 @@ module_alone files name b l h same = ap (λ (x : Result Assembled ExpansionFault
 pub no_module : (files : Files) (name : List ℕ) (e : Failure AsmFault) → FailsBy fault_of (assembled files name) e → FailsBy fault_of (module_of files name) e
 no_module files name (NoMemory n) h = tt
 no_module files name (Fault f) h = ap (λ (x : Result Assembled ExpansionFault). x >>= λ c. Ok c.contents) h
+
+-- ---- with its listing
+
+pub listed_meets : (meant : Result Assembled ExpansionFault) (answer : Result Listing (Failure AsmFault)) → Assembles true meant answer → MeetsBy fault_of assembled_of meant answer
+listed_meets meant (Ok l) (b, h, same) = h ∙ ap Ok same
+listed_meets meant (Err e) h = h

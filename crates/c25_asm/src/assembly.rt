@@ -140,6 +140,6 @@ pub fn assemble_module<'a>(
 ) -> Result<Module, Failure<AsmFault<'a>>>
     ensures { MeetsBy fault_of (λ m. m) (module_of files.now name.now) result }
 {
-    let Listing { module, .. } = assemble_lines(alloc, files, name, false)?;
-    Ok(module)
+    let listing = assemble_lines(alloc, files, name, false)?;
+    Ok(listing.module)
 }
