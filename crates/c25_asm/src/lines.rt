@@ -34,9 +34,10 @@ fn add_entry<'a>(
 ) -> Result<(), NoMemory>
     ensures { OnOk result (IsTrue listed → entries_of entries.new.items ≡ entries_of entries.old.items ++ entry_of entry.entry ∷ []) }
 {
-    if listed {
-        entries.push(entry)?;
+    if !listed {
+        return Ok(());
     }
+    entries.push(entry)?;
     Ok(())
 }
 
