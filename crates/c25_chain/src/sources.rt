@@ -89,7 +89,7 @@ pub fn assemble_module(alloc: Global, files: &Files, name: &str) -> Result<Modul
     ensures { MeetsBy refusal_of (λ m. m) (module_in files.now name.now) result }
 {
     match c25_asm::assemble_module(alloc, files, name) {
-        Ok(module) => Ok(module),
+        Ok(alone) => Ok(alone),
         Err(failure) => Err(failed(alloc, failure)),
     }
 }

@@ -65,8 +65,8 @@ fn object_of_source<'a>(
 ) -> Result<Vec<Output<'a>>, Fault>
     ensures { MeetsBy refusal_of output_files (asm_written object.entry.now None files.now source.now) result }
 {
-    let module = assemble_module(alloc, files, source)?;
-    Ok(object_of(alloc, &module, object)?)
+    let alone = assemble_module(alloc, files, source)?;
+    Ok(object_of(alloc, &alone, object)?)
 }
 
 /// The files that are written of a source where a listing is asked for.
