@@ -1,6 +1,5 @@
 -- Lines that are alike pass alike.
-use Rattle.std.proofs.Common.{◌≡◌, Bool, true, false, List, [], ◌∷◌, ◌++◌, Result, Ok, Err, refl, ap, sym, ◌∙◌, subst}
-use Rattle.c25_meaning_assembly.specs.Listing.{Entry}
+use Rattle.std.proofs.Common.{◌≡◌, Bool, true, false, [], ◌∷◌, ◌++◌, Result, Ok, Err, refl, ap, sym, ◌∙◌}
 use Rattle.c25_meaning_assembly.specs.Sections.{Progress}
 use Rattle.c25_meaning_common.specs.Results.{◌>>=◌, FailsBy}
 use Rattle.c25_meaning_common.specs.declared.failure.Failure.{Failure}
