@@ -1,6 +1,6 @@
 -- The lines of a module, one after another, as an expander gives them.
 use denote.Ref.{Bor}
-use Rattle.std.proofs.Common.{◌≡◌, ℕ, zero, suc, ◌<◌, List, Option, Some, None, Result, Ok, Err, refl, sym, ap, ◌∙◌, arith, subst}
+use Rattle.std.proofs.Common.{◌≡◌, ℕ, zero, suc, ◌<◌, Bool, List, Option, Some, None, Result, Ok, Err, refl, sym, ap, ◌∙◌, arith, subst}
 use Rattle.std.specs.Option.{option_map}
 use Rattle.c25_macro.specs.Expander.{ExpandFault, Expansion, IsNext, Stage, Stands, Absent, Failed, begun_at, shown, IsNextAt, IsFailure, Tells, TellsFault, missing_of, left_of}
 use Rattle.c25_macro.specs.declared.answer.ExpLine.{ExpLine}
@@ -20,8 +20,10 @@ use Rattle.c25_meaning_common.specs.declared.failure.Failure.TheVariants.{NoMemo
 use Rattle.c25_phases.specs.View.{fault_of}
 use Rattle.c25_phases.specs.declared.fault.AsmFault.{AsmFault}
 use Rattle.c25_phases.specs.declared.fault.AsmFault.TheVariants.{Line, NoFile}
-use Rattle.c25_asm.specs.Coming.{StillComes}
+use Rattle.c25_asm.specs.Coming.{Comes, StillComes}
+use Rattle.c25_asm.specs.Listed.{AreAlike}
 use Rattle.c25_asm.specs.Told.{IsTold, IsToldBy}
+use Rattle.c25_asm.proofs.Alike.{alike_then, like_itself, passes_alike, refused_alike, same_made}
 
 by_start : (files : Files) (name : List ℕ) (file : ℕ) (o : Option (List ℕ))
     → StillComes files name (begun_at (option_map (start file) o)) no_lines (passed_from files name (option_map (start file) o))
@@ -29,14 +31,18 @@ by_start files name file None = refl
 by_start files name file (Some text) = (200001, omega arith, refl)
 
 -- before the first line
-pub begins : (files : Files) (name : List ℕ) → StillComes files name (begun_at (start_of files name)) no_lines (passed_from files name (start_of files name))
-begins files name = by_start files name (file_number files name) (text_named files name)
+pub begins : (listed : Bool) (files : Files) (name : List ℕ) → Comes listed files name (begun_at (start_of files name)) no_lines (passed_from files name (start_of files name))
+begins listed files name = record { behind = no_lines; alike = like_itself listed no_lines; still = by_start files name (file_number files name) (text_named files name) }
 
 -- the same of lines whose progress is the same
-pub moved : (files : Files) (name : List ℕ) (stage : Stage) (p q : Progress) (entries : List Entry) (meant : Result Passed ExpansionFault) → q ≡ p
-    → StillComes files name stage (record { progress = p; entries = entries }) meant → StillComes files name stage (record { progress = q; entries = entries }) meant
-moved files name stage p q entries meant same coming =
-    subst (λ (x : Progress). StillComes files name stage (record { progress = x; entries = entries }) meant) (sym same) coming
+pub moved : (listed : Bool) (files : Files) (name : List ℕ) (stage : Stage) (p q : Progress) (entries : List Entry) (meant : Result Passed ExpansionFault) → q ≡ p
+    → Comes listed files name stage (record { progress = p; entries = entries }) meant → Comes listed files name stage (record { progress = q; entries = entries }) meant
+moved listed files name stage p q entries meant same coming =
+    subst (λ (x : Progress). Comes listed files name stage (record { progress = x; entries = entries }) meant) (sym same) coming
+
+-- the names of lines that are alike
+names_alike : (listed : Bool) (s : Table) (a b : Passed) → AreAlike listed a b → s ≡ table b.progress → s ≡ table a.progress
+names_alike listed s a b alike is = is ∙ ap table (sym (same_made listed a b alike))
 
 -- ---- what a rewriting gives
 
@@ -64,19 +70,30 @@ at e files name s r new f n h =
     subst (λ (x : List ℕ). IsNextAt files x e.stage s r new) n (subst (λ (x : Files). IsNextAt x e.name e.stage s r new) f h)
 
 -- one line more was given
-pub goes_on : (files : Files) (name : List ℕ) (old new : Stage) (s : Table) (a b : Passed) (meant : Result Passed ExpansionFault) (line : ExpLine)
+line_more : (files : Files) (name : List ℕ) (old new : Stage) (s : Table) (a b : Passed) (meant : Result Passed ExpansionFault) (line : ExpLine)
     → s ≡ table a.progress → StillComes files name old a meant → IsNextAt files name old s (Ok (Some line)) new → left_of new < left_of old
     → pass_line (shown line) a ≡ Ok b → StillComes files name new b meant
-goes_on files name (Stands c) (Stands d) s a b meant line is (zero, few, h) next less passes = absurd (omega (arith, few))
-goes_on files name (Stands c) (Stands d) s a b meant line is (suc n, few, h) next less passes =
+line_more files name (Stands c) (Stands d) s a b meant line is (zero, few, h) next less passes = absurd (omega (arith, few))
+line_more files name (Stands c) (Stands d) s a b meant line is (suc n, few, h) next less passes =
     (n, omega (arith, few, less), sym (ap (λ r. r >>= λ x. passed files n d x) passes) ∙ sym (on_line files c d s a (shown line) n is next) ∙ h)
-goes_on files name (Stands c) Absent s a b meant line is coming next less passes = absurd next
-goes_on files name (Stands c) (Failed f) s a b meant line is coming next less passes = absurd next
-goes_on files name Absent new s a b meant line is coming next less passes = absurd next
-goes_on files name (Failed f) new s a b meant line is coming next less passes = absurd next
+line_more files name (Stands c) Absent s a b meant line is coming next less passes = absurd next
+line_more files name (Stands c) (Failed f) s a b meant line is coming next less passes = absurd next
+line_more files name Absent new s a b meant line is coming next less passes = absurd next
+line_more files name (Failed f) new s a b meant line is coming next less passes = absurd next
+
+pub goes_on : (listed : Bool) (files : Files) (name : List ℕ) (old new : Stage) (s : Table) (a then : Passed) (meant : Result Passed ExpansionFault) (line : ExpLine)
+    → s ≡ table a.progress → Comes listed files name old a meant → IsNextAt files name old s (Ok (Some line)) new → left_of new < left_of old
+    → (b : Passed) × (pass_line (shown line) a ≡ Ok b) × AreAlike listed b then → Comes listed files name new then meant
+goes_on listed files name old new s a then meant line is coming next less (b, passes, same) =
+    let d = passes_alike listed coming.behind a b (shown line) coming.alike passes in
+    record {
+      behind = d.0;
+      alike = alike_then listed d.0 b then d.2 same;
+      still = line_more files name old new s coming.behind d.0 meant line (names_alike listed s coming.behind a coming.alike is) coming.still next less d.1;
+    }
 
 -- a line was given that is wrong
-pub line_fails : (files : Files) (name : List ℕ) (old new : Stage) (s : Table) (a : Passed) (meant : Result Passed ExpansionFault) (line : ExpLine) (f : ExpansionFault)
+line_fails : (files : Files) (name : List ℕ) (old new : Stage) (s : Table) (a : Passed) (meant : Result Passed ExpansionFault) (line : ExpLine) (f : ExpansionFault)
     → s ≡ table a.progress → StillComes files name old a meant → IsNextAt files name old s (Ok (Some line)) new
     → pass_line (shown line) a ≡ Err f → meant ≡ Err f
 line_fails files name (Stands c) (Stands d) s a meant line f is (zero, few, h) next fails = absurd (omega (arith, few))
@@ -87,12 +104,19 @@ line_fails files name (Stands c) (Failed g) s a meant line f is coming next fail
 line_fails files name Absent new s a meant line f is coming next fails = absurd next
 line_fails files name (Failed g) new s a meant line f is coming next fails = absurd next
 
--- a line was given that is refused
-pub line_refused : (files : Files) (name : List ℕ) (old new : Stage) (s : Table) (a : Passed) (meant : Result Passed ExpansionFault) (line : ExpLine) (e : Failure AsmFault)
+refused_by : (files : Files) (name : List ℕ) (old new : Stage) (s : Table) (a : Passed) (meant : Result Passed ExpansionFault) (line : ExpLine) (e : Failure AsmFault)
     → s ≡ table a.progress → StillComes files name old a meant → IsNextAt files name old s (Ok (Some line)) new
     → FailsBy fault_of (pass_line (shown line) a) e → FailsBy fault_of meant e
-line_refused files name old new s a meant line (NoMemory n) is coming next fails = tt
-line_refused files name old new s a meant line (Fault f) is coming next fails = line_fails files name old new s a meant line (fault_of f) is coming next fails
+refused_by files name old new s a meant line (NoMemory n) is coming next fails = tt
+refused_by files name old new s a meant line (Fault f) is coming next fails = line_fails files name old new s a meant line (fault_of f) is coming next fails
+
+-- a line was given that is refused
+pub line_refused : (listed : Bool) (files : Files) (name : List ℕ) (old new : Stage) (s : Table) (a : Passed) (meant : Result Passed ExpansionFault) (line : ExpLine) (e : Failure AsmFault)
+    → s ≡ table a.progress → Comes listed files name old a meant → IsNextAt files name old s (Ok (Some line)) new
+    → FailsBy fault_of (pass_line (shown line) a) e → FailsBy fault_of meant e
+line_refused listed files name old new s a meant line e is coming next fails =
+    refused_by files name old new s coming.behind meant line e (names_alike listed s coming.behind a coming.alike is) coming.still next
+    (refused_alike listed coming.behind a (shown line) e coming.alike fails)
 
 -- ---- the end
 
@@ -102,14 +126,20 @@ on_end files c d s a n is h =
     sym (ap (λ t. passed_by (fault_by files (first files t c)) (given_by files (first files t c)) (passed files n) a) is)
     ∙ ap (λ r. passed_by (fault_by files r) (given_by files r) (passed files n) a) h
 
-pub ends : (files : Files) (name : List ℕ) (old new : Stage) (s : Table) (a : Passed) (meant : Result Passed ExpansionFault)
+ends_at : (files : Files) (name : List ℕ) (old new : Stage) (s : Table) (a : Passed) (meant : Result Passed ExpansionFault)
     → s ≡ table a.progress → StillComes files name old a meant → IsNextAt files name old s (Ok None) new → meant ≡ Ok a
-ends files name (Stands c) (Stands d) s a meant is (zero, few, h) next = absurd (omega (arith, few))
-ends files name (Stands c) (Stands d) s a meant is (suc n, few, h) next = sym h ∙ on_end files c d s a n is next
-ends files name (Stands c) Absent s a meant is coming next = absurd next
-ends files name (Stands c) (Failed f) s a meant is coming next = absurd next
-ends files name Absent new s a meant is coming next = absurd next
-ends files name (Failed f) new s a meant is coming next = absurd next
+ends_at files name (Stands c) (Stands d) s a meant is (zero, few, h) next = absurd (omega (arith, few))
+ends_at files name (Stands c) (Stands d) s a meant is (suc n, few, h) next = sym h ∙ on_end files c d s a n is next
+ends_at files name (Stands c) Absent s a meant is coming next = absurd next
+ends_at files name (Stands c) (Failed f) s a meant is coming next = absurd next
+ends_at files name Absent new s a meant is coming next = absurd next
+ends_at files name (Failed f) new s a meant is coming next = absurd next
+
+-- no line more came
+pub ends : (listed : Bool) (files : Files) (name : List ℕ) (old new : Stage) (s : Table) (a : Passed) (meant : Result Passed ExpansionFault)
+    → s ≡ table a.progress → Comes listed files name old a meant → IsNextAt files name old s (Ok None) new → (b : Passed) × (meant ≡ Ok b) × AreAlike listed b a
+ends listed files name old new s a meant is coming next =
+    (coming.behind, ends_at files name old new s coming.behind meant (names_alike listed s coming.behind a coming.alike is) coming.still next, coming.alike)
 
 -- ---- a fault
 
@@ -143,18 +173,23 @@ told_failure (Fault f) meant (NoMemory m) missing g is t same told = absurd t
 told_failure {A = A} (Fault f) meant (Fault e) missing g is t same told =
     subst (λ (r : Result A ExpansionFault). FailsBy fault_of r g) (sym (is f refl)) (told_fault A f e missing g t same told)
 
--- expansion fails
-pub expansion_fails : (files : Files) (name : List ℕ) (old new : Stage) (s : Table) (a : Passed) (meant : Result Passed ExpansionFault) (e : Failure ExpandFault) (missing : Option (Bor (List ℕ))) (g : Failure AsmFault)
+expansion_stops : (files : Files) (name : List ℕ) (old new : Stage) (s : Table) (a : Passed) (meant : Result Passed ExpansionFault) (e : Failure ExpandFault) (missing : Option (Bor (List ℕ))) (g : Failure AsmFault)
     → s ≡ table a.progress → StillComes files name old a meant → IsNextAt files name old s (Err e) new → option_map (λ n. n.now) missing ≡ missing_of new → IsTold missing e g → FailsBy fault_of meant g
-expansion_fails files name (Stands c) (Stands d) s a meant e missing g is coming next same told = absurd next
-expansion_fails files name (Stands c) Absent s a meant e missing g is coming next same told = absurd next
-expansion_fails files name (Stands c) (Failed failure) s a meant e missing g is (zero, few, h) next same told = absurd (omega (arith, few))
-expansion_fails files name (Stands c) (Failed failure) s a meant e missing g is (suc n, few, h) next same told =
+expansion_stops files name (Stands c) (Stands d) s a meant e missing g is coming next same told = absurd next
+expansion_stops files name (Stands c) Absent s a meant e missing g is coming next same told = absurd next
+expansion_stops files name (Stands c) (Failed failure) s a meant e missing g is (zero, few, h) next same told = absurd (omega (arith, few))
+expansion_stops files name (Stands c) (Failed failure) s a meant e missing g is (suc n, few, h) next same told =
     told_failure failure meant e missing g (failed failure next.0) next.1 same told
   where
     failed : (failure : Failure ExpansionFault) → IsFailure files (first files s c) failure → (f : ExpansionFault) → failure ≡ Fault f → meant ≡ Err f
     failed (NoMemory m) i f q = absurd (cc)
     failed (Fault x) i f q = let same : x ≡ f = cc in sym h ∙ on_fault files c s a n x is i ∙ ap Err same
-expansion_fails files name Absent new s a meant e missing g is coming next same told =
+expansion_stops files name Absent new s a meant e missing g is coming next same told =
     told_failure (Fault (Missing name 0 name)) meant e missing g (λ f q. let x : Missing name 0 name ≡ f = cc in coming ∙ ap Err x) next.1 (same ∙ ap missing_of next.0) told
-expansion_fails files name (Failed failure) new s a meant e missing g is coming next same told = absurd coming
+expansion_stops files name (Failed failure) new s a meant e missing g is coming next same told = absurd coming
+
+-- expansion fails
+pub expansion_fails : (listed : Bool) (files : Files) (name : List ℕ) (old new : Stage) (s : Table) (a : Passed) (meant : Result Passed ExpansionFault) (e : Failure ExpandFault) (missing : Option (Bor (List ℕ))) (g : Failure AsmFault)
+    → s ≡ table a.progress → Comes listed files name old a meant → IsNextAt files name old s (Err e) new → option_map (λ n. n.now) missing ≡ missing_of new → IsTold missing e g → FailsBy fault_of meant g
+expansion_fails listed files name old new s a meant e missing g is coming next same told =
+    expansion_stops files name old new s coming.behind meant e missing g (names_alike listed s coming.behind a coming.alike is) coming.still next same told

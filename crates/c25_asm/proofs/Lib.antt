@@ -1,3 +1,4 @@
+pub mod Alike
 pub mod Coming
 pub mod Lined
 pub mod Made

@@ -1,19 +1,18 @@
 -- One line more, and its entry in the listing.
-use Rattle.std.proofs.Common.{◌≡◌, ℕ, ◌-◌, List, [], ◌∷◌, ◌++◌, Result, Ok, Err, IsErrAnd, ap, sym, ◌∙◌}
+use Rattle.std.proofs.Common.{◌≡◌, ℕ, ◌-◌, Bool, true, false, List, [], ◌∷◌, ◌++◌, Result, Ok, Err, IsErrAnd, refl, ap, sym, ◌∙◌}
 use Rattle.c25_meaning_assembly.specs.Emission.{at_origin}
 use Rattle.c25_meaning_expansion.specs.ExpansionAnswers.{ExpandedLine}
 use Rattle.c25_meaning_assembly.specs.Listing.{Entry}
 use Rattle.c25_meaning_sources.specs.ModuleOfSource.{Passed, origin_of, entry_of, pass_line}
-use Rattle.c25_meaning_common.specs.Results.{◌>>=◌, IsNoMemory, MeetsBy}
+use Rattle.c25_meaning_common.specs.Results.{◌>>=◌, IsNoMemory}
 use Rattle.c25_meaning_common.specs.declared.failure.Failure.{Failure}
 use Rattle.c25_meaning_common.specs.declared.failure.Failure.TheVariants.{NoMemory, Fault}
 use Rattle.c25_meaning_language.specs.ExpansionFault.{ExpansionFault}
 use Rattle.c25_meaning_assembly.specs.Sections.{Progress, size_at}
 use Rattle.c25_meaning_language.specs.declared.statement.FaultKind.{FaultKind}
 use Rattle.c25_phases.specs.Steps.{text_passed}
-use Rattle.c25_phases.specs.View.{fault_of}
 use Rattle.c25_phases.specs.declared.fault.AsmFault.{AsmFault}
-use Rattle.c25_asm.specs.View.{passed_of}
+use Rattle.c25_asm.specs.Listed.{AreAlike, Passes}
 use Rattle.c25_asm.specs.declared.passed.Passed as code
 
 -- the words by which the section of a line grew
@@ -32,8 +31,16 @@ line_passed l a p entries h e =
     let made : Progress → List Entry → Passed = λ q es. record { progress = q; entries = es } in
     ap (λ (r : Result Progress FaultKind). at_origin (origin_of l) r >>= λ q. Ok (made q (a.entries ++ entry_of l a.progress q ∷ []))) h ∙ ap (λ es. Ok (made p es)) (sym e)
 
+-- the same where it has its entry only if a listing is wanted
+pub line_listed : (listed : Bool) (l : ExpandedLine) (a : Passed) (p : Progress) (entries : List Entry) → text_passed (origin_of l) l.text a.progress ≡ Ok p
+    → (listed ≡ true → entries ≡ a.entries ++ entry_of l a.progress p ∷ [])
+    → (b : Passed) × (pass_line l a ≡ Ok b) × AreAlike listed b (record { progress = p; entries = entries })
+line_listed true l a p entries h e = (record { progress = p; entries = entries }, line_passed l a p entries h (e refl), refl)
+line_listed false l a p entries h e =
+    (record { progress = p; entries = a.entries ++ entry_of l a.progress p ∷ [] }, line_passed l a p (a.entries ++ entry_of l a.progress p ∷ []) h refl, refl)
+
 -- a growth that was refused is an answer whatever is meant
-pub refused_growth : (meant : Result Passed ExpansionFault) (answer : Result code.Passed (Failure AsmFault)) → IsErrAnd answer IsNoMemory → MeetsBy fault_of passed_of meant answer
-refused_growth meant (Ok x) h = absurd h
-refused_growth meant (Err (NoMemory n)) h = tt
-refused_growth meant (Err (Fault f)) h = absurd h
+pub refused_growth : (listed : Bool) (meant : Result Passed ExpansionFault) (answer : Result code.Passed (Failure AsmFault)) → IsErrAnd answer IsNoMemory → Passes listed meant answer
+refused_growth listed meant (Ok x) h = absurd h
+refused_growth listed meant (Err (NoMemory n)) h = tt
+refused_growth listed meant (Err (Fault f)) h = absurd h

@@ -1,14 +1,12 @@
 -- The lines that a module still has.
-use Rattle.std.specs.Prelude.{◌≡◌, ◌<◌, ℕ, List, Result, Err}
+use Rattle.std.specs.Prelude.{◌≡◌, ◌<◌, ℕ, Bool, List, Result, Err}
 use Rattle.c25_macro.specs.Expander.{Expansion, Stage, Stands, Absent, Failed}
 use Rattle.c25_meaning_language.specs.ExpansionFault.{ExpansionFault, Missing}
 use Rattle.c25_meaning_files.specs.Files.{Files}
 use Rattle.c25_meaning_sources.specs.ModuleOfSource as source
-use Rattle.c25_meaning_common.specs.Results.{MeetsBy}
 use Rattle.c25_meaning_common.specs.declared.failure.Failure.{Failure}
-use Rattle.c25_phases.specs.View.{fault_of}
 use Rattle.c25_phases.specs.declared.fault.AsmFault.{AsmFault}
-use Rattle.c25_asm.specs.View.{passed_of}
+use Rattle.c25_asm.specs.Listed.{AreAlike, Passes}
 use Rattle.c25_asm.specs.declared.passed.Passed.{Passed}
 
 -- what all lines of the module of a name make, where an expansion stands there and these have passed
@@ -17,6 +15,12 @@ StillComes files name (Stands c) a meant = (n : ℕ) × (c.left < n) × (source.
 StillComes files name Absent a meant = meant ≡ Err (Missing name 0 name)
 StillComes files name (Failed f) a meant = ⊥
 
+-- the same behind lines that are alike to these
+pub record Comes (listed : Bool) (files : Files) (name : List ℕ) (stage : Stage) (made : source.Passed) (meant : Result source.Passed ExpansionFault) : Type 0 where
+  pub behind : source.Passed
+  pub alike : AreAlike listed behind made
+  pub still : StillComes files name stage behind meant
+
 -- the answer is what all lines make
-abbrev pub IsRest : Expansion → source.Passed → Result Passed (Failure AsmFault) → Type 0
-IsRest e a result = (meant : Result source.Passed ExpansionFault) → StillComes e.files e.name e.stage a meant → MeetsBy fault_of passed_of meant result
+abbrev pub IsRest : (listed : Bool) → Expansion → source.Passed → Result Passed (Failure AsmFault) → Type 0
+IsRest listed e made result = (meant : Result source.Passed ExpansionFault) → Comes listed e.files e.name e.stage made meant → Passes listed meant result

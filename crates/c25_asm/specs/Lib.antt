@@ -1,3 +1,4 @@
 pub mod Coming
+pub mod Listed
 pub mod Told
 pub mod View

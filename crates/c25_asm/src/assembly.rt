@@ -6,6 +6,7 @@ ghost use Rattle.c25_meaning_expansion.specs.ExpansionRuns.{start_of};
 ghost use Rattle.c25_macro.specs.Expanders.{expansion_of};
 ghost use Rattle.c25_phases.specs.View.{fault_of};
 ghost use Rattle.c25_asm.specs.Coming.{IsRest};
+ghost use Rattle.c25_asm.specs.Listed.{Assembles, Passes, module_of};
 ghost use Rattle.c25_asm.specs.Told.{IsNoFile, IsTold, IsWrongLine};
 ghost use Rattle.c25_asm.specs.View.{assembled_of, passed_of};
 
@@ -17,7 +18,7 @@ use c25_macro::expander::Expander;
 use c25_macro::files::Files;
 use c25_meaning_common::failure::Failure;
 use c25_meaning_common::no_memory::NoMemory;
-use c25_obj::module;
+use c25_obj::{Module, module};
 use c25_phases::fault::AsmFault;
 use c25_phases::finish;
 use std::alloc::Global;
@@ -60,36 +61,56 @@ fn told<'a>(
     }
 }
 
-/// All lines from here on.
+/// All lines from here on, with their entries where a listing is wanted.
 fn pass_rest<'a>(
     alloc: Global,
     expander: &mut Expander<'a>,
     passed: Passed<'a>,
+    listed: bool,
 ) -> Result<Passed<'a>, Failure<AsmFault<'a>>>
-    ensures { IsRest (expansion_of expander.old) (passed_of passed.entry) result }
+    ensures { IsRest listed (expansion_of expander.old) (passed_of passed.entry) result }
 {
     let mut passed = passed;
     loop {
         passed.progress.move_here();
         match expander.next_line(passed.progress.symbols()) {
-            Ok(Some(line)) => passed = pass_line(passed, line)?,
+            Ok(Some(line)) => passed = pass_line(passed, line, listed)?,
             Ok(None) => return Ok(passed),
             Err(failure) => return Err(told(alloc, expander.missing(), failure)),
         }
     }
 }
 
-/// All lines of the module of a name.
+/// All lines of the module of a name, with their entries where a listing is wanted.
 fn pass_all<'a>(
     alloc: Global,
     files: &'a Files,
     name: &'a str,
+    listed: bool,
 ) -> Result<Passed<'a>, Failure<AsmFault<'a>>>
-    ensures { MeetsBy fault_of passed_of (source.passed_from files.now name.now (start_of files.now name.now)) result }
+    ensures { Passes listed (source.passed_from files.now name.now (start_of files.now name.now)) result }
 {
     let passed = no_lines(alloc)?;
     let mut expander = Expander::new(alloc, files, name);
-    pass_rest(alloc, &mut expander, passed)
+    pass_rest(alloc, &mut expander, passed, listed)
+}
+
+/// The module of the source of a name, with the entries of its lines where a listing is wanted, and else
+/// without entries.
+fn assemble_lines<'a>(
+    alloc: Global,
+    files: &'a Files,
+    name: &'a str,
+    listed: bool,
+) -> Result<Listing<'a>, Failure<AsmFault<'a>>>
+    ensures { Assembles listed (source.assembled files.now name.now) result }
+{
+    let Passed { progress, entries } = pass_all(alloc, files, name, listed)?;
+    let parts = finish(Box::into_inner(progress))?;
+    Ok(Listing {
+        module: module(parts),
+        entries,
+    })
 }
 
 /// The module of the source of a name among these files, and its listing (SPRU018, the
@@ -100,7 +121,6 @@ fn pass_all<'a>(
 /// 36, 56, 54. Only where that phase finds nothing, a second phase tells the first operand of an
 /// instruction, of `.word`, `.int`, `.byte` and `.def`, without a value under all names (22 to 25),
 /// with an address where none may stand (55), or out of the range of its field (53).
-#[tactic(auto, unfolding(c25_meaning_sources::specs::ModuleOfSource::assembled), using(crate::proofs::Made::lists_are_a_module))]
 pub fn assemble<'a>(
     alloc: Global,
     files: &'a Files,
@@ -108,10 +128,18 @@ pub fn assemble<'a>(
 ) -> Result<Listing<'a>, Failure<AsmFault<'a>>>
     ensures { MeetsBy fault_of assembled_of (source.assembled files.now name.now) result }
 {
-    let Passed { progress, entries } = pass_all(alloc, files, name)?;
-    let parts = finish(Box::into_inner(progress))?;
-    Ok(Listing {
-        module: module(parts),
-        entries,
-    })
+    assemble_lines(alloc, files, name, true)
+}
+
+/// The module of the source of a name among these files, without a listing. It takes no memory for the
+/// entries of the lines. It is refused as [`assemble`] is.
+pub fn assemble_module<'a>(
+    alloc: Global,
+    files: &'a Files,
+    name: &'a str,
+) -> Result<Module, Failure<AsmFault<'a>>>
+    ensures { MeetsBy fault_of (λ m. m) (module_of files.now name.now) result }
+{
+    let listing = assemble_lines(alloc, files, name, false)?;
+    Ok(listing.module)
 }

@@ -1,10 +1,10 @@
 //! Lines passed.
 
-ghost use Rattle.std.specs.Prelude.{◌≡◌, IfOk};
+ghost use Rattle.std.specs.Prelude.{◌≡◌, ◌++◌, ◌∷◌, [], IfOk, IsTrue, OnOk};
+ghost use Rattle.c25_listing.specs.View.{entries_of, entry_of};
 ghost use Rattle.c25_macro.specs.Expander.{shown};
 ghost use Rattle.c25_meaning_sources.specs.ModuleOfSource as source;
-ghost use Rattle.c25_meaning_common.specs.Results.{MeetsBy};
-ghost use Rattle.c25_phases.specs.View.{fault_of};
+ghost use Rattle.c25_asm.specs.Listed.{Passes};
 ghost use Rattle.c25_asm.specs.View.{passed_of};
 
 use crate::passed::Passed;
@@ -26,13 +26,29 @@ pub(crate) fn no_lines<'a>(alloc: Global) -> Result<Passed<'a>, NoMemory>
     })
 }
 
-/// One line more.
+/// One entry more, where a listing is wanted.
+fn add_entry<'a>(
+    entries: &mut Vec<Entry<'a>>,
+    entry: Entry<'a>,
+    listed: bool,
+) -> Result<(), NoMemory>
+    ensures { OnOk result (IsTrue listed → entries_of entries.new.items ≡ entries_of entries.old.items ++ entry_of entry.entry ∷ []) }
+{
+    if !listed {
+        return Ok(());
+    }
+    entries.push(entry)?;
+    Ok(())
+}
+
+/// One line more, with its entry where a listing is wanted.
 #[tactic(auto, unfolding(c25_meaning_sources::specs::ModuleOfSource::pass_line))]
 pub(crate) fn pass_line<'a>(
     passed: Passed<'a>,
     line: ExpLine<'a>,
+    listed: bool,
 ) -> Result<Passed<'a>, Failure<AsmFault<'a>>>
-    ensures { MeetsBy fault_of passed_of (source.pass_line (shown line.entry) (passed_of passed.entry)) result }
+    ensures { Passes listed (source.pass_line (shown line.entry) (passed_of passed.entry)) result }
 {
     let Passed { progress, entries } = passed;
     let mut entries = entries;
@@ -43,13 +59,14 @@ pub(crate) fn pass_line<'a>(
     match read_and_pass(progress, origin, text.as_str()) {
         Ok(progress) => {
             let count = progress.size_at(section).saturating_sub(offset);
-            entries.push(Entry {
+            let entry = Entry {
                 line,
                 text,
                 section,
                 offset,
                 count,
-            })?;
+            };
+            add_entry(&mut entries, entry, listed)?;
             Ok(Passed { progress, entries })
         }
         Err(failure) => Err(at_origin(origin, failure)),

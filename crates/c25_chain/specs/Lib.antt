@@ -1,6 +1,7 @@
 pub mod Refusal
 pub mod FaultText
 pub mod Modules
+pub mod Sources
 pub mod Linked
 pub mod Built
 pub mod Run

@@ -18,6 +18,10 @@ asm_refusal (Missing file line name) = NoFile file line name
 abbrev pub assembled_in : Files → List ℕ → Result Assembled (Refusal (List ℕ))
 assembled_in files name = told asm_refusal (assembled files name)
 
+-- the module alone
+abbrev pub module_in : Files → List ℕ → Result Contents (Refusal (List ℕ))
+module_in files name = assembled_in files name >>= λ a. Ok a.contents
+
 -- the modules of sources, and the texts of their listings
 pub record Modules : Type 0 where
   pub modules : List Contents

@@ -21,4 +21,4 @@ pub use linked::link_modules;
 pub use modules::assemble_all;
 pub use output::write_run;
 pub use run::{Done, board_of, run_board};
-pub use sources::assemble_source;
+pub use sources::{assemble_module, assemble_source};

@@ -5,7 +5,8 @@ ghost use Rattle.c25_phases.specs.View.{fault_of};
 ghost use Rattle.c25_asm.specs.View.{assembled_of};
 ghost use Rattle.c25_meaning_common.specs.Results.{MeetsBy};
 ghost use Rattle.c25_chain.specs.Refusal.{IsRefusedAs, refusal_of};
-ghost use Rattle.c25_chain.specs.Modules.{asm_refusal, assembled_in};
+ghost use Rattle.c25_chain.specs.Sources.{IsToldAs};
+ghost use Rattle.c25_chain.specs.Modules.{asm_refusal, assembled_in, module_in};
 ghost use Rattle.c25_chain.specs.declared.fault.Refusal.TheVariants as refusal;
 
 use crate::fault::{Fault, Refusal};
@@ -56,6 +57,16 @@ fn refused(alloc: Global, fault: AsmFault<'_>) -> Fault
     }
 }
 
+/// Why assembling fails, as the chain tells it.
+fn failed(alloc: Global, failure: Failure<AsmFault<'_>>) -> Fault
+    ensures { IsToldAs failure.entry result }
+{
+    match failure {
+        Failure::NoMemory(error) => error.into(),
+        Failure::Fault(fault) => refused(alloc, fault),
+    }
+}
+
 /// The module of the source of a name among these files, and its listing. It is refused where a line
 /// is wrong (10 to 13, 20 to 26, 31 to 36, 38, 50 to 56), or where a file that it asks for is not there
 /// (30).
@@ -68,8 +79,18 @@ pub fn assemble_source<'a>(
 {
     match assemble(alloc, files, name) {
         Ok(listing) => Ok(listing),
-        Err(Failure::NoMemory(error)) => Err(error.into()),
-        Err(Failure::Fault(fault)) => Err(refused(alloc, fault)),
+        Err(failure) => Err(failed(alloc, failure)),
+    }
+}
+
+/// The module of the source of a name among these files, without a listing. It is refused as
+/// [`assemble_source`] is.
+pub fn assemble_module(alloc: Global, files: &Files, name: &str) -> Result<Module, Fault>
+    ensures { MeetsBy refusal_of (λ m. m) (module_in files.now name.now) result }
+{
+    match c25_asm::assemble_module(alloc, files, name) {
+        Ok(alone) => Ok(alone),
+        Err(failure) => Err(failed(alloc, failure)),
     }
 }
 

@@ -3,7 +3,9 @@ pub mod Lined
 pub mod Names
 pub mod Origins
 pub mod Refusals
+pub mod Runs
 pub mod Sizes
+pub mod SourceLines
 pub mod Steps
 pub mod View
 pub mod Wrong

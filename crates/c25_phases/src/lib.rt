@@ -4,7 +4,8 @@
 //! values. The second one goes over the operands that waited for all names, and gives words and
 //! relocations. A module is of version 2: it tells each instruction's file and line.
 //!
-//! Both phases: `line_reader`, `item`, `targets`, `sheet`, `names`, `section`, `sections`, `fault`, `refusal`.
+//! Both phases: `line_reader`, `item`, `targets`, `sheet`, `names`, `section`, `source_lines`, `file_runs`,
+//! `sections`, `fault`, `refusal`.
 //! The first: `progress`, `first_phase`, `acts`, `counts`, `lines`. The second: `emission`, and
 //! `making`, which ends it.
 #![tactic(auto)]
@@ -13,6 +14,7 @@ mod acts;
 mod counts;
 mod emission;
 pub mod fault;
+mod file_runs;
 mod first_phase;
 mod item;
 mod line_reader;
@@ -24,6 +26,7 @@ mod refusal;
 mod section;
 mod sections;
 mod sheet;
+mod source_lines;
 mod targets;
 mod wrong;
 

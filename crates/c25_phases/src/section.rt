@@ -7,6 +7,7 @@ ghost use Rattle.c25_phases.specs.Origins.{source_line, source_lines};
 ghost use Rattle.c25_obj.specs.View.{section_data};
 
 use crate::item::SourceLine;
+use crate::source_lines::SourceLines;
 use c25_meaning_common::no_memory::NoMemory;
 use c25_meaning_objects::object::{Block, ModuleMark, Relocation};
 use c25_obj::Body;
@@ -21,7 +22,7 @@ pub(crate) struct Section<'a> {
     initialised: bool,
     size: u32,
     marks: Vec<ModuleMark>,
-    lines: Vec<SourceLine<'a>>,
+    lines: SourceLines<'a>,
     blocks: Vec<Block>,
     words: Vec<u16>,
     relocations: Vec<Relocation>,
@@ -31,11 +32,11 @@ impl<'a> Model for Section<'a> {
     ghost use Rattle.std.specs.Prelude.{◌≤◌};
     ghost use Rattle.std.specs.String.{string_bytes};
     ghost use Rattle.c25_meaning_assembly.specs.Sections.{Section};
-    ghost use Rattle.c25_phases.specs.Origins.{source_lines};
+    ghost use Rattle.c25_phases.specs.SourceLines.{origins_of};
 
     ghost Value = { Section };
 
-    ghost view = { λ s. record { name = string_bytes s.name; initialised = s.initialised; size = s.size; marks = s.marks.items; origins = source_lines s.lines.items; blocks = s.blocks.items; words = s.words.items; relocations = s.relocations.items } };
+    ghost view = { λ s. record { name = string_bytes s.name; initialised = s.initialised; size = s.size; marks = s.marks.items; origins = origins_of s.lines; blocks = s.blocks.items; words = s.words.items; relocations = s.relocations.items } };
 
     ghost invariant = { λ s. s.size ≤ 65536 };
 }
@@ -51,7 +52,7 @@ impl<'a> Section<'a> {
             initialised,
             size: 0,
             marks: Vec::new(alloc),
-            lines: Vec::new(alloc),
+            lines: SourceLines::new(alloc),
             blocks: Vec::new(alloc),
             words: Vec::new(alloc),
             relocations: Vec::new(alloc),
@@ -84,10 +85,10 @@ impl<'a> Section<'a> {
     }
 
     /// The line of each mark.
-    pub(crate) fn lines(&self) -> &[SourceLine<'a>]
-        ensures { source_lines result.now ≡ self.now.origins }
+    pub(crate) fn lines(&self, alloc: Global) -> Result<Vec<SourceLine<'a>>, NoMemory>
+        ensures { IfOk result (λ lines. source_lines lines.items ≡ self.now.origins) }
     {
-        self.lines.as_slice()
+        self.lines.to_vec(alloc)
     }
 
     pub(crate) fn blocks(&self) -> &[Block]

@@ -165,7 +165,8 @@ impl<'a> Sections<'a> {
     {
         let mut lines = Lines::new(self.alloc);
         for section in &self.sections {
-            lines.add_all(section.lines())?;
+            let these = section.lines(self.alloc)?;
+            lines.add_all(these.as_slice())?;
         }
         Ok(lines)
     }

@@ -1,47 +1,86 @@
 //! What `asm` writes of a source.
 
 ghost use Rattle.std.specs.Option.{option_map};
-ghost use Rattle.std.specs.Prelude.{◌≡◌, IfOk};
+ghost use Rattle.std.specs.Prelude.{◌≡◌, ◌∷◌, [], IfOk, None, Some};
 ghost use Rattle.c25_asm.specs.View.{assembled_of};
+ghost use Rattle.c25_chain.specs.Refusal.{refusal_of};
+ghost use Rattle.c25_meaning_common.specs.Results.{MeetsBy};
+ghost use Rattle.c25_meaning_objects.specs.Records.{spelling};
 ghost use Rattle.c25_words.specs.Task.{text_of};
-ghost use Rattle.c25_tasks.specs.Assembly.{AsmOutputs, asm_files, output_files};
+ghost use Rattle.c25_tasks.specs.Assembly.{AsmOutputs, asm_files, asm_written, output_files};
 ghost use Rattle.c25_tasks.specs.Files.{missing_name};
 
 use crate::files::{fault_of_copies, missing_name};
 use crate::sources::sources_of;
-use c25_chain::assemble_source;
 use c25_chain::fault::{Fault, Refusal};
 use c25_chain::sources::Listing;
+use c25_chain::{assemble_module, assemble_source};
 use c25_disk::disk::Disk;
 use c25_disk::work::Work;
 use c25_disk::{Output, with_copies};
 use c25_macro::files::Files;
 use c25_meaning_common::no_memory::NoMemory;
-use c25_obj::write_module;
+use c25_obj::{Module, write_module};
 use std::alloc::Global;
 
-/// The files that are written of a module: its object, and its listing where one is asked for.
-fn outputs_of<'a>(
+/// The file that is written of a module without a listing: its object.
+fn object_of<'a>(
     alloc: Global,
-    listing: &Listing<'_>,
+    module: &Module,
     object: &'a str,
-    list: Option<&'a str>,
 ) -> Result<Vec<Output<'a>>, NoMemory>
-    ensures { IfOk result (λ outputs. output_files outputs ≡ asm_files object.entry.now (text_of list.entry) (assembled_of listing.now)) }
+    ensures { IfOk result (λ outputs. output_files outputs ≡ (object.entry.now, spelling module.now) ∷ []) }
 {
-    let bytes = write_module(alloc, &listing.module)?;
+    let bytes = write_module(alloc, module)?;
     let mut outputs = Vec::new(alloc);
     outputs.push(Output {
         name: object,
         bytes,
     })?;
-    let Some(name) = list else {
-        return Ok(outputs);
-    };
+    Ok(outputs)
+}
+
+/// The files that are written of a module with its listing: its object, and the listing.
+fn listed_of<'a>(
+    alloc: Global,
+    listing: &Listing<'_>,
+    object: &'a str,
+    list: &'a str,
+) -> Result<Vec<Output<'a>>, NoMemory>
+    ensures { IfOk result (λ outputs. output_files outputs ≡ asm_files object.entry.now (Some list.entry.now) (assembled_of listing.now)) }
+{
+    let mut outputs = object_of(alloc, &listing.module, object)?;
     let text = listing.text(alloc)?;
     let bytes = text.into_bytes();
-    outputs.push(Output { name, bytes })?;
+    outputs.push(Output { name: list, bytes })?;
     Ok(outputs)
+}
+
+/// The file that is written of a source where no listing is asked for.
+fn object_of_source<'a>(
+    alloc: Global,
+    files: &Files,
+    source: &str,
+    object: &'a str,
+) -> Result<Vec<Output<'a>>, Fault>
+    ensures { MeetsBy refusal_of output_files (asm_written object.entry.now None files.now source.now) result }
+{
+    let alone = assemble_module(alloc, files, source)?;
+    Ok(object_of(alloc, &alone, object)?)
+}
+
+/// The files that are written of a source where a listing is asked for.
+fn listed_of_source<'a>(
+    alloc: Global,
+    files: &Files,
+    source: &str,
+    object: &'a str,
+    list: &'a str,
+) -> Result<Vec<Output<'a>>, Fault>
+    ensures { MeetsBy refusal_of output_files (asm_written object.entry.now (Some list.entry.now) files.now source.now) result }
+{
+    let listing = assemble_source(alloc, files, source)?;
+    Ok(listed_of(alloc, &listing, object, list)?)
 }
 
 /// A source that is to be assembled, and the names of the files that are written of it.
@@ -69,8 +108,10 @@ impl<'a> Work for Assembly<'a> {
     ghost missing_of = { missing_name };
 
     fn answer(&self, alloc: Global, files: &Files) -> Result<Vec<Output<'a>>, Fault> {
-        let listing = assemble_source(alloc, files, self.source)?;
-        Ok(outputs_of(alloc, &listing, self.object, self.list)?)
+        match self.list {
+            None => object_of_source(alloc, files, self.source, self.object),
+            Some(list) => listed_of_source(alloc, files, self.source, self.object, list),
+        }
     }
 
     fn missing(fault: &Refusal<String>) -> Option<&str>

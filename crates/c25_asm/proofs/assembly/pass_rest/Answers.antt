@@ -21,9 +21,9 @@ loop-line-preserved c =
     let known = c.loop-line.invariant in
     let a : Passed = record { progress = progress_of c.move_here.new.self; entries = entries_of c.loop-line.passed.entries.items } in
     record {
-      coming = λ meant begun. goes_on files name old.stage new.stage c.symbols.result.now a (passed_of c.in_ok-passed-in-Ok-Some.passed) meant c.in-Ok-Some.line
+      coming = λ meant begun. goes_on c.args.listed files name old.stage new.stage c.symbols.result.now a (passed_of c.in_ok-passed-in-Ok-Some.passed) meant c.in-Ok-Some.line
           (c.symbols.ensures ∙ ap symbols_of c.deref.ensures ∙ c.move_here.ensures.here ∙ ap table (sym c.move_here.ensures.same))
-          (moved files name old.stage (progress_of c.loop-line.passed.progress.value) a.progress a.entries meant (c.move_here.ensures.same ∙ ap progress_of c.deref_mut.ensures.value) (known.coming meant begun))
+          (moved c.args.listed files name old.stage (progress_of c.loop-line.passed.progress.value) a.progress a.entries meant (c.move_here.ensures.same ∙ ap progress_of c.deref_mut.ensures.value) (known.coming meant begun))
           (at old files name c.symbols.result.now _ new.stage known.files known.name (rw c.in-Ok-Some.field-0-is at c.in-Ok-Some.ensures.next))
           (rw c.in-Ok-Some.field-0-is at c.in-Ok-Some.ensures.fewer)
           c.in_ok-passed-in-Ok-Some.ensures;
@@ -40,9 +40,9 @@ returns-in_err-passed-in-Ok-Some c =
     let known = c.loop-line.invariant in
     let a : Passed = record { progress = progress_of c.move_here.new.self; entries = entries_of c.loop-line.passed.entries.items } in
     let p = err_from_is_err_and c.from_residual.result c.from_residual.ensures.1 in
-    λ meant begun. rw (p.1, p.2) (line_refused files name old.stage new.stage c.symbols.result.now a meant c.in-Ok-Some.line c.in_err-passed-in-Ok-Some.field-0.0
+    λ meant begun. rw (p.1, p.2) (line_refused c.args.listed files name old.stage new.stage c.symbols.result.now a meant c.in-Ok-Some.line c.in_err-passed-in-Ok-Some.field-0.0
     (c.symbols.ensures ∙ ap symbols_of c.deref.ensures ∙ c.move_here.ensures.here ∙ ap table (sym c.move_here.ensures.same))
-    (moved files name old.stage (progress_of c.loop-line.passed.progress.value) a.progress a.entries meant (c.move_here.ensures.same ∙ ap progress_of c.deref_mut.ensures.value) (known.coming meant begun))
+    (moved c.args.listed files name old.stage (progress_of c.loop-line.passed.progress.value) a.progress a.entries meant (c.move_here.ensures.same ∙ ap progress_of c.deref_mut.ensures.value) (known.coming meant begun))
     (at old files name c.symbols.result.now _ new.stage known.files known.name (rw c.in-Ok-Some.field-0-is at c.in-Ok-Some.ensures.next))
     c.in_err-passed-in-Ok-Some.ensures)
 
@@ -54,9 +54,9 @@ returns-in-Ok-None c =
     let new = expansion_of c.next_line.new.self in
     let known = c.loop-line.invariant in
     let a : Passed = record { progress = progress_of c.move_here.new.self; entries = entries_of c.loop-line.passed.entries.items } in
-    λ meant begun. ends files name old.stage new.stage c.symbols.result.now a meant
+    λ meant begun. ends c.args.listed files name old.stage new.stage c.symbols.result.now a meant
     (c.symbols.ensures ∙ ap symbols_of c.deref.ensures ∙ c.move_here.ensures.here ∙ ap table (sym c.move_here.ensures.same))
-    (moved files name old.stage (progress_of c.loop-line.passed.progress.value) a.progress a.entries meant (c.move_here.ensures.same ∙ ap progress_of c.deref_mut.ensures.value) (known.coming meant begun))
+    (moved c.args.listed files name old.stage (progress_of c.loop-line.passed.progress.value) a.progress a.entries meant (c.move_here.ensures.same ∙ ap progress_of c.deref_mut.ensures.value) (known.coming meant begun))
     (at old files name c.symbols.result.now _ new.stage known.files known.name (rw c.in-Ok-None.field-0-is at c.in-Ok-None.ensures.next))
 
 pub returns-in-Err : goal.returns-in-Err
@@ -67,7 +67,7 @@ returns-in-Err c =
     let new = expansion_of c.next_line.new.self in
     let known = c.loop-line.invariant in
     let a : Passed = record { progress = progress_of c.move_here.new.self; entries = entries_of c.loop-line.passed.entries.items } in
-    λ meant begun. expansion_fails files name old.stage new.stage c.symbols.result.now a meant c.in-Err.failure c.missing.result c.told.result
+    λ meant begun. expansion_fails c.args.listed files name old.stage new.stage c.symbols.result.now a meant c.in-Err.failure c.missing.result c.told.result
     (c.symbols.ensures ∙ ap symbols_of c.deref.ensures ∙ c.move_here.ensures.here ∙ ap table (sym c.move_here.ensures.same))
-    (moved files name old.stage (progress_of c.loop-line.passed.progress.value) a.progress a.entries meant (c.move_here.ensures.same ∙ ap progress_of c.deref_mut.ensures.value) (known.coming meant begun))
+    (moved c.args.listed files name old.stage (progress_of c.loop-line.passed.progress.value) a.progress a.entries meant (c.move_here.ensures.same ∙ ap progress_of c.deref_mut.ensures.value) (known.coming meant begun))
     (at old files name c.symbols.result.now _ new.stage known.files known.name c.in-Err.ensures.next) c.missing.ensures c.told.ensures

@@ -1,0 +1,83 @@
+//! Lines of files, one behind another. Their type, `SourceLines`, is in `source_lines.rt`.
+
+ghost use Rattle.std.specs.Prelude.{◌≡◌, ◌++◌, ◌∷◌, [], IfOk, OnOk};
+ghost use Rattle.c25_phases.specs.Origins.{source_line, source_lines};
+ghost use Rattle.c25_phases.specs.Runs.{lines_of};
+ghost use Rattle.c25_phases.specs.SourceLines.{TurnsTo, origins_of};
+
+use crate::item::SourceLine;
+use crate::source_lines::{FileRun, SourceLines};
+use c25_meaning_common::no_memory::NoMemory;
+use std::alloc::Global;
+
+/// Some lines of a file more.
+fn push_all<'a>(
+    lines: &mut Vec<SourceLine<'a>>,
+    file: &'a str,
+    numbers: &[u32],
+) -> Result<(), NoMemory>
+    ensures { OnOk result (source_lines lines.new.items ≡ source_lines lines.old.items ++ lines_of file.entry.now numbers.now) }
+{
+    for number in numbers {
+        lines.push(SourceLine {
+            file,
+            line: *number,
+        })?;
+    }
+    Ok(())
+}
+
+impl<'a> SourceLines<'a> {
+    /// No lines.
+    pub(crate) fn new(alloc: Global) -> Self
+        ensures { origins_of result ≡ [] }
+    {
+        SourceLines {
+            runs: Vec::new(alloc),
+            before: 0,
+            file: "",
+            numbers: Vec::new(alloc),
+        }
+    }
+
+    /// Lines of a file come next.
+    fn turn_to(&mut self, file: &'a str) -> Result<(), NoMemory>
+        ensures { OnOk result (TurnsTo self.old self.new file.entry.now) }
+    {
+        if self.file == file {
+            return Ok(());
+        }
+        let count = self.numbers.len() - self.before;
+        self.runs.push(FileRun {
+            file: self.file,
+            count,
+        })?;
+        self.before = self.numbers.len();
+        self.file = file;
+        Ok(())
+    }
+
+    /// One line more.
+    pub(crate) fn push(&mut self, line: SourceLine<'a>) -> Result<(), NoMemory>
+        ensures { OnOk result (origins_of self.new ≡ origins_of self.old ++ source_line line.entry ∷ []) }
+    {
+        self.turn_to(line.file)?;
+        self.numbers.push(line.line)?;
+        Ok(())
+    }
+
+    /// All of them, each with its file.
+    pub(crate) fn to_vec(&self, alloc: Global) -> Result<Vec<SourceLine<'a>>, NoMemory>
+        ensures { IfOk result (λ lines. source_lines lines.items ≡ origins_of self.now) }
+    {
+        let mut lines = Vec::with_capacity(alloc, self.numbers.len())?;
+        let mut rest = self.numbers.as_slice();
+        for run in &self.runs {
+            let (numbers, behind) = rest.split_at(run.count);
+            push_all(&mut lines, run.file, numbers)?;
+            rest = behind;
+        }
+        push_all(&mut lines, self.file, rest)?;
+        Ok(lines)
+    }
+}
