@@ -46,14 +46,14 @@ pub(crate) fn bad_start() -> Explanation
         example: Some(
             r#"Given:
 
-    $ c25 dis a.hex
-    --- a.hex
+    $ c25 dis hex
+    --- hex
     :02004000240595
     00000001FF
 
 Told:
 
-    a.hex:2: 80 BadStart
+    hex:2: 80 BadStart
 "#,
         ),
         advice: r#"Do: take out comments and blanks before the `:`. Texts of other formats (S-records, Tektronix) are
@@ -73,13 +73,13 @@ pub(crate) fn bad_digit() -> Explanation
         example: Some(
             r#"Given:
 
-    $ c25 dis a.hex
-    --- a.hex
+    $ c25 dis hex
+    --- hex
     :0000000lFF
 
 Told:
 
-    a.hex:1: 81 BadDigit
+    hex:1: 81 BadDigit
 "#,
         ),
         advice: r#"Do: look for letters that look like digits, trailing blanks, and a CR without its LF.
@@ -99,13 +99,13 @@ the kind asks for another count: 0 for 01, 2 for 02 and 04, 4 for 03 and 05.
         example: Some(
             r#"Given:
 
-    $ c25 dis a.hex
-    --- a.hex
+    $ c25 dis hex
+    --- hex
     :0200400024
 
 Told:
 
-    a.hex:1: 82 BadCount
+    hex:1: 82 BadCount
 "#,
         ),
         advice: r#"Do: the line was cut off or joined with another; write the text again.
@@ -124,13 +124,13 @@ pub(crate) fn bad_sum() -> Explanation
         example: Some(
             r#"Given:
 
-    $ c25 dis a.hex
-    --- a.hex
+    $ c25 dis hex
+    --- hex
     :02004000240594
 
 Told:
 
-    a.hex:1: 83 BadSum
+    hex:1: 83 BadSum
 "#,
         ),
         advice: r#"Do: a byte was changed; write the text again. After a change by hand the last byte is the two's
@@ -150,13 +150,13 @@ pub(crate) fn bad_kind() -> Explanation
         example: Some(
             r#"Given:
 
-    $ c25 dis a.hex
-    --- a.hex
+    $ c25 dis hex
+    --- hex
     :0200400624058F
 
 Told:
 
-    a.hex:1: 84 BadKind
+    hex:1: 84 BadKind
 "#,
         ),
         advice: r#"Do: have the other tool write plain Intel hex.
@@ -176,14 +176,14 @@ address, the high byte first.
         example: Some(
             r#"Given:
 
-    $ c25 dis a.hex
-    --- a.hex
+    $ c25 dis hex
+    --- hex
     :01004000249B
     :00000001FF
 
 Told:
 
-    a.hex:2: 85 OddWord
+    hex:2: 85 OddWord
 "#,
         ),
         advice: r#"Do: have both bytes of each word in one text. Texts with high and low bytes apart, as for two
@@ -203,14 +203,14 @@ pub(crate) fn twice() -> Explanation
         example: Some(
             r#"Given:
 
-    $ c25 dis a.hex
-    --- a.hex
+    $ c25 dis hex
+    --- hex
     :02004000240595
     :02004000240595
 
 Told:
 
-    a.hex:2: 86 Twice
+    hex:2: 86 Twice
 "#,
         ),
         advice: r#"Do: read one text at a time; do not put two together.
@@ -229,13 +229,13 @@ pub(crate) fn no_end() -> Explanation
         example: Some(
             r#"Given:
 
-    $ c25 dis a.hex
-    --- a.hex
+    $ c25 dis hex
+    --- hex
     :02004000240595
 
 Told:
 
-    a.hex:1: 87 NoEnd
+    hex:1: 87 NoEnd
 "#,
         ),
         advice: r#"Do: the text was cut off; it ends with :00000001FF.
@@ -254,14 +254,14 @@ pub(crate) fn after_end() -> Explanation
         example: Some(
             r#"Given:
 
-    $ c25 dis a.hex
-    --- a.hex
+    $ c25 dis hex
+    --- hex
     :00000001FF
     :00000001FF
 
 Told:
 
-    a.hex:2: 88 AfterEnd
+    hex:2: 88 AfterEnd
 "#,
         ),
         advice: r#"Do: two texts were put together; the text of each page is one of its own.
@@ -280,13 +280,13 @@ pub(crate) fn address_range() -> Explanation
         example: Some(
             r#"Given:
 
-    $ c25 dis a.hex
-    --- a.hex
+    $ c25 dis hex
+    --- hex
     :02FFFF00000000
 
 Told:
 
-    a.hex:1: 89 AddressRange
+    hex:1: 89 AddressRange
 "#,
         ),
         advice: r#"Do: look whether the other tool counts in words where this format has bytes.
