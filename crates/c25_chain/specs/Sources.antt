@@ -1,5 +1,4 @@
 -- Why a source has no module, as the code tells it.
-use Rattle.std.specs.Prelude.{ℕ}
 use Rattle.c25_chain.specs.Modules.{asm_refusal}
 use Rattle.c25_chain.specs.Refusal.{Fault, IsRefusedAs}
 use Rattle.c25_meaning_common.specs.Results.{IsNoMemory}
