@@ -26,12 +26,12 @@ use std::alloc::Global;
 /// The file that is written of a module without a listing: its object.
 fn object_of<'a>(
     alloc: Global,
-    module: &Module,
+    assembled: &Module,
     object: &'a str,
 ) -> Result<Vec<Output<'a>>, NoMemory>
-    ensures { IfOk result (λ outputs. output_files outputs ≡ (object.entry.now, spelling module.now) ∷ []) }
+    ensures { IfOk result (λ outputs. output_files outputs ≡ (object.entry.now, spelling assembled.now) ∷ []) }
 {
-    let bytes = write_module(alloc, module)?;
+    let bytes = write_module(alloc, assembled)?;
     let mut outputs = Vec::new(alloc);
     outputs.push(Output {
         name: object,
@@ -65,8 +65,8 @@ fn object_of_source<'a>(
 ) -> Result<Vec<Output<'a>>, Fault>
     ensures { MeetsBy refusal_of output_files (asm_written object.entry.now None files.now source.now) result }
 {
-    let alone = assemble_module(alloc, files, source)?;
-    Ok(object_of(alloc, &alone, object)?)
+    let assembled = assemble_module(alloc, files, source)?;
+    Ok(object_of(alloc, &assembled, object)?)
 }
 
 /// The files that are written of a source where a listing is asked for.
