@@ -6,7 +6,6 @@ pub(crate) mod halt;
 mod instructions;
 mod line;
 pub(crate) mod memory;
-pub(crate) mod program;
 mod registers;
 mod steps;
 mod words;
