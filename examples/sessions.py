@@ -323,7 +323,7 @@ def fault_examples():
         elif kind == "told":
             yield given + (block[0],)
         elif kind.startswith("lines "):
-            command = {"script": "c25 debug a.asm --script script", "hex": "read_hex"}.get(kind[6:])
+            command = {"script": "c25 debug a.asm --script script", "a.hex": "c25 dis a.hex"}.get(kind[6:])
             for row in block:
                 told, _, text = row.partition("|")
                 yield {"a.asm": [" NOP"], kind[6:]: [text]}, command, told

@@ -4,7 +4,7 @@ use Rattle.c25_module_laws.proofs.ModulesOfSources.{source_good}
 use Rattle.c25_meaning_assembly.specs.Emission.{finished}
 use Rattle.c25_meaning_language.specs.ExpansionFault.{ExpansionFault}
 use Rattle.c25_meaning_expansion.specs.ExpansionRuns.{start_of}
-use Rattle.c25_meaning_expansion.specs.Files.{Files}
+use Rattle.c25_meaning_files.specs.Files.{Files}
 use Rattle.c25_meaning_objects.specs.Module.{Contents, is_module}
 use Rattle.c25_meaning_sources.specs.ModuleOfSource.{Assembled, Passed, assembled, completed, passed_from}
 use Rattle.c25_meaning_common.specs.Results.{◌>>=◌}

@@ -2,7 +2,7 @@
 use Rattle.std.specs.Prelude.{◌≡◌, ◌<◌, ℕ, List, Result, Err}
 use Rattle.c25_macro.specs.Expander.{Expansion, Stage, Stands, Absent, Failed}
 use Rattle.c25_meaning_language.specs.ExpansionFault.{ExpansionFault, Missing}
-use Rattle.c25_meaning_expansion.specs.Files.{Files}
+use Rattle.c25_meaning_files.specs.Files.{Files}
 use Rattle.c25_meaning_sources.specs.ModuleOfSource as source
 use Rattle.c25_meaning_common.specs.Results.{MeetsBy}
 use Rattle.c25_meaning_common.specs.declared.failure.Failure.{Failure}

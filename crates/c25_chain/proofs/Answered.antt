@@ -5,7 +5,7 @@ use Rattle.std.specs.Ordering.{nat_cmp}
 use Rattle.std.specs.Result.{IsErrAnd}
 use Rattle.std.specs.declared.alloc.Global.{Global}
 use Rattle.std.specs.declared.vec.Vec.{Vec}
-use Rattle.c25_meaning_expansion.specs.Files.{Files}
+use Rattle.c25_meaning_files.specs.Files.{Files}
 use Rattle.c25_meaning_common.specs.Results.{FailsBy, IsNoMemory, ◌>>=◌, told}
 use Rattle.c25_meaning_stimulus.specs.Samples.{samples_of}
 use Rattle.c25_meaning_stimulus.specs.Schedule.{schedule_of}

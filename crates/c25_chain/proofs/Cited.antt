@@ -6,7 +6,7 @@ use Rattle.c25_laws.specs.ProgramStatements.{AreMarksOf, AreModulesOf, ReadsAs, 
 use Rattle.c25_laws.specs.SourceWords.{HasSourceWords}
 use Rattle.c25_meaning_commands.specs.Command.{CommandData, IsCommand}
 use Rattle.c25_meaning_commands.specs.CommandText.{command_of}
-use Rattle.c25_meaning_expansion.specs.Files.{Files}
+use Rattle.c25_meaning_files.specs.Files.{Files}
 use Rattle.c25_meaning_image.specs.WordMap.{IsWordMap}
 use Rattle.c25_meaning_intel_hex.specs.Hex.{SpellsWords}
 use Rattle.c25_meaning_intel_hex.specs.HexText.{written}

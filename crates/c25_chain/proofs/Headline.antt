@@ -4,7 +4,7 @@ use Rattle.std.specs.List.{All}
 use Rattle.std.specs.String.{string_bytes}
 use Rattle.c25_laws.specs.ProgramStatements.{AreMarksOf, AreModulesOf, PlacedStatement, ReadsAs, all_statements, on_page, program_statements, split_by_run}
 use Rattle.c25_laws.specs.SourceWords as items
-use Rattle.c25_meaning_expansion.specs.Files.{Files}
+use Rattle.c25_meaning_files.specs.Files.{Files}
 use Rattle.c25_meaning_image.specs.WordMap.{IsWordMap}
 use Rattle.c25_meaning_intel_hex.specs.Hex.{SpellsWords}
 use Rattle.c25_meaning_linking.specs.Linking.{ImageData}

@@ -1,7 +1,7 @@
 -- What the chain answers: a program of its sources and its command, and a run of it, or the first refusal.
 use Rattle.std.specs.Prelude.{◌≡◌, ◌⊎◌, ℕ, List, map, Result, Ok, Err}
 use Rattle.std.specs.String.{string_bytes}
-use Rattle.c25_meaning_expansion.specs.Files.{Files}
+use Rattle.c25_meaning_files.specs.Files.{Files}
 use Rattle.c25_meaning_linking.specs.Linking.{ImageData}
 use Rattle.c25_meaning_common.specs.Results.{◌>>=◌, told}
 use Rattle.c25_meaning_stimulus.specs.Samples.{samples_of}

@@ -6,7 +6,7 @@ use Rattle.std.specs.Ordering.{nat_cmp}
 use Rattle.std.specs.String.{string_bytes}
 use Rattle.c25_laws.specs.ProgramStatements.{AreMarksOf, ReadsAs, lines_in, lines_of, page_statements, program_statements}
 use Rattle.c25_laws.specs.SourceWords as sources
-use Rattle.c25_meaning_expansion.specs.Files.{Files}
+use Rattle.c25_meaning_files.specs.Files.{Files}
 use Rattle.c25_meaning_processor.specs.FirstState.{first_of_pages, memory_of_map}
 use Rattle.c25_meaning_intel_hex.specs.Hex.{SpellsWords}
 use Rattle.c25_meaning_intel_hex.specs.HexText.{written}

@@ -2,7 +2,7 @@
 //! rests and does nothing else.
 
 ghost use Rattle.std.specs.Prelude.{◌≡◌, ◌↔◌, List, ℕ};
-ghost use Rattle.c25_meaning_expansion.specs.Files.{Files};
+ghost use Rattle.c25_meaning_files.specs.Files.{Files};
 ghost use Rattle.c25_meaning_linking.specs.Linking.{ImageData};
 ghost use Rattle.c25_meaning_processor.specs.Run.{Ending};
 ghost use Rattle.c25_meaning_processor.specs.Statements.{IsImageOf};

@@ -6,7 +6,7 @@ use Rattle.c25_chain.specs.Headline.{first_state, source_statements}
 use Rattle.c25_chain.specs.Linked.{LinkedTexts}
 use Rattle.c25_debug_chain.specs.Debug.{AnswersBy, statements_of}
 use Rattle.c25_meaning_debugger.specs.Debugger.{AnswersScript}
-use Rattle.c25_meaning_expansion.specs.Files.{Files}
+use Rattle.c25_meaning_files.specs.Files.{Files}
 use Rattle.c25_meaning_linking.specs.Linking.{ImageData}
 use Rattle.c25_meaning_processor.specs.Run.{Signals}
 use Rattle.c25_meaning_processor.specs.State.{State}

@@ -10,7 +10,7 @@ use Rattle.std.proofs.Math.Seq.{take-length}
 use Rattle.c25_meaning_common.specs.Digits.{hex_digit, four_digits}
 use Rattle.c25_meaning_instructions.specs.declared.insn.Insn.{Insn}
 use Rattle.c25_meaning_assembly.specs.Sections.{is_file_name}
-use Rattle.c25_meaning_expansion.specs.Files.{Files, text_named}
+use Rattle.c25_meaning_files.specs.Files.{Files, text_named}
 use Rattle.c25_meaning_sources.specs.ModuleOfSource.{Assembled, assembled}
 use Rattle.c25_dis.specs.Lines.{code_text, line_text}
 use Rattle.c25_dis.specs.Words.{AreWords, IsAddressText, IsTaken, IsWordLine, IsWordsText, gap_text, is_before, word_at}

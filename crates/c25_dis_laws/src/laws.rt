@@ -7,7 +7,7 @@ ghost use Rattle.std.specs.Ordering.{nat_cmp};
 ghost use Rattle.c25_dis.specs.Words.{IsWordsText, word_at};
 ghost use Rattle.c25_dis_laws.specs.Column.{source_of_text};
 ghost use Rattle.c25_meaning_assembly.specs.Sections.{is_file_name};
-ghost use Rattle.c25_meaning_expansion.specs.Files.{Files, text_named};
+ghost use Rattle.c25_meaning_files.specs.Files.{Files, text_named};
 ghost use Rattle.c25_meaning_sources.specs.ModuleOfSource.{Assembled, assembled};
 ghost use Rattle.c25_show_laws.specs.Source.{IsTextOf};
 

@@ -1,7 +1,7 @@
 //! Sources, read from a disk.
 
 ghost use Rattle.std.specs.Prelude.{◌≡◌, [], IfErr, IfOk, OnErr, OnOk, false, is_some, map, string_bytes};
-ghost use Rattle.c25_meaning_expansion.specs.Files.{text_named};
+ghost use Rattle.c25_meaning_files.specs.Files.{text_named};
 ghost use Rattle.c25_files.specs.Added.{AddsAll};
 ghost use Rattle.c25_disk.specs.declared.fault.FileFault.TheVariants as kind;
 ghost use Rattle.c25_disk.specs.Held.{AddsSource, IsAllOf, IsOfFile, ReadsSources};

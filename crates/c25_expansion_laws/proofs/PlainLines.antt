@@ -3,8 +3,8 @@ use Rattle.std.proofs.Common.{◌≡◌, ℕ, zero, suc, ◌+◌, ◌-◌, ◌==
 use Rattle.std.proofs.lemmas.Bool.Decides.{nat_tests}
 use Rattle.c25_meaning_lines.specs.Line.{first_word}
 use Rattle.c25_meaning_language.specs.Value.{Table}
-use Rattle.c25_meaning_expansion.specs.Files.{Files}
-use Rattle.c25_meaning_expansion.specs.Rows.{Row, rows_of}
+use Rattle.c25_meaning_files.specs.Files.{Files}
+use Rattle.c25_meaning_files.specs.Rows.{Row, rows_of}
 use Rattle.c25_meaning_expansion.specs.Expansion.{LineOrEnd, Read, Reading, Config, Gives, Goes, Finishes, Faults, seen, number_of}
 use Rattle.c25_meaning_expansion.specs.ExpansionRules.{directive_in, macro_of, calls, uses, unless_long, used, takes_lines, takes, skips_outer, skips_nested, skips, reads_by}
 use Rattle.c25_meaning_expansion.specs.ExpansionRuns.{rewrite, Leads, first, start}

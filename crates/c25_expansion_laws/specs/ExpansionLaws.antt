@@ -3,7 +3,7 @@ use Rattle.std.specs.Prelude.{◌≡◌, ℕ, zero, suc, ◌+◌, ◌≤◌, ◌
 use Rattle.std.specs.List.{take_while}
 use Rattle.c25_meaning_common.specs.Bytes.{goes_on_name}
 use Rattle.c25_meaning_lines.specs.Line.{first_word}
-use Rattle.c25_meaning_expansion.specs.Rows.{Row}
+use Rattle.c25_meaning_files.specs.Rows.{Row}
 use Rattle.c25_meaning_language.specs.Fragments.{Replacements}
 use Rattle.c25_meaning_expansion.specs.Expansion.{Dictionary, seen}
 use Rattle.c25_meaning_expansion.specs.ExpansionRules.{directive_in, macro_of, takes_lines}

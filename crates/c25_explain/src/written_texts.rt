@@ -46,13 +46,14 @@ pub(crate) fn bad_start() -> Explanation
         example: Some(
             r#"Given:
 
-    $ read_hex
-    --- hex
+    $ c25 dis a.hex
+    --- a.hex
+    :02004000240595
     00000001FF
 
 Told:
 
-    hex:1: 80 BadStart
+    a.hex:2: 80 BadStart
 "#,
         ),
         advice: r#"Do: take out comments and blanks before the `:`. Texts of other formats (S-records, Tektronix) are
@@ -72,13 +73,13 @@ pub(crate) fn bad_digit() -> Explanation
         example: Some(
             r#"Given:
 
-    $ read_hex
-    --- hex
+    $ c25 dis a.hex
+    --- a.hex
     :0000000lFF
 
 Told:
 
-    hex:1: 81 BadDigit
+    a.hex:1: 81 BadDigit
 "#,
         ),
         advice: r#"Do: look for letters that look like digits, trailing blanks, and a CR without its LF.
@@ -98,13 +99,13 @@ the kind asks for another count: 0 for 01, 2 for 02 and 04, 4 for 03 and 05.
         example: Some(
             r#"Given:
 
-    $ read_hex
-    --- hex
+    $ c25 dis a.hex
+    --- a.hex
     :0200400024
 
 Told:
 
-    hex:1: 82 BadCount
+    a.hex:1: 82 BadCount
 "#,
         ),
         advice: r#"Do: the line was cut off or joined with another; write the text again.
@@ -123,13 +124,13 @@ pub(crate) fn bad_sum() -> Explanation
         example: Some(
             r#"Given:
 
-    $ read_hex
-    --- hex
+    $ c25 dis a.hex
+    --- a.hex
     :02004000240594
 
 Told:
 
-    hex:1: 83 BadSum
+    a.hex:1: 83 BadSum
 "#,
         ),
         advice: r#"Do: a byte was changed; write the text again. After a change by hand the last byte is the two's
@@ -149,13 +150,13 @@ pub(crate) fn bad_kind() -> Explanation
         example: Some(
             r#"Given:
 
-    $ read_hex
-    --- hex
+    $ c25 dis a.hex
+    --- a.hex
     :0200400624058F
 
 Told:
 
-    hex:1: 84 BadKind
+    a.hex:1: 84 BadKind
 "#,
         ),
         advice: r#"Do: have the other tool write plain Intel hex.
@@ -175,14 +176,14 @@ address, the high byte first.
         example: Some(
             r#"Given:
 
-    $ read_hex
-    --- hex
+    $ c25 dis a.hex
+    --- a.hex
     :01004000249B
     :00000001FF
 
 Told:
 
-    hex:2: 85 OddWord
+    a.hex:2: 85 OddWord
 "#,
         ),
         advice: r#"Do: have both bytes of each word in one text. Texts with high and low bytes apart, as for two
@@ -202,14 +203,14 @@ pub(crate) fn twice() -> Explanation
         example: Some(
             r#"Given:
 
-    $ read_hex
-    --- hex
+    $ c25 dis a.hex
+    --- a.hex
     :02004000240595
     :02004000240595
 
 Told:
 
-    hex:2: 86 Twice
+    a.hex:2: 86 Twice
 "#,
         ),
         advice: r#"Do: read one text at a time; do not put two together.
@@ -228,13 +229,13 @@ pub(crate) fn no_end() -> Explanation
         example: Some(
             r#"Given:
 
-    $ read_hex
-    --- hex
+    $ c25 dis a.hex
+    --- a.hex
     :02004000240595
 
 Told:
 
-    hex:1: 87 NoEnd
+    a.hex:1: 87 NoEnd
 "#,
         ),
         advice: r#"Do: the text was cut off; it ends with :00000001FF.
@@ -253,14 +254,14 @@ pub(crate) fn after_end() -> Explanation
         example: Some(
             r#"Given:
 
-    $ read_hex
-    --- hex
+    $ c25 dis a.hex
+    --- a.hex
     :00000001FF
     :00000001FF
 
 Told:
 
-    hex:2: 88 AfterEnd
+    a.hex:2: 88 AfterEnd
 "#,
         ),
         advice: r#"Do: two texts were put together; the text of each page is one of its own.
@@ -279,13 +280,13 @@ pub(crate) fn address_range() -> Explanation
         example: Some(
             r#"Given:
 
-    $ read_hex
-    --- hex
+    $ c25 dis a.hex
+    --- a.hex
     :02FFFF00000000
 
 Told:
 
-    hex:1: 89 AddressRange
+    a.hex:1: 89 AddressRange
 "#,
         ),
         advice: r#"Do: look whether the other tool counts in words where this format has bytes.

@@ -9,11 +9,10 @@ use Rattle.indexmap.specs.IndexMap.{insert_entry}
 use Rattle.std.specs.List.{position, position_or_len}
 use Rattle.std.specs.Map.{keys_of}
 use Rattle.std.proofs.lemmas.List.Recursion.{is_position_or_len}
-use Rattle.c25_meaning_expansion.specs.Rows.{file_number}
-use Rattle.c25_meaning_language.specs.Texts.{Named, with_name}
+use Rattle.c25_meaning_files.specs.Rows.{file_number}
 
 -- entries by the bytes of their names
-abbrev pub views : {V A : Type 0} → (V → A) → List (String Global × V) → Named A
+abbrev pub views : {V A : Type 0} → (V → A) → List (String Global × V) → List (List ℕ × A)
 views f es = map (λ e. (string_bytes e.0, f e.1)) es
 
 by_test : {V A : Type 0} (f : V → A) (b : Bool) (v : V) (o : Option V) (p : Option A) → option_map f o ≡ p → option_map f (cond b (Some v) o) ≡ cond b (Some (f v)) p
@@ -25,23 +24,14 @@ pub lookup-views : {V A : Type 0} (f : V → A) (es : List (String Global × V))
 lookup-views f [] name = refl
 lookup-views f (e ∷ es) name = by_test f (bytes_eq name (string_bytes e.0)) e.1 (lookup (λ k. bytes_eq name (string_bytes k)) es) (lookup (bytes_eq name) (views f es)) (lookup-views f es name)
 
-by_insert : {V A : Type 0} (f : V → A) (b : Bool) (e : String Global × V) (es fs : List (String Global × V)) (v : V) (gs : Named A) → views f fs ≡ gs → views f (cond b ((e.0, v) ∷ es) (e ∷ fs)) ≡ cond b ((string_bytes e.0, f v) ∷ views f es) ((string_bytes e.0, f e.1) ∷ gs)
-by_insert f true e es fs v gs h = refl
-by_insert f false e es fs v gs h = ap (λ xs. (string_bytes e.0, f e.1) ∷ xs) h
+by_new : {V A : Type 0} (f : V → A) (b : Bool) (e : String Global × V) (es fs : List (String Global × V)) (name : List ℕ) (v : V) (o : Option A) → (o ≡ None → views f fs ≡ views f es ++ (name, f v) ∷ []) → cond b (Some (f e.1)) o ≡ None → views f (cond b ((e.0, v) ∷ es) (e ∷ fs)) ≡ views f (e ∷ es) ++ (name, f v) ∷ []
+by_new f true e es fs name v o more h = cc
+by_new f false e es fs name v o more h = ap (λ xs. (string_bytes e.0, f e.1) ∷ xs) (more h)
 
--- an entry that is put in
-pub views-insert : {V A : Type 0} (f : V → A) (es : List (String Global × V)) (name : String Global) (v : V) → views f (insert_entry string_eq es name v) ≡ with_name (views f es) (string_bytes name) (f v)
-views-insert f [] name v = refl
-views-insert f (e ∷ es) name v = by_insert f (bytes_eq (string_bytes name) (string_bytes e.0)) e es (insert_entry string_eq es name v) v (with_name (views f es) (string_bytes name) (f v)) (views-insert f es name v)
-
--- a new name comes last
-by_name : {A : Type 0} (b : Bool) (n : List ℕ × A) (ns ms : Named A) (name : List ℕ) (x : A) (o : Option A) → (o ≡ None → ms ≡ ns ++ (name, x) ∷ []) → cond b (Some n.1) o ≡ None → cond b ((n.0, x) ∷ ns) (n ∷ ms) ≡ n ∷ (ns ++ (name, x) ∷ [])
-by_name true n ns ms name x o more h = cc
-by_name false n ns ms name x o more h = ap (λ xs. n ∷ xs) (more h)
-
-pub with_new_name : {A : Type 0} (ns : Named A) (name : List ℕ) (x : A) → lookup (bytes_eq name) ns ≡ None → with_name ns name x ≡ ns ++ (name, x) ∷ []
-with_new_name [] name x h = refl
-with_new_name (n ∷ ns) name x h = by_name (bytes_eq name n.0) n ns (with_name ns name x) name x (lookup (bytes_eq name) ns) (with_new_name ns name x) h
+-- a new name that is put in comes last
+pub views-new : {V A : Type 0} (f : V → A) (es : List (String Global × V)) (name : String Global) (v : V) → lookup (bytes_eq (string_bytes name)) (views f es) ≡ None → views f (insert_entry string_eq es name v) ≡ views f es ++ (string_bytes name, f v) ∷ []
+views-new f [] name v h = refl
+views-new f (e ∷ es) name v h = by_new f (bytes_eq (string_bytes name) (string_bytes e.0)) e es (insert_entry string_eq es name v) (string_bytes name) v (lookup (bytes_eq (string_bytes name)) (views f es)) (views-new f es name v) h
 
 pub none_there : {A : Type 0} (o : Option A) → is_some o ≡ false → o ≡ None
 none_there None h = refl

@@ -3,8 +3,8 @@
 ghost use Rattle.std.specs.Prelude.{◌≡◌, ◌↔◌, [], ◌∷◌, ◌++◌, IsSome, IfSome, IsErrOf, OnOk, OnErr, is_some, false, length, take, string_bytes};
 ghost use Rattle.std.specs.Option.{option_map};
 ghost use Rattle.std.specs.Io.KnownBytes.{IsAtEnd};
-ghost use Rattle.c25_meaning_expansion.specs.Files.{text_named, file_name};
-ghost use Rattle.c25_meaning_expansion.specs.Rows.{file_number};
+ghost use Rattle.c25_meaning_files.specs.Files.{text_named, file_name};
+ghost use Rattle.c25_meaning_files.specs.Rows.{file_number};
 ghost use Rattle.c25_files.specs.Added.{AddsAll};
 ghost use Rattle.c25_files.specs.declared.files.AddFault.TheVariants as fault;
 

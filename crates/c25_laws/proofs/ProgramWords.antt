@@ -15,7 +15,7 @@ use Rattle.c25_instruction_laws.proofs.RelocatedFields.{number_below}
 use Rattle.c25_meaning_assembly.specs.Addresses.{ends_first, in_order, relocation_at}
 use Rattle.c25_meaning_commands.specs.Command.{CommandData}
 use Rattle.c25_meaning_common.specs.Fields.{field_number}
-use Rattle.c25_meaning_expansion.specs.Files.{Files}
+use Rattle.c25_meaning_files.specs.Files.{Files}
 use Rattle.c25_meaning_assembly.specs.InstructionStatements.{Instruction, insn_with_zeros}
 use Rattle.c25_meaning_linking.specs.Linking.{ImageData, IsProgram, HasWords}
 use Rattle.c25_meaning_objects.specs.Module.{Contents, IsModule, SectionData, body_words, each_fits, has_sections, last_of, lists_fit, mark_after, mark_fits, section_fits}

@@ -13,7 +13,7 @@ use Rattle.c25_meaning_placing.proofs.Parts.{part_in_place}
 use Rattle.c25_linking_laws.proofs.Members.{found_in, in_filter, in_front, in_map, in_reversed, nothing_in}
 use Rattle.c25_meaning_assembly.specs.InstructionStatements.{Instruction}
 use Rattle.c25_meaning_commands.specs.Command.{CommandData, RangeData}
-use Rattle.c25_meaning_expansion.specs.Files.{Files}
+use Rattle.c25_meaning_files.specs.Files.{Files}
 use Rattle.c25_meaning_instructions.specs.Table.{Reads, size_of, words}
 use Rattle.c25_meaning_language.proofs.Numbers.{size_of_form}
 use Rattle.c25_meaning_linking.specs.Linking.{ImageData, IsProgram}

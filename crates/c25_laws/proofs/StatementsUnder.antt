@@ -6,7 +6,7 @@ use Rattle.c25_meaning_assembly.specs.Addresses.{Sheet, relocations_of, sheet_of
 use Rattle.c25_meaning_assembly.specs.Emission.{all_names, finished, module_with, names_with, symbol_of, table_at}
 use Rattle.c25_meaning_language.specs.ExpansionFault.{ExpansionFault}
 use Rattle.c25_meaning_expansion.specs.ExpansionRuns.{start_of}
-use Rattle.c25_meaning_expansion.specs.Files.{Files}
+use Rattle.c25_meaning_files.specs.Files.{Files}
 use Rattle.c25_meaning_assembly.specs.InstructionStatements.{instructions_of}
 use Rattle.c25_meaning_objects.specs.Module.{Contents}
 use Rattle.c25_meaning_sources.specs.ModuleOfSource.{Assembled, Passed, assembled, completed, passed_from}

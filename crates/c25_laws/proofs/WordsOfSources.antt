@@ -7,7 +7,7 @@ use Rattle.std.specs.Option.{option_map_or}
 use Rattle.std.specs.Ordering.{nat_cmp}
 use Rattle.std.proofs.lemmas.Option.{get_or_from_slice_get, slice_get-get_or, slice_get_within}
 use Rattle.c25_meaning_assembly.specs.Emission.{all_names, module_with}
-use Rattle.c25_meaning_expansion.specs.Files.{Files}
+use Rattle.c25_meaning_files.specs.Files.{Files}
 use Rattle.c25_meaning_linking.specs.Linking.{HasWords}
 use Rattle.c25_meaning_objects.specs.Module as modules
 use Rattle.c25_meaning_objects.specs.Module.{Contents, SectionData, body_words}

@@ -1,7 +1,7 @@
 //! Laws of the definitions of assembling, each the contract of a function that does nothing.
 
 ghost use Rattle.std.specs.Prelude.{◌≡◌, List, ◌∷◌, ◌++◌, length, ℕ, Ok};
-ghost use Rattle.c25_meaning_expansion.specs.Files.{Files};
+ghost use Rattle.c25_meaning_files.specs.Files.{Files};
 ghost use Rattle.c25_meaning_assembly.specs.InstructionStatements.{Instruction};
 ghost use Rattle.c25_meaning_objects.specs.Module.{Contents};
 ghost use Rattle.c25_meaning_sources.specs.ModuleOfSource.{Assembled, assembled};

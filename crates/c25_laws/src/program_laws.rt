@@ -3,7 +3,7 @@
 ghost use Rattle.std.specs.Prelude.{◌≡◌, ◌↔◌, ◌+◌, ◌++◌, ◌∷◌, [], List, ℕ, Ok, Some, pos, true};
 ghost use Rattle.std.specs.List.{All, Contains};
 ghost use Rattle.c25_meaning_commands.specs.Command.{CommandData};
-ghost use Rattle.c25_meaning_expansion.specs.Files.{Files};
+ghost use Rattle.c25_meaning_files.specs.Files.{Files};
 ghost use Rattle.c25_meaning_processor.specs.FirstState.{first_of_pages};
 ghost use Rattle.c25_meaning_linking.specs.Linking.{ImageData, IsProgram};
 ghost use Rattle.c25_meaning_objects.specs.Module.{Contents};

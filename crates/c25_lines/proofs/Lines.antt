@@ -5,8 +5,8 @@ use Rattle.std.specs.List.{position_or_len, before_first, after_first, slice_spl
 use Rattle.std.specs.Str.Lines.{lines, lines_of_parts, strip_carriage_return}
 use borrow.Author.Tests.{ne_eqb}
 use Rattle.std.proofs.lemmas.List.Splits.{slice_split_first, length-slice_split}
-use Rattle.c25_meaning_expansion.specs.Rows.{Row, rows_from, last_place}
-use Rattle.c25_meaning_expansion.specs.declared.expansion.SourcePlace.{SourcePlace}
+use Rattle.c25_meaning_files.specs.Rows.{Row, rows_from, last_place}
+use Rattle.c25_meaning_files.specs.declared.place.SourcePlace.{SourcePlace}
 
 -- ---- the lines of a text
 

@@ -1,7 +1,7 @@
 -- Lines that are read, with those read since a mark.
 use Rattle.std.specs.Prelude.{◌≡◌, ℕ, ◌+◌, ◌≤◌, ◌^◌, List, length, take, drop}
 use Rattle.std.specs.Str.Lines.{lines}
-use Rattle.c25_meaning_expansion.specs.Rows.{Row, rows_from}
+use Rattle.c25_meaning_files.specs.Rows.{Row, rows_from}
 
 -- the lines since the mark, and those still to come
 pub record Passage : Type 0 where

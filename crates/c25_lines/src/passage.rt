@@ -1,12 +1,12 @@
 //! Lines that are read one after another, with those read since a mark.
 
 ghost use Rattle.std.specs.Prelude.{List, ◌≡◌, ◌∷◌, ◌++◌, [], option_map, option_to_list, slice_get, IfNone};
-ghost use Rattle.c25_meaning_expansion.specs.Rows.{Row};
+ghost use Rattle.c25_meaning_files.specs.Rows.{Row};
 ghost use Rattle.c25_lines.specs.Passages.{IsRange, rows_in};
 
 use crate::first::first_line;
 use crate::rows::{Row, Rows};
-use c25_meaning_expansion::expansion::SourcePlace;
+use c25_meaning_files::place::SourcePlace;
 use std::marker::Model;
 
 /// Lines that are read one after another. Those since the mark are lines of the text too, so that a body

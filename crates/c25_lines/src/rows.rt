@@ -2,12 +2,11 @@
 
 ghost use Rattle.std.specs.Prelude.{◌≡◌, [], length, ◌≤◌};
 ghost use Rattle.std.specs.Str.Lines.{lines};
-ghost use Rattle.c25_meaning_expansion.specs.ExpansionRuns.{is_empty};
-ghost use Rattle.c25_meaning_expansion.specs.Rows.{last_place, rows_of};
+ghost use Rattle.c25_meaning_files.specs.Rows.{is_empty, last_place, rows_of};
 ghost use Rattle.c25_lines.specs.Passages.{IsRange, rows_in};
 
 use crate::passage::Passage;
-use c25_meaning_expansion::expansion::SourcePlace;
+use c25_meaning_files::place::SourcePlace;
 use std::marker::Model;
 
 /// A line of a file: where it stands, and its text without its end.
@@ -18,7 +17,7 @@ pub struct Row<'a> {
 }
 
 impl<'a> Model for Row<'a> {
-    ghost use Rattle.c25_meaning_expansion.specs.Rows.{Row};
+    ghost use Rattle.c25_meaning_files.specs.Rows.{Row};
 
     ghost Value = { Row };
 
@@ -59,7 +58,6 @@ pub struct Rows<'a> {
 
 impl<'a> Model for Rows<'a> {
     ghost use Rattle.std.specs.Prelude.{List};
-    ghost use Rattle.c25_meaning_expansion.specs.Rows.{Row};
     ghost use Rattle.c25_lines.specs.Passages.{IsRange, rows_in};
 
     ghost Value = { List Row };

@@ -1,4 +1,5 @@
 pub mod Consuming
+pub mod Entries
 pub mod Fewer
 pub mod Lists
 pub mod Nexts

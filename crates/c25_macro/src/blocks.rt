@@ -23,7 +23,7 @@ use c25_expr::tree::Expr;
 use c25_files::files::Files;
 use c25_lines::Rows;
 use c25_meaning_common::failure::Failure;
-use c25_meaning_expansion::expansion::SourcePlace;
+use c25_meaning_files::place::SourcePlace;
 use c25_meaning_language::statement::FaultKind;
 use c25_mnemonics::mnemonic;
 use c25_substitution::parameters::Arguments;

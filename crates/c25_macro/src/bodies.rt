@@ -17,7 +17,8 @@ use crate::scope::Kind;
 use crate::state::{Mode, State};
 use c25_lines::{Row, Rows};
 use c25_meaning_common::failure::Failure;
-use c25_meaning_expansion::expansion::{Directive, SourcePlace};
+use c25_meaning_expansion::expansion::Directive;
+use c25_meaning_files::place::SourcePlace;
 
 impl<'a> State<'a> {
     /// A line of a macro's body, or its end.

@@ -14,7 +14,8 @@ use crate::values::{is_zero, number};
 use c25_expr::symbols::Symbols;
 use c25_expr::tree::Expr;
 use c25_meaning_common::failure::Failure;
-use c25_meaning_expansion::expansion::{Branch, Phase, SourcePlace};
+use c25_meaning_expansion::expansion::{Branch, Phase};
+use c25_meaning_files::place::SourcePlace;
 use c25_meaning_language::statement::FaultKind;
 
 /// Whether the lines of an `.if` are taken.

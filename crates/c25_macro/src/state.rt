@@ -16,7 +16,7 @@ use crate::scope::{Block, Branches, Kind, Scope, Source, Stack};
 use c25_files::text::Text;
 use c25_lines::Rows;
 use c25_meaning_common::no_memory::NoMemory;
-use c25_meaning_expansion::expansion::SourcePlace;
+use c25_meaning_files::place::SourcePlace;
 use std::alloc::Global;
 use std::mem;
 

@@ -5,7 +5,7 @@
 ghost use Rattle.std.specs.Prelude.{◌≡◌, ◌<◌, ◌^◌, [], OnOk};
 ghost use Rattle.c25_meaning_expansion.specs.ExpansionBounds.{IsBounded, nesting};
 ghost use Rattle.c25_meaning_expansion.specs.ExpansionRuns as runs;
-ghost use Rattle.c25_meaning_expansion.specs.Files as meaning;
+ghost use Rattle.c25_meaning_files.specs.Files as meaning;
 ghost use Rattle.c25_meaning_language.specs.Value.{Table};
 ghost use Rattle.c25_macro.specs.Config.{config, mode_of, nested_in, Follows, ForBody, Answers};
 ghost use Rattle.c25_macro.specs.declared.state.Mode.TheVariants as modes;

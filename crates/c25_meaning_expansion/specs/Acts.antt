@@ -12,7 +12,7 @@ use Rattle.c25_meaning_common.specs.Results.{◌>>=◌}
 use Rattle.c25_meaning_language.specs.Forms.{is_expression}
 use Rattle.c25_meaning_language.specs.Texts.{SubstitutionTexts}
 use Rattle.c25_meaning_language.specs.Arguments.{arguments, assigned_text}
-use Rattle.c25_meaning_expansion.specs.Rows.{Row}
+use Rattle.c25_meaning_files.specs.Rows.{Row}
 use Rattle.c25_meaning_expansion.specs.declared.expansion.Directive.{Directive}
 use Rattle.c25_meaning_expansion.specs.declared.expansion.Directive.TheVariants as directive
 use Rattle.c25_meaning_language.specs.declared.statement.FaultKind.{FaultKind}

@@ -28,14 +28,14 @@ use Rattle.c25_meaning_language.specs.Value.{Table, is_zero}
 use Rattle.c25_meaning_common.specs.Results.{◌>>=◌}
 use Rattle.c25_meaning_language.specs.Statement.{valued}
 use Rattle.c25_meaning_instructions.specs.Spellings.{spelling_of}
-use Rattle.c25_meaning_expansion.specs.Files.{Files, text_named}
-use Rattle.c25_meaning_expansion.specs.Rows.{Row, rows_of, last_place, file_number}
+use Rattle.c25_meaning_files.specs.Files.{Files, text_named}
+use Rattle.c25_meaning_files.specs.Rows.{Row, rows_of, last_place, file_number}
 use Rattle.c25_meaning_language.specs.Substitution.{substituted, substituted_before_comma, unsubstituted}
 use Rattle.c25_meaning_language.specs.Texts.{SubstitutionTexts, with_name}
 use Rattle.c25_meaning_expansion.specs.Acts.{ExpansionAct, If, ElseIf, Else, EndIf, Define, Stray, Exit, Loop, Break, Assign, Evaluate, Copy, End, Call, Macro, Order, directive_of, order_of, call_of}
 use Rattle.c25_meaning_expansion.specs.Expansion.{Kind, Copied, Expanded, Turn, Reading, Acting, InMacro, InLoop, Dictionary, Config, Rewriting, Gives, Goes, Faults, Misses, unless, is_full, source_opened, with_branches, left_through, is_expansion, is_turn, stands_in, macro_named, seen, number_of, assigned, called}
 use Rattle.c25_meaning_language.specs.declared.value.Value.{Value}
-use Rattle.c25_meaning_expansion.specs.declared.expansion.SourcePlace.{SourcePlace}
+use Rattle.c25_meaning_files.specs.declared.place.SourcePlace.{SourcePlace}
 use Rattle.c25_meaning_expansion.specs.declared.expansion.Branch.{Branch}
 use Rattle.c25_meaning_expansion.specs.declared.expansion.Phase.{Phase}
 use Rattle.c25_meaning_expansion.specs.declared.expansion.Phase.TheVariants.{Seeking, Taking, Passing, ElseTaking, ElsePassing}

@@ -2,8 +2,8 @@
 use Rattle.std.specs.Prelude.{◌≡◌, ℕ, zero, suc, ◌+◌, ◌*◌, ◌-◌, ◌==◌, List, [], ◌∷◌, ◌++◌, Bool, true, false, not, ◌&&◌, Option, option_map, nat_lt, if◌then◌else◌, length, map}
 use Rattle.c25_meaning_lines.specs.Line.{first_word}
 use Rattle.c25_meaning_language.specs.Value.{Table}
-use Rattle.c25_meaning_expansion.specs.Files.{Files, text_named}
-use Rattle.c25_meaning_expansion.specs.Rows.{Row, rows_of, last_place, file_number}
+use Rattle.c25_meaning_files.specs.Files.{Files, text_named}
+use Rattle.c25_meaning_files.specs.Rows.{Row, rows_of, last_place, file_number, is_empty}
 use Rattle.c25_meaning_expansion.specs.Expansion.{LineOrEnd, Read, Close, Kind, Copied, Expanded, Turn, Scope, Mode, Reading, Acting, InMacro, InLoop, Config, Rewriting, Gives, Goes, Finishes, Faults, Misses, unless, without_ended}
 use Rattle.c25_meaning_expansion.specs.ExpansionRules.{acts, directive_in, reads_by, in_macro, in_loop}
 use Rattle.c25_meaning_language.specs.declared.statement.FaultKind.TheVariants as fault
@@ -22,11 +22,6 @@ is_reading Reading = true
 is_reading (Acting place act) = true
 is_reading (InMacro name parameters body nested) = false
 is_reading (InLoop turns body nested) = false
-
--- no items
-abbrev pub is_empty : {A : Type 0} → List A → Bool
-is_empty [] = true
-is_empty (x ∷ xs) = false
 
 -- no block is open that began in the innermost file, expansion or turn
 abbrev pub is_closed : Config → Bool

@@ -4,5 +4,3 @@ pub mod ExpansionAnswers
 pub mod ExpansionBounds
 pub mod ExpansionRules
 pub mod ExpansionRuns
-pub mod Files
-pub mod Rows

@@ -1,13 +1,4 @@
-//! Lines of files, and what expansion does with them.
-
-/// Where a line stands.
-#[derive(Clone, Copy)]
-pub struct SourcePlace {
-    /// The number of its file, from 0 in the order in which the files were added.
-    pub file: usize,
-    /// The number of the line in that file, from 1.
-    pub line: usize,
-}
+//! What expansion does with lines.
 
 /// The directives that expansion takes out of the lines (SPRU018, assembler directives and macro
 /// language).

@@ -7,7 +7,7 @@ use Rattle.c25_meaning_expansion.specs.Expansion.{Config}
 use Rattle.c25_meaning_expansion.specs.ExpansionAnswers.{ExpandedLine, given_by, fault_by}
 use Rattle.c25_meaning_language.specs.ExpansionFault.{ExpansionFault, Missing}
 use Rattle.c25_meaning_expansion.specs.ExpansionRuns.{first, start_of}
-use Rattle.c25_meaning_expansion.specs.Files.{Files}
+use Rattle.c25_meaning_files.specs.Files.{Files}
 use Rattle.c25_meaning_assembly.specs.Listing.{Entry}
 use Rattle.c25_meaning_objects.specs.Module.{Contents}
 use Rattle.c25_meaning_common.specs.Results.{◌>>=◌}

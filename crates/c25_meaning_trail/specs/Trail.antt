@@ -1,7 +1,7 @@
 -- The lines that opened what is open: calls of macros, `.copy`, and the ends of loops, which open their turns.
 use Rattle.std.specs.Prelude.{◌-◌, List, ◌∷◌, length, drop, nat_lt, if◌then◌else◌}
 use Rattle.c25_meaning_expansion.specs.Expansion.{LineOrEnd, Read, Mode, Acting, Config}
-use Rattle.c25_meaning_expansion.specs.declared.expansion.SourcePlace.{SourcePlace}
+use Rattle.c25_meaning_files.specs.declared.place.SourcePlace.{SourcePlace}
 
 -- the place of the next line, or else this one
 abbrev pub next_place : List LineOrEnd → SourcePlace → SourcePlace

@@ -10,7 +10,7 @@ use Rattle.c25_meaning_expansion.specs.Expansion.{Config}
 use Rattle.c25_meaning_expansion.specs.ExpansionAnswers.{ExpandedLine, given_by, fault_by}
 use Rattle.c25_meaning_language.specs.ExpansionFault.{ExpansionFault}
 use Rattle.c25_meaning_expansion.specs.ExpansionRuns.{first}
-use Rattle.c25_meaning_expansion.specs.Files.{Files}
+use Rattle.c25_meaning_files.specs.Files.{Files}
 use Rattle.c25_meaning_objects.specs.Module.{each_fits}
 use Rattle.c25_meaning_sources.specs.ModuleOfSource.{Passed, no_lines, entry_of, origin_of, pass_line, passed, passed_by, passed_from, read_and_pass}
 use Rattle.c25_meaning_common.specs.Results.{◌>>=◌, fold_ok}

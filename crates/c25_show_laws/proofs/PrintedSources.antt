@@ -14,8 +14,8 @@ use Rattle.c25_meaning_expansion.specs.Expansion.{Config, Read}
 use Rattle.c25_meaning_expansion.specs.ExpansionAnswers.{ExpandedLine, fault_by, given_by}
 use Rattle.c25_meaning_expansion.specs.ExpansionRules.{macro_of}
 use Rattle.c25_meaning_expansion.specs.ExpansionRuns.{start, start_of}
-use Rattle.c25_meaning_expansion.specs.Files.{Files, text_named, file_name}
-use Rattle.c25_meaning_expansion.specs.Rows.{Row, rows_from, file_number}
+use Rattle.c25_meaning_files.specs.Files.{Files, text_named, file_name}
+use Rattle.c25_meaning_files.specs.Rows.{Row, rows_from, file_number}
 use Rattle.c25_meaning_objects.specs.declared.object.ModuleMark.{ModuleMark}
 use Rattle.c25_meaning_assembly.specs.AssemblyLine.{Put}
 use Rattle.c25_meaning_assembly.specs.Emission.{finished, module_with}

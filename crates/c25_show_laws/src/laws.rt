@@ -6,7 +6,7 @@ ghost use Rattle.c25_meaning_instructions.specs.Show.{show, long_text};
 ghost use Rattle.c25_meaning_instructions.specs.Table.{InRange, words};
 ghost use Rattle.c25_meaning_instructions.specs.declared.insn.Insn.{Insn};
 ghost use Rattle.c25_meaning_assembly.specs.Sections.{is_file_name};
-ghost use Rattle.c25_meaning_expansion.specs.Files.{Files, text_named};
+ghost use Rattle.c25_meaning_files.specs.Files.{Files, text_named};
 ghost use Rattle.c25_meaning_sources.specs.ModuleOfSource.{Assembled, assembled};
 ghost use Rattle.c25_show_laws.specs.Saying.{Says, Makes};
 ghost use Rattle.c25_show_laws.specs.Source.{Printed, words_in, IsInRange, source_of, IsTextOf};

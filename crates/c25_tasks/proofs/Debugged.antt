@@ -7,7 +7,7 @@ use Rattle.c25_chain.specs.Chain.{given_of}
 use Rattle.c25_chain.specs.Refusal.{Fault}
 use Rattle.c25_debug_chain.specs.Debug.{Debugs}
 use Rattle.c25_disk.specs.Held.{Held}
-use Rattle.c25_meaning_expansion.specs.Files.{Files}
+use Rattle.c25_meaning_files.specs.Files.{Files}
 use Rattle.c25_meaning_common.specs.Results.{IsNoMemory}
 use Rattle.c25_tasks.specs.Debugging.{DebugsOver}
 use Rattle.c25_tasks.proofs.Gathered.{over_short}

@@ -10,7 +10,7 @@ use Rattle.c25_chain.specs.declared.built.Built.{Built}
 use Rattle.c25_chain.specs.Ready.{Readies}
 use Rattle.c25_chain.specs.declared.ready.Ready.{Ready}
 use Rattle.c25_disk.specs.Held.{Held, IsAllOf}
-use Rattle.c25_meaning_expansion.specs.Files.{Files}
+use Rattle.c25_meaning_files.specs.Files.{Files}
 use Rattle.c25_meaning_common.specs.Results.{IsNoMemory}
 use Rattle.c25_meaning_common.specs.declared.failure.Failure.TheVariants as failure
 use Rattle.c25_tasks.specs.Building.{BuildsOver}

@@ -3,7 +3,7 @@ use Rattle.std.proofs.Common.{◌≡◌, subst, ℕ, List, [], Option, Some, Non
 use Rattle.std.specs.Prelude.{IfSome, Ok}
 use Rattle.c25_disk.specs.Copies.{HasCopied}
 use Rattle.c25_disk.specs.Held.{Held, ReadsSources}
-use Rattle.c25_meaning_expansion.specs.Files.{Files}
+use Rattle.c25_meaning_files.specs.Files.{Files}
 use Rattle.c25_tasks.specs.Fields.{IsFieldAmong, IsFieldOfSources}
 use Rattle.c25_tasks.specs.Files.{IsOptional}
 use Rattle.c25_tasks.specs.declared.fields.FieldNote.{FieldNote}

@@ -5,8 +5,8 @@ use Rattle.std.specs.Prelude.{Result, Ok, Err, Vec}
 use Rattle.std.specs.declared.alloc.Global.{Global}
 use Rattle.c25_macro.specs.Tracers.{fault_in}
 use Rattle.c25_meaning_common.specs.declared.failure.Failure.{Failure}
-use Rattle.c25_meaning_expansion.specs.Files.{Files}
-use Rattle.c25_meaning_expansion.specs.declared.expansion.SourcePlace.{SourcePlace}
+use Rattle.c25_meaning_files.specs.Files.{Files}
+use Rattle.c25_meaning_files.specs.declared.place.SourcePlace.{SourcePlace}
 use Rattle.c25_meaning_language.specs.ExpansionFault.{ExpansionFault}
 use Rattle.c25_trail.specs.Trails.{IsTrail, IsWhole}
 use Rattle.c25_trail.specs.declared.tracing.Refused.{Refused}

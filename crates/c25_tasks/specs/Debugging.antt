@@ -5,7 +5,7 @@ use Rattle.c25_chain.specs.Chain.{given_of}
 use Rattle.c25_chain.specs.Refusal.{Fault}
 use Rattle.c25_debug_chain.specs.Debug.{Debugs}
 use Rattle.c25_disk.specs.Held.{Held}
-use Rattle.c25_meaning_expansion.specs.Files.{Files}
+use Rattle.c25_meaning_files.specs.Files.{Files}
 use Rattle.c25_report.specs.declared.ending.Ending.{Ending}
 use Rattle.c25_words.specs.Task.{text_of}
 use Rattle.c25_words.specs.declared.task.RunFiles.{RunFiles}

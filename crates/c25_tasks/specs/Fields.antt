@@ -14,7 +14,7 @@ use Rattle.c25_meaning_commands.specs.Command.{CommandData}
 use Rattle.c25_meaning_commands.specs.CommandText.{command_of}
 use Rattle.c25_meaning_common.specs.Faults.{placed_text}
 use Rattle.c25_meaning_common.specs.declared.placed.FileLine.{FileLine}
-use Rattle.c25_meaning_expansion.specs.Files.{Files}
+use Rattle.c25_meaning_files.specs.Files.{Files}
 use Rattle.c25_meaning_linking.specs.Linking.{names_checked}
 use Rattle.c25_meaning_objects.specs.Module.{Contents}
 use Rattle.c25_meaning_placing.specs.GoodMap.{IsGoodMap}

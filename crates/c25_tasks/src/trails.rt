@@ -16,7 +16,7 @@ use c25_macro::files::Files;
 use c25_macro::tracer::StepFault;
 use c25_meaning_common::failure::Failure;
 use c25_meaning_common::no_memory::NoMemory;
-use c25_meaning_expansion::expansion::SourcePlace;
+use c25_meaning_files::place::SourcePlace;
 use c25_meaning_language::statement::FaultKind;
 use c25_trail::{Refused, Traced, trace};
 use std::alloc::Global;

@@ -8,9 +8,9 @@ use Rattle.c25_meaning_expansion.specs.ExpansionAnswers.{ExpandedLine, given_by,
 use Rattle.c25_meaning_expansion.specs.ExpansionBounds.{IsLast}
 use Rattle.c25_meaning_expansion.specs.ExpansionRuns as runs
 use Rattle.c25_meaning_expansion.specs.ExpansionRuns.{first, rewrite, start_of}
-use Rattle.c25_meaning_expansion.specs.Files.{Files, text_named}
-use Rattle.c25_meaning_expansion.specs.Rows.{file_number}
-use Rattle.c25_meaning_expansion.specs.declared.expansion.SourcePlace.{SourcePlace}
+use Rattle.c25_meaning_files.specs.Files.{Files, text_named}
+use Rattle.c25_meaning_files.specs.Rows.{file_number}
+use Rattle.c25_meaning_files.specs.declared.place.SourcePlace.{SourcePlace}
 use Rattle.c25_meaning_expansion.proofs.ExpansionFalls.{falls_going, given_was_read}
 use Rattle.c25_meaning_expansion.proofs.ExpansionFirst.{comes_to_first, first_going}
 use Rattle.c25_meaning_language.specs.ExpansionFault.{ExpansionFault, Faulty}

@@ -1,6 +1,6 @@
 use Rattle.std.proofs.Common.{◌-◌, ap, sym, ◌∙◌, ◌≤◌, subst}
 use Rattle.std.specs.Str.Lines.{lines}
-use Rattle.c25_meaning_expansion.specs.Rows.{rows_from}
+use Rattle.c25_meaning_files.specs.Rows.{rows_from}
 use Rattle.c25_lines.proofs.Lines.{before_last, length-rows}
 use Rattle.c25_lines.proofs.passage.Passage.body.Goals as goal
 

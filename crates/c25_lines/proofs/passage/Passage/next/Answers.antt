@@ -1,6 +1,6 @@
 use Rattle.std.proofs.Common.{◌≡◌, suc, ◌+◌, ◌-◌, ◌∷◌, ◌++◌, [], length, take, drop, ap, sym, ◌∙◌, arith, length-drop}
 use Rattle.std.specs.Str.Lines.{lines}
-use Rattle.c25_meaning_expansion.specs.Rows.{rows_from}
+use Rattle.c25_meaning_files.specs.Rows.{rows_from}
 use Rattle.c25_lines.proofs.Lines.{one_more, drop_next}
 use Rattle.c25_lines.proofs.passage.Passage.next.Goals as goal
 

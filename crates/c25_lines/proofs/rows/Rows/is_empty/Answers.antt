@@ -1,7 +1,6 @@
 use Rattle.std.proofs.Common.{◌≡◌, ℕ, zero, suc, ◌≤◌, List, [], ◌∷◌, length, take, refl, ap, ◌∙◌, arith, eqb}
 use Rattle.std.specs.Str.Lines.{lines}
-use Rattle.c25_meaning_expansion.specs.ExpansionRuns.{is_empty}
-use Rattle.c25_meaning_expansion.specs.Rows.{rows_from}
+use Rattle.c25_meaning_files.specs.Rows.{is_empty, rows_from}
 use Rattle.c25_lines.proofs.Lines.{not_zero}
 use Rattle.c25_lines.proofs.rows.Rows.is_empty.Goals as goal
 

@@ -1,7 +1,7 @@
 use Rattle.std.proofs.Common.{◌≡◌, ℕ, zero, suc, ◌+◌, ◌-◌, ◌<◌, ◌≤◌, List, length, take, sym, ap, ◌∙◌, arith}
 use Rattle.std.specs.Str.Lines.{lines}
-use Rattle.c25_meaning_expansion.specs.Rows.{rows_from, last_place}
-use Rattle.c25_meaning_expansion.specs.declared.expansion.SourcePlace.{SourcePlace}
+use Rattle.c25_meaning_files.specs.Rows.{rows_from, last_place}
+use Rattle.c25_meaning_files.specs.declared.place.SourcePlace.{SourcePlace}
 use Rattle.c25_lines.proofs.Lines.{last_of_rows}
 use Rattle.c25_lines.proofs.rows.Rows.last_place.Goals as goal
 

@@ -1,6 +1,6 @@
 use Rattle.std.proofs.Common.{ap, ◌∙◌, take}
 use Rattle.std.specs.Str.Lines.{lines}
-use Rattle.c25_meaning_expansion.specs.Rows.{rows_from}
+use Rattle.c25_meaning_files.specs.Rows.{rows_from}
 use Rattle.c25_lines.proofs.Lines.{take_rows}
 use Rattle.c25_lines.proofs.rows.Rows.of_file.Goals as goal
 

@@ -2,7 +2,8 @@ use Rattle.std.proofs.Common.{ap, ◌∙◌}
 use Rattle.std.specs.String.{string_bytes}
 use Rattle.c25_meaning_language.specs.Texts.{with_name}
 use Rattle.c25_macro.specs.Acts.{macro_of}
-use Rattle.c25_files.proofs.Entries.{views, views-insert}
+use Rattle.c25_files.proofs.Entries.{views}
+use Rattle.c25_macro.proofs.Entries.{views-insert}
 use Rattle.c25_macro.proofs.macros.Macros.put.Goals as goal
 
 pub returns : goal.returns

@@ -1,10 +1,10 @@
 -- Lines of files, each with its place.
-use Rattle.std.specs.Prelude.{ℕ, ◌+◌, ◌-◌, List, [], ◌∷◌, length, slice_get, Some, None}
+use Rattle.std.specs.Prelude.{ℕ, ◌+◌, ◌-◌, Bool, true, false, List, [], ◌∷◌, length, slice_get, Some, None}
 use Rattle.std.specs.List.{position_or_len}
 use Rattle.std.specs.Str.{bytes_eq}
 use Rattle.std.specs.Str.Lines.{lines}
-use Rattle.c25_meaning_expansion.specs.Files.{Files}
-use Rattle.c25_meaning_expansion.specs.declared.expansion.SourcePlace.{SourcePlace}
+use Rattle.c25_meaning_files.specs.Files.{Files}
+use Rattle.c25_meaning_files.specs.declared.place.SourcePlace.{SourcePlace}
 
 -- a line: where it stands, and its text without its end
 pub record Row : Type 0 where
@@ -19,6 +19,11 @@ rows_from file line (text ∷ texts) = record { place = record { file = file; li
 -- the lines of a file with this text
 abbrev pub rows_of : ℕ → List ℕ → List Row
 rows_of file text = rows_from file 1 (lines text)
+
+-- no items
+abbrev pub is_empty : {A : Type 0} → List A → Bool
+is_empty [] = true
+is_empty (x ∷ xs) = false
 
 -- where the last of some lines stands, or else this place
 abbrev pub last_place : SourcePlace → List Row → SourcePlace
