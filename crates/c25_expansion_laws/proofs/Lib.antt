@@ -1,2 +1,1 @@
 pub mod PlainLines
-pub mod PlainTexts

@@ -11,7 +11,7 @@ use Rattle.c25_meaning_expansion.specs.ExpansionRuns.{rewrite, Leads, first, sta
 use Rattle.c25_meaning_expansion.specs.ExpansionBounds.{Gave, nothing, line}
 use Rattle.c25_expansion_laws.specs.ExpansionLaws.{IsPlain, ArePlain, are_taken, closed_by, are_closed}
 use Rattle.c25_meaning_expansion.proofs.ExpansionFirst.{comes_to_first, leads_before}
-use Rattle.c25_expansion_laws.proofs.PlainTexts.{line_kept, short_kept}
+use Rattle.c25_substitution_laws.proofs.PlainTexts.{line_kept, short_kept}
 use Rattle.c25_meaning_expansion.specs.declared.expansion.Branch.{Branch}
 use Rattle.c25_meaning_expansion.specs.declared.expansion.Directive.{Directive}
 use Rattle.c25_meaning_expansion.specs.declared.expansion.Directive.TheVariants as directive

@@ -1,23 +1,13 @@
 -- What the laws of expansion speak of: lines that no rule of expansion touches, and lines that a false `.if` skips.
-use Rattle.std.specs.Prelude.{◌≡◌, ℕ, zero, suc, ◌+◌, ◌≤◌, ◌==◌, Bool, true, false, List, [], ◌∷◌, length, drop, slice_index, Option, Some, None}
-use Rattle.std.specs.List.{take_while}
-use Rattle.c25_meaning_common.specs.Bytes.{goes_on_name}
+use Rattle.std.specs.Prelude.{◌≡◌, ℕ, zero, suc, ◌+◌, ◌≤◌, ◌==◌, Bool, true, false, List, [], ◌∷◌, length, Option, Some, None}
 use Rattle.c25_meaning_lines.specs.Line.{first_word}
 use Rattle.c25_meaning_files.specs.Rows.{Row}
-use Rattle.c25_meaning_language.specs.Fragments.{Replacements}
+use Rattle.c25_substitution_laws.specs.PlainTexts.{StandsForNothing, HasNoMark}
 use Rattle.c25_meaning_expansion.specs.Expansion.{Dictionary, seen}
 use Rattle.c25_meaning_expansion.specs.ExpansionRules.{directive_in, macro_of, takes_lines}
 use Rattle.c25_meaning_expansion.specs.declared.expansion.Branch.{Branch}
 use Rattle.c25_meaning_expansion.specs.declared.expansion.Directive.{Directive}
 use Rattle.c25_meaning_expansion.specs.declared.expansion.Directive.TheVariants as directive
-
--- no name that begins anywhere in a text stands for a text
-abbrev pub StandsForNothing : Replacements → List ℕ → Type 0
-StandsForNothing names text = (i : ℕ) → names (take_while goes_on_name (drop i text)) ≡ None
-
--- no byte of a text is `?`
-abbrev pub HasNoMark : List ℕ → Type 0
-HasNoMark text = (i : ℕ) → (slice_index text i == 63) ≡ false
 
 -- a line that no rule of expansion touches: its first word is no directive of expansion and no macro's name, no name in it
 -- stands for a text, it has no `?`, and at most 1,024 bytes

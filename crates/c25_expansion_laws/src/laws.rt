@@ -3,13 +3,11 @@
 ghost use Rattle.std.specs.Prelude.{◌≡◌, ℕ, ◌<◌, ◌≤◌, List, length, ◌-◌, ◌++◌, ◌∷◌, map, true, false};
 ghost use Rattle.c25_meaning_expansion.specs.Expansion.{Config, Rewriting, Gives, depth, LineOrEnd, Read, Reading, Finishes};
 ghost use Rattle.c25_meaning_expansion.specs.ExpansionBounds.{IsLast, Gave};
-ghost use Rattle.c25_expansion_laws.specs.ExpansionLaws.{StandsForNothing, HasNoMark, IsPlain, ArePlain, are_taken, are_closed};
+ghost use Rattle.c25_expansion_laws.specs.ExpansionLaws.{IsPlain, ArePlain, are_taken, are_closed};
 ghost use Rattle.c25_meaning_expansion.specs.ExpansionRules.{takes_lines};
 ghost use Rattle.c25_meaning_expansion.specs.ExpansionRuns.{ComesTo, Leads, first, start};
 ghost use Rattle.c25_meaning_files.specs.Files.{Files};
-ghost use Rattle.c25_meaning_language.specs.Fragments.{Replacements};
 ghost use Rattle.c25_meaning_files.specs.Rows.{Row, rows_of};
-ghost use Rattle.c25_meaning_language.specs.Substitution.{substituted, unsubstituted};
 ghost use Rattle.c25_meaning_language.specs.Value.{Table};
 ghost use Rattle.c25_meaning_expansion.specs.declared.expansion.Branch.{Branch};
 
@@ -33,13 +31,6 @@ pub fn expansion_gives_at_most_200_000_lines()
 pub fn expansion_opens_at_most_32_blocks()
     ensures { (files : Files) (file : ℕ) (text : List ℕ) (rows : List Row) (c : Config) →
         Gave files (start file text) rows c → depth c ≤ 32 }
-{}
-
-/// A line without `?` is kept as it is where no name that begins in it stands for a text, in any
-/// expansion; that it may be too long is all that is left to test.
-pub fn texts_without_names_are_kept()
-    ensures { (names : Replacements) (number : ℕ) (line : List ℕ) → StandsForNothing names line → HasNoMark line
-        → substituted names number line ≡ unsubstituted line }
 {}
 
 /// Where lines are taken, a line that is neither a directive of expansion nor a call, and in which

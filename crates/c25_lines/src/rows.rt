@@ -58,6 +58,7 @@ pub struct Rows<'a> {
 
 impl<'a> Model for Rows<'a> {
     ghost use Rattle.std.specs.Prelude.{List};
+    ghost use Rattle.c25_meaning_files.specs.Rows.{Row};
     ghost use Rattle.c25_lines.specs.Passages.{IsRange, rows_in};
 
     ghost Value = { List Row };

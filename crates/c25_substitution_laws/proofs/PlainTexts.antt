@@ -6,7 +6,7 @@ use Rattle.std.proofs.lemmas.Bool.Decides.{nat_tests}
 use Rattle.std.proofs.lemmas.List.{take-append-drop}
 use Rattle.std.proofs.lemmas.List.Folds.{length-prefix_len}
 use Rattle.c25_meaning_common.specs.Bytes.{is_digit, is_letter_or_digit, begins_name, goes_on_name}
-use Rattle.c25_expansion_laws.specs.ExpansionLaws.{StandsForNothing, HasNoMark}
+use Rattle.c25_substitution_laws.specs.PlainTexts.{StandsForNothing, HasNoMark}
 use Rattle.c25_meaning_language.specs.Quoting.{behind}
 use Rattle.c25_meaning_language.specs.Fragments.{Replacements, without, Kept, Replaced, Front, kept, character, whole_name, unit, unforced, forced, forced_or, front, fragments, is_beyond_ascii}
 use Rattle.c25_meaning_language.specs.Substitution.{Draft, as_is, joined, all_joined, drafted_by, drafted, measured, too_long, line_quoting, substituted, unsubstituted}

@@ -1,0 +1,4 @@
+//! Laws of substitution, each the contract of a function that does nothing.
+#![tactic(auto)]
+
+pub mod laws;
