@@ -2,11 +2,9 @@
 
 mod breakpoints;
 mod digits;
-pub(crate) mod halt;
 mod instructions;
 mod line;
 pub(crate) mod memory;
-pub(crate) mod program;
 mod registers;
 mod steps;
 mod words;
@@ -15,5 +13,5 @@ pub(crate) use breakpoints::{push_cleared, push_set};
 pub(crate) use instructions::{push_copied, push_instruction, push_instructions};
 pub(crate) use line::MOST_BYTES;
 pub(crate) use registers::{push_registers, push_stack};
-pub(crate) use steps::{push_halting, push_sink};
+pub(crate) use steps::push_halted;
 pub(crate) use words::push_words;

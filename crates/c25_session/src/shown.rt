@@ -12,7 +12,6 @@ use crate::answers::{
     push_copied, push_instruction, push_instructions, push_registers, push_stack, push_words,
 };
 use crate::memories::{DataMemory, ProgramMemory};
-use crate::program::ImageProgram;
 use c25_board::board::Board;
 use c25_board::ports::{Feed, Sink};
 use c25_link::Image;
@@ -81,7 +80,7 @@ fn show_mark(alloc: Global, image: &Image, address: u16) -> Result<String, NoMem
 {
     let mut text = String::new(alloc);
     let size = size_at(image.marks(), address);
-    push_instruction(alloc, &mut text, &ImageProgram { image }, address, size)?;
+    push_instruction(alloc, &mut text, image, address, size)?;
     Ok(text)
 }
 
@@ -99,14 +98,7 @@ pub(crate) fn show_place<F: Feed + Drop, S: Sink + Drop>(
         Some(mark) => match board.copied(&mark) {
             Some(insn) => {
                 let mut text = String::new(alloc);
-                push_copied(
-                    alloc,
-                    &mut text,
-                    &ImageProgram { image },
-                    address,
-                    mark.load,
-                    insn,
-                )?;
+                push_copied(alloc, &mut text, image, address, mark.load, insn)?;
                 Ok(text)
             }
             None => show_mark(alloc, image, address),
@@ -125,14 +117,7 @@ pub(crate) fn show_list(
     ensures { IfOk result (λ text. AreLinesOf image.now.program (source_line_at image.now) (marks_from image.now.marks address count) (string_bytes text)) }
 {
     let mut text = String::new(alloc);
-    push_instructions(
-        alloc,
-        &mut text,
-        &ImageProgram { image },
-        image.marks(),
-        address,
-        count,
-    )?;
+    push_instructions(alloc, &mut text, image, image.marks(), address, count)?;
     Ok(text)
 }
 

@@ -1,13 +1,14 @@
-//! The instructions of a program, as they are read from its words.
+//! The instructions of an image, as they are read from its words.
 
 ghost use Rattle.std.specs.Prelude.{◌≡◌, ◌≤◌, ◌++◌, ℕ, List, OnOk, Some, string_bytes};
 ghost use Rattle.std.specs.Option.{option_map};
+ghost use Rattle.c25_meaning_debugger.specs.Debugger.{source_line_at};
 ghost use Rattle.c25_meaning_debugger.specs.Texts.{AreLinesOf, IsLineOf, IsWhere, ReadsAt, insn_line, insn_text, marks_from, source_line_end};
 ghost use Rattle.c25_meaning_processor.specs.FirstState.{memory_of_map};
 
 use crate::answers::digits::push_word;
-use crate::answers::program::Program;
 use c25_isa::{decode, show, size_of};
+use c25_link::Image;
 use c25_meaning_common::no_memory::NoMemory;
 use c25_meaning_image::mark::Mark;
 use c25_meaning_image::word_map::WordMap;
@@ -84,65 +85,65 @@ fn push_line(
 }
 
 /// Appends the line of a mark.
-fn push_mark<P: Program>(
+fn push_mark(
     alloc: Global,
     text: &mut String,
-    program: &P,
+    image: &Image,
     address: u16,
     size: u16,
 ) -> Result<(), NoMemory>
-    ensures { OnOk result ((line : List ℕ) × IsLineOf (P.words_in program.now) (P.source_line_at program.now) (record { address = address; size = size }) line
+    ensures { OnOk result ((line : List ℕ) × IsLineOf image.now.program (source_line_at image.now) (record { address = address; size = size }) line
         × (string_bytes text.new ≡ string_bytes text.old ++ line)) }
 {
-    let insn = read_at(program.words(), address, size);
-    push_line(alloc, text, address, &insn, program.source_line(address))
+    let insn = read_at(image.words(0), address, size);
+    push_line(alloc, text, address, &insn, image.line_of(address))
 }
 
 /// Appends the line of an address: the instruction of this size that the words read as there, or `none`
 /// where they read as none of that size, and where it stands in the sources, if that is known; `none`
 /// alone where no size is given, as no instruction stands there.
-pub(crate) fn push_instruction<P: Program>(
+pub(crate) fn push_instruction(
     alloc: Global,
     text: &mut String,
-    program: &P,
+    image: &Image,
     address: u16,
     size: Option<u16>,
 ) -> Result<(), NoMemory>
-    ensures { OnOk result ((line : List ℕ) × IsWhere (P.words_in program.now) (P.source_line_at program.now) address size line
+    ensures { OnOk result ((line : List ℕ) × IsWhere image.now.program (source_line_at image.now) address size line
         × (string_bytes text.new ≡ string_bytes text.old ++ line)) }
 {
     match size {
         None => push_line(alloc, text, address, &None, None),
-        Some(size) => push_mark(alloc, text, program, address, size),
+        Some(size) => push_mark(alloc, text, image, address, size),
     }
 }
 
 /// Appends the line of an address, of an instruction that runs there and of where that stands in the
 /// sources, if it is known: at the address where it is loaded.
-pub(crate) fn push_copied<P: Program>(
+pub(crate) fn push_copied(
     alloc: Global,
     text: &mut String,
-    program: &P,
+    image: &Image,
     address: u16,
     load: u16,
     insn: Insn,
 ) -> Result<(), NoMemory>
     ensures { OnOk result (string_bytes text.new ≡ string_bytes text.old
-        ++ insn_line address (Some insn) (P.source_line_at program.now load)) }
+        ++ insn_line address (Some insn) (source_line_at image.now load)) }
 {
-    push_line(alloc, text, address, &Some(insn), program.source_line(load))
+    push_line(alloc, text, address, &Some(insn), image.line_of(load))
 }
 
 /// Appends the lines of the first so many marks from an address up, in the order of the marks.
-pub(crate) fn push_instructions<P: Program>(
+pub(crate) fn push_instructions(
     alloc: Global,
     text: &mut String,
-    program: &P,
+    image: &Image,
     marks: &[Mark],
     address: u16,
     count: u32,
 ) -> Result<(), NoMemory>
-    ensures { OnOk result ((lines : List ℕ) × AreLinesOf (P.words_in program.now) (P.source_line_at program.now) (marks_from marks.now address count) lines
+    ensures { OnOk result ((lines : List ℕ) × AreLinesOf image.now.program (source_line_at image.now) (marks_from marks.now address count) lines
         × (string_bytes text.new ≡ string_bytes text.old ++ lines)) }
 {
     let mut left = count;
@@ -151,7 +152,7 @@ pub(crate) fn push_instructions<P: Program>(
             return Ok(());
         }
         if mark.address >= address {
-            push_mark(alloc, text, program, mark.address, mark.size)?;
+            push_mark(alloc, text, image, mark.address, mark.size)?;
             left -= 1;
         }
     }
