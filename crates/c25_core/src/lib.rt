@@ -9,6 +9,7 @@ mod awake;
 mod bit;
 mod bus;
 mod copied;
+mod entry;
 mod execute;
 mod fetch;
 mod interrupt;

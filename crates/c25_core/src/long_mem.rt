@@ -8,7 +8,7 @@ ghost use Rattle.c25_meaning_instructions.specs.Table.{AddrInRange};
 
 use crate::accumulator::{plus_product, word_product};
 use crate::bus::Bus;
-use crate::memory::{read_data, read_program, write_data};
+use crate::memory::{move_up, read_data, read_program, write_data};
 use crate::operand::{address_of, settle};
 use c25_meaning_instructions::insn::Addr;
 use c25_meaning_instructions::mnemonic::LongMemName;
@@ -42,13 +42,16 @@ fn act<B: Bus>(
         ≡ to registers.new (B.world bus.new) }
     ensures failures { B.failures bus.new ≡ B.failures bus.old }
 {
-    let word = read_data(bus, cnf, address);
     match name {
         LongMemName::Macd => {
-            multiply(registers, word, read_program(bus, cnf, at));
-            write_data(bus, cnf, address.wrapping_add(1), word);
+            let factor = read_program(bus, cnf, at);
+            let word = move_up(bus, cnf, address);
+            multiply(registers, word, factor);
         }
-        LongMemName::Mac => multiply(registers, word, read_program(bus, cnf, at)),
+        LongMemName::Mac => {
+            let word = read_data(bus, cnf, address);
+            multiply(registers, word, read_program(bus, cnf, at));
+        }
         LongMemName::Blkp => {
             let moved = read_program(bus, cnf, at);
             write_data(bus, cnf, address, moved);

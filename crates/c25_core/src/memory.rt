@@ -1,6 +1,6 @@
 //! Memory as the processor reads and writes it, with block B0 (SPRU014, "Memory Maps").
 
-ghost use Rattle.std.specs.Prelude.{◌≡◌};
+ghost use Rattle.std.specs.Prelude.{◌≡◌, ◌+◌, ◌%◌, ◌^◌, ◌&&◌, false};
 ghost use Rattle.c25_meaning_processor.specs.State.{data_at, with_data, program_at, with_program, in_b0, in_program_b0};
 ghost use Rattle.c25_meaning_processor.specs.Effect.{store_program};
 ghost use Rattle.c25_core.specs.Met.{IsMet};
@@ -44,6 +44,34 @@ pub fn write_data<B: Bus>(bus: &mut B, cnf: bool, address: u16, word: u16)
         return;
     }
     bus.set_data(address, word)
+}
+
+/// Whether under this CNF a data address or the next one is one of B0.
+#[inline(always)]
+fn touches_b0(cnf: bool, address: u16) -> bool
+    ensures here { result ≡ false → (cnf && in_b0 address) ≡ false }
+    ensures next { result ≡ false → (cnf && in_b0 ((address + 1) % 2 ^ 16)) ≡ false }
+{
+    cnf && 0x1FF <= address && address < 0x300
+}
+
+/// Writes a data word at the next address, and tells it. Where neither is in B0, that is asked for once.
+#[inline(always)]
+#[tactic(auto, unfolding(c25_meaning_processor::specs::State::data_at, c25_meaning_processor::specs::State::with_data))]
+pub fn move_up<B: Bus>(bus: &mut B, cnf: bool, address: u16) -> u16
+    ensures word { result ≡ data_at cnf (B.world bus.old) address }
+    ensures after { B.world bus.new ≡ with_data cnf (B.world bus.old) ((address + 1) % 2 ^ 16)
+        (data_at cnf (B.world bus.old) address) }
+    ensures failures { B.failures bus.new ≡ B.failures bus.old }
+{
+    if touches_b0(cnf, address) {
+        let word = read_data(bus, cnf, address);
+        write_data(bus, cnf, address.wrapping_add(1), word);
+        return word;
+    }
+    let word = bus.data(address);
+    bus.set_data(address.wrapping_add(1), word);
+    word
 }
 
 /// A program word. Under CNF 1 the highest 256 are those of B0.

@@ -11,12 +11,12 @@ use c25_meaning_arithmetic::accumulator::Acc;
 const SIGN: u32 = 0x8000_0000;
 
 /// A value times 2^`shift`, cut to 32 bits.
-#[tactic(auto, using(crate::proofs::Powers::all_out))]
 #[inline(always)]
 pub(crate) fn shift_left(value: u32, shift: u16) -> u32
+    requires { shift < 32 }
     ensures { result ≡ shifted_left value shift }
 {
-    if shift < 32 { value << shift } else { 0 }
+    value << shift
 }
 
 /// A memory word times 2^`shift` in 32 bits; it is read with its sign where `sxm` says so.
