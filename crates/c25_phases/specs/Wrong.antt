@@ -1,5 +1,5 @@
 -- The first item that is wrong.
-use Rattle.std.specs.Prelude.{ℕ, ◌+◌, List, [], ◌∷◌, Option, Some, None, Result, Ok, Err}
+use Rattle.std.specs.Prelude.{ℕ, ◌+◌, List, [], ◌∷◌, Option, Some, None, Ok, Err}
 use Rattle.c25_meaning_assembly.specs.Emission.{all_names, emit}
 use Rattle.c25_meaning_assembly.specs.Sections.{Definitions, Section, Origin, LaidContent, Progress}
 use Rattle.c25_meaning_language.specs.declared.statement.FaultKind.{FaultKind}

@@ -1,4 +1,4 @@
-use Rattle.std.proofs.Common.{◌≡◌, ◌≤◌, drop, length, map}
+use Rattle.std.proofs.Common.{◌≡◌, drop, map}
 use Rattle.c25_phases.specs.View.{item_of}
 use Rattle.c25_phases.specs.Wrong.{wrong_from}
 use Rattle.c25_phases.proofs.wrong.wrong_among.Given as goal
