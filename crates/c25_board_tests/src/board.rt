@@ -1,12 +1,11 @@
 //! A board with a program of four instructions.
 
-ghost use Rattle.std.specs.Prelude.{◌≡◌, [], IfOk};
+ghost use Rattle.std.specs.Prelude.{◌≡◌, IfOk};
 ghost use Rattle.c25_board.specs.Board.{steps};
 
-use crate::pages::put_words;
 use c25_board::board::{Board, Outcome};
 use c25_board::fixed_sink::FixedSink;
-use c25_board::ports::{Feed, ListSink, NoSamples, Sink};
+use c25_board::ports::{ListSink, NoSamples, Sink};
 use c25_board::schedule::read_schedule;
 use c25_core::{Halt, SinkFailed};
 use c25_meaning_image::mark::Mark;
@@ -65,6 +64,16 @@ const STORES_MARKS: [Mark; 4] = [
     },
 ];
 
+/// Puts words into a page, from an address on.
+fn put_words(page: &mut WordMap, start: u16, words: &[u16]) -> Result<(), Fail> {
+    let mut address = start;
+    for word in words {
+        page.insert(address, *word)?;
+        address = address.wrapping_add(1);
+    }
+    Ok(())
+}
+
 /// A board with these words, instructions at these places, no schedule and no samples.
 fn board_with<S: Sink + Drop>(
     alloc: Global,
@@ -84,23 +93,6 @@ fn board_with<S: Sink + Drop>(
     Ok(Board::new(alloc, &page0, &page1, marks, &[], schedule, NoSamples, sink)?)
 }
 
-/// A sink that takes no word.
-#[derive(Drop)]
-struct Closed {
-    failures: u64,
-}
-
-impl Sink for Closed {
-    ghost written = { λ _. [] };
-
-    ghost failures = { λ sink. sink.failures };
-
-    fn put(&mut self, _port: u16, _word: u16) -> Result<(), SinkFailed> {
-        self.failures = self.failures.saturating_add(1);
-        Err(SinkFailed)
-    }
-}
-
 #[test]
 fn runs_are_one_run(rt: HostRuntime) -> Result<(), Fail> {
     let sink = ListSink::new(rt.alloc());
@@ -110,22 +102,10 @@ fn runs_are_one_run(rt: HostRuntime) -> Result<(), Fail> {
     assert_eq!(rt; board.run(7), Outcome::Ran);
     assert_eq!(rt; board.steps(), 9);
     assert_eq!(rt; board.sink().words(), [(1, 0x41)].as_slice());
+    assert_eq!(rt; board.sink().refused(), None);
     assert_eq!(rt; board.regs().pc, 3);
     assert_eq!(rt; board.regs().acc, 0x41);
     assert_eq!(rt; board.data().get(0x60).copied(), Some(0x41));
-    Ok(())
-}
-
-#[test]
-fn refused_outputs_are_tried_again(rt: HostRuntime) -> Result<(), Fail> {
-    let sink = Closed { failures: 0 };
-    let mut board = board_with(rt.alloc(), &PROGRAM, &MARKS, sink)?;
-    assert_eq!(rt; board.run(9), Outcome::SinkFault(2));
-    assert_eq!(rt; board.run(9), Outcome::SinkFault(2));
-    assert_eq!(rt; board.steps(), 2);
-    assert_eq!(rt; board.pc(), 2);
-    assert_eq!(rt; board.data_at(0x60), 0x41);
-    assert_eq!(rt; board.sink().failures, 2);
     Ok(())
 }
 
@@ -138,6 +118,8 @@ fn cleared_sinks_take_words_again(rt: HostRuntime) -> Result<(), Fail> {
         board.sink().words(),
         [(1, 0x41), (1, 0x41), (1, 0x41)].as_slice()
     );
+    assert_eq!(rt; board.pc(), 2);
+    assert_eq!(rt; board.data_at(0x60), 0x41);
     board.sink_mut().clear();
     assert_eq!(rt; board.steps(), 8);
     assert_eq!(rt; board.run(1), Outcome::Ran);
@@ -155,25 +137,6 @@ fn data_memory_has_block_b0_under_cnf_1(rt: HostRuntime) -> Result<(), Fail> {
     assert_eq!(rt; board.data_at(0x200), 0);
     assert_eq!(rt; board.prog_at(0xff00), 0x41);
     assert_eq!(rt; board.data().get(0x200).copied(), Some(0x41));
-    Ok(())
-}
-
-#[test]
-fn words_that_are_no_instruction_are_not_run(rt: HostRuntime) -> Result<(), Fail> {
-    let sink = ListSink::new(rt.alloc());
-    let mut board = board_with(rt.alloc(), &PROGRAM, &[], sink)?;
-    assert_eq!(rt; board.run(1), Outcome::Left(0, Stop::OutOfCode));
-    assert_eq!(rt; board.run(0), Outcome::Ran);
-    Ok(())
-}
-
-#[test]
-fn ports_without_samples_are_dry(rt: HostRuntime) -> Result<(), Fail> {
-    assert_eq!(rt; NoSamples.take(2), None);
-    let mut sink = ListSink::new(rt.alloc());
-    assert!(rt; sink.put(15, 0xffff).is_ok());
-    assert_eq!(rt; sink.words(), [(15, 0xffff)].as_slice());
-    assert_eq!(rt; sink.refused(), None);
     Ok(())
 }
 

@@ -69,8 +69,4 @@ fn main(rt: HostRuntime) -> Result<()> {
 }
 
 #[cfg(test)]
-mod arithmetic;
-#[cfg(test)]
-mod programs;
-#[cfg(test)]
 mod tests;

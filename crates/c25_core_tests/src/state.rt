@@ -36,21 +36,6 @@ pub struct State {
 }
 
 impl State {
-    /// Registers of which all but the flags of reset are 0.
-    pub fn new() -> State {
-        State {
-            acc_high: 0,
-            acc_low: 0,
-            p_high: 0,
-            p_low: 0,
-            t: 0,
-            ar: [0; 8],
-            stack: [0; 8],
-            st0: 0x0600,
-            st1: 0x07F0,
-        }
-    }
-
     /// The next state of a generator.
     pub fn draw(generator: &mut Generator) -> State {
         State {

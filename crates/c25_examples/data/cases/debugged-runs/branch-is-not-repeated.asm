@@ -1,0 +1,3 @@
+* The step that would repeat a branch changes nothing, and is tried again.
+        RPTK    0
+        B       0

@@ -1,0 +1,3 @@
+* The register that is named becomes the current one, and ARB keeps the one that was.
+        LARP    AR2
+        MAR     *,AR5
