@@ -1,5 +1,4 @@
 pub mod Counts
-pub mod FaultIf
 pub mod Kept
 pub mod Loops
 pub mod Names

@@ -1,3 +1,4 @@
+pub mod After
 pub mod Known
 pub mod Refused
 pub mod View

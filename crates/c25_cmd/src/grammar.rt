@@ -1,8 +1,10 @@
 //! Single tokens.
 
 ghost use Rattle.std.specs.Prelude.{◌≡◌, ◌≤◌, IfOk};
-ghost use Rattle.c25_meaning_commands.specs.CommandGrammar.{passes, begins, wanted, past, fault_at, fault_if, number_at, number_of_kind, page_number_at, setting_at};
+ghost use Rattle.c25_meaning_commands.specs.CommandGrammar.{passes, begins, wanted, past, fault_at, number_at, number_of_kind, page_number_at, setting_at};
+ghost use Rattle.c25_meaning_common.specs.declared.failure.Failure.TheVariants.{Fault};
 ghost use Rattle.c25_meaning_common.specs.Results.{Meets};
+ghost use Rattle.c25_cmd.specs.After.{after};
 ghost use Rattle.c25_cmd.specs.View.{token_of, tokens_of};
 
 use crate::token::Token;
@@ -39,6 +41,13 @@ fn fault_at(fault: CommandFault, tokens: &[Token]) -> Placed<usize, CommandFault
     Placed { place, fault }
 }
 
+/// A refusal for a fault at the first token.
+pub(crate) fn refusal(fault: CommandFault, tokens: &[Token]) -> Refused
+    ensures { result ≡ Fault (fault_at fault (tokens_of tokens.now)) }
+{
+    Failure::Fault(fault_at(fault, tokens))
+}
+
 /// Whether the first token is this.
 pub(crate) fn begins(want: Want, tokens: &[Token]) -> bool
     ensures { result ≡ begins want (tokens_of tokens.now) }
@@ -56,7 +65,18 @@ pub(crate) fn wanted(want: Want, tokens: &[Token]) -> Result<(&Token, &[Token]),
 {
     match tokens {
         [token, rest @ ..] if passes(want, token.kind) => Ok((token, rest)),
-        _ => Err(Failure::Fault(fault_at(CommandFault::Syntax, tokens))),
+        _ => Err(refusal(CommandFault::Syntax, tokens)),
+    }
+}
+
+/// The tokens behind one that must stand here.
+#[tactic(auto, unfolding(c25_meaning_commands::specs::CommandGrammar::wanted))]
+pub(crate) fn after(want: Want, tokens: &[Token]) -> Result<&[Token], Refused>
+    ensures { Meets (λ x. tokens_of x.now) (after want (tokens_of tokens.now)) result }
+{
+    match tokens {
+        [token, rest @ ..] if passes(want, token.kind) => Ok(rest),
+        _ => Err(refusal(CommandFault::Syntax, tokens)),
     }
 }
 
@@ -85,22 +105,11 @@ pub(crate) fn number_at(tokens: &[Token]) -> Result<(u32, &[Token]), Refused>
     ensures { Meets (λ x. (x.0, tokens_of x.1.now)) (number_at (tokens_of tokens.now)) result }
 {
     match tokens {
-        [] => Err(Failure::Fault(fault_at(CommandFault::Syntax, tokens))),
+        [] => Err(refusal(CommandFault::Syntax, tokens)),
         [token, rest @ ..] => match number_of_kind(token.kind) {
-            None => Err(Failure::Fault(fault_at(CommandFault::Syntax, tokens))),
+            None => Err(refusal(CommandFault::Syntax, tokens)),
             Some(number) => Ok((number, rest)),
         },
-    }
-}
-
-/// Refuses where the test holds.
-pub(crate) fn fault_if(test: bool, fault: CommandFault, tokens: &[Token]) -> Result<(), Refused>
-    ensures { Meets (λ x. x) (fault_if test fault (tokens_of tokens.now)) result }
-{
-    if test {
-        Err(Failure::Fault(fault_at(fault, tokens)))
-    } else {
-        Ok(())
     }
 }
 
@@ -111,7 +120,9 @@ pub(crate) fn page_number_at(tokens: &[Token]) -> Result<(u8, &[Token]), Refused
     ensures low { IfOk result (λ x. x.0 ≤ 1) }
 {
     let (number, rest) = number_at(tokens)?;
-    fault_if(number > 1, CommandFault::Syntax, tokens)?;
+    if number > 1 {
+        return Err(refusal(CommandFault::Syntax, tokens));
+    }
     Ok((number as u8, rest))
 }
 
@@ -121,6 +132,5 @@ pub(crate) fn setting_at(keyword: Keyword, tokens: &[Token]) -> Result<&[Token],
     ensures { Meets (λ x. tokens_of x.now) (setting_at keyword (tokens_of tokens.now)) result }
 {
     let (_, tokens) = wanted(Want::Keyword(keyword), tokens)?;
-    let (_, tokens) = wanted(Want::Sign(Sign::Equals), tokens)?;
-    Ok(tokens)
+    after(Want::Sign(Sign::Equals), tokens)
 }

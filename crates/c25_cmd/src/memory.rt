@@ -11,7 +11,7 @@ ghost use Rattle.c25_cmd.specs.View.{tokens_of, range_of, ranges_of};
 
 use crate::command::MemoryRange;
 use crate::grammar::{
-    Refused, begins, fault_if, number_at, page_number_at, past, setting_at, wanted,
+    Refused, after, begins, number_at, page_number_at, past, refusal, setting_at, wanted,
 };
 use crate::ranges::{PAGE_WORDS, Ranges, no_ranges, shares_word, take_name, take_range};
 use crate::token::Token;
@@ -44,8 +44,7 @@ fn attributes_at(tokens: &[Token]) -> Result<&[Token], Refused>
     }
     let tokens = past(Want::Sign(Sign::OpenParenthesis), tokens);
     let (_, tokens) = wanted(Want::AnyWord, tokens)?;
-    let (_, tokens) = wanted(Want::Sign(Sign::CloseParenthesis), tokens)?;
-    Ok(tokens)
+    after(Want::Sign(Sign::CloseParenthesis), tokens)
 }
 
 /// The origin and the length of a range of that page.
@@ -65,13 +64,12 @@ fn extent_at<'t>(
     let (origin, tokens) = number_at(tokens)?;
     let tokens = setting_at(Keyword::Length, past(Want::Sign(Sign::Comma), tokens))?;
     let (length, rest) = number_at(tokens)?;
-    let is_bad = length == 0 || u64::from(origin) + u64::from(length) > u64::from(PAGE_WORDS);
-    fault_if(is_bad, CommandFault::RangeSize, tokens)?;
-    fault_if(
-        shares_word(ranges, page, origin, length),
-        CommandFault::RangeOverlap,
-        tokens,
-    )?;
+    if length == 0 || u64::from(origin) + u64::from(length) > u64::from(PAGE_WORDS) {
+        return Err(refusal(CommandFault::RangeSize, tokens));
+    }
+    if shares_word(ranges, page, origin, length) {
+        return Err(refusal(CommandFault::RangeOverlap, tokens));
+    }
     Ok(((origin, length), rest))
 }
 
@@ -96,7 +94,9 @@ fn range_at<'a>(
 {
     let (name, rest) = wanted(Want::Name, tokens)?;
     let is_fresh = take_name(ranges, page, name.text.as_str())?;
-    fault_if(!is_fresh, CommandFault::Twice, tokens)?;
+    if !is_fresh {
+        return Err(refusal(CommandFault::Twice, tokens));
+    }
     let rest = attributes_at(rest)?;
     let (_, rest) = wanted(Want::Sign(Sign::Colon), rest)?;
     let ((origin, length), rest) = extent_at(page, ranges, rest)?;

@@ -10,7 +10,7 @@ ghost use Rattle.c25_meaning_common.specs.Results.{Meets};
 ghost use Rattle.c25_cmd.specs.View.{tokens_of, command_data};
 
 use crate::command::Command;
-use crate::grammar::{Refused, begins, fault_if, past, wanted};
+use crate::grammar::{Refused, begins, past, refusal, wanted};
 use crate::memory::memory_at;
 use crate::sections::sections_at;
 use crate::token::Token;
@@ -28,8 +28,12 @@ fn entry_in<'a>(
     ensures { Meets (λ x. (command_data command.new, tokens_of x.now)) (entry_in (command_data command.old) (tokens_of tokens.now)) result }
 {
     let (word, rest) = wanted(Want::Name, tokens)?;
-    fault_if(word.text.as_str() != "-e", CommandFault::Syntax, tokens)?;
-    fault_if(command.entry.is_some(), CommandFault::Twice, tokens)?;
+    if word.text.as_str() != "-e" {
+        return Err(refusal(CommandFault::Syntax, tokens));
+    }
+    if command.entry.is_some() {
+        return Err(refusal(CommandFault::Twice, tokens));
+    }
     let (name, rest) = wanted(Want::Name, rest)?;
     command.entry = Some(String::from_str(alloc, name.text.as_str())?);
     Ok(rest)
@@ -45,7 +49,9 @@ fn memory_in<'a>(
     requires { begins (want.Keyword keyword.Memory) (tokens_of tokens.now) ≡ true }
     ensures { Meets (λ x. (command_data command.new, tokens_of x.now)) (memory_in (command_data command.old) (tokens_of tokens.now)) result }
 {
-    fault_if(command.memory.is_some(), CommandFault::Twice, tokens)?;
+    if command.memory.is_some() {
+        return Err(refusal(CommandFault::Twice, tokens));
+    }
     let (ranges, rest) = memory_at(alloc, past(Want::Keyword(Keyword::Memory), tokens))?;
     command.memory = Some(ranges);
     Ok(rest)
@@ -61,7 +67,9 @@ fn sections_in<'a>(
     requires { begins (want.Keyword keyword.Sections) (tokens_of tokens.now) ≡ true }
     ensures { Meets (λ x. (command_data command.new, tokens_of x.now)) (sections_in (command_data command.old) (tokens_of tokens.now)) result }
 {
-    fault_if(command.sections.is_some(), CommandFault::Twice, tokens)?;
+    if command.sections.is_some() {
+        return Err(refusal(CommandFault::Twice, tokens));
+    }
     let (placings, rest) = sections_at(alloc, past(Want::Keyword(Keyword::Sections), tokens))?;
     command.sections = Some(placings);
     Ok(rest)

@@ -1,9 +1,16 @@
 //! Where the command of a text is refused.
 
-ghost use Rattle.std.specs.Prelude.{◌≡◌, ◌≤◌, ◌<◌, ◌+◌, ◌-◌, ◌^◌, IfOk, option_map};
-ghost use Rattle.c25_cmd.specs.Refused.{column_at, column_behind, refused_at, standing_at, standing_data};
+ghost use Rattle.std.specs.Prelude.{◌≡◌, ◌≤◌, ◌<◌, ◌+◌, ◌-◌, ◌^◌, IfOk, Result, option_map, ℕ};
+ghost use Rattle.c25_meaning_commands.specs.Command.{CommandData};
+ghost use Rattle.c25_meaning_commands.specs.declared.command_fault.CommandFault.{CommandFault};
+ghost use Rattle.c25_meaning_common.specs.Results.{Meets};
+ghost use Rattle.c25_meaning_common.specs.declared.placed.Placed.{Placed};
+ghost use Rattle.c25_cmd.specs.Refused.{column_at, column_behind, refused_at, standing_at, standing_data, standing_of};
+ghost use Rattle.c25_cmd.specs.View.{command_data};
 
 use crate::bytes::{behind, front, lexeme};
+use crate::command::Command;
+use crate::grammar::Refused;
 use crate::lexer::{text_of, tokens};
 use crate::parts::command_at;
 use c25_meaning_commands::command_token::Lexeme;
@@ -71,15 +78,23 @@ fn standing_at(text: &str, place: usize) -> Standing<'_>
     }
 }
 
+/// What stands where the reading of a text's command ended, if it was refused.
+fn standing_of(text: &str, read: Result<Command, Refused>) -> Result<Option<Standing<'_>>, NoMemory>
+    ensures { (meant : Result CommandData (Placed ℕ CommandFault)) → Meets command_data meant read
+        → IfOk result (λ standing. option_map standing_data standing ≡ standing_of text.now meant) }
+{
+    match read {
+        Ok(_) => Ok(None),
+        Err(Failure::NoMemory(error)) => Err(error),
+        Err(Failure::Fault(first)) => Ok(Some(standing_at(text, first.place))),
+    }
+}
+
 /// What stands where the command of a text is refused, which [`read_command`](crate::read_command) tells
 /// the line of. It is `None` where the text is a command.
 pub fn refused_at(alloc: Global, text: &str) -> Result<Option<Standing<'_>>, NoMemory>
     ensures { IfOk result (λ standing. option_map standing_data standing ≡ refused_at text.now) }
 {
     let found = tokens(alloc, text.as_bytes())?;
-    match command_at(alloc, found.as_slice()) {
-        Ok(_) => Ok(None),
-        Err(Failure::NoMemory(error)) => Err(error),
-        Err(Failure::Fault(first)) => Ok(Some(standing_at(text, first.place))),
-    }
+    standing_of(text, command_at(alloc, found.as_slice()))
 }

@@ -12,7 +12,7 @@ ghost use Rattle.c25_meaning_common.specs.Results.{Meets};
 ghost use Rattle.c25_cmd.specs.View.{tokens_of, target_of, placing_of, placings_of};
 
 use crate::command::{Placing, Target};
-use crate::grammar::{Refused, begins, fault_if, number_at, page_number_at, past, wanted};
+use crate::grammar::{Refused, after, begins, number_at, page_number_at, past, refusal, wanted};
 use crate::token::Token;
 use c25_meaning_commands::command_fault::CommandFault;
 use c25_meaning_commands::command_token::{Keyword, Sign, Want};
@@ -30,9 +30,10 @@ fn input_at<'a>(name: &str, tokens: &'a [Token]) -> Result<&'a [Token], Refused>
     let tokens = past(Want::Sign(Sign::Star), tokens);
     let (_, tokens) = wanted(Want::Sign(Sign::OpenParenthesis), tokens)?;
     let (word, rest) = wanted(Want::Name, tokens)?;
-    fault_if(word.text.as_str() != name, CommandFault::Syntax, tokens)?;
-    let (_, rest) = wanted(Want::Sign(Sign::CloseParenthesis), rest)?;
-    Ok(rest)
+    if word.text.as_str() != name {
+        return Err(refusal(CommandFault::Syntax, tokens));
+    }
+    after(Want::Sign(Sign::CloseParenthesis), rest)
 }
 
 /// The braces and what stands in them, if they are there.
@@ -44,8 +45,7 @@ fn contents_at<'a>(name: &str, tokens: &'a [Token]) -> Result<&'a [Token], Refus
         return Ok(tokens);
     }
     let tokens = input_at(name, past(Want::Sign(Sign::OpenBrace), tokens))?;
-    let (_, tokens) = wanted(Want::Sign(Sign::CloseBrace), tokens)?;
-    Ok(tokens)
+    after(Want::Sign(Sign::CloseBrace), tokens)
 }
 
 /// A range's name or an address.
@@ -163,7 +163,9 @@ fn add_placing<'a>(
 {
     let (name, rest) = wanted(Want::Name, tokens)?;
     let is_fresh = take_name(sections, name.text.as_str())?;
-    fault_if(!is_fresh, CommandFault::Twice, tokens)?;
+    if !is_fresh {
+        return Err(refusal(CommandFault::Twice, tokens));
+    }
     let (_, rest) = wanted(Want::Sign(Sign::Colon), rest)?;
     let (placing, rest) = placing_at(alloc, name.text.as_str(), rest)?;
     sections.list.push(placing)?;

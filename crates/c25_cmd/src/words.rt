@@ -2,6 +2,7 @@
 
 ghost use Rattle.std.specs.Prelude.{◌≡◌, IfOk};
 ghost use Rattle.std.specs.Option.{option_map_or};
+ghost use Rattle.std.specs.Str.{bytes_eq};
 ghost use Rattle.c25_meaning_commands.specs.CommandTokens.{word_numeral, is_numeral, keyword_of, number_kind, word_kind};
 ghost use Rattle.c25_cmd.specs.View.{numeral_of};
 
@@ -64,28 +65,29 @@ fn number_kind(number: Numeral<'_>) -> Kind
     }
 }
 
+/// Whether a word, its letters in lower case, is this one.
+fn reads(lower: &[u8], word: &str) -> bool
+    ensures { result ≡ bytes_eq lower.now word.now }
+{
+    lower == word.as_bytes()
+}
+
 fn keyword_of(lower: &[u8]) -> Option<Keyword>
     ensures { result ≡ keyword_of lower.now }
 {
-    if lower == b"memory".as_slice() {
+    if reads(lower, "memory") {
         Some(Keyword::Memory)
-    } else if lower == b"sections".as_slice() {
+    } else if reads(lower, "sections") {
         Some(Keyword::Sections)
-    } else if lower == b"page".as_slice() {
+    } else if reads(lower, "page") {
         Some(Keyword::Page)
-    } else if lower == b"origin".as_slice()
-        || lower == b"org".as_slice()
-        || lower == b"o".as_slice()
-    {
+    } else if reads(lower, "origin") || reads(lower, "org") || reads(lower, "o") {
         Some(Keyword::Origin)
-    } else if lower == b"length".as_slice()
-        || lower == b"len".as_slice()
-        || lower == b"l".as_slice()
-    {
+    } else if reads(lower, "length") || reads(lower, "len") || reads(lower, "l") {
         Some(Keyword::Length)
-    } else if lower == b"load".as_slice() {
+    } else if reads(lower, "load") {
         Some(Keyword::Load)
-    } else if lower == b"run".as_slice() {
+    } else if reads(lower, "run") {
         Some(Keyword::Run)
     } else {
         None
