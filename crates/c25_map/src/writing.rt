@@ -10,46 +10,44 @@ ghost use Rattle.c25_map.specs.View.{part_data, section_data, symbol_data, map_d
 use crate::map::{GlobalSymbol, Map, OutputSection, Part};
 use c25_digits::four;
 use c25_meaning_common::no_memory::NoMemory;
-use std::alloc::Global;
+use std::alloc::{AllocError, Global};
 
 /// Appends an ASCII character.
-fn push_byte(out: &mut String, byte: u8) -> Result<(), NoMemory>
+fn push_byte(out: &mut String, byte: u8) -> Result<(), AllocError>
     requires { byte < 128 }
     ensures { OnOk result (string_bytes out.new ≡ string_bytes out.old ++ byte ∷ []) }
 {
-    out.push(char::from(byte))?;
-    Ok(())
+    out.push(char::from(byte))
 }
 
 /// Appends the four digits of a word.
-fn push_four(out: &mut String, number: u16) -> Result<(), NoMemory>
+fn push_four(out: &mut String, number: u16) -> Result<(), AllocError>
     ensures { OnOk result (string_bytes out.new ≡ string_bytes out.old ++ four_digits number) }
 {
-    out.push_str(four(number).as_str())?;
-    Ok(())
+    out.push_str(four(number).as_str())
 }
 
 /// Appends an address.
-fn push_address(out: &mut String, address: u32) -> Result<(), NoMemory>
+fn push_address(out: &mut String, address: u32) -> Result<(), AllocError>
     requires { address ≤ 65536 }
     ensures { OnOk result (string_bytes out.new ≡ string_bytes out.old ++ address_text address) }
 {
     if address == 65_536 {
-        Ok(out.push_str("10000")?)
+        out.push_str("10000")
     } else {
         push_four(out, address as u16)
     }
 }
 
 /// Appends a decimal digit.
-fn push_digit(out: &mut String, number: u32) -> Result<(), NoMemory>
+fn push_digit(out: &mut String, number: u32) -> Result<(), AllocError>
     ensures { OnOk result (string_bytes out.new ≡ string_bytes out.old ++ decimal_digit number ∷ []) }
 {
     push_byte(out, b'0' + (number % 10) as u8)
 }
 
 /// Appends five decimal digits.
-fn push_five(out: &mut String, number: u32) -> Result<(), NoMemory>
+fn push_five(out: &mut String, number: u32) -> Result<(), AllocError>
     ensures { OnOk result (string_bytes out.new ≡ string_bytes out.old ++ five_digits number) }
 {
     push_digit(out, number / 10_000)?;
@@ -59,9 +57,26 @@ fn push_five(out: &mut String, number: u32) -> Result<(), NoMemory>
     push_digit(out, number)
 }
 
+/// Appends a blank and how many words there are.
+fn push_size(out: &mut String, size: u32) -> Result<(), AllocError>
+    ensures { OnOk result (string_bytes out.new ≡ string_bytes out.old ++ 32 ∷ five_digits size) }
+{
+    out.push_str(" ")?;
+    push_five(out, size)
+}
+
+/// Appends a blank and the name that ends a line.
+fn push_name(out: &mut String, name: &str) -> Result<(), AllocError>
+    ensures { OnOk result (string_bytes out.new ≡ string_bytes out.old ++ 32 ∷ name.now ++ 10 ∷ []) }
+{
+    out.push_str(" ")?;
+    out.push_str(name)?;
+    out.push_str("\n")
+}
+
 /// Appends eight hexadecimal digits.
 #[tactic(auto, unfolding(c25_meaning_placing::specs::MapText::eight_digits))]
-fn push_eight(out: &mut String, number: u32) -> Result<(), NoMemory>
+fn push_eight(out: &mut String, number: u32) -> Result<(), AllocError>
     ensures { OnOk result (string_bytes out.new ≡ string_bytes out.old ++ eight_digits number) }
 {
     push_four(out, (number / 65_536) as u16)?;
@@ -70,7 +85,7 @@ fn push_eight(out: &mut String, number: u32) -> Result<(), NoMemory>
 
 /// Appends the line of a part.
 #[tactic(auto, unfolding(c25_meaning_placing::specs::MapText::part_text))]
-fn push_part(out: &mut String, part: &Part) -> Result<(), NoMemory>
+fn push_part(out: &mut String, part: &Part) -> Result<(), AllocError>
     requires { part.now.base ≤ 65536 }
     ensures { OnOk result (string_bytes out.new ≡ string_bytes out.old ++ part_text (part_data part.now)) }
 {
@@ -78,29 +93,25 @@ fn push_part(out: &mut String, part: &Part) -> Result<(), NoMemory>
     out.push_str(&part.number)?;
     out.push_str(" ")?;
     push_address(out, part.base)?;
-    out.push_str(" ")?;
-    push_five(out, part.size)?;
-    Ok(out.push_str("\n")?)
+    push_size(out, part.size)?;
+    out.push_str("\n")
 }
 
 /// Appends the line of a section.
 #[tactic(auto, unfolding(c25_meaning_placing::specs::MapText::place_text))]
-fn push_place(out: &mut String, section: &OutputSection) -> Result<(), NoMemory>
+fn push_place(out: &mut String, section: &OutputSection) -> Result<(), AllocError>
     requires { section.now.base < 65536 }
     ensures { OnOk result (string_bytes out.new ≡ string_bytes out.old ++ place_text (section_data section.now).place) }
 {
     let page = section.page;
     write!(out, "SECTION {page} ")?;
     push_four(out, section.base as u16)?;
-    out.push_str(" ")?;
-    push_five(out, section.size)?;
-    out.push_str(" ")?;
-    out.push_str(&section.name)?;
-    Ok(out.push_str("\n")?)
+    push_size(out, section.size)?;
+    push_name(out, &section.name)
 }
 
 /// Appends the line of the address where a section runs, if that is not where it is loaded.
-fn push_run(out: &mut String, run: Option<u32>) -> Result<(), NoMemory>
+fn push_run(out: &mut String, run: Option<u32>) -> Result<(), AllocError>
     requires { IfSome run (λ run. run < 65536) }
     ensures { OnOk result (string_bytes out.new ≡ string_bytes out.old ++ run_lines run) }
 {
@@ -108,14 +119,14 @@ fn push_run(out: &mut String, run: Option<u32>) -> Result<(), NoMemory>
         Some(run) => {
             out.push_str("RUN ")?;
             push_four(out, run as u16)?;
-            Ok(out.push_str("\n")?)
+            out.push_str("\n")
         }
         None => Ok(()),
     }
 }
 
 /// Appends the lines of parts.
-fn push_parts(out: &mut String, parts: &[Part]) -> Result<(), NoMemory>
+fn push_parts(out: &mut String, parts: &[Part]) -> Result<(), AllocError>
     requires { All (λ p. p.base ≤ 65536) parts.now }
     ensures { OnOk result (string_bytes out.new ≡ string_bytes out.old ++ flat_map part_text (map part_data parts.now)) }
 {
@@ -126,7 +137,7 @@ fn push_parts(out: &mut String, parts: &[Part]) -> Result<(), NoMemory>
 }
 
 /// Appends the lines of a section, of where it runs and of its parts.
-fn push_section(out: &mut String, section: &OutputSection) -> Result<(), NoMemory>
+fn push_section(out: &mut String, section: &OutputSection) -> Result<(), AllocError>
     requires { HasDigits (section_data section.now) }
     ensures { OnOk result (string_bytes out.new ≡ string_bytes out.old ++ section_text (section_data section.now)) }
 {
@@ -137,17 +148,15 @@ fn push_section(out: &mut String, section: &OutputSection) -> Result<(), NoMemor
 
 /// Appends a value and its name.
 #[tactic(auto, unfolding(c25_meaning_placing::specs::MapText::value_text))]
-fn push_value(out: &mut String, symbol: &GlobalSymbol) -> Result<(), NoMemory>
+fn push_value(out: &mut String, symbol: &GlobalSymbol) -> Result<(), AllocError>
     ensures { OnOk result (string_bytes out.new ≡ string_bytes out.old ++ value_text (symbol_data symbol.now)) }
 {
     push_eight(out, symbol.value)?;
-    out.push_str(" ")?;
-    out.push_str(&symbol.name)?;
-    Ok(out.push_str("\n")?)
+    push_name(out, &symbol.name)
 }
 
 /// Appends the line of a symbol.
-fn push_symbol(out: &mut String, symbol: &GlobalSymbol) -> Result<(), NoMemory>
+fn push_symbol(out: &mut String, symbol: &GlobalSymbol) -> Result<(), AllocError>
     ensures { OnOk result (string_bytes out.new ≡ string_bytes out.old ++ symbol_text (symbol_data symbol.now)) }
 {
     out.push_str("SYMBOL ")?;
@@ -155,7 +164,7 @@ fn push_symbol(out: &mut String, symbol: &GlobalSymbol) -> Result<(), NoMemory>
 }
 
 /// Appends the line of the entry.
-fn push_entry(out: &mut String, symbol: &GlobalSymbol) -> Result<(), NoMemory>
+fn push_entry(out: &mut String, symbol: &GlobalSymbol) -> Result<(), AllocError>
     ensures { OnOk result (string_bytes out.new ≡ string_bytes out.old ++ entry_text (symbol_data symbol.now)) }
 {
     out.push_str("ENTRY ")?;
@@ -163,7 +172,7 @@ fn push_entry(out: &mut String, symbol: &GlobalSymbol) -> Result<(), NoMemory>
 }
 
 /// Appends the lines of sections.
-fn push_sections(out: &mut String, sections: &[OutputSection]) -> Result<(), NoMemory>
+fn push_sections(out: &mut String, sections: &[OutputSection]) -> Result<(), AllocError>
     requires { All (λ s. HasDigits (section_data s)) sections.now }
     ensures { OnOk result (string_bytes out.new ≡ string_bytes out.old ++ flat_map section_text (map section_data sections.now)) }
 {
@@ -184,7 +193,7 @@ pub fn push_symbols(out: &mut String, symbols: &[GlobalSymbol]) -> Result<(), No
 }
 
 /// Appends the line of the entry, if there is one.
-fn push_entry_lines(out: &mut String, entry: &Option<GlobalSymbol>) -> Result<(), NoMemory>
+fn push_entry_lines(out: &mut String, entry: &Option<GlobalSymbol>) -> Result<(), AllocError>
     ensures { OnOk result (string_bytes out.new ≡ string_bytes out.old ++ entry_lines (option_map symbol_data entry.now)) }
 {
     match entry {
