@@ -117,13 +117,59 @@ fn add_named(
 ) -> Result<(), Failure<MapFault>>
     ensures { Meets (λ _. map_data so_far.new) (reading.with_fields (map_data so_far.old) (kind.now ∷ value.now ∷ name.now ∷ [])) result }
 {
-    if kind == "SYMBOL" {
-        add_symbol(so_far, symbol_of(alloc, value, name)?)
-    } else if kind == "ENTRY" {
-        set_entry(so_far, symbol_of(alloc, value, name)?)
-    } else {
-        Err(Failure::Fault(MapFault::BadMap))
+    match kind {
+        "SYMBOL" => add_symbol(so_far, symbol_of(alloc, value, name)?),
+        "ENTRY" => set_entry(so_far, symbol_of(alloc, value, name)?),
+        _ => Err(Failure::Fault(MapFault::BadMap)),
     }
+}
+
+/// Tells where the last section runs, if the line is of that kind.
+#[tactic(auto, unfolding(crate::specs::Reading::with_fields))]
+fn add_run(so_far: &mut Map, kind: &str, run: &str) -> Result<(), Failure<MapFault>>
+    ensures { Meets (λ _. map_data so_far.new) (reading.with_fields (map_data so_far.old) (kind.now ∷ run.now ∷ [])) result }
+{
+    if kind != "RUN" {
+        return Err(Failure::Fault(MapFault::BadMap));
+    }
+    set_run(so_far, word_of(run.as_bytes())?)
+}
+
+/// Adds a part, if the line is one of a part.
+#[tactic(auto, unfolding(crate::specs::Reading::with_fields))]
+fn add_part_line(
+    alloc: Global,
+    so_far: &mut Map,
+    kind: &str,
+    number: &str,
+    base: &str,
+    size: &str,
+) -> Result<(), Failure<MapFault>>
+    ensures { Meets (λ _. map_data so_far.new) (reading.with_fields (map_data so_far.old) (kind.now ∷ number.now ∷ base.now ∷ size.now ∷ [])) result }
+{
+    if kind != "PART" {
+        return Err(Failure::Fault(MapFault::BadMap));
+    }
+    add_part(so_far, part_of(alloc, number, base, size)?)
+}
+
+/// Adds a section, if the line is one of a section.
+#[tactic(auto, unfolding(crate::specs::Reading::with_fields))]
+fn add_section_line(
+    alloc: Global,
+    so_far: &mut Map,
+    kind: &str,
+    page: &str,
+    base: &str,
+    size: &str,
+    name: &str,
+) -> Result<(), Failure<MapFault>>
+    ensures { Meets (λ _. map_data so_far.new) (reading.with_fields (map_data so_far.old) (kind.now ∷ page.now ∷ base.now ∷ size.now ∷ name.now ∷ [])) result }
+{
+    if kind != "SECTION" {
+        return Err(Failure::Fault(MapFault::BadMap));
+    }
+    add_section(so_far, section_of(alloc, page, base, size, name)?)
 }
 
 /// Adds what the fields of a line say.
@@ -132,24 +178,11 @@ fn add_fields(alloc: Global, so_far: &mut Map, fields: &[&str]) -> Result<(), Fa
     ensures { Meets (λ _. map_data so_far.new) (reading.with_fields (map_data so_far.old) (map (λ f. f.now) fields.now)) result }
 {
     match fields {
-        [kind, run] => {
-            if *kind != "RUN" {
-                return Err(Failure::Fault(MapFault::BadMap));
-            }
-            set_run(so_far, word_of(run.as_bytes())?)
-        }
+        [kind, run] => add_run(so_far, kind, run),
         [kind, value, name] => add_named(alloc, so_far, kind, value, name),
-        [kind, number, base, size] => {
-            if *kind != "PART" {
-                return Err(Failure::Fault(MapFault::BadMap));
-            }
-            add_part(so_far, part_of(alloc, number, base, size)?)
-        }
+        [kind, number, base, size] => add_part_line(alloc, so_far, kind, number, base, size),
         [kind, page, base, size, name] => {
-            if *kind != "SECTION" {
-                return Err(Failure::Fault(MapFault::BadMap));
-            }
-            add_section(so_far, section_of(alloc, page, base, size, name)?)
+            add_section_line(alloc, so_far, kind, page, base, size, name)
         }
         _ => Err(Failure::Fault(MapFault::BadMap)),
     }

@@ -101,11 +101,9 @@ pub(crate) fn size_of(digits: &[u8]) -> Result<u32, Failure<MapFault>>
 pub(crate) fn page_of(digits: &str) -> Result<u8, Failure<MapFault>>
     ensures { Meets (λ x. x) (page_of digits.now) result }
 {
-    if digits == "0" {
-        Ok(0)
-    } else if digits == "1" {
-        Ok(1)
-    } else {
-        Err(Failure::Fault(MapFault::BadMap))
+    match digits {
+        "0" => Ok(0),
+        "1" => Ok(1),
+        _ => Err(Failure::Fault(MapFault::BadMap)),
     }
 }
