@@ -26,10 +26,11 @@ fn word_token(alloc: Global, place: usize, word: &[u8]) -> Result<Token, AllocEr
     requires { IsUtf8 word.now }
     ensures { IfOk result (λ t. token_of t ≡ record { kind = lexed.word_kind word.now; place = place; text = word.now }) }
 {
+    let text = text_of(word);
     Ok(Token {
-        kind: word_kind(alloc, word)?,
+        kind: word_kind(alloc, text)?,
         place,
-        text: String::from_str(alloc, text_of(word))?,
+        text: String::from_str(alloc, text)?,
     })
 }
 

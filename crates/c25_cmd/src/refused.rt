@@ -19,7 +19,7 @@ use c25_meaning_common::no_memory::NoMemory;
 use std::alloc::Global;
 
 /// What stands in a text where its command is refused. Columns count the characters of a line from 1.
-#[derive(Clone, Copy, Debug)]
+#[derive(Clone, Copy)]
 pub enum Standing<'a> {
     /// A word.
     Word { column: usize, text: &'a str },

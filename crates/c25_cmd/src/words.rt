@@ -2,7 +2,6 @@
 
 ghost use Rattle.std.specs.Prelude.{◌≡◌, IfOk};
 ghost use Rattle.std.specs.Option.{option_map_or};
-ghost use Rattle.std.specs.Str.{bytes_eq};
 ghost use Rattle.c25_meaning_commands.specs.CommandTokens.{word_numeral, is_numeral, keyword_of, number_kind, word_kind};
 ghost use Rattle.c25_cmd.specs.View.{numeral_of};
 
@@ -65,32 +64,18 @@ fn number_kind(number: Numeral<'_>) -> Kind
     }
 }
 
-/// Whether a word, its letters in lower case, is this one.
-fn reads(lower: &[u8], word: &str) -> bool
-    ensures { result ≡ bytes_eq lower.now word.now }
-{
-    lower == word.as_bytes()
-}
-
-fn keyword_of(lower: &[u8]) -> Option<Keyword>
+fn keyword_of(lower: &str) -> Option<Keyword>
     ensures { result ≡ keyword_of lower.now }
 {
-    if reads(lower, "memory") {
-        Some(Keyword::Memory)
-    } else if reads(lower, "sections") {
-        Some(Keyword::Sections)
-    } else if reads(lower, "page") {
-        Some(Keyword::Page)
-    } else if reads(lower, "origin") || reads(lower, "org") || reads(lower, "o") {
-        Some(Keyword::Origin)
-    } else if reads(lower, "length") || reads(lower, "len") || reads(lower, "l") {
-        Some(Keyword::Length)
-    } else if reads(lower, "load") {
-        Some(Keyword::Load)
-    } else if reads(lower, "run") {
-        Some(Keyword::Run)
-    } else {
-        None
+    match lower {
+        "memory" => Some(Keyword::Memory),
+        "sections" => Some(Keyword::Sections),
+        "page" => Some(Keyword::Page),
+        "origin" | "org" | "o" => Some(Keyword::Origin),
+        "length" | "len" | "l" => Some(Keyword::Length),
+        "load" => Some(Keyword::Load),
+        "run" => Some(Keyword::Run),
+        _ => None,
     }
 }
 
@@ -105,12 +90,13 @@ fn name_kind(keyword: Option<Keyword>) -> Kind
 
 /// What a word is.
 #[tactic(auto, unfolding(c25_meaning_commands::specs::CommandTokens::word_kind))]
-pub(crate) fn word_kind(alloc: Global, text: &[u8]) -> Result<Kind, AllocError>
+pub(crate) fn word_kind(alloc: Global, text: &str) -> Result<Kind, AllocError>
     ensures { IfOk result (λ kind. kind ≡ word_kind text.now) }
 {
-    if digit(byte_at(text, 0)) < 10 {
-        return Ok(number_kind(word_numeral(text)));
+    let bytes = text.as_bytes();
+    if digit(byte_at(bytes, 0)) < 10 {
+        return Ok(number_kind(word_numeral(bytes)));
     }
     let lower = text.to_ascii_lowercase(alloc)?;
-    Ok(name_kind(keyword_of(lower.as_slice())))
+    Ok(name_kind(keyword_of(lower.as_str())))
 }
