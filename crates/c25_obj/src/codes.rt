@@ -1,10 +1,22 @@
-//! The numbers that stand for kinds, scopes, fields and bases in a record.
+//! The numbers that stand for bodies, kinds, scopes, fields and bases in a record.
 
 ghost use Rattle.std.specs.Prelude.{◌≡◌};
 ghost use Rattle.c25_meaning_objects.specs.Records as bytes;
+ghost use Rattle.c25_obj.specs.View.{body_data};
 
+use crate::parts::Body;
 use c25_meaning_common::relocation::RelocationKind;
 use c25_meaning_objects::object::{RelocationBase, Scope, SymbolKind, Version};
+
+/// The flag of a section.
+pub(crate) fn body_flag(body: &Body) -> u8
+    ensures { result ≡ bytes.body_flag (body_data body.now) }
+{
+    match body {
+        Body::Uninitialised(_) => 0,
+        Body::Initialised(_) => 1,
+    }
+}
 
 /// The code of a kind.
 pub(crate) fn kind_code(kind: SymbolKind) -> u8

@@ -154,18 +154,17 @@ fn blocks_fit(sections: &[Section], blocks: &[Block]) -> bool
 pub fn spells(parts: &Parts) -> bool
     ensures { result ≡ spec.is_module (contents parts.now) }
 {
-    !parts.sections.is_empty()
-        && sections_fit(&parts.sections)
-        && marks_fit(&parts.sections, &parts.marks)
-        && symbols_fit(parts.version, &parts.sections, &parts.symbols)
-        && relocations_fit(
-            parts.version,
-            &parts.sections,
-            &parts.symbols,
-            &parts.relocations,
-        )
-        && files_fit(&parts.files)
-        && lines_fit(&parts.marks, &parts.files, &parts.lines)
+    let sections: &[Section] = &parts.sections;
+    let marks: &[ModuleMark] = &parts.marks;
+    let symbols: &[Symbol] = &parts.symbols;
+    let files: &[String] = &parts.files;
+    !sections.is_empty()
+        && sections_fit(sections)
+        && marks_fit(sections, marks)
+        && symbols_fit(parts.version, sections, symbols)
+        && relocations_fit(parts.version, sections, symbols, &parts.relocations)
+        && files_fit(files)
+        && lines_fit(marks, files, &parts.lines)
         && told(parts)
-        && blocks_fit(&parts.sections, &parts.blocks)
+        && blocks_fit(sections, &parts.blocks)
 }

@@ -8,7 +8,7 @@ ghost use Rattle.c25_meaning_objects.specs.Records as bytes;
 ghost use Rattle.c25_obj.specs.View.{body_data, section_data, symbol_data, sections_data, symbols_data, files_data, contents};
 
 use crate::codes::{
-    base_code, base_index, field_code, kind_code, kind_section, scope_code, version_code,
+    base_code, base_index, body_flag, field_code, kind_code, kind_section, scope_code, version_code,
 };
 use crate::made::Module;
 use crate::parts::{Body, Parts, Section, Symbol};
@@ -17,31 +17,49 @@ use c25_meaning_common::relocation::RelocationKind;
 use c25_meaning_objects::object::{Block, LineMark, ModuleMark, Relocation, RelocationBase};
 use std::alloc::Global;
 
+/// Bytes behind those that are there.
+fn put(out: &mut Vec<u8>, bytes: &[u8]) -> Result<(), NoMemory>
+    ensures { OnOk result (out.new.items ≡ out.old.items ++ bytes.now) }
+{
+    out.extend_from_slice(bytes).map_err(NoMemory::from)
+}
+
 /// What stands before a payload: its tag and its length.
 fn put_head(out: &mut Vec<u8>, tag: u8, length: u32) -> Result<(), NoMemory>
     ensures { OnOk result (out.new.items ≡ out.old.items ++ tag ∷ to_be_bytes w32 length) }
 {
-    out.push(tag)?;
-    out.extend_from_slice(&length.to_be_bytes())?;
-    Ok(())
+    let [first, second, third, last] = length.to_be_bytes();
+    put(out, &[tag, first, second, third, last])
 }
 
 fn put_name(out: &mut Vec<u8>, name: &str) -> Result<(), NoMemory>
     requires { length name.now ≤ 128 }
     ensures { OnOk result (out.new.items ≡ out.old.items ++ bytes.counted name.now) }
 {
-    out.push(name.len() as u8)?;
-    out.extend_from_slice(name.as_bytes())?;
+    put(out, &[name.len() as u8])?;
+    put(out, name.as_bytes())
+}
+
+/// The number of the words, and the words.
+fn put_words(out: &mut Vec<u8>, words: &[u16]) -> Result<(), NoMemory>
+    requires { length words.now ≤ 65536 }
+    ensures { OnOk result (out.new.items ≡ out.old.items ++ (to_be_bytes w32 (length words.now) ++ flat_map (to_be_bytes w16) words.now)) }
+{
+    put(out, &(words.len() as u32).to_be_bytes())?;
+    for word in words {
+        put(out, &word.to_be_bytes())?;
+    }
     Ok(())
 }
 
-fn put_words(out: &mut Vec<u8>, words: &[u16]) -> Result<(), NoMemory>
-    ensures { OnOk result (out.new.items ≡ out.old.items ++ flat_map (to_be_bytes w16) words.now) }
+fn put_body(out: &mut Vec<u8>, body: &Body) -> Result<(), NoMemory>
+    requires { body_size (body_data body.now) ≤ 65536 }
+    ensures { OnOk result (out.new.items ≡ out.old.items ++ bytes.body_bytes (body_data body.now)) }
 {
-    for word in words {
-        out.extend_from_slice(&word.to_be_bytes())?;
+    match body {
+        Body::Uninitialised(size) => put(out, &size.to_be_bytes()),
+        Body::Initialised(words) => put_words(out, words),
     }
-    Ok(())
 }
 
 /// The length of a section's payload: flag, length of the name, the name, size, and the words.
@@ -62,20 +80,9 @@ fn put_section_payload(out: &mut Vec<u8>, section: &Section) -> Result<(), NoMem
     requires sized { body_size (body_data section.now.body) ≤ 65536 }
     ensures { OnOk result (out.new.items ≡ out.old.items ++ bytes.section_payload (section_data section.now)) }
 {
-    match &section.body {
-        Body::Uninitialised(size) => {
-            out.push(0)?;
-            put_name(out, &section.name)?;
-            out.extend_from_slice(&size.to_be_bytes())?;
-        }
-        Body::Initialised(words) => {
-            out.push(1)?;
-            put_name(out, &section.name)?;
-            out.extend_from_slice(&(words.len() as u32).to_be_bytes())?;
-            put_words(out, words)?;
-        }
-    }
-    Ok(())
+    put(out, &[body_flag(&section.body)])?;
+    put_name(out, &section.name)?;
+    put_body(out, &section.body)
 }
 
 fn put_section(out: &mut Vec<u8>, section: &Section) -> Result<(), NoMemory>
@@ -87,44 +94,49 @@ fn put_section(out: &mut Vec<u8>, section: &Section) -> Result<(), NoMemory>
     put_section_payload(out, section)
 }
 
-/// A place: the number of a section, and an offset there.
-fn put_place(out: &mut Vec<u8>, section: u16, offset: u16) -> Result<(), NoMemory>
-    ensures { OnOk result (out.new.items ≡ out.old.items ++ (to_be_bytes w16 section ++ to_be_bytes w16 offset)) }
-{
-    out.extend_from_slice(&section.to_be_bytes())?;
-    out.extend_from_slice(&offset.to_be_bytes())?;
-    Ok(())
-}
-
 /// The record of a mark. A module has as many of these as instructions, so its bytes are put at once.
 fn put_mark(out: &mut Vec<u8>, mark: ModuleMark) -> Result<(), NoMemory>
     ensures { OnOk result (out.new.items ≡ out.old.items ++ bytes.mark_entry mark) }
 {
     let [section, section_low] = mark.section.to_be_bytes();
     let [offset, offset_low] = mark.offset.to_be_bytes();
-    out.extend_from_slice(&[
-        2,
-        0,
-        0,
-        0,
-        5,
-        section,
-        section_low,
-        offset,
-        offset_low,
-        mark.size,
-    ])?;
-    Ok(())
+    let size = mark.size;
+    put(
+        out,
+        &[
+            2,
+            0,
+            0,
+            0,
+            5,
+            section,
+            section_low,
+            offset,
+            offset_low,
+            size,
+        ],
+    )
 }
 
 fn put_symbol_payload(out: &mut Vec<u8>, symbol: &Symbol) -> Result<(), NoMemory>
     requires { length (string_bytes symbol.now.name) ≤ 128 }
     ensures { OnOk result (out.new.items ≡ out.old.items ++ bytes.symbol_payload (symbol_data symbol.now)) }
 {
-    out.push(kind_code(symbol.kind))?;
-    out.push(scope_code(symbol.scope))?;
-    out.extend_from_slice(&kind_section(symbol.kind).to_be_bytes())?;
-    out.extend_from_slice(&symbol.value.to_be_bytes())?;
+    let [section, section_low] = kind_section(symbol.kind).to_be_bytes();
+    let [first, second, third, last] = symbol.value.to_be_bytes();
+    put(
+        out,
+        &[
+            kind_code(symbol.kind),
+            scope_code(symbol.scope),
+            section,
+            section_low,
+            first,
+            second,
+            third,
+            last,
+        ],
+    )?;
     put_name(out, &symbol.name)
 }
 
@@ -133,37 +145,41 @@ fn put_symbol(out: &mut Vec<u8>, symbol: &Symbol) -> Result<(), NoMemory>
     ensures { OnOk result (out.new.items ≡ out.old.items ++ bytes.symbol_entry (symbol_data symbol.now)) }
 {
     put_head(out, 3, symbol.name.len() as u32 + 9)?;
-    put_symbol_payload(out, symbol)?;
-    Ok(())
+    put_symbol_payload(out, symbol)
 }
 
-fn put_kind_and_base(
-    out: &mut Vec<u8>,
-    kind: RelocationKind,
-    base: RelocationBase,
-) -> Result<(), NoMemory>
-    ensures { OnOk result (out.new.items ≡ out.old.items ++ (bytes.field_code kind ∷ (bytes.base_code base ∷ to_be_bytes w16 (bytes.base_index base)))) }
-{
-    out.push(field_code(kind))?;
-    out.push(base_code(base))?;
-    out.extend_from_slice(&base_index(base).to_be_bytes())?;
-    Ok(())
-}
-
-fn put_relocation_payload(out: &mut Vec<u8>, relocation: &Relocation) -> Result<(), NoMemory>
-    ensures { OnOk result (out.new.items ≡ out.old.items ++ bytes.relocation_payload relocation.now) }
-{
-    put_place(out, relocation.section, relocation.offset)?;
-    put_kind_and_base(out, relocation.kind, relocation.base)?;
-    out.extend_from_slice(&relocation.addend.to_be_bytes())?;
-    Ok(())
-}
-
+/// The record of a relocation, whose bytes are put at once too.
 fn put_relocation(out: &mut Vec<u8>, relocation: &Relocation) -> Result<(), NoMemory>
     ensures { OnOk result (out.new.items ≡ out.old.items ++ bytes.relocation_entry relocation.now) }
 {
-    put_head(out, 4, 12)?;
-    put_relocation_payload(out, relocation)
+    let [section, section_low] = relocation.section.to_be_bytes();
+    let [offset, offset_low] = relocation.offset.to_be_bytes();
+    let field = field_code(relocation.kind);
+    let base = base_code(relocation.base);
+    let [index, index_low] = base_index(relocation.base).to_be_bytes();
+    let [first, second, third, last] = relocation.addend.to_be_bytes();
+    put(
+        out,
+        &[
+            4,
+            0,
+            0,
+            0,
+            12,
+            section,
+            section_low,
+            offset,
+            offset_low,
+            field,
+            base,
+            index,
+            index_low,
+            first,
+            second,
+            third,
+            last,
+        ],
+    )
 }
 
 fn put_sections(out: &mut Vec<u8>, sections: &[Section]) -> Result<(), NoMemory>
@@ -209,8 +225,7 @@ fn put_file(out: &mut Vec<u8>, name: &str) -> Result<(), NoMemory>
     ensures { OnOk result (out.new.items ≡ out.old.items ++ bytes.file_entry name.now) }
 {
     put_head(out, 5, name.len() as u32)?;
-    out.extend_from_slice(name.as_bytes())?;
-    Ok(())
+    put(out, name.as_bytes())
 }
 
 /// The record of a line, whose bytes are put at once too.
@@ -219,23 +234,34 @@ fn put_line(out: &mut Vec<u8>, line: LineMark) -> Result<(), NoMemory>
 {
     let [file, file_low] = line.file.to_be_bytes();
     let [first, second, third, last] = line.line.to_be_bytes();
-    out.extend_from_slice(&[6, 0, 0, 0, 6, file, file_low, first, second, third, last])?;
-    Ok(())
+    put(
+        out,
+        &[6, 0, 0, 0, 6, file, file_low, first, second, third, last],
+    )
 }
 
-fn put_block_payload(out: &mut Vec<u8>, block: Block) -> Result<(), NoMemory>
-    ensures { OnOk result (out.new.items ≡ out.old.items ++ bytes.block_payload block) }
-{
-    put_place(out, block.section, block.offset)?;
-    out.push(block.size)?;
-    Ok(())
-}
-
+/// The record of a block, likewise.
 fn put_block(out: &mut Vec<u8>, block: Block) -> Result<(), NoMemory>
     ensures { OnOk result (out.new.items ≡ out.old.items ++ bytes.block_entry block) }
 {
-    put_head(out, 7, 5)?;
-    put_block_payload(out, block)
+    let [section, section_low] = block.section.to_be_bytes();
+    let [offset, offset_low] = block.offset.to_be_bytes();
+    let size = block.size;
+    put(
+        out,
+        &[
+            7,
+            0,
+            0,
+            0,
+            5,
+            section,
+            section_low,
+            offset,
+            offset_low,
+            size,
+        ],
+    )
 }
 
 fn put_files(out: &mut Vec<u8>, files: &[String]) -> Result<(), NoMemory>
@@ -292,15 +318,22 @@ fn put_second(out: &mut Vec<u8>, parts: &Parts) -> Result<(), NoMemory>
     put_blocks(out, &parts.blocks)
 }
 
+/// The module's bytes, behind those that are there.
+fn put_module(out: &mut Vec<u8>, object: &Module) -> Result<(), NoMemory>
+    ensures { OnOk result (out.new.items ≡ out.old.items ++ bytes.spelling object.now) }
+{
+    let parts = object.parts();
+    put(out, &[b'C', b'2', b'5', b'O', version_code(parts.version)])?;
+    put_first(out, parts)?;
+    put_second(out, parts)?;
+    put_head(out, 255, 0)
+}
+
 /// The bytes of the module: its one spelling. It refuses for want of memory alone.
 pub fn write_module(alloc: Global, object: &Module) -> Result<Vec<u8>, NoMemory>
     ensures { IfOk result (λ v. v.items ≡ bytes.spelling object.now) }
 {
-    let parts = object.parts();
     let mut out = Vec::new(alloc);
-    out.extend_from_slice(&[b'C', b'2', b'5', b'O', version_code(parts.version)])?;
-    put_first(&mut out, parts)?;
-    put_second(&mut out, parts)?;
-    put_head(&mut out, 255, 0)?;
+    put_module(&mut out, object)?;
     Ok(out)
 }
