@@ -3,7 +3,7 @@
 ghost use Rattle.std.specs.Prelude.{◌≡◌, ◌≢◌, ◌+◌, ◌<◌, ◌≤◌, ◌^◌, Some, None, Err, true, false, map, reverse, length, slice_index, OnOk, OnErr, IfOk, IsErrOf, is_none, vec_len};
 ghost use Rattle.std.specs.Option.{ok_or, option_map};
 ghost use Rattle.c25_meaning_common.specs.Results.{Meets};
-ghost use Rattle.c25_meaning_language.specs.Tree.{mark_of};
+ghost use Rattle.c25_meaning_language.specs.Tree.{Mark, mark_of};
 ghost use Rattle.c25_meaning_language.specs.Reading.{Found, start, settle, reduced, step, operand_begun, followed, closed, finished, unary_of, binary_of, is_open, is_close};
 ghost use Rattle.c25_text.specs.View.{piece_of};
 ghost use Rattle.c25_expr.specs.Completes.{nesting, opens, completes};
@@ -49,10 +49,11 @@ impl Builder {
     pub(crate) fn new(alloc: Global, room: usize) -> Result<Self, NoMemory>
         ensures { IfOk result (λ b. state_of b ≡ start) }
     {
+        let items = Vec::with_capacity(alloc, room)?;
         Ok(Builder {
             alloc,
             frames: Vec::new(alloc),
-            items: Vec::with_capacity(alloc, room)?,
+            items,
             expects: true,
         })
     }
@@ -137,11 +138,11 @@ impl Builder {
         ensures { Meets (λ _. state_of self.new) (ok_or (operand_begun (state_of self.old).frames (items_of self.old) (unary_of sign) (is_open sign)) ExpressionFault.BadExpression) result }
     {
         if let Some(operator) = unary_of(sign) {
-            self.frames.push(Frame::Pending(operator))?;
-            Ok(())
+            self.frames
+                .push(Frame::Pending(operator))
+                .map_err(Failure::from)
         } else if sign == Sign::OpenParenthesis {
-            self.frames.push(Frame::Open)?;
-            Ok(())
+            self.frames.push(Frame::Open).map_err(Failure::from)
         } else {
             Err(Failure::Fault(ExpressionFault::BadExpression))
         }
@@ -156,8 +157,7 @@ impl Builder {
             return Err(Failure::Fault(ExpressionFault::BadExpression));
         };
         self.items.push(PostfixItem::Group)?;
-        self.settle()?;
-        Ok(())
+        self.settle().map_err(Failure::from)
     }
 
     /// A sign behind an operand.
@@ -167,9 +167,10 @@ impl Builder {
     {
         if let Some(operator) = binary_of(sign) {
             self.reduce(level_of(operator))?;
-            self.frames.push(Frame::After(operator))?;
             self.expects = true;
-            Ok(())
+            self.frames
+                .push(Frame::After(operator))
+                .map_err(Failure::from)
         } else if sign == Sign::CloseParenthesis {
             self.reduce(LOOSEST)?;
             self.close()
@@ -182,18 +183,26 @@ impl Builder {
     pub(crate) fn take(&mut self, token: &Token<'_>) -> Result<(), Failure<ExpressionFault>>
         ensures { Meets (λ _. state_of self.new) (ok_or (step (state_of self.old) (mark_of (piece_of token.now))) ExpressionFault.BadExpression) result }
     {
-        let leaf = leaf_of(self.alloc, token)?;
-        match (leaf, token.kind) {
-            (Some(leaf), _) if self.expects => {
-                self.items.push(leaf)?;
-                self.settle()?;
-                self.expects = false;
-                Ok(())
-            }
-            (None, TokenKind::Sign(sign)) if self.expects => self.open(sign),
-            (None, TokenKind::Sign(sign)) => self.follow(sign),
-            _ => Err(Failure::Fault(ExpressionFault::BadExpression)),
+        match leaf_of(self.alloc, token)? {
+            Some(leaf) => self.put(leaf),
+            None => match token.kind {
+                TokenKind::Sign(sign) if self.expects => self.open(sign),
+                TokenKind::Sign(sign) => self.follow(sign),
+                _ => Err(Failure::Fault(ExpressionFault::BadExpression)),
+            },
         }
+    }
+
+    /// An operand by itself.
+    fn put(&mut self, leaf: PostfixItem) -> Result<(), Failure<ExpressionFault>>
+        ensures { (mark : Mark) → leaf_item mark ≡ Some (item_of leaf) → Meets (λ _. state_of self.new) (ok_or (step (state_of self.old) mark) ExpressionFault.BadExpression) result }
+    {
+        if !self.expects {
+            return Err(Failure::Fault(ExpressionFault::BadExpression));
+        }
+        self.expects = false;
+        self.items.push(leaf)?;
+        self.settle().map_err(Failure::from)
     }
 
     /// The expression, where all is closed.

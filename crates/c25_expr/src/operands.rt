@@ -17,7 +17,7 @@ use std::alloc::Global;
 pub fn tokens_of<'a>(alloc: Global, line: &Line<'a>) -> Result<Vec<Token<'a>>, NoMemory>
     ensures { IfOk result (λ v. pieces_of v.items ≡ (parts_of line.now).pieces) }
 {
-    Ok(line.tokens().collect(alloc)?)
+    line.tokens().collect(alloc).map_err(NoMemory::from)
 }
 
 fn is_comma(kind: TokenKind) -> bool

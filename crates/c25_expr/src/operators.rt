@@ -1,7 +1,8 @@
 //! Operators on values.
 
-ghost use Rattle.std.specs.Prelude.{◌≡◌, ◌<◌, ◌≤◌, ◌^◌, ◌*ℤ◌, IfSome};
-ghost use Rattle.c25_meaning_language.specs.Value.{in_range, shift_count, number_of, truth, base_of, absolute_base, unary_value, binary_value, plain_value};
+ghost use Rattle.std.specs.Prelude.{◌≡◌, ◌<◌, ◌≤◌, ◌^◌, ◌*ℤ◌, IfSome, MatchResult, Ok, Err};
+ghost use Rattle.c25_meaning_language.specs.declared.value.Base.TheVariants.{Absolute};
+ghost use Rattle.c25_meaning_language.specs.Value.{in_range, shift_count, number_of, truth, base_of, unary_value, binary_value, plain_value};
 
 use c25_meaning_language::expression::{BinaryOperator, UnaryOperator};
 use c25_meaning_language::value::{Base, Value, ValueFault};
@@ -152,39 +153,33 @@ pub(crate) fn binary_value(
     Ok(Value { base, offset })
 }
 
-fn absolute_base(base: Base) -> Result<Base, ValueFault>
-    ensures { result ≡ absolute_base base }
+/// A plain number, as a value.
+fn absolute_value(number: i64) -> Result<Value, ValueFault>
+    ensures { MatchResult (in_range number) (λ z. result ≡ Ok (record { base = Absolute; offset = z })) (λ f. result ≡ Err f) }
 {
-    match base {
-        Base::Absolute => Ok(base),
-        _ => Err(ValueFault::NotAbsolute),
-    }
+    let offset = in_range(number)?;
+    Ok(Value {
+        base: Base::Absolute,
+        offset,
+    })
 }
 
 pub(crate) fn unary_value(operator: UnaryOperator, x: Value) -> Result<Value, ValueFault>
     ensures { result ≡ unary_value operator x }
 {
-    match operator {
-        UnaryOperator::Plus => Ok(x),
-        UnaryOperator::Minus => {
-            let base = absolute_base(x.base)?;
-            let offset = in_range(-i64::from(x.offset))?;
-            Ok(Value { base, offset })
-        }
-        UnaryOperator::Complement => {
-            let base = absolute_base(x.base)?;
-            let offset = !x.offset;
-            Ok(Value { base, offset })
-        }
+    match (operator, x.base) {
+        (UnaryOperator::Plus, _) => Ok(x),
+        (UnaryOperator::Minus, Base::Absolute) => absolute_value(-i64::from(x.offset)),
+        (UnaryOperator::Complement, Base::Absolute) => Ok(Value {
+            base: x.base,
+            offset: !x.offset,
+        }),
+        _ => Err(ValueFault::NotAbsolute),
     }
 }
 
 pub(crate) fn plain_value(number: u32) -> Result<Value, ValueFault>
     ensures { result ≡ plain_value number }
 {
-    let offset = in_range(i64::from(number))?;
-    Ok(Value {
-        base: Base::Absolute,
-        offset,
-    })
+    absolute_value(i64::from(number))
 }

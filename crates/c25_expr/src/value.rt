@@ -4,7 +4,7 @@ ghost use Rattle.std.specs.Prelude.{◌≡◌, ◌+◌, ◌<◌, ◌≤◌, [], 
 ghost use Rattle.arrayvec.specs.ArrayVec.{array_vec_len};
 ghost use Rattle.c25_meaning_language.specs.Value.{value_of, value_named};
 ghost use Rattle.c25_expr.specs.Postfix.{item_of, fits, is_room, with_result};
-ghost use Rattle.c25_expr.specs.Stack.{applied};
+ghost use Rattle.c25_expr.specs.Stack.{applied, onto};
 ghost use Rattle.c25_expr.specs.Steps.{steps_of};
 ghost use Rattle.c25_expr.specs.View.{tree_of};
 
@@ -72,22 +72,37 @@ fn apply<const ROOM: usize>(
         (λ f. applied (value_named symbols.now) symbols.now.here (item_of item.now) (reverse waiting.old.items) ≡ Err f) }
 {
     match item {
-        PostfixItem::Constant(number) => waiting.push(plain_value(*number)?),
-        PostfixItem::Name(name) => waiting.push(
-            symbols.get(name.as_str()).ok_or(ValueFault::Undefined)?,
-        ),
-        PostfixItem::Here => waiting.push(symbols.here()),
-        PostfixItem::Group => {}
+        PostfixItem::Constant(number) => put_onto(waiting, plain_value(*number)),
+        PostfixItem::Name(name) => {
+            let value = symbols.get(name.as_str()).ok_or(ValueFault::Undefined);
+            put_onto(waiting, value)
+        }
+        PostfixItem::Here => put_onto(waiting, Ok(symbols.here())),
+        PostfixItem::Group => Ok(()),
         PostfixItem::Unary(operator) => {
             let operand = last_of(waiting);
-            waiting.push(unary_value(*operator, operand)?);
+            put_onto(waiting, unary_value(*operator, operand))
         }
         PostfixItem::Binary(operator) => {
             let right = last_of(waiting);
             let left = last_of(waiting);
-            waiting.push(binary_value(*operator, left, right)?);
+            put_onto(waiting, binary_value(*operator, left, right))
         }
     }
+}
+
+/// Puts a value, if there is one, behind the operands that wait.
+#[inline]
+fn put_onto<const ROOM: usize>(
+    waiting: &mut ArrayVec<Value, ROOM>,
+    value: Result<Value, ValueFault>,
+) -> Result<(), ValueFault>
+    requires { array_vec_len waiting.old < ROOM }
+    ensures { MatchResult result
+        (λ _. onto value (reverse waiting.old.items) ≡ Ok (reverse waiting.new.items))
+        (λ f. onto value (reverse waiting.old.items) ≡ Err f) }
+{
+    waiting.push(value?);
     Ok(())
 }
 
