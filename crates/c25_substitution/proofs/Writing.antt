@@ -1,5 +1,5 @@
 -- What is written for a text, a fragment at a time.
-use Rattle.std.proofs.Common.{◌≡◌, ℕ, zero, suc, ◌-◌, ◌<◌, ◌≤◌, List, [], ◌∷◌, ◌++◌, length, get_or, drop, refl, ap, sym, subst, ◌∙◌, arith, append_assoc, append-nil, add_assoc, length-append}
+use Rattle.std.proofs.Common.{◌≡◌, ℕ, zero, suc, ◌-◌, ◌<◌, ◌≤◌, List, [], ◌∷◌, ◌++◌, length, get_or, drop, refl, ap, sym, subst, ◌∙◌, arith, append_assoc, append-nil, add_assoc, length-append, Result, Ok, Err}
 use Rattle.std.proofs.lemmas.List.{length-drop}
 use Rattle.c25_meaning_language.specs.Quoting.{behind}
 use Rattle.c25_meaning_language.specs.Fragments.{Replacements, without, Fragment, front, fragments}
@@ -8,7 +8,7 @@ use Rattle.c25_meaning_language.specs.declared.long_line.LongLine.{LongLine}
 use Rattle.c25_meaning_common.specs.declared.failure.Failure.{Failure}
 use Rattle.c25_meaning_common.specs.declared.failure.Failure.TheVariants.{NoMemory, Fault}
 use Rattle.c25_meaning_language.specs.declared.quoting.Quoting.{Quoting}
-use Rattle.c25_substitution.specs.View.{Refuses}
+use Rattle.c25_substitution.specs.View.{Refuses, Writes}
 
 pub same_draft : (a b : Draft) → a.text ≡ b.text → a.replacements ≡ b.replacements → a ≡ b
 same_draft a b t n =
@@ -26,19 +26,20 @@ pub Refuses-joined : (a b : Draft) (e : Failure LongLine) → Refuses a e → Re
 Refuses-joined a b (NoMemory m) h = tt
 Refuses-joined a b (Fault f) h = omega (arith, h, length-append a.text b.text)
 
--- the first, second or third of three texts is too long
-nothing-joined : (a : Draft) → joined (as_is []) a ≡ a
+pub nothing-joined : (a : Draft) → joined (as_is []) a ≡ a
 nothing-joined a = same_draft (joined (as_is []) a) a refl (omega arith)
 
-pub first_refused : (old a b : Draft) (e : Failure LongLine) → old ≡ as_is [] → Refuses (joined old a) e → Refuses (joined a b) e
-first_refused old a b e none h = Refuses-joined a b e (subst (λ w. Refuses w e) (ap (λ o. joined o a) none ∙ nothing-joined a) h)
+-- the first of two texts is too long, or the second of three
+pub first_refused : (old a b : Draft) (e : Failure LongLine) → Refuses (joined old a) e → Refuses (joined old (joined a b)) e
+first_refused old a b e h = subst (λ w. Refuses w e) (joined_assoc old a b) (Refuses-joined (joined old a) b e h)
 
-pub second_refused : (old a b c : Draft) (e : Failure LongLine) → old ≡ joined (as_is []) a → Refuses (joined old b) e → Refuses (joined a (joined b c)) e
-second_refused old a b c e so_far h =
-    subst (λ w. Refuses w e) (joined_assoc a b c) (Refuses-joined (joined a b) c e (subst (λ o. Refuses (joined o b) e) (so_far ∙ nothing-joined a) h))
+pub second_refused : (old so_far a b c : Draft) (e : Failure LongLine) → so_far ≡ joined old a → Refuses (joined so_far b) e → Refuses (joined old (joined a (joined b c))) e
+second_refused old so_far a b c e is h = subst (λ w. Refuses w e) (joined_assoc old a (joined b c)) (first_refused (joined old a) b c e (subst (λ o. Refuses (joined o b) e) is h))
 
-pub third_refused : (old a b c : Draft) (e : Failure LongLine) → old ≡ joined (joined (as_is []) a) b → Refuses (joined old c) e → Refuses (joined a (joined b c)) e
-third_refused old a b c e so_far h = subst (λ w. Refuses w e) (joined_assoc a b c) (subst (λ o. Refuses (joined o c) e) (so_far ∙ ap (λ o. joined o b) (nothing-joined a)) h)
+-- what is written behind a text is written with that text
+pub written_behind : {A : Type 0} (old so_far a b new : Draft) (r : Result A (Failure LongLine)) → so_far ≡ joined old a → Writes so_far b r new → Writes old (joined a b) r new
+written_behind old so_far a b new (Ok x) is h = (h.0 ∙ ap (λ o. joined o b) is ∙ joined_assoc old a b, h.1)
+written_behind old so_far a b new (Err e) is h = subst (λ w. Refuses w e) (joined_assoc old a b) (subst (λ o. Refuses (joined o b) e) is h)
 
 -- a fragment that covers more bytes
 fragments-skip : (names : Replacements) (q : Quoting) (k : ℕ) (text : List ℕ) → fragments names q k text ≡ fragments names q 0 (drop k text)

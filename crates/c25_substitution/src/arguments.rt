@@ -1,8 +1,8 @@
 //! The arguments of a macro call, and the text of `.asg`.
 
-ghost use Rattle.std.specs.Prelude.{◌≡◌, ◌+◌, map, take, drop, IfOk};
+ghost use Rattle.std.specs.Prelude.{◌≡◌, ◌+◌, ◌∷◌, ◌++◌, [], map, take, drop, IfOk, OnOk};
 ghost use Rattle.std.specs.String.{string_bytes};
-ghost use Rattle.c25_meaning_language.specs.Arguments.{argument_len, arguments, assigned_text, operand_text};
+ghost use Rattle.c25_meaning_language.specs.Arguments.{argument_len, arguments, assigned_text, operand_text, unquoted};
 
 use crate::parameters::Arguments;
 use crate::quoting::{last_comma_len, outer_len};
@@ -40,6 +40,20 @@ fn split_argument(text: &str, is_last: bool) -> (&str, &str)
     }
 }
 
+/// One parameter more, with its argument as it is written.
+fn bind(
+    alloc: Global,
+    found: &mut Arguments,
+    parameter: &str,
+    argument: &str,
+) -> Result<(), NoMemory>
+    ensures { OnOk result (found.new ≡ found.old ++ (parameter.now, unquoted argument.now) ∷ []) }
+{
+    let name = String::from_str(alloc, parameter)?;
+    let text = unquoted(alloc, argument)?;
+    found.push(name, text)
+}
+
 /// The arguments of the line that calls a macro of these parameters, with its names replaced.
 pub fn arguments(alloc: Global, parameters: &[String], line: &str) -> Result<Arguments, NoMemory>
     ensures { IfOk result (λ found. found ≡ arguments (map (λ p. string_bytes p) parameters.now) line.now) }
@@ -49,8 +63,7 @@ pub fn arguments(alloc: Global, parameters: &[String], line: &str) -> Result<Arg
     let mut left = parameters;
     while let Some((parameter, others)) = left.split_first() {
         let (argument, behind) = split_argument(rest, others.is_empty());
-        let name = String::from_str(alloc, parameter.as_str())?;
-        found.push(name, unquoted(alloc, argument)?)?;
+        bind(alloc, &mut found, parameter.as_str(), argument)?;
         rest = behind;
         left = others;
     }

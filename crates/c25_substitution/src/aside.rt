@@ -52,11 +52,11 @@ impl<'a> Aside<'a> {
         ensures { OnOk result (self.new ≡ self.old ++ name.entry.now ∷ []) }
     {
         if self.few.len() < FEW && self.others.is_empty() {
-            self.few.push(name)?;
+            self.few.push(name).map_err(NoMemory::from)
         } else {
             self.others.insert(name)?;
+            Ok(())
         }
-        Ok(())
     }
 
     /// The innermost is set aside no more.

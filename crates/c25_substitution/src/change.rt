@@ -8,8 +8,10 @@ use crate::fragments::{Fragment, behind_blank, first_fragment};
 use crate::quoting::{behind, is_comment};
 use crate::visible::Visible;
 use c25_meaning_language::quoting::Quoting;
+use std::alloc::Global;
 
 /// A text at its first fragment that is not kept as it is.
+#[derive(Clone, Copy)]
 pub(crate) struct Change<'a> {
     /// What stands before it.
     pub(crate) front: &'a str,
@@ -22,6 +24,18 @@ pub(crate) struct Change<'a> {
 /// The first change of a text that begins in this quoting; None where it stays as it is. No name is
 /// set aside.
 pub(crate) fn first_change<'a>(
+    alloc: Global,
+    names: &Visible<'a>,
+    quoting: Quoting,
+    text: &'a str,
+) -> Option<Change<'a>>
+    ensures { IsFirstChange (names_of names.now) quoting text.now result }
+{
+    first_change_without(names, &Aside::new(alloc), quoting, text)
+}
+
+/// The same, with the names that are set aside: none.
+fn first_change_without<'a>(
     names: &Visible<'a>,
     aside: &Aside<'_>,
     mut quoting: Quoting,

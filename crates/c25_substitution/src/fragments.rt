@@ -18,7 +18,7 @@ use c25_meaning_common::runs::{constant_run, name_run};
 use c25_meaning_language::quoting::Quoting;
 
 /// A fragment of a text.
-#[derive(Drop)]
+#[derive(Clone, Copy)]
 pub(crate) enum Fragment<'a> {
     /// It is kept as it is.
     Kept(&'a str),

@@ -41,8 +41,7 @@ impl Output {
         if text.len() > LIMIT - self.text.len() {
             return Err(Failure::Fault(LongLine));
         }
-        self.text.push_str(text)?;
-        Ok(())
+        self.text.push_str(text).map_err(Failure::from)
     }
 
     /// Writes a name, `_` and a number.
@@ -50,8 +49,8 @@ impl Output {
         requires { IsWithin (written_so_far self.old) }
         ensures { Writes (written_so_far self.old) (as_is (name.now ++ 95 ∷ decimal number)) result (written_so_far self.new) }
     {
-        let suffix = format!(in self.alloc; "_{number}")?;
         self.push(name)?;
+        let suffix = format!(in self.alloc; "_{number}")?;
         self.push(suffix.as_str())
     }
 

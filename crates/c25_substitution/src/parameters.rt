@@ -50,8 +50,7 @@ impl Arguments {
         ensures ok { OnOk result (self.new ≡ self.old ++ (string_bytes name, string_bytes text) ∷ []) }
         ensures err { OnErr result (self.new ≡ self.old) }
     {
-        self.entries.push((name, text))?;
-        Ok(())
+        self.entries.push((name, text)).map_err(NoMemory::from)
     }
 
     /// What a name stands for.

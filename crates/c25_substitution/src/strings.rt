@@ -116,6 +116,6 @@ pub(crate) fn unquoted(alloc: Global, text: &str) -> Result<String, NoMemory>
     if is_one_string(text.as_bytes()) {
         string_text(alloc, text)
     } else {
-        Ok(String::from_str(alloc, text)?)
+        String::from_str(alloc, text).map_err(NoMemory::from)
     }
 }

@@ -80,7 +80,30 @@ fn write_fragment<'a>(
     }
 }
 
-/// Writes what a text becomes whose first change is this one. There is room for so many bytes at once.
+/// Writes what a text becomes whose first change is this one. No name is set aside.
+fn write_change<'a>(
+    names: &Visible<'a>,
+    number: u32,
+    aside: &mut Aside<'a>,
+    change: Change<'a>,
+    out: &mut Output,
+) -> Result<(), Failure<LongLine>>
+    requires none { aside.old ≡ [] }
+    requires within { IsWithin (written_so_far out.old) }
+    ensures { Writes (written_so_far out.old) (changed (names_of names.now) number change.entry) result (written_so_far out.new) }
+{
+    let Change {
+        front,
+        fragment,
+        quoting,
+        rest,
+    } = change;
+    out.push(front)?;
+    write_fragment(names, number, aside, fragment, out)?;
+    write(names, number, aside, quoting, rest, out)
+}
+
+/// What a text becomes whose first change is this one. There is room for so many bytes at once.
 fn rewrite<'a>(
     alloc: Global,
     names: &Visible<'a>,
@@ -90,17 +113,8 @@ fn rewrite<'a>(
 ) -> Result<Output, Failure<LongLine>>
     ensures { IsAll (changed (names_of names.now) number change.entry) result }
 {
-    let Change {
-        front,
-        fragment,
-        quoting,
-        rest,
-    } = change;
     let mut out = Output::with_room(alloc, room)?;
-    let mut aside = Aside::new(alloc);
-    out.push(front)?;
-    write_fragment(names, number, &mut aside, fragment, &mut out)?;
-    write(names, number, &mut aside, quoting, rest, &mut out)?;
+    write_change(names, number, &mut Aside::new(alloc), change, &mut out)?;
     Ok(out)
 }
 
@@ -143,7 +157,7 @@ pub fn substitute<'a>(
     if stays(names, line) {
         return unsubstituted(line);
     }
-    match first_change(names, &Aside::new(alloc), line_quoting(line), line) {
+    match first_change(alloc, names, line_quoting(line), line) {
         None => unsubstituted(line),
         Some(change) => {
             let out = rewrite(alloc, names, number, change, line.len())?;
@@ -163,7 +177,7 @@ pub fn substitute_before_comma<'a>(
     ensures { Meets cow_str_bytes (substituted_before_comma (names_of names.now) number line.now) result }
 {
     let (front, behind) = line.split_at(last_comma_len(line.as_bytes()));
-    match first_change(names, &Aside::new(alloc), Quoting::Outside, front) {
+    match first_change(alloc, names, Quoting::Outside, front) {
         None => unsubstituted(line),
         Some(change) => {
             let mut out = rewrite(alloc, names, number, change, line.len())?;

@@ -1,4 +1,4 @@
-use Rattle.std.proofs.Common.{rules, ◌∙◌}
+use Rattle.std.proofs.Common.{rules, refl, ◌∙◌}
 use Rattle.std.proofs.lemmas.List.{nil_from_length}
 use Rattle.c25_substitution.proofs.Binding.{bound_more, bound_none}
 use Rattle.c25_substitution.proofs.arguments.arguments.Goals as goal
@@ -9,8 +9,8 @@ loop-parameter-preserved c =
     record {
       text = search rules;
       so_far =
-          bound_more l.found c.push.new.self l.left.now c.in-Some.others.now c.in-Some.parameter.now _ c.split_argument.result.0.now l.rest.now c.split_argument.result.1.now _ c.is_empty.result
-          c.in-Some.ensures.cases.0 c.is_empty.ensures c.split_argument.ensures.argument c.split_argument.ensures.rest (c.in_ok-name.ensures.ok ∙ c.as_str.ensures.value) c.in_ok-unquoted.ensures c.in_ok-push.ensures.ok
+          bound_more l.found c.bind.new.found l.left.now c.in-Some.others.now c.in-Some.parameter.now _ c.split_argument.result.0.now l.rest.now c.split_argument.result.1.now _ c.is_empty.result
+          c.in-Some.ensures.cases.0 c.is_empty.ensures c.split_argument.ensures.argument c.split_argument.ensures.rest c.as_str.ensures.value refl c.in_ok-bind.ensures
           ∙ l.invariant.so_far;
     }
 

@@ -4,7 +4,7 @@ use denote.Text.{Utf8}
 use denote.Shadow.{shadow}
 use Rattle.c25_substitution.specs.View.{names_of}
 use Rattle.c25_substitution.proofs.Changes.{IsKeptTo}
-use Rattle.c25_substitution.proofs.change.first_change.Given as goal
+use Rattle.c25_substitution.proofs.change.first_change_without.Given as goal
 
 abbrev pub invariant-loop-rest : goal.invariant-loop-rest
 invariant-loop-rest l = record {

@@ -6,7 +6,7 @@ use Rattle.c25_meaning_language.specs.declared.quoting.Quoting.{Quoting}
 use Rattle.c25_substitution.specs.View.{names_of, fragment_of}
 use Rattle.c25_substitution.proofs.Writing.{part}
 use Rattle.c25_substitution.proofs.Changes.{IsKeptTo, cut_before, keeps_all, keeps_comment, keeps_blank, keeps_on, changes}
-use Rattle.c25_substitution.proofs.change.first_change.Goals as goal
+use Rattle.c25_substitution.proofs.change.first_change_without.Goals as goal
 
 pub returns-then-is_comment : goal.returns-then-is_comment
 returns-then-is_comment c = keeps_comment (names_of c.args.names.now) c.args.quoting c.args.text.now c.loop-rest.quoting c.loop-rest.rest.now c.loop-rest.invariant.kept (c.is_comment.ensures c.if-is_comment.true)
