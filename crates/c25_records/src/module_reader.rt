@@ -1,6 +1,6 @@
 //! Bytes read as a module, front to back.
 
-ghost use Rattle.std.specs.Prelude.{◌≡◌, true, IfOk, OnOk, Ok};
+ghost use Rattle.std.specs.Prelude.{◌≡◌, true, length, IfOk, OnOk, Ok};
 ghost use Rattle.c25_meaning_objects.specs.Module.{Contents, IsSized, is_module};
 ghost use Rattle.c25_meaning_objects.specs.Module as spec;
 ghost use Rattle.c25_meaning_objects.specs.Records.{spelling};
@@ -250,25 +250,44 @@ fn told(parts: &Parts, used: u32) -> bool
 }
 
 #[tactic(auto, unfolding(c25_meaning_objects::specs::RecordReading::ended))]
-fn ended(
-    parts: Parts,
-    used: u32,
-    payload: &[u8],
-    rest: &[u8],
-) -> Result<Parts, Failure<ObjectFault>>
-    requires { used ≡ spec.used (contents parts).lines }
-    ensures { Meets contents (reading.ended (contents parts) payload.now rest.now) result }
+fn ended(parts: &Parts, used: u32, payload: &[u8], rest: &[u8]) -> Result<(), Failure<ObjectFault>>
+    requires { used ≡ spec.used (contents parts.now).lines }
+    ensures { Meets (λ _. contents parts.now) (reading.ended (contents parts.now) payload.now rest.now) result }
 {
-    if parts.sections.is_empty() || !told(&parts, used) || !payload.is_empty() {
+    if parts.sections.is_empty() || !told(parts, used) || !payload.is_empty() {
         return Err(Failure::Fault(ObjectFault::BadField));
     }
     if !rest.is_empty() {
         return Err(Failure::Fault(ObjectFault::Trailing));
     }
-    Ok(parts)
+    Ok(())
 }
 
+/// Reads the records up to the last one.
 #[tactic(auto, unfolding(c25_meaning_objects::specs::RecordReading::read_from))]
+fn read_records<'a>(
+    alloc: Global,
+    reader: &mut Reader<'a>,
+    bytes: &'a [u8],
+) -> Result<(), Failure<ObjectFault>>
+    requires { Keeps (λ k. k.now) reader.old.names reader.old.file_names reader.old.used (contents reader.old.parts) }
+    ensures { Meets (λ _. contents reader.new.parts) (reading.read_from (length bytes.now) (contents reader.old.parts) bytes.now) result }
+{
+    let mut rest = bytes;
+    for _ in 0..bytes.len() {
+        let record = record_at(rest)?;
+        if !is_in_order(&reader.parts, record.tag) {
+            return Err(Failure::Fault(ObjectFault::BadTag));
+        }
+        if record.tag == 255 {
+            return ended(&reader.parts, reader.used, record.payload, record.rest);
+        }
+        add_record(alloc, reader, record.tag, record.payload)?;
+        rest = record.rest;
+    }
+    Err(Failure::Fault(ObjectFault::Short))
+}
+
 fn read_all(alloc: Global, version: Version, bytes: &[u8]) -> Result<Parts, Failure<ObjectFault>>
     ensures { Meets contents (reading.read_all version bytes.now) result }
 {
@@ -287,31 +306,21 @@ fn read_all(alloc: Global, version: Version, bytes: &[u8]) -> Result<Parts, Fail
         file_names: HashSet::new(alloc),
         used: 0,
     };
-    let mut rest = bytes;
-    for _ in 0..bytes.len() {
-        let record = record_at(rest)?;
-        if !is_in_order(&reader.parts, record.tag) {
-            return Err(Failure::Fault(ObjectFault::BadTag));
-        }
-        if record.tag == 255 {
-            return ended(reader.parts, reader.used, record.payload, record.rest);
-        }
-        add_record(alloc, &mut reader, record.tag, record.payload)?;
-        rest = record.rest;
-    }
-    Err(Failure::Fault(ObjectFault::Short))
+    read_records(alloc, &mut reader, bytes)?;
+    Ok(reader.parts)
+}
+
+fn has_magic(bytes: &[u8]) -> bool
+    ensures { result ≡ reading.has_magic bytes.now }
+{
+    bytes.len() >= 4 && bytes[0] == b'C' && bytes[1] == b'2' && bytes[2] == b'5' && bytes[3] == b'O'
 }
 
 #[tactic(auto, unfolding(c25_meaning_objects::specs::RecordReading::module_of))]
 fn parts_of(alloc: Global, bytes: &[u8]) -> Result<Parts, Failure<ObjectFault>>
     ensures { Meets contents (reading.module_of bytes.now) result }
 {
-    if bytes.len() < 4
-        || bytes[0] != b'C'
-        || bytes[1] != b'2'
-        || bytes[2] != b'5'
-        || bytes[3] != b'O'
-    {
+    if !has_magic(bytes) {
         return Err(Failure::Fault(ObjectFault::BadMagic));
     }
     if bytes.len() < 5 {
