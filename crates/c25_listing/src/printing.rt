@@ -161,7 +161,6 @@ impl<'m> Marked<'m> {
         }
         let text = entry.text.as_str();
         self.push_word_line(out, line, entry.section, entry.offset, text)?;
-        self.push_further(out, line, entry.section, entry.offset + 1, entry.count - 1)?;
-        Ok(())
+        self.push_further(out, line, entry.section, entry.offset + 1, entry.count - 1)
     }
 }
