@@ -1,5 +1,5 @@
 -- Texts that grow at their ends.
-use Rattle.std.proofs.Common.{◌≡◌, ℕ, suc, ◌+◌, Bool, List, [], ◌++◌, Option, Some, None, refl, sym, ap, subst, ◌∙◌, append_assoc, arith}
+use Rattle.std.proofs.Common.{◌≡◌, ℕ, suc, ◌+◌, Bool, List, [], ◌++◌, Option, Some, None, Result, Ok, Err, OnOk, refl, sym, ap, subst, ◌∙◌, append_assoc, arith}
 use Rattle.std.specs.List.{slice_get}
 use Rattle.std.proofs.lemmas.List.{append-nil}
 use Rattle.c25_meaning_objects.specs.Module.{Contents, SectionData, words_at}
@@ -50,6 +50,11 @@ place_with m section place first inside line some test word = record {
       (subst (λ (b : Bool). IsWordAt m section place (Some first) b line) (sym test) word);
   text_is = refl;
 }
+
+-- what follows of what a call that succeeds has done
+pub ok_then : {A E P Q : Type 0} (r : Result A E) → OnOk r P → (P → Q) → OnOk r Q
+ok_then (Ok a) p f = f p
+ok_then (Err e) p f = tt
 
 -- ---- joined texts
 

@@ -1,6 +1,7 @@
 //! Lines: an address, its words, and what they are.
 
-ghost use Rattle.std.specs.Prelude.{◌≡◌, ◌++◌, OnOk, string_bytes};
+ghost use Rattle.std.specs.Prelude.{◌≡◌, ◌++◌, OnOk, codes, string_bytes};
+ghost use Rattle.std.specs.List.{flat_map};
 ghost use Rattle.c25_meaning_common.specs.Digits.{four_digits};
 ghost use Rattle.c25_meaning_instructions.specs.Show.{long_text};
 ghost use Rattle.c25_dis.specs.Lines.{columns, data_text, code_text, further_text, line_text};
@@ -11,12 +12,28 @@ use c25_meaning_common::no_memory::NoMemory;
 use c25_meaning_instructions::insn::Insn;
 use std::alloc::Global;
 
+/// Appends a text.
+pub(crate) fn push_text(text: &mut String, piece: &str) -> Result<(), NoMemory>
+    ensures { OnOk result (string_bytes text.new ≡ string_bytes text.old ++ piece.now) }
+{
+    Ok(text.push_str(piece)?)
+}
+
+/// Appends texts, one behind the other.
+pub(crate) fn push_texts(text: &mut String, pieces: &[&str]) -> Result<(), NoMemory>
+    ensures { OnOk result (string_bytes text.new ≡ string_bytes text.old ++ flat_map (λ piece. piece.now) pieces.now) }
+{
+    for piece in pieces {
+        push_text(text, piece)?;
+    }
+    Ok(())
+}
+
 /// Appends a word in four digits.
 fn push_word(text: &mut String, word: u16) -> Result<(), NoMemory>
     ensures { OnOk result (string_bytes text.new ≡ string_bytes text.old ++ four_digits word) }
 {
-    text.push_str(four(word).as_str())?;
-    Ok(())
+    push_text(text, four(word).as_str())
 }
 
 /// Appends an address, the low sixteen bits of a number.
@@ -27,17 +44,16 @@ pub(crate) fn push_address(text: &mut String, address: usize) -> Result<(), NoMe
     push_word(text, (address % 65_536) as u16)
 }
 
-/// Appends one word or two in columns that are as wide for one as for two.
+/// Appends one word or two in columns that are as wide for one as for two, between blanks.
 fn push_columns(text: &mut String, first: u16, second: Option<u16>) -> Result<(), NoMemory>
-    ensures { OnOk result (string_bytes text.new ≡ string_bytes text.old ++ columns first second) }
+    ensures { OnOk result (string_bytes text.new ≡ string_bytes text.old ++ (codes " " ++ columns first second ++ codes " ")) }
 {
-    push_word(text, first)?;
     match second {
-        None => Ok(text.push_str("     ")?),
-        Some(second) => {
-            text.push_str(" ")?;
-            push_word(text, second)
-        }
+        None => push_texts(text, &[" ", four(first).as_str(), "     ", " "]),
+        Some(second) => push_texts(
+            text,
+            &[" ", four(first).as_str(), " ", four(second).as_str(), " "],
+        ),
     }
 }
 
@@ -45,9 +61,7 @@ fn push_columns(text: &mut String, first: u16, second: Option<u16>) -> Result<()
 fn push_constant(text: &mut String, word: u16) -> Result<(), NoMemory>
     ensures { OnOk result (string_bytes text.new ≡ string_bytes text.old ++ long_text word) }
 {
-    text.push_str("0")?;
-    push_word(text, word)?;
-    Ok(text.push_str("h")?)
+    push_texts(text, &["0", four(word).as_str(), "h"])
 }
 
 /// Appends a second word of data, if there is one.
@@ -57,7 +71,7 @@ fn push_further(text: &mut String, second: Option<u16>) -> Result<(), NoMemory>
     match second {
         None => Ok(()),
         Some(second) => {
-            text.push_str(",")?;
+            push_text(text, ",")?;
             push_constant(text, second)
         }
     }
@@ -67,7 +81,7 @@ fn push_further(text: &mut String, second: Option<u16>) -> Result<(), NoMemory>
 fn push_data(text: &mut String, first: u16, second: Option<u16>) -> Result<(), NoMemory>
     ensures { OnOk result (string_bytes text.new ≡ string_bytes text.old ++ data_text first second) }
 {
-    text.push_str(".word ")?;
+    push_text(text, ".word ")?;
     push_constant(text, first)?;
     push_further(text, second)?;
     Ok(())
@@ -85,7 +99,10 @@ fn push_code(
 {
     match insn {
         None => push_data(text, first, second),
-        Some(insn) => Ok(text.push_str(&show(alloc, insn)?)?),
+        Some(insn) => {
+            let shown = show(alloc, insn)?;
+            push_text(text, &shown)
+        }
     }
 }
 
@@ -101,8 +118,6 @@ pub(crate) fn push_line(
     ensures { OnOk result (string_bytes text.new ≡ string_bytes text.old ++ line_text address first second insn.now) }
 {
     push_address(text, address)?;
-    text.push_str(" ")?;
     push_columns(text, first, second)?;
-    text.push_str(" ")?;
     push_code(alloc, text, first, second, insn)
 }

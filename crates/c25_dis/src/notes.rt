@@ -4,6 +4,7 @@ ghost use Rattle.std.specs.Prelude.{◌≡◌, ◌++◌, OnOk, string_bytes};
 ghost use Rattle.c25_dis.specs.Sections.{addend_text, base_text, filled_text, section_name, symbol_name};
 ghost use Rattle.c25_obj.specs.View.{contents};
 
+use crate::line::push_text;
 use c25_meaning_common::no_memory::NoMemory;
 use c25_meaning_objects::object::{Relocation, RelocationBase};
 use c25_obj::Parts;
@@ -14,7 +15,7 @@ fn push_section_name(text: &mut String, parts: &Parts, number: u16) -> Result<()
 {
     match parts.sections.get(usize::from(number)) {
         None => Ok(()),
-        Some(section) => Ok(text.push_str(&section.name)?),
+        Some(section) => push_text(text, &section.name),
     }
 }
 
@@ -24,7 +25,7 @@ fn push_symbol_name(text: &mut String, parts: &Parts, number: u16) -> Result<(),
 {
     match parts.symbols.get(usize::from(number)) {
         None => Ok(()),
-        Some(symbol) => Ok(text.push_str(&symbol.name)?),
+        Some(symbol) => push_text(text, &symbol.name),
     }
 }
 
@@ -35,7 +36,7 @@ fn push_base(text: &mut String, parts: &Parts, base: RelocationBase) -> Result<(
     match base {
         RelocationBase::Section(number) => push_section_name(text, parts, number),
         RelocationBase::Loaded(number) => {
-            text.push_str("load of ")?;
+            push_text(text, "load of ")?;
             push_section_name(text, parts, number)
         }
         RelocationBase::External(number) => push_symbol_name(text, parts, number),
@@ -63,7 +64,7 @@ pub(crate) fn push_filled(
 ) -> Result<(), NoMemory>
     ensures { OnOk result (string_bytes text.new ≡ string_bytes text.old ++ filled_text (contents parts.now) relocation.now) }
 {
-    text.push_str("  ; ")?;
+    push_text(text, "  ; ")?;
     push_base(text, parts, relocation.base)?;
     push_addend(text, relocation.addend)
 }

@@ -10,7 +10,7 @@ ghost use Rattle.c25_obj.specs.View.{body_data, contents, section_data, symbols_
 
 use crate::index::{IndexEntry, at, first_at, index_of, item_at};
 use crate::instruction_reader::instruction;
-use crate::line::{push_address, push_line};
+use crate::line::{push_address, push_line, push_text, push_texts};
 use crate::notes::push_filled;
 use c25_meaning_common::no_memory::NoMemory;
 use c25_meaning_instructions::insn::Insn;
@@ -49,7 +49,7 @@ fn push_place_text(text: &mut String, place: usize) -> Result<(), NoMemory>
     ensures { OnOk result (string_bytes text.new ≡ string_bytes text.old ++ place_text place) }
 {
     if place == 65_536 {
-        Ok(text.push_str("10000")?)
+        push_text(text, "10000")
     } else {
         push_address(text, place)
     }
@@ -60,9 +60,7 @@ fn push_label(text: &mut String, place: usize, name: &str) -> Result<(), NoMemor
     ensures { OnOk result (string_bytes text.new ≡ string_bytes text.old ++ label_line place name.now) }
 {
     push_place_text(text, place)?;
-    text.push_str(" ")?;
-    text.push_str(name)?;
-    Ok(text.push_str(":\n")?)
+    push_texts(text, &[" ", name, ":\n"])
 }
 
 /// Appends the line of the symbol of a number, if there is one.
@@ -107,8 +105,7 @@ fn push_labels_at(
     ensures { OnOk result (string_bytes text.new ≡ string_bytes text.old
         ++ flat_map (λ y. label_line place y.name) (filter (stands_at section place) (symbols_data symbols.now))) }
 {
-    push_labels(text, symbols, place, at(index, place))?;
-    Ok(())
+    push_labels(text, symbols, place, at(index, place))
 }
 
 /// Whether a mark is that of an instruction of two words.
@@ -218,7 +215,7 @@ impl Places<'_> {
         let insn = marked_instruction(mark, first, second);
         push_line(alloc, text, place, first, second, &insn)?;
         self.push_notes(text, place, second)?;
-        Ok(text.push_str("\n")?)
+        push_text(text, "\n")
     }
 
     /// Appends the lines of the symbols at a place.
@@ -232,8 +229,7 @@ impl Places<'_> {
             &self.symbols,
             self.section,
             place,
-        )?;
-        Ok(())
+        )
     }
 
     /// Appends what stands at a place.
@@ -257,8 +253,7 @@ impl Places<'_> {
                 if self.is_second(place) {
                     Ok(())
                 } else {
-                    self.push_word_line(alloc, text, words, place, first)?;
-                    Ok(())
+                    self.push_word_line(alloc, text, words, place, first)
                 }
             }
         }
@@ -290,7 +285,7 @@ fn push_body_text(text: &mut String, body: &Body) -> Result<(), NoMemory>
     ensures { OnOk result (string_bytes text.new ≡ string_bytes text.old ++ body_text (body_data body.now)) }
 {
     match body {
-        Body::Initialised(_) => Ok(text.push_str("initialised")?),
+        Body::Initialised(_) => push_text(text, "initialised"),
         Body::Uninitialised(size) => Ok(write!(text, "reserves {size}")?),
     }
 }
@@ -299,11 +294,9 @@ fn push_body_text(text: &mut String, body: &Body) -> Result<(), NoMemory>
 fn push_heading(text: &mut String, section: &Section) -> Result<(), NoMemory>
     ensures { OnOk result (string_bytes text.new ≡ string_bytes text.old ++ heading (section_data section.now)) }
 {
-    text.push_str("section ")?;
-    text.push_str(&section.name)?;
-    text.push_str(" ")?;
+    push_texts(text, &["section ", &section.name, " "])?;
     push_body_text(text, &section.body)?;
-    Ok(text.push_str("\n")?)
+    push_text(text, "\n")
 }
 
 /// Appends what stands in a section.

@@ -6,7 +6,7 @@ ghost use Rattle.c25_dis.specs.Words.{gap_text, is_before, word_at, IsAddressTex
 ghost use Rattle.c25_meaning_instructions.specs.declared.insn.Insn.{Insn};
 
 use crate::instruction_reader::instruction;
-use crate::line::push_line;
+use crate::line::{push_line, push_text};
 use c25_meaning_common::no_memory::NoMemory;
 use c25_meaning_image::word_map::WordMap;
 use c25_meaning_instructions::insn::Insn;
@@ -85,7 +85,7 @@ fn push_gap(text: &mut String, end: Option<u32>, address: u32) -> Result<(), NoM
             if end == address {
                 Ok(())
             } else {
-                Ok(text.push_str("\n")?)
+                push_text(text, "\n")
             }
         }
     }
@@ -107,7 +107,7 @@ fn push_word_line(
     push_gap(text, end, address)?;
     let Taken { second, insn } = read_word(word, next);
     push_line(alloc, text, address as usize, word, second, &insn)?;
-    text.push_str("\n")?;
+    push_text(text, "\n")?;
     match second {
         None => Ok(Some(address + 1)),
         Some(_) => Ok(Some(address + 2)),

@@ -6,5 +6,5 @@ use Rattle.c25_dis.proofs.line.push_data.Goals as goal
 
 pub returns : goal.returns
 returns c =
-    three_behind (string_bytes c.args.text.now) (codes ".word ") (long_text c.args.first) (further_text c.args.second) (string_bytes c.push_str.new.self) (string_bytes c.push_constant.new.text)
-    (string_bytes c.push_further.new.text) c.in_ok-push_str.ensures.bytes c.in_ok-push_constant.ensures c.in_ok-push_further.ensures
+    three_behind (string_bytes c.args.text.now) (codes ".word ") (long_text c.args.first) (further_text c.args.second) (string_bytes c.push_text.new.text) (string_bytes c.push_constant.new.text)
+    (string_bytes c.push_further.new.text) c.in_ok-push_text.ensures c.in_ok-push_constant.ensures c.in_ok-push_further.ensures

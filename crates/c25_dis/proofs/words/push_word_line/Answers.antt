@@ -18,6 +18,6 @@ returns-in-Some c =
         end_is = ap (λ (o : Option ℕ). Some (address + length (word ∷ option_to_list o))) (sym c.in-Some.is);
         text_is = refl;
       },
-      three_behind (string_bytes c.args.text.now) (gap_text c.args.end address) (line_text address word second insn) (codes "\n") (string_bytes c.push_gap.new.text) (string_bytes c.push_line.new.text) (string_bytes c.push_str.new.self)
-          c.in_ok-push_gap.ensures c.in_ok-push_line.ensures c.in_ok-push_str.ensures.bytes,
+      three_behind (string_bytes c.args.text.now) (gap_text c.args.end address) (line_text address word second insn) (codes "\n") (string_bytes c.push_gap.new.text) (string_bytes c.push_line.new.text) (string_bytes c.push_text.new.text)
+          c.in_ok-push_gap.ensures c.in_ok-push_line.ensures c.in_ok-push_text.ensures,
     )
