@@ -9,3 +9,4 @@ pub mod RunTo
 pub mod SamplesLeft
 pub mod ScheduleRises
 pub mod Lends
+pub mod Lists

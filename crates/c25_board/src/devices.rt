@@ -1,6 +1,6 @@
 //! The memories and ports of a board.
 
-ghost use Rattle.std.specs.Prelude.{◌≡◌, [], true, vec_len, IfOk};
+ghost use Rattle.std.specs.Prelude.{◌≡◌, [], true, vec_len, OnOk};
 ghost use Rattle.c25_meaning_processor.specs.FirstState.{memory_of_map};
 ghost use Rattle.c25_meaning_processor.specs.Memory.{memory_of};
 ghost use Rattle.c25_meaning_image.specs.Marks.{run_fit};
@@ -32,16 +32,16 @@ pub(crate) struct Devices<F: Feed + Drop, S: Sink + Drop> {
     ghost runs_fit: { run_fit (marks_in 0 places.items) run_marks.items ≡ true },
 }
 
-/// The words of a page, and 0 at all other addresses, in a list that is empty yet.
-pub(crate) fn words_of_page(mut memory: Vec<u16>, page: &WordMap) -> Result<Vec<u16>, NoMemory>
-    requires { memory.items ≡ [] }
-    ensures full { IfOk result (λ memory. vec_len memory ≡ 65536) }
-    ensures words { IfOk result (λ memory. memory_of memory.items ≡ memory_of_map page.now) }
+/// Fills a list that is empty yet with the words of a page, and 0 at all other addresses.
+pub(crate) fn fill_words(memory: &mut Vec<u16>, page: &WordMap) -> Result<(), NoMemory>
+    requires { memory.old.items ≡ [] }
+    ensures full { OnOk result (vec_len memory.new ≡ 65536) }
+    ensures words { OnOk result (memory_of memory.new.items ≡ memory_of_map page.now) }
 {
     for address in 0..WORDS {
         memory.push(page.get(address as u16).unwrap_or(0))?;
     }
-    Ok(memory)
+    Ok(())
 }
 
 impl<F: Feed + Drop, S: Sink + Drop> Bus for Devices<F, S> {

@@ -6,6 +6,7 @@ mod clock;
 mod copies;
 mod devices;
 pub mod fixed_sink;
+mod lists;
 mod places;
 pub mod ports;
 mod prepared;

@@ -1,6 +1,6 @@
 use Rattle.std.proofs.Common.{◌≡◌, ℕ, ◌<◌, vec_len, get_or}
 use Rattle.c25_meaning_processor.specs.FirstState.{memory_of_map}
-use Rattle.c25_board.proofs.devices.words_of_page.Given as goal
+use Rattle.c25_board.proofs.devices.fill_words.Given as goal
 
 abbrev pub invariant-loop-address : goal.invariant-loop-address
 invariant-loop-address l = record {
