@@ -77,25 +77,19 @@ impl<'a, F: Feed + Drop, S: Sink + Drop> Session<'a, F, S> {
         match *command {
             Cmd::Step(count) => tell_steps(alloc, &mut self.board, count, &Breakpoints::new()),
             Cmd::Run(count) => tell_steps(alloc, &mut self.board, count, &self.breakpoints),
-            Cmd::Break(address) => Ok(shown(tell_set(alloc, &mut self.breakpoints, address)?)),
-            Cmd::Clear(address) => Ok(shown(tell_cleared(alloc, &mut self.breakpoints, address)?)),
-            Cmd::Regs => Ok(shown(show_registers(alloc, &self.board)?)),
-            Cmd::Data { address, count } => Ok(shown(show_data(
-                alloc,
-                &self.board,
-                address,
-                count,
-            )?)),
-            Cmd::Prog { address, count } => Ok(shown(show_program(
-                alloc,
-                &self.board,
-                address,
-                count,
-            )?)),
-            Cmd::Stack => Ok(shown(show_stack(alloc, &self.board)?)),
-            Cmd::Where => Ok(shown(show_place(alloc, image, &self.board)?)),
-            Cmd::List(count) => Ok(shown(show_list(alloc, image, self.board.pc(), count)?)),
-            Cmd::Symbols => Ok(shown(show_symbols(alloc, image)?)),
+            Cmd::Break(address) => tell_set(alloc, &mut self.breakpoints, address).map(shown),
+            Cmd::Clear(address) => tell_cleared(alloc, &mut self.breakpoints, address).map(shown),
+            Cmd::Regs => show_registers(alloc, &self.board).map(shown),
+            Cmd::Data { address, count } => show_data(alloc, &self.board, address, count).map(
+                shown,
+            ),
+            Cmd::Prog { address, count } => {
+                show_program(alloc, &self.board, address, count).map(shown)
+            }
+            Cmd::Stack => show_stack(alloc, &self.board).map(shown),
+            Cmd::Where => show_place(alloc, image, &self.board).map(shown),
+            Cmd::List(count) => show_list(alloc, image, self.board.pc(), count).map(shown),
+            Cmd::Symbols => show_symbols(alloc, image).map(shown),
         }
     }
 

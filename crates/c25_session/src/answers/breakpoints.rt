@@ -3,7 +3,8 @@
 ghost use Rattle.std.specs.Prelude.{◌≡◌, ◌++◌, OnOk, string_bytes};
 ghost use Rattle.c25_meaning_debugger.specs.Texts.{address_line, cleared_text, set_text};
 
-use crate::answers::digits::push_word;
+use crate::answers::digits::{push_text, push_texts};
+use c25_digits::four;
 use c25_meaning_common::no_memory::NoMemory;
 use std::alloc::Global;
 
@@ -11,11 +12,7 @@ use std::alloc::Global;
 fn push_line(text: &mut String, word: &str, address: u16) -> Result<(), NoMemory>
     ensures { OnOk result (string_bytes text.new ≡ string_bytes text.old ++ address_line word.now address) }
 {
-    text.push_str(word)?;
-    text.push_str(" ")?;
-    push_word(text, address)?;
-    text.push_str("\n")?;
-    Ok(())
+    push_texts(text, &[word, " ", four(address).as_str(), "\n"])
 }
 
 /// Appends what is answered where a breakpoint was asked for: whether it is set then, or the most are
@@ -26,7 +23,7 @@ pub(crate) fn push_set(text: &mut String, address: u16, is_set: bool) -> Result<
     if is_set {
         push_line(text, "set", address)
     } else {
-        Ok(text.push_str("full\n")?)
+        push_text(text, "full\n")
     }
 }
 

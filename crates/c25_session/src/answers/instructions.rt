@@ -6,7 +6,8 @@ ghost use Rattle.c25_meaning_debugger.specs.Debugger.{source_line_at};
 ghost use Rattle.c25_meaning_debugger.specs.Texts.{AreLinesOf, IsLineOf, IsWhere, ReadsAt, insn_line, insn_text, marks_from, source_line_end};
 ghost use Rattle.c25_meaning_processor.specs.FirstState.{memory_of_map};
 
-use crate::answers::digits::push_word;
+use crate::answers::digits::{push_text, push_texts};
+use c25_digits::four;
 use c25_isa::{decode, show, size_of};
 use c25_link::Image;
 use c25_meaning_common::no_memory::NoMemory;
@@ -45,8 +46,11 @@ fn push_insn(alloc: Global, text: &mut String, insn: &Option<Insn>) -> Result<()
     ensures { OnOk result (string_bytes text.new ≡ string_bytes text.old ++ insn_text insn.now) }
 {
     match insn {
-        None => Ok(text.push_str("none")?),
-        Some(insn) => Ok(text.push_str(&show(alloc, insn)?)?),
+        None => push_text(text, "none"),
+        Some(insn) => {
+            let shown = show(alloc, insn)?;
+            push_text(text, &shown)
+        }
     }
 }
 
@@ -55,14 +59,10 @@ fn push_end(text: &mut String, source: Option<(&str, u32)>) -> Result<(), NoMemo
     ensures { OnOk result (string_bytes text.new ≡ string_bytes text.old ++ source_line_end (option_map (λ r. (r.0.now, r.1)) source.entry)) }
 {
     match source {
-        None => Ok(text.push_str("\n")?),
+        None => push_text(text, "\n"),
         Some((file, line)) => {
             let mut digits = Buffer::new();
-            text.push_str(" ")?;
-            text.push_str(file)?;
-            text.push_str(":")?;
-            text.push_str(digits.format(line))?;
-            Ok(text.push_str("\n")?)
+            push_texts(text, &[" ", file, ":", digits.format(line), "\n"])
         }
     }
 }
@@ -78,8 +78,7 @@ fn push_line(
     ensures { OnOk result (string_bytes text.new ≡ string_bytes text.old
         ++ insn_line address insn.now (option_map (λ r. (r.0.now, r.1)) source.entry)) }
 {
-    push_word(text, address)?;
-    text.push_str(" ")?;
+    push_texts(text, &[four(address).as_str(), " "])?;
     push_insn(alloc, text, insn)?;
     push_end(text, source)
 }

@@ -5,7 +5,7 @@ ghost use Rattle.c25_meaning_common.specs.Digits.{four_digits, two_digits};
 ghost use Rattle.c25_meaning_debugger.specs.Texts.{regs_text, spaced, stack_text};
 ghost use Rattle.c25_meaning_placing.specs.MapText.{eight_digits};
 
-use crate::answers::digits::{push_byte, push_long, push_spaced, push_word};
+use crate::answers::digits::{push_byte, push_named, push_named_long, push_spaced, push_text};
 use c25_meaning_common::no_memory::NoMemory;
 use c25_meaning_processor::registers::Regs;
 use std::alloc::Global;
@@ -15,14 +15,10 @@ fn push_factors(text: &mut String, registers: &Regs) -> Result<(), NoMemory>
     ensures { OnOk result (string_bytes text.new ≡ string_bytes text.old
         ++ (codes "PC " ++ four_digits registers.now.pc ++ codes " ACC " ++ eight_digits registers.now.acc ++ codes " P " ++ eight_digits registers.now.p ++ codes " T " ++ four_digits registers.now.t)) }
 {
-    text.push_str("PC ")?;
-    push_word(text, registers.pc)?;
-    text.push_str(" ACC ")?;
-    push_long(text, registers.acc)?;
-    text.push_str(" P ")?;
-    push_long(text, registers.p)?;
-    text.push_str(" T ")?;
-    push_word(text, registers.t)
+    push_named(text, "PC ", registers.pc)?;
+    push_named_long(text, " ACC ", registers.acc)?;
+    push_named_long(text, " P ", registers.p)?;
+    push_named(text, " T ", registers.t)
 }
 
 /// Appends the status words and the count of repetitions.
@@ -30,11 +26,9 @@ fn push_status(text: &mut String, registers: &Regs) -> Result<(), NoMemory>
     ensures { OnOk result (string_bytes text.new ≡ string_bytes text.old
         ++ (codes " ST0 " ++ four_digits registers.now.st0 ++ codes " ST1 " ++ four_digits registers.now.st1 ++ codes " RPTC " ++ two_digits registers.now.rptc)) }
 {
-    text.push_str(" ST0 ")?;
-    push_word(text, registers.st0)?;
-    text.push_str(" ST1 ")?;
-    push_word(text, registers.st1)?;
-    text.push_str(" RPTC ")?;
+    push_named(text, " ST0 ", registers.st0)?;
+    push_named(text, " ST1 ", registers.st1)?;
+    push_text(text, " RPTC ")?;
     push_byte(text, registers.rptc)
 }
 
@@ -42,10 +36,9 @@ fn push_status(text: &mut String, registers: &Regs) -> Result<(), NoMemory>
 fn push_row(text: &mut String, name: &str, words: &[u16]) -> Result<(), NoMemory>
     ensures { OnOk result (string_bytes text.new ≡ string_bytes text.old ++ (name.now ++ spaced words.now ++ codes "\n")) }
 {
-    text.push_str(name)?;
+    push_text(text, name)?;
     push_spaced(text, words)?;
-    text.push_str("\n")?;
-    Ok(())
+    push_text(text, "\n")
 }
 
 /// Appends the registers: a line of PC, the arithmetic unit's, the status words and the count of

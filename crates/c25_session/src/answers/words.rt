@@ -3,7 +3,7 @@
 ghost use Rattle.std.specs.Prelude.{◌≡◌, ◌+◌, ◌≤◌, ◌<◌, ◌++◌, OnOk, string_bytes};
 ghost use Rattle.c25_meaning_debugger.specs.Texts.{spaced, words_from, words_line, words_text};
 
-use crate::answers::digits::{push_spaced_word, push_word};
+use crate::answers::digits::{push_named, push_text, push_word};
 use crate::answers::memory::Memory;
 use c25_meaning_common::no_memory::NoMemory;
 use std::alloc::Global;
@@ -22,7 +22,7 @@ fn push_row<M: Memory>(
     ensures { OnOk result (string_bytes text.new ≡ string_bytes text.old ++ spaced (words_from (M.word_at memory.now) address count)) }
 {
     for index in 0..count {
-        push_spaced_word(text, memory.word((address + index) as u16))?;
+        push_named(text, " ", memory.word((address + index) as u16))?;
     }
     Ok(())
 }
@@ -40,8 +40,7 @@ fn push_line<M: Memory>(
 {
     push_word(text, address as u16)?;
     push_row(text, memory, address, count)?;
-    text.push_str("\n")?;
-    Ok(())
+    push_text(text, "\n")
 }
 
 /// Appends so many words from an address on: lines of eight, the last of what is left, each behind its
