@@ -2,6 +2,7 @@ pub mod Declared
 pub mod Filed
 pub mod Keys
 pub mod Listed
+pub mod Passed
 pub mod Reversed
 pub mod Runs
 pub mod Sheets

@@ -1,4 +1,5 @@
 pub mod Imports
+pub mod Laid
 pub mod Lined
 pub mod Names
 pub mod Origins

@@ -1,8 +1,8 @@
 -- Parts of the rules of lines that functions of their own follow.
-use Rattle.std.specs.Prelude.{ℕ, List, Result, Ok}
-use Rattle.c25_meaning_assembly.specs.AssemblyLine.{read_statement}
+use Rattle.std.specs.Prelude.{ℕ, List, [], ◌∷◌, ◌++◌, Option, Result, Ok}
+use Rattle.c25_meaning_assembly.specs.AssemblyLine.{AssemblyAct, read_statement}
 use Rattle.c25_meaning_common.specs.Results.{◌>>=◌}
-use Rattle.c25_meaning_assembly.specs.Sections.{Origin, Progress, changed, pass, use_line, with_mark}
+use Rattle.c25_meaning_assembly.specs.Sections.{LaidContent, Origin, Progress, act, allowed, changed, few, label, pass, use_line, with_mark}
 use Rattle.c25_meaning_objects.specs.declared.object.ModuleMark.{ModuleMark}
 use Rattle.c25_meaning_language.specs.declared.statement.FaultKind.{FaultKind}
 
@@ -13,3 +13,15 @@ text_passed origin text p = read_statement text >>= λ s. pass origin s p
 -- one mark more, with its line
 abbrev pub marked : Origin → ModuleMark → Progress → Result Progress FaultKind
 marked origin m p = use_line origin p >>= λ q. Ok (record q { sections = changed (with_mark origin m) q.sections m.section })
+
+-- what comes before a line's act
+abbrev pub begun : Option (List ℕ) → AssemblyAct → Progress → Result Progress FaultKind
+begun name a p = allowed a p >>= λ _. label name p
+
+-- a line's act, and that there are not too many names behind it
+abbrev pub carried_out : Origin → AssemblyAct → Progress → Result Progress FaultKind
+carried_out origin a p = act origin a p >>= λ q. few q >>= λ _. Ok q
+
+-- one item more waits
+abbrev pub waited : LaidContent → Progress → Result Progress FaultKind
+waited item p = Ok (record p { items = p.items ++ item ∷ [] })

@@ -1,7 +1,7 @@
 //! The first phase: what one line does. The type of these methods, `Progress`, is in `progress.rt`, its
 //! other methods are in `first_phase.rt`.
 
-ghost use Rattle.std.specs.Prelude.{◌≡◌, ◌≤◌, ◌+◌, OnOk, IfOk};
+ghost use Rattle.std.specs.Prelude.{◌≡◌, ◌≤◌, ◌+◌, OnOk};
 ghost use Rattle.std.specs.List.{list_any};
 ghost use Rattle.std.specs.Option.{option_map};
 ghost use Rattle.c25_meaning_common.specs.Results.{Meets};
@@ -9,13 +9,14 @@ ghost use Rattle.c25_meaning_assembly.specs.Sections as meaning;
 ghost use Rattle.c25_expr.specs.View.{tree_of};
 ghost use Rattle.c25_statements.specs.Exprs.{exprs_in};
 ghost use Rattle.c25_statements.specs.View.{act_of, room_in, room_of, statement_of, texts_of, trees_of};
-ghost use Rattle.c25_phases.specs.Names.{bytes_of_names};
 ghost use Rattle.c25_phases.specs.Origins.{origin_of};
 ghost use Rattle.c25_phases.specs.Sizes.{IsBlockSize, IsSize};
+ghost use Rattle.c25_phases.specs.Steps.{begun, carried_out};
 ghost use Rattle.c25_phases.specs.View.{progress_of};
 
 use crate::counts::block_allowed;
 use crate::item::{Content, LaidContent, Origin};
+use crate::names::copied;
 use crate::progress::Progress;
 use crate::targets::target_size;
 use c25_expr::symbols::is_predefined;
@@ -26,7 +27,6 @@ use c25_meaning_common::no_memory::NoMemory;
 use c25_meaning_language::statement::FaultKind;
 use c25_meaning_language::value::{Base, Value};
 use c25_statements::statement::{AssemblyAct, Exprs, Room, Statement};
-use std::alloc::Global;
 
 fn any_predefined(names: &[&str]) -> bool
     ensures { result ≡ list_any meaning.is_predefined (texts_of names.now) }
@@ -37,16 +37,6 @@ fn any_predefined(names: &[&str]) -> bool
         }
     }
     false
-}
-
-fn copied(alloc: Global, names: &[&str]) -> Result<Vec<String>, NoMemory>
-    ensures { IfOk result (λ v. bytes_of_names v.items ≡ texts_of names.now) }
-{
-    let mut copies = Vec::new(alloc);
-    for name in names {
-        copies.push(String::from_str(alloc, name)?)?;
-    }
-    Ok(copies)
 }
 
 impl<'a> Progress<'a> {
@@ -254,8 +244,7 @@ impl<'a> Progress<'a> {
             return Err(Failure::Fault(FaultKind::Defined));
         }
         self.declare_all(names)?;
-        self.exported.add_all(names)?;
-        Ok(())
+        self.exported.add_all(names).map_err(Failure::NoMemory)
     }
 
     /// `.def`
@@ -269,13 +258,12 @@ impl<'a> Progress<'a> {
         let names = copied(self.alloc, names)?;
         let section = self.current;
         let offset = self.sections.size_at(section);
-        self.items.push(LaidContent {
+        self.wait(LaidContent {
             origin,
             section,
             offset,
             content: Content::Exported(names),
-        })?;
-        Ok(())
+        })
     }
 
     /// `.label`
@@ -339,8 +327,35 @@ impl<'a> Progress<'a> {
         }
     }
 
+    /// What comes before a line's act: what is looked at, then the label.
+    fn begin(
+        &mut self,
+        label: Option<&str>,
+        act: &AssemblyAct<'_>,
+    ) -> Result<(), Failure<FaultKind>>
+        ensures { Meets (λ _. progress_of self.new) (begun (option_map (λ t. t.now) label.entry) (act_of act.now) (progress_of self.old)) result }
+    {
+        match self.allowed(act) {
+            Ok(()) => self.label(label),
+            Err(fault) => Err(Failure::Fault(fault)),
+        }
+    }
+
+    /// A line's act, which may make too many names.
+    fn carry_out(
+        &mut self,
+        origin: Origin<'a>,
+        act: AssemblyAct<'_>,
+    ) -> Result<(), Failure<FaultKind>>
+        ensures told { Meets (λ _. progress_of self.new) (carried_out (origin_of origin.entry) (act_of act.entry) (progress_of self.old)) result }
+        ensures few { OnOk result (meaning.name_count (progress_of self.new).names (progress_of self.new).declared ≤ 65535) }
+    {
+        self.act(origin, act)?;
+        self.few().map_err(Failure::Fault)
+    }
+
     /// One line more.
-    #[tactic(auto, unfolding(c25_meaning_assembly::specs::Sections::pass))]
+    #[tactic(auto, unfolding(c25_meaning_assembly::specs::Sections::pass), using(crate::proofs::Passed::in_two))]
     pub(crate) fn pass(
         &mut self,
         origin: Origin<'a>,
@@ -350,14 +365,9 @@ impl<'a> Progress<'a> {
         ensures few { OnOk result (meaning.name_count (progress_of self.new).names (progress_of self.new).declared ≤ 65535) }
     {
         let Statement { label, act } = statement;
-        if let Err(fault) = self.allowed(&act) {
-            return Err(Failure::Fault(fault));
-        }
-        self.label(label)?;
-        self.act(origin, act)?;
-        match self.few() {
-            Ok(()) => Ok(()),
-            Err(fault) => Err(Failure::Fault(fault)),
+        match self.begin(label, &act) {
+            Ok(()) => self.carry_out(origin, act),
+            Err(failure) => Err(failure),
         }
     }
 }

@@ -191,17 +191,18 @@ pub(crate) fn emit(
         Content::Operands(target, operands) => {
             symbols.set_here(place(section, item.offset));
             sheet.fill(*target, symbols, operands.as_slice())?;
-            put_sheet(alloc, sections, section, item.offset, *target, sheet)?;
-            Ok(())
+            put_sheet(alloc, sections, section, item.offset, *target, sheet).map_err(
+                Failure::NoMemory,
+            )
         }
-        Content::Words(words) => {
-            sections.extend(section, words.as_slice(), &[])?;
-            Ok(())
-        }
+        Content::Words(words) => sections
+            .extend(section, words.as_slice(), &[])
+            .map_err(Failure::NoMemory),
         Content::Zeros(count) => {
             let zeros = zeros(alloc, *count as usize)?;
-            sections.extend(section, zeros.as_slice(), &[])?;
-            Ok(())
+            sections
+                .extend(section, zeros.as_slice(), &[])
+                .map_err(Failure::NoMemory)
         }
         Content::Exported(names) => {
             if are_here(symbols, names.as_slice()) {

@@ -71,13 +71,22 @@ impl<'a> SourceLines<'a> {
         ensures { IfOk result (λ lines. source_lines lines.items ≡ origins_of self.now) }
     {
         let mut lines = Vec::with_capacity(alloc, self.numbers.len())?;
+        match self.put_all(&mut lines) {
+            Ok(()) => Ok(lines),
+            Err(error) => Err(error),
+        }
+    }
+
+    /// All of them behind others, each with its file.
+    fn put_all(&self, lines: &mut Vec<SourceLine<'a>>) -> Result<(), NoMemory>
+        ensures { OnOk result (source_lines lines.new.items ≡ source_lines lines.old.items ++ origins_of self.now) }
+    {
         let mut rest = self.numbers.as_slice();
         for run in &self.runs {
             let (numbers, behind) = rest.split_at(run.count);
-            push_all(&mut lines, run.file, numbers)?;
+            push_all(lines, run.file, numbers)?;
             rest = behind;
         }
-        push_all(&mut lines, self.file, rest)?;
-        Ok(lines)
+        push_all(lines, self.file, rest)
     }
 }

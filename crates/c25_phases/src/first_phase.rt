@@ -9,8 +9,8 @@ ghost use Rattle.c25_meaning_language.specs.Statement.{valued};
 ghost use Rattle.c25_expr.specs.View.{tree_of};
 ghost use Rattle.c25_phases.specs.Sizes.{IsBlockSize, content_size};
 ghost use Rattle.c25_phases.specs.Origins.{origin_of, source_line};
-ghost use Rattle.c25_phases.specs.Steps.{marked};
-ghost use Rattle.c25_phases.specs.View.{content_of, progress_of, symbols_of};
+ghost use Rattle.c25_phases.specs.Steps.{marked, waited};
+ghost use Rattle.c25_phases.specs.View.{content_of, item_of, progress_of, symbols_of};
 
 use crate::counts::{count_of, flag_of, is_file_name, is_line_number};
 use crate::item::{Content, LaidContent, Origin, SourceLine};
@@ -137,7 +137,7 @@ impl<'a> Progress<'a> {
                 }
                 Ok(())
             }
-            Err(Failure::NoMemory(error)) => Err(error.into()),
+            Err(Failure::NoMemory(error)) => Err(Failure::NoMemory(error)),
             Err(Failure::Fault(Defined)) => Err(Failure::Fault(FaultKind::Defined)),
         }
     }
@@ -222,13 +222,22 @@ impl<'a> Progress<'a> {
     {
         let section = self.current;
         let offset = self.sections.size_at(section);
-        self.grow(section, words)?;
-        self.items.push(LaidContent {
-            origin,
-            section,
-            offset,
-            content,
-        })?;
+        match self.grow(section, words) {
+            Ok(()) => self.wait(LaidContent {
+                origin,
+                section,
+                offset,
+                content,
+            }),
+            Err(failure) => Err(failure),
+        }
+    }
+
+    /// One item more.
+    pub(crate) fn wait(&mut self, item: LaidContent<'a>) -> Result<(), Failure<FaultKind>>
+        ensures { Meets (λ _. progress_of self.new) (waited (item_of item.entry) (progress_of self.old)) result }
+    {
+        self.items.push(item)?;
         Ok(())
     }
 
@@ -284,8 +293,9 @@ impl<'a> Progress<'a> {
             offset,
             size: words,
         };
-        self.sections.mark(section, line, mark)?;
-        Ok(())
+        self.sections
+            .mark(section, line, mark)
+            .map_err(Failure::NoMemory)
     }
 
     /// Words that have to lie in one page are a block.

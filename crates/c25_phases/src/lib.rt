@@ -6,8 +6,8 @@
 //!
 //! Both phases: `line_reader`, `item`, `targets`, `sheet`, `names`, `section`, `source_lines`, `file_runs`,
 //! `sections`, `fault`, `refusal`.
-//! The first: `progress`, `first_phase`, `acts`, `counts`, `lines`. The second: `emission`, and
-//! `making`, which ends it.
+//! The first: `progress`, `first_phase`, `acts`, `counts`, `lines`. The second: `laid`, `emission`,
+//! `making`, which ends it, and `wrong`.
 #![tactic(auto)]
 
 mod acts;
@@ -17,6 +17,7 @@ pub mod fault;
 mod file_runs;
 mod first_phase;
 mod item;
+mod laid;
 mod line_reader;
 mod lines;
 mod making;

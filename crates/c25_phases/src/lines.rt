@@ -9,6 +9,7 @@ ghost use Rattle.c25_phases.specs.Lined.{IsAt, IsLined};
 ghost use Rattle.c25_phases.specs.Origins.{source_line, source_lines};
 
 use crate::item::SourceLine;
+use crate::names::copied;
 use c25_meaning_common::no_memory::NoMemory;
 use c25_meaning_objects::object::LineMark;
 use indexmap::IndexSet;
@@ -106,10 +107,9 @@ impl<'a> Lines<'a> {
             recent: _,
             lines,
         } = self;
-        let mut names = Vec::new(alloc);
-        for name in files.as_slice() {
-            names.push(String::from_str(alloc, name)?)?;
+        match copied(alloc, files.as_slice()) {
+            Ok(names) => Ok((names, lines)),
+            Err(error) => Err(error),
         }
-        Ok((names, lines))
     }
 }

@@ -1,14 +1,16 @@
 //! The module that the lines have made.
 
-ghost use Rattle.std.specs.Prelude.{◌≡◌, ◌≤◌, IfOk, length, map};
+ghost use Rattle.std.specs.Prelude.{◌≡◌, ◌≤◌, IfOk, OnOk, length, map};
 ghost use Rattle.c25_meaning_assembly.specs.Emission as emission;
 ghost use Rattle.c25_meaning_common.specs.Results.{MeetsBy};
 ghost use Rattle.c25_meaning_assembly.specs.Sections.{name_count};
 ghost use Rattle.c25_obj.specs.View.{contents, symbol_data, symbols_data};
-ghost use Rattle.c25_phases.specs.View.{fault_of, progress_of};
+ghost use Rattle.c25_phases.specs.Laid.{module_of};
+ghost use Rattle.c25_phases.specs.View.{fault_of, item_of, progress_of};
 
 use crate::emission::{emit_all, import_all};
 use crate::fault::AsmFault;
+use crate::laid::Laid;
 use crate::names::DistinctNames;
 use crate::progress::Progress;
 use crate::sections::Sections;
@@ -107,6 +109,39 @@ fn module_with(
     })
 }
 
+impl<'a> Laid<'a> {
+    /// The words and relocations of all items under all names.
+    fn emit(&mut self) -> Result<(), Failure<AsmFault<'a>>>
+        requires { name_count self.old.symbols.entries self.old.declared ≤ 65535 }
+        ensures told { MeetsBy fault_of (λ _. self.new.sections) (emission.emit_all (emission.names_with self.old.symbols.entries self.old.declared) self.old.sections (map item_of self.old.items.items)) result }
+        ensures names { OnOk result (self.new.symbols.entries ≡ emission.names_with self.old.symbols.entries self.old.declared) }
+        ensures exported { self.new.exported ≡ self.old.exported }
+    {
+        import_all(&mut self.symbols, &self.declared)?;
+        let mut sheet = Sheet::new(self.alloc);
+        emit_all(
+            self.alloc,
+            &mut self.symbols,
+            &mut self.sections,
+            &mut sheet,
+            self.items.as_slice(),
+        )
+    }
+
+    /// The module, which takes the sections' words, or the first fault of the operands.
+    fn take_parts(&mut self) -> Result<Parts, Failure<AsmFault<'a>>>
+        requires names { name_count self.old.symbols.entries self.old.declared ≤ 65535 }
+        requires files { length (emission.lines_in self.old.sections).files ≤ 65535 }
+        ensures { MeetsBy fault_of contents (module_of self.old.sections (emission.names_with self.old.symbols.entries self.old.declared) self.old.exported (map item_of self.old.items.items)) result }
+    {
+        self.emit()?;
+        // They are not needed any more, and are most of what the lines take.
+        self.items = Vec::new(self.alloc);
+        let sections = mem::replace(&mut self.sections, Sections::new(self.alloc));
+        Ok(module_with(self.alloc, sections, &self.symbols, &self.exported)?)
+    }
+}
+
 /// The module that the lines have made, or the first fault of their operands.
 #[tactic(auto, unfolding(c25_meaning_assembly::specs::Emission::finished))]
 pub fn finish(progress: Progress<'_>) -> Result<Parts, Failure<AsmFault<'_>>>
@@ -117,28 +152,22 @@ pub fn finish(progress: Progress<'_>) -> Result<Parts, Failure<AsmFault<'_>>>
     let Progress {
         alloc,
         sections,
-        current: _,
         symbols,
         declared,
-        missing: _,
         exported,
-        registers: _,
         items,
-        files: _,
-        recent: _,
+        ..
     } = progress;
-    let mut sections = sections;
-    let mut symbols = symbols;
-    let mut sheet = Sheet::new(alloc);
-    import_all(&mut symbols, &declared)?;
-    emit_all(
+    let mut laid = Laid {
         alloc,
-        &mut symbols,
-        &mut sections,
-        &mut sheet,
-        items.as_slice(),
-    )?;
-    // They are not needed any more, and are most of what the lines take.
-    mem::drop(items);
-    Ok(module_with(alloc, sections, &symbols, &exported)?)
+        sections,
+        symbols,
+        declared,
+        exported,
+        items,
+    };
+    let parts = laid.take_parts();
+    // Of all that the lines have made only the module stays.
+    mem::drop(laid);
+    parts
 }

@@ -1,9 +1,10 @@
 //! Names, each once.
 
-ghost use Rattle.std.specs.Prelude.{◌≡◌, ◌<◌, ◌^◌, [], true, is_some, length, slice_get, OnOk, OnErr};
+ghost use Rattle.std.specs.Prelude.{◌≡◌, ◌<◌, ◌^◌, [], true, is_some, length, slice_get, IfOk, OnOk, OnErr};
 ghost use Rattle.std.specs.Option.{option_map};
 ghost use Rattle.c25_meaning_assembly.specs.Sections.{all_once, are_distinct, is_in, once};
 ghost use Rattle.c25_statements.specs.View.{texts_of};
+ghost use Rattle.c25_phases.specs.Names.{bytes_of_names};
 
 use c25_meaning_common::no_memory::NoMemory;
 use indexmap::IndexSet;
@@ -15,6 +16,17 @@ use std::marker::Model;
 pub(crate) struct DistinctNames {
     alloc: Global,
     names: IndexSet<String>,
+}
+
+/// Names of their own, of those that are borrowed.
+pub(crate) fn copied(alloc: Global, names: &[&str]) -> Result<Vec<String>, NoMemory>
+    ensures { IfOk result (λ v. bytes_of_names v.items ≡ texts_of names.now) }
+{
+    let mut copies = Vec::new(alloc);
+    for name in names {
+        copies.push(String::from_str(alloc, name)?)?;
+    }
+    Ok(copies)
 }
 
 impl Model for DistinctNames {

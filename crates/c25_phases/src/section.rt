@@ -116,8 +116,7 @@ impl<'a> Section<'a> {
         ensures { OnOk result (self.new ≡ with_mark (source_line line.entry) mark self.old) }
     {
         self.marks.push(mark)?;
-        self.lines.push(line)?;
-        Ok(())
+        self.lines.push(line)
     }
 
     /// One block more.

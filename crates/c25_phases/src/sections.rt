@@ -1,9 +1,9 @@
 //! The sections of a module.
 
 ghost use Rattle.std.specs.Prelude.{◌≡◌, ◌≤◌, ◌<◌, ◌+◌, ◌∷◌, ◌++◌, [], length, OnOk, IfOk, IfSome, map};
-ghost use Rattle.std.specs.List.{position, find, flat_map};
+ghost use Rattle.std.specs.List.{position, find, flat_map, fold};
 ghost use Rattle.std.specs.Option.{option_copied};
-ghost use Rattle.c25_meaning_assembly.specs.Emission.{extended, lines_in, section_of};
+ghost use Rattle.c25_meaning_assembly.specs.Emission.{extended, lines_in, section_of, with_line};
 ghost use Rattle.c25_meaning_assembly.specs.Sections.{changed, is_called, longer, same_kind, size_at, with_block, with_mark};
 ghost use Rattle.c25_obj.specs.View.{sections_data};
 ghost use Rattle.c25_phases.specs.Origins.{source_line};
@@ -116,20 +116,20 @@ impl<'a> Sections<'a> {
     ) -> Result<(), NoMemory>
         ensures { OnOk result (self.new ≡ changed (with_mark (source_line line.entry) mark) self.old number) }
     {
-        if let Some(section) = self.sections.get_mut(number as usize) {
-            section.mark(line, mark)?;
+        match self.sections.get_mut(number as usize) {
+            Some(section) => section.mark(line, mark),
+            None => Ok(()),
         }
-        Ok(())
     }
 
     /// One block more in the section of a number.
     pub(crate) fn block(&mut self, number: u16, block: Block) -> Result<(), NoMemory>
         ensures { OnOk result (self.new ≡ changed (with_block block) self.old number) }
     {
-        if let Some(section) = self.sections.get_mut(number as usize) {
-            section.block(block)?;
+        match self.sections.get_mut(number as usize) {
+            Some(section) => section.block(block),
+            None => Ok(()),
         }
-        Ok(())
     }
 
     /// Words and relocations behind those of the section of a number.
@@ -141,10 +141,10 @@ impl<'a> Sections<'a> {
     ) -> Result<(), NoMemory>
         ensures { OnOk result (self.new ≡ changed (extended words.now relocations.now) self.old number) }
     {
-        if let Some(section) = self.sections.get_mut(number as usize) {
-            section.extend(words, relocations)?;
+        match self.sections.get_mut(number as usize) {
+            Some(section) => section.extend(words, relocations),
+            None => Ok(()),
         }
-        Ok(())
     }
 
     /// The marks of all sections.
@@ -164,11 +164,22 @@ impl<'a> Sections<'a> {
         ensures { IfOk result (λ l. l ≡ lines_in self.now) }
     {
         let mut lines = Lines::new(self.alloc);
+        match self.put_lines(&mut lines) {
+            Ok(()) => Ok(lines),
+            Err(error) => Err(error),
+        }
+    }
+
+    /// The lines of the marks of all sections, behind those that are there.
+    fn put_lines(&self, lines: &mut Lines<'a>) -> Result<(), NoMemory>
+        requires { length (fold with_line lines.old (flat_map (λ s. s.origins) self.now)).files ≤ 65535 }
+        ensures { OnOk result (lines.new ≡ fold with_line lines.old (flat_map (λ s. s.origins) self.now)) }
+    {
         for section in &self.sections {
             let these = section.lines(self.alloc)?;
             lines.add_all(these.as_slice())?;
         }
-        Ok(lines)
+        Ok(())
     }
 
     /// The blocks of all sections.

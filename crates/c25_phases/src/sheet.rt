@@ -114,10 +114,7 @@ impl Sheet {
     {
         match value.base {
             Base::Absolute => match number_in(field, value.offset) {
-                Ok(number) => {
-                    self.put_number(number)?;
-                    Ok(())
-                }
+                Ok(number) => self.put_number(number).map_err(Failure::NoMemory),
                 Err(fault) => Err(Failure::Fault(fault)),
             },
             Base::Section(number) => {

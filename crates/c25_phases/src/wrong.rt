@@ -2,12 +2,14 @@
 
 ghost use Rattle.std.specs.Option.{option_map};
 ghost use Rattle.std.specs.Prelude.{◌≡◌, ◌≤◌, IfOk, length, map};
+ghost use Rattle.c25_meaning_assembly.specs.Emission.{names_with};
 ghost use Rattle.c25_meaning_assembly.specs.Sections.{name_count};
 ghost use Rattle.c25_phases.specs.View.{item_of, progress_of};
 ghost use Rattle.c25_phases.specs.Wrong.{first_wrong, wrong_from, wrong_of};
 
 use crate::emission::{emit, import_all};
 use crate::item::{LaidContent, Origin};
+use crate::laid::Laid;
 use crate::progress::Progress;
 use crate::sections::Sections;
 use crate::sheet::Sheet;
@@ -16,6 +18,7 @@ use c25_meaning_common::failure::Failure;
 use c25_meaning_common::no_memory::NoMemory;
 use c25_meaning_language::statement::FaultKind;
 use std::alloc::Global;
+use std::mem;
 
 /// What a line has left for the second phase, and that phase refuses.
 #[derive(Clone, Copy)]
@@ -54,6 +57,24 @@ fn wrong_among<'a>(
     Ok(None)
 }
 
+impl<'a> Laid<'a> {
+    /// The first item that is wrong under all names.
+    fn wrong_item(&mut self) -> Result<Option<WrongItem<'a>>, NoMemory>
+        requires { name_count self.old.symbols.entries self.old.declared ≤ 65535 }
+        ensures { IfOk result (λ wrong. option_map wrong_of wrong ≡ wrong_from 0 (names_with self.old.symbols.entries self.old.declared) self.old.sections (map item_of self.old.items.items)) }
+    {
+        import_all(&mut self.symbols, &self.declared)?;
+        let mut sheet = Sheet::new(self.alloc);
+        wrong_among(
+            self.alloc,
+            &mut self.symbols,
+            &mut self.sections,
+            &mut sheet,
+            self.items.as_slice(),
+        )
+    }
+}
+
 /// The first item of the lines that the second phase refuses, if it refuses one.
 pub fn first_wrong(progress: Progress<'_>) -> Result<Option<WrongItem<'_>>, NoMemory>
     requires { name_count (progress_of progress).names (progress_of progress).declared ≤ 65535 }
@@ -62,27 +83,24 @@ pub fn first_wrong(progress: Progress<'_>) -> Result<Option<WrongItem<'_>>, NoMe
     let Progress {
         alloc,
         sections,
-        current: _,
         symbols,
         declared,
-        missing: _,
-        exported: _,
-        registers: _,
+        exported,
         items,
-        files: _,
-        recent: _,
+        ..
     } = progress;
-    let mut sections = sections;
-    let mut symbols = symbols;
-    let mut sheet = Sheet::new(alloc);
-    import_all(&mut symbols, &declared)?;
-    wrong_among(
+    let mut laid = Laid {
         alloc,
-        &mut symbols,
-        &mut sections,
-        &mut sheet,
-        items.as_slice(),
-    )
+        sections,
+        symbols,
+        declared,
+        exported,
+        items,
+    };
+    let wrong = laid.wrong_item();
+    // Of all that the lines have made only the answer stays.
+    mem::drop(laid);
+    wrong
 }
 
 impl Progress<'_> {
