@@ -12,10 +12,10 @@ use std::test::Fail;
 
 /// The text of what two words read as.
 pub(crate) fn text_of(alloc: Global, first: u16, second: u16) -> Result<String, Fail> {
-    Ok(match decode(first, second) {
-        Some(insn) => show(alloc, &insn)?,
-        None => String::from_str(alloc, "none")?,
-    })
+    match decode(first, second) {
+        Some(insn) => show(alloc, &insn).map_err(Fail::from),
+        None => String::from_str(alloc, "none").map_err(Fail::from),
+    }
 }
 
 /// A line of the readings.
@@ -30,7 +30,9 @@ fn read_row(line: &str) -> Option<(u16, u16, &str)> {
 #[test]
 fn words_are_shown_as_their_instructions(rt: HostRuntime) -> Result<(), Fail> {
     for line in READINGS.lines() {
-        let (first, second, text) = read_row(line).ok_or("no row")?;
+        let Some((first, second, text)) = read_row(line) else {
+            return Err(Fail::from("no row"));
+        };
         let found = text_of(rt.alloc(), first, second)?;
         assert_eq!(rt; found.as_str(), text, "{line}");
     }

@@ -16,12 +16,17 @@ fn size_named(name: &str) -> Option<u16> {
     }
 }
 
+/// The instructions with a name have this many words.
+fn has_size(rt: &impl Abort, name: &str, size: u16) {
+    assert_eq!(rt; size_named(name), Some(size), "{name}");
+}
+
 /// Names of rows have this many words, also in small letters.
 fn have_size(rt: &impl Abort, alloc: Global, names: &str, size: u16) -> Result<(), Fail> {
     for name in names.split_whitespace() {
-        assert_eq!(rt; size_named(name), Some(size), "{name}");
+        has_size(rt, name, size);
         let small = name.to_ascii_lowercase(alloc)?;
-        assert_eq!(rt; size_named(small.as_str()), Some(size), "{small}");
+        has_size(rt, small.as_str(), size);
     }
     Ok(())
 }
@@ -32,23 +37,28 @@ fn rows_have_one_word_or_two(rt: HostRuntime) -> Result<(), Fail> {
     have_size(&rt, rt.alloc(), OF_TWO_WORDS, 2)
 }
 
+/// A text is read as this spelling, or as none.
+fn reads_as(rt: &impl Abort, text: &str, wanted: Option<Spelling>) {
+    assert_eq!(rt; mnemonic(text), wanted);
+}
+
 #[test]
 fn names_are_read_in_either_case(rt: HostRuntime) {
     let load = Spelling::Row(Mnemonic::Mem(MemName::Lt));
-    assert_eq!(rt; mnemonic("Lt"), Some(load));
+    reads_as(&rt, "Lt", Some(load));
     let normalize = Spelling::Row(Mnemonic::Plain(PlainName::Norm));
-    assert_eq!(rt; mnemonic("norm"), Some(normalize));
+    reads_as(&rt, "norm", Some(normalize));
 }
 
 #[test]
 fn other_spellings_are_read(rt: HostRuntime) {
-    assert_eq!(rt; mnemonic("ZAC"), Some(Spelling::Zac));
-    assert_eq!(rt; mnemonic("nop"), Some(Spelling::Nop));
-    assert_eq!(rt; mnemonic("larp"), Some(Spelling::Larp));
+    reads_as(&rt, "ZAC", Some(Spelling::Zac));
+    reads_as(&rt, "nop", Some(Spelling::Nop));
+    reads_as(&rt, "larp", Some(Spelling::Larp));
 }
 
 #[test]
 fn other_texts_are_no_names(rt: HostRuntime) {
-    assert_eq!(rt; mnemonic("LARPX"), None);
-    assert_eq!(rt; mnemonic(""), None);
+    reads_as(&rt, "LARPX", None);
+    reads_as(&rt, "", None);
 }

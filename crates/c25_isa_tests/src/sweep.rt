@@ -45,8 +45,11 @@ fn is_written_again(rt: &impl Abort, first: u16, second: u16) {
     if let Some(insn) = decode(first, second) {
         let code = encode(&insn);
         let words = code.as_slice();
-        assert_eq!(rt; words.first().copied(), Some(first));
-        assert_eq!(rt; words.get(1).copied().unwrap_or(second), second, "{first}");
+        let again = (
+            words.first().copied(),
+            words.get(1).copied().unwrap_or(second),
+        );
+        assert_eq!(rt; again, (Some(first), second), "{first}");
     }
 }
 
