@@ -3,3 +3,4 @@ pub mod NumberText
 pub mod Rows
 pub mod Walks
 pub mod Complete
+pub mod Found

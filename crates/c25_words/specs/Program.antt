@@ -52,6 +52,10 @@ added shape rule = record shape { rules = shape.rules ++ rule ∷ [] }
 abbrev pub with_explain : Shape → Shape
 with_explain shape = added shape (flag_rule (codes "explain"))
 
+-- .. SOURCE..
+abbrev pub with_sources : Shape → Shape
+with_sources shape = added shape (operands_rule (codes "source"))
+
 -- .. [--command F] [--samples F] [--schedule F]
 abbrev pub with_run_files : Shape → Shape
 with_run_files shape = added (added (added shape (option_rule (codes "command"))) (option_rule (codes "samples"))) (option_rule (codes "schedule"))

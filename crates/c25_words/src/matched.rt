@@ -32,9 +32,7 @@ pub(crate) fn optional<'a>(matches: &ArgMatches<'a>, id: &str) -> Option<&'a str
 fn copied<'a>(alloc: Global, words: &[&'a str]) -> Result<Vec<&'a str>, NoMemory>
     ensures { IfOk result (λ v. v.items ≡ words.now) }
 {
-    let mut copies = Vec::new(alloc);
-    copies.extend_from_slice(words)?;
-    Ok(copies)
+    Vec::from_slice(alloc, words).map_err(NoMemory::from)
 }
 
 /// The values of an operand that is there, in their order.

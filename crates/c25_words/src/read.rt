@@ -2,6 +2,7 @@
 
 ghost use Rattle.std.specs.Prelude.{◌≡◌, ◌<◌, ◌≤◌, IfErr, IfOk, IfSome, IsSomeAnd, Ok, codes, length, map, string_bytes, true};
 ghost use Rattle.clap.specs.Words.{one_of, subcommand_rows_of, takes};
+ghost use Rattle.c25_meaning_common.specs.Results.{IsNoMemory};
 ghost use Rattle.c25_words.specs.Complete.{IsComplete, IsFlagIn, IsFoundComplete, IsNumberText, IsThere, rows_in};
 ghost use Rattle.c25_words.specs.Program.{program};
 ghost use Rattle.c25_words.specs.declared.task.Task.TheVariants.{RunStandardInput};
@@ -122,12 +123,13 @@ fn task_of<'a>(alloc: Global, name: &str, matches: &ArgMatches<'a>) -> Result<Ta
 }
 
 /// The task of what `clap` found.
-fn found_task<'a>(alloc: Global, matches: &ArgMatches<'a>) -> Result<Task<'a>, NoMemory>
+fn found_task<'a>(alloc: Global, matches: &ArgMatches<'a>) -> Result<Task<'a>, WordsFault>
     requires { IsFoundComplete (subcommand_rows_of matches.now) }
-    ensures { IfOk result (IsAskedBy (subcommand_rows_of matches.now)) }
+    ensures asked { IfOk result (IsAskedBy (subcommand_rows_of matches.now)) }
+    ensures short { IfErr result IsNoMemory }
 {
     match matches.subcommand() {
-        Some((name, matches)) => task_of(alloc, name, matches),
+        Some((name, matches)) => Ok(task_of(alloc, name, matches)?),
         None => unreachable!(),
     }
 }
@@ -138,7 +140,7 @@ fn read_some<'a>(alloc: Global, words: &'a [String]) -> Result<Task<'a>, WordsFa
     ensures takes { takes program (map string_bytes words.now) ≡ true → IfErr result IsWantOfMemory }
 {
     match program(alloc)?.try_get_matches_from(words) {
-        Ok(matches) => Ok(found_task(alloc, &matches)?),
+        Ok(matches) => found_task(alloc, &matches),
         Err(error) => Err(Failure::Fault(error)),
     }
 }

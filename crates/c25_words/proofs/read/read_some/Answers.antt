@@ -1,10 +1,11 @@
-use Rattle.std.proofs.Common.{◌∙◌, List, Option, ap, map, string_bytes, subst, sym}
+use Rattle.std.proofs.Common.{◌∙◌, IfOk, List, Option, ap, map, string_bytes, subst, sym}
 use Rattle.clap.specs.Words.{App, Row, Text, is_simple, subcommand_of, takes}
 use Rattle.clap.specs.Faults.{fault_of, is_simple_and_free}
 use Rattle.clap.specs.Kinds.{HasKind, Kinds}
 use Rattle.c25_words.specs.Complete.{IsFoundComplete}
 use Rattle.c25_words.specs.Task.{IsAskedBy}
 use Rattle.c25_words.proofs.Complete.{complete}
+use Rattle.c25_words.proofs.Found.{reads, short}
 use Rattle.c25_words.proofs.read.read_some.Goals as goal
 
 pub found_task-requires : goal.found_task-requires
@@ -15,13 +16,16 @@ found_task-requires c =
     let none = ap (λ (a : App). fault_of a words) (sym is) ∙ c.in-Ok.ensures.kinds (ap is_simple_and_free is) in
     subst IsFoundComplete (sym found) (complete words none)
 
-pub returns-in_ok-found_task-in-Ok-clause-read : goal.returns-in_ok-found_task-in-Ok-clause-read
-returns-in_ok-found_task-in-Ok-clause-read c =
+pub returns-in-Ok-clause-read : goal.returns-in-Ok-clause-read
+returns-in-Ok-clause-read c =
     let is = c.in_ok-program.ensures in
     let words = map string_bytes c.args.words.now in
     let found = (c.in-Ok.ensures.matches (ap is_simple is)).1 ∙ ap (λ (a : App). subcommand_of a words) is in
     let none = ap (λ (a : App). fault_of a words) (sym is) ∙ c.in-Ok.ensures.kinds (ap is_simple_and_free is) in
-    (none, subst (λ (o : Option (Text × List Row)). IsAskedBy o c.in_ok-found_task-in-Ok.field-0) found c.in_ok-found_task-in-Ok.ensures)
+    reads words _ none (subst (λ (o : Option (Text × List Row)). IfOk c.found_task.result (IsAskedBy o)) found c.found_task.ensures.asked) c.found_task.ensures.short
+
+pub returns-in-Ok-clause-takes : goal.returns-in-Ok-clause-takes
+returns-in-Ok-clause-takes c = λ taken. short _ c.found_task.ensures.short
 
 pub returns-in-Err-clause-read : goal.returns-in-Err-clause-read
 returns-in-Err-clause-read c =
