@@ -17,9 +17,9 @@ fn push_addend(text: &mut String, addend: i32) -> Result<(), NoMemory>
     if addend == 0 {
         Ok(())
     } else if addend > 0 {
-        Ok(write!(text, "+{addend}")?)
+        write!(text, "+{addend}").map_err(NoMemory::from)
     } else {
-        Ok(write!(text, "{addend}")?)
+        write!(text, "{addend}").map_err(NoMemory::from)
     }
 }
 
@@ -28,8 +28,10 @@ fn push_base(text: &mut String, base: RelocationBase, name: &str) -> Result<(), 
     ensures { OnOk result (string_bytes text.new ≡ string_bytes text.old ++ base_text base name.now) }
 {
     match base {
-        RelocationBase::Section(_) | RelocationBase::External(_) => Ok(text.push_str(name)?),
-        RelocationBase::Loaded(_) => Ok(write!(text, "load of {name}")?),
+        RelocationBase::Section(_) | RelocationBase::External(_) => text
+            .push_str(name)
+            .map_err(NoMemory::from),
+        RelocationBase::Loaded(_) => write!(text, "load of {name}").map_err(NoMemory::from),
     }
 }
 
@@ -38,7 +40,7 @@ fn push_base(text: &mut String, base: RelocationBase, name: &str) -> Result<(), 
 fn push_at(text: &mut String) -> Result<(), NoMemory>
     ensures { OnOk result (string_bytes text.new ≡ string_bytes text.old ++ at_text) }
 {
-    Ok(text.push_str("the field at ")?)
+    text.push_str("the field at ").map_err(NoMemory::from)
 }
 
 /// Appends the digits of an address.
@@ -46,7 +48,8 @@ fn push_at(text: &mut String) -> Result<(), NoMemory>
 fn push_address(text: &mut String, address: u16) -> Result<(), NoMemory>
     ensures { OnOk result (string_bytes text.new ≡ string_bytes text.old ++ address_text address) }
 {
-    Ok(text.push_str(four(address).as_str())?)
+    text.push_str(four(address).as_str())
+        .map_err(NoMemory::from)
 }
 
 /// Appends the section behind an address.
@@ -54,7 +57,7 @@ fn push_address(text: &mut String, address: u16) -> Result<(), NoMemory>
 fn push_place(text: &mut String, section: &str) -> Result<(), NoMemory>
     ensures { OnOk result (string_bytes text.new ≡ string_bytes text.old ++ place_text section.now) }
 {
-    Ok(write!(text, " in {section}")?)
+    write!(text, " in {section}").map_err(NoMemory::from)
 }
 
 /// Appends where a field is.
@@ -72,7 +75,7 @@ fn push_field(text: &mut String, misfit: &Misfit<'_>) -> Result<(), NoMemory>
 fn push_untaken(text: &mut String, value: i64) -> Result<(), NoMemory>
     ensures { OnOk result (string_bytes text.new ≡ string_bytes text.old ++ untaken_text value) }
 {
-    Ok(write!(text, " does not take {value}, which is ")?)
+    write!(text, " does not take {value}, which is ").map_err(NoMemory::from)
 }
 
 /// Appends that, and what it is.

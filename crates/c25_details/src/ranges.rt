@@ -13,7 +13,7 @@ fn push_page(text: &mut String, page: Option<u8>) -> Result<(), NoMemory>
     ensures { OnOk result (string_bytes text.new ≡ string_bytes text.old ++ page_text page) }
 {
     match page {
-        Some(page) => Ok(write!(text, " on page {page}")?),
+        Some(page) => write!(text, " on page {page}").map_err(NoMemory::from),
         None => Ok(()),
     }
 }
@@ -23,7 +23,7 @@ fn push_page(text: &mut String, page: Option<u8>) -> Result<(), NoMemory>
 fn push_in(text: &mut String, name: &str) -> Result<(), NoMemory>
     ensures { OnOk result (string_bytes text.new ≡ string_bytes text.old ++ in_text name.now) }
 {
-    Ok(write!(text, " is to stand in {name}, and no range has this name")?)
+    write!(text, " is to stand in {name}, and no range has this name").map_err(NoMemory::from)
 }
 
 /// Appends that it is to stand on this page.
@@ -31,7 +31,7 @@ fn push_in(text: &mut String, name: &str) -> Result<(), NoMemory>
 fn push_on(text: &mut String, page: u8) -> Result<(), NoMemory>
     ensures { OnOk result (string_bytes text.new ≡ string_bytes text.old ++ on_text page) }
 {
-    Ok(write!(text, " is to stand on page {page}, which has no range")?)
+    write!(text, " is to stand on page {page}, which has no range").map_err(NoMemory::from)
 }
 
 /// Appends that it is to stand anywhere.
@@ -39,7 +39,8 @@ fn push_on(text: &mut String, page: u8) -> Result<(), NoMemory>
 fn push_anywhere(text: &mut String) -> Result<(), NoMemory>
     ensures { OnOk result (string_bytes text.new ≡ string_bytes text.old ++ anywhere_text) }
 {
-    Ok(text.push_str(" is to stand anywhere, and there is no range")?)
+    text.push_str(" is to stand anywhere, and there is no range")
+        .map_err(NoMemory::from)
 }
 
 /// Appends where a section is to stand, and what it lacks there.

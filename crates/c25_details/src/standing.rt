@@ -15,11 +15,11 @@ fn push_byte(text: &mut String, byte: u8) -> Result<(), NoMemory>
     ensures { OnOk result (string_bytes text.new ≡ string_bytes text.old ++ byte_text byte) }
 {
     if byte > b' ' && byte < 0x7f {
-        Ok(text.push(char::from(byte))?)
+        text.push(char::from(byte)).map_err(NoMemory::from)
     } else {
         let digits = two(byte);
         let digits = digits.as_str();
-        Ok(write!(text, "byte {digits}h")?)
+        write!(text, "byte {digits}h").map_err(NoMemory::from)
     }
 }
 
@@ -28,12 +28,14 @@ fn push_standing(text: &mut String, standing: Standing<'_>) -> Result<(), NoMemo
     ensures { OnOk result (string_bytes text.new ≡ string_bytes text.old ++ standing_text (standing_data standing.entry)) }
 {
     match standing {
-        Standing::Word { column, text: word } => Ok(write!(text, "column {column}: {word}")?),
+        Standing::Word { column, text: word } => {
+            write!(text, "column {column}: {word}").map_err(NoMemory::from)
+        }
         Standing::Character { column, byte } => {
             write!(text, "column {column}: ")?;
             push_byte(text, byte)
         }
-        Standing::End => Ok(text.push_str("the text ends here")?),
+        Standing::End => text.push_str("the text ends here").map_err(NoMemory::from),
     }
 }
 
