@@ -67,8 +67,7 @@ fn push_text<'a>(outputs: &mut Vec<Output<'a>>, name: &'a str, text: String) -> 
     ensures { OnOk result (map contents_of outputs.new.items ≡ map contents_of outputs.old.items ++ (name.entry.now, string_bytes text) ∷ []) }
 {
     let bytes = text.into_bytes();
-    outputs.push(Output { name, bytes })?;
-    Ok(())
+    outputs.push(Output { name, bytes }).map_err(NoMemory::from)
 }
 
 /// Appends the files of listings under their names.
