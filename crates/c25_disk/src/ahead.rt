@@ -13,10 +13,9 @@ use std::alloc::{AllocError, Global};
 /// string without a quote in it.
 fn name_copied(line: &str) -> Option<&str> {
     let line = line.trim_start();
-    let operand = match line.strip_prefix(".copy") {
-        Some(operand) => operand,
-        None => line.strip_prefix(".include")?,
-    };
+    let operand = line
+        .strip_prefix(".copy")
+        .or(line.strip_prefix(".include"))?;
     let string = operand.trim_start().strip_prefix("\"")?;
     match string.split_once("\"") {
         Some((name, _)) => Some(name),

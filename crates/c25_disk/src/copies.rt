@@ -68,19 +68,18 @@ fn last_attempt<W: Work>(
 fn with_asked<D: Disk, W: Work>(
     alloc: Global,
     disk: &D,
-    given: Files,
+    files: &mut Files,
     work: &W,
 ) -> Result<W::Answer, Failure<CopyFault<W::Fault>>>
-    ensures { EndsOver (D.bytes_of disk.now) given (W.comes_to work.now) W.missing_of result }
+    ensures { EndsOver (D.bytes_of disk.now) files.old (W.comes_to work.now) W.missing_of result }
 {
-    let mut files = given;
     for _ in 0..COPIES {
-        match attempt(alloc, &files, work)? {
+        match attempt(alloc, files, work)? {
             Turn::Answered(answer) => return Ok(answer),
-            Turn::Lacks(name) => add_copy(alloc, disk, &mut files, name.as_str())?,
+            Turn::Lacks(name) => add_copy(alloc, disk, files, name.as_str())?,
         }
     }
-    last_attempt(alloc, &files, work)
+    last_attempt(alloc, files, work)
 }
 
 /// Work over files to which those that it asks for are added, and once it asks for one, those that texts
@@ -116,11 +115,31 @@ fn with_named<D: Disk, W: Work>(
     Ok(None)
 }
 
+/// Work over files to which those that it asks for are added, and those that texts name plainly; where it
+/// asks for one more than may be copied, anew over those that were given and those that it asks for.
+fn with_either<D: Disk, W: Work>(
+    alloc: Global,
+    disk: &D,
+    files: &mut Files,
+    work: &W,
+) -> Result<W::Answer, Failure<CopyFault<W::Fault>>>
+    ensures { EndsOver (D.bytes_of disk.now) files.old (W.comes_to work.now) W.missing_of result }
+{
+    let count = files.len();
+    match with_named(alloc, disk, files, work) {
+        Ok(Some(answer)) => Ok(answer),
+        Ok(None) => {
+            files.truncate(count);
+            with_asked(alloc, disk, files, work)
+        }
+        Err(failure) => Err(failure),
+    }
+}
+
 /// Work over files to which those that it asks for are added: where it asks for one that is not there,
 /// that one is read, and those that lines of the texts show to be copied, and the work begins again. At
 /// most 256 files are copied; where the work then asks for one more, it is done anew with no file but
 /// those that it asks for, and the 257th of these is refused (8) without being read.
-#[tactic(auto, using(crate::proofs::Copied::ends_again))]
 pub fn with_copies<D: Disk, W: Work>(
     alloc: Global,
     disk: &D,
@@ -129,14 +148,6 @@ pub fn with_copies<D: Disk, W: Work>(
 ) -> Result<W::Answer, Failure<CopyFault<W::Fault>>>
     ensures { EndsOver (D.bytes_of disk.now) given (W.comes_to work.now) W.missing_of result }
 {
-    let count = given.len();
     let mut files = given;
-    match with_named(alloc, disk, &mut files, work) {
-        Ok(Some(answer)) => Ok(answer),
-        Ok(None) => {
-            files.truncate(count);
-            with_asked(alloc, disk, files, work)
-        }
-        Err(failure) => Err(failure),
-    }
+    with_either(alloc, disk, &mut files, work)
 }

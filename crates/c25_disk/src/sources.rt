@@ -93,7 +93,6 @@ pub(crate) fn add_source<D: Disk>(
 
 /// Reads the sources of names, one by one. The first that is there already is refused (37), and so is
 /// the first that cannot be read (8).
-#[tactic(auto, using(crate::proofs::Completed::completes_none, crate::proofs::Completed::completes_more, crate::proofs::Completed::ends_refused, crate::proofs::Completed::ends_read))]
 pub fn read_sources<D: Disk>(
     alloc: Global,
     disk: &D,

@@ -3,5 +3,5 @@ use Rattle.c25_disk.proofs.copies.with_asked.Goals as goal
 
 pub loop-preserved : goal.loop-preserved
 loop-preserved g c =
-    copied_more (g.D.Disk.bytes_of c.args.disk.now) c.args.given c.loop.files c.add_copy.new.files c.loop.counter c.as_str.result.now c.loop.invariant
+    copied_more (g.D.Disk.bytes_of c.args.disk.now) c.args.files.now c.loop.files c.add_copy.new.files c.loop.counter c.as_str.result.now c.loop.invariant
     c.in_ok-add_copy-in-Lacks.ensures
