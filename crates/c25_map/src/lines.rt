@@ -129,10 +129,10 @@ fn add_named(
 fn add_run(so_far: &mut Map, kind: &str, run: &str) -> Result<(), Failure<MapFault>>
     ensures { Meets (λ _. map_data so_far.new) (reading.with_fields (map_data so_far.old) (kind.now ∷ run.now ∷ [])) result }
 {
-    if kind != "RUN" {
-        return Err(Failure::Fault(MapFault::BadMap));
+    match kind {
+        "RUN" => set_run(so_far, word_of(run.as_bytes())?),
+        _ => Err(Failure::Fault(MapFault::BadMap)),
     }
-    set_run(so_far, word_of(run.as_bytes())?)
 }
 
 /// Adds a part, if the line is one of a part.
@@ -147,10 +147,10 @@ fn add_part_line(
 ) -> Result<(), Failure<MapFault>>
     ensures { Meets (λ _. map_data so_far.new) (reading.with_fields (map_data so_far.old) (kind.now ∷ number.now ∷ base.now ∷ size.now ∷ [])) result }
 {
-    if kind != "PART" {
-        return Err(Failure::Fault(MapFault::BadMap));
+    match kind {
+        "PART" => add_part(so_far, part_of(alloc, number, base, size)?),
+        _ => Err(Failure::Fault(MapFault::BadMap)),
     }
-    add_part(so_far, part_of(alloc, number, base, size)?)
 }
 
 /// Adds a section, if the line is one of a section.
@@ -166,10 +166,10 @@ fn add_section_line(
 ) -> Result<(), Failure<MapFault>>
     ensures { Meets (λ _. map_data so_far.new) (reading.with_fields (map_data so_far.old) (kind.now ∷ page.now ∷ base.now ∷ size.now ∷ name.now ∷ [])) result }
 {
-    if kind != "SECTION" {
-        return Err(Failure::Fault(MapFault::BadMap));
+    match kind {
+        "SECTION" => add_section(so_far, section_of(alloc, page, base, size, name)?),
+        _ => Err(Failure::Fault(MapFault::BadMap)),
     }
-    add_section(so_far, section_of(alloc, page, base, size, name)?)
 }
 
 /// Adds what the fields of a line say.

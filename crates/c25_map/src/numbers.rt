@@ -61,11 +61,10 @@ pub(crate) fn word_of(digits: &[u8]) -> Result<u16, Failure<MapFault>>
 pub(crate) fn address_of(digits: &str) -> Result<u32, Failure<MapFault>>
     ensures { Meets (λ x. x) (address_of digits.now) result }
 {
-    if digits == "10000" {
-        return Ok(65_536);
+    match digits {
+        "10000" => Ok(65_536),
+        _ => Ok(u32::from(word_of(digits.as_bytes())?)),
     }
-    let word = word_of(digits.as_bytes())?;
-    Ok(u32::from(word))
 }
 
 /// The number of eight hexadecimal digits.

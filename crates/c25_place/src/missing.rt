@@ -17,7 +17,7 @@ use c25_meaning_common::no_memory::NoMemory;
 use std::alloc::Global;
 
 /// A range that a command lacks.
-#[derive(Clone, Copy, Debug)]
+#[derive(Clone, Copy)]
 pub enum MissingRange<'a> {
     /// One of this name, on a page where the command names one.
     Named { name: &'a str, page: Option<u8> },

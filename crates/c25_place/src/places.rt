@@ -40,7 +40,7 @@ pub fn good_places<'a>(
     let sections = all_sections(alloc, modules)?;
     let outputs = Outputs::new(alloc, &sections)?;
     let list = requests(alloc, &outputs, &sections, placings_of(command))?;
-    let ranges = Ranges::new(alloc, command)?;
     let blocks = Blocks::new(alloc, modules)?;
+    let ranges = Ranges::new(alloc, command)?;
     place_all(alloc, &ranges, &blocks, &list)
 }
