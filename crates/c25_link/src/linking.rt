@@ -78,11 +78,11 @@ fn linked_image(
         Some(name) => return Err(Failure::Fault(refusal(alloc, LinkFault::RelocRange, name)?)),
         None => {}
     }
-    let pages = load(alloc, layout)?;
     let marks = program_marks(alloc, layout)?;
     let run_marks = program_run_marks(alloc, layout, &marks)?;
     let lines = program_lines(alloc, layout)?;
     let described = described(alloc, layout, entry)?;
+    let pages = load(alloc, layout)?;
     Ok(Image::new(
         pages.program,
         pages.store,

@@ -25,14 +25,14 @@ use c25_place::{Refused, good_places};
 use std::alloc::Global;
 
 /// A line of a file, which counts from 1.
-#[derive(Clone, Copy, Debug)]
+#[derive(Clone, Copy)]
 pub struct SourceLine<'a> {
     pub file: &'a str,
     pub line: u32,
 }
 
 /// A field that does not take its value.
-#[derive(Clone, Copy, Debug)]
+#[derive(Clone, Copy)]
 pub struct Misfit<'a> {
     /// The number of its module, counted from 0.
     pub number: usize,
