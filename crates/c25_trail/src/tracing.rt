@@ -1,8 +1,12 @@
 //! Where a source is refused.
 
 ghost use Rattle.std.specs.Prelude.{IfOk};
+ghost use Rattle.c25_macro.specs.Tracers.{trace_of};
+ghost use Rattle.c25_meaning_assembly.specs.Sections.{start};
+ghost use Rattle.c25_meaning_expansion.specs.ExpansionBounds.{IsBounded};
 ghost use Rattle.c25_phases.specs.Wrong.{wrong_of};
 ghost use Rattle.c25_trail.specs.Traces.{HasWrongItem, IsRefused, IsTraced};
+ghost use Rattle.c25_trail.specs.Walks.{EndsWalk};
 
 use crate::walk::{End, walk};
 use c25_macro::files::Files;
@@ -31,6 +35,21 @@ pub enum Traced<'a> {
     Refused(Refused<'a>),
 }
 
+/// The lines of a source from the first one on, up to the one with which the item of the number that is
+/// sought comes, if one is.
+fn walk_all<'a>(
+    alloc: Global,
+    tracer: &mut Tracer<'a>,
+    sought: Option<usize>,
+) -> Result<End<'a>, NoMemory>
+    requires { IsBounded (trace_of tracer.old).at }
+    ensures { IfOk result (EndsWalk (trace_of tracer.old) start sought (trace_of tracer.new)) }
+{
+    let empty = Progress::new(alloc)?;
+    let progress = Box::new(alloc, empty)?;
+    walk(tracer, progress, sought)
+}
+
 /// Where the first item that is wrong came from.
 fn trace_item<'a>(
     alloc: Global,
@@ -44,9 +63,7 @@ fn trace_item<'a>(
     let Some(mut tracer) = Tracer::new(alloc, files, name)? else {
         unreachable!();
     };
-    let empty = Progress::new(alloc)?;
-    let progress = Box::new(alloc, empty)?;
-    match walk(&mut tracer, progress, Some(wrong.number))? {
+    match walk_all(alloc, &mut tracer, Some(wrong.number))? {
         End::Reached => {
             let place = FileLine {
                 file: wrong.origin.file,
@@ -71,16 +88,14 @@ pub fn trace<'a>(alloc: Global, files: &'a Files, name: &str) -> Result<Traced<'
     let Some(mut tracer) = Tracer::new(alloc, files, name)? else {
         return Ok(Traced::Absent);
     };
-    let empty = Progress::new(alloc)?;
-    let progress = Box::new(alloc, empty)?;
-    match walk(&mut tracer, progress, None)? {
+    match walk_all(alloc, &mut tracer, None)? {
         End::Reached => unreachable!(),
         End::Refused(fault) => {
             let trail = tracer.into_trail();
             Ok(Traced::Refused(Refused { fault, trail }))
         }
         End::Passed(progress) => match first_wrong(Box::into_inner(progress))? {
-            Some(wrong) => Ok(Traced::Refused(trace_item(alloc, files, name, wrong)?)),
+            Some(wrong) => trace_item(alloc, files, name, wrong).map(Traced::Refused),
             None => Ok(Traced::Whole),
         },
     }
