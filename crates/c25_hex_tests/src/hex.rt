@@ -2,8 +2,26 @@
 
 use c25_hex::{read_hex, write_hex};
 use c25_meaning_image::word_map::WordMap;
+use std::alloc::{AllocError, Global};
 use std::process::Abort;
 use std::test::Fail;
+
+/// The text of words.
+fn text_of(alloc: Global, entries: &[(u16, u16)]) -> Result<String, Fail> {
+    let mut words = WordMap::new(alloc);
+    for (address, word) in entries {
+        words.insert(*address, *word)?;
+    }
+    write_hex(alloc, &words).map_err(Fail::from)
+}
+
+/// These are the words of a map, and no others.
+fn are_words(rt: &impl Abort, words: &WordMap, entries: &[(u16, u16)]) {
+    assert_eq!(rt; words.iter().count(), entries.len());
+    for (address, word) in entries {
+        assert_eq!(rt; words.get(*address), Some(*word));
+    }
+}
 
 /// Words are written as a text, which is read back.
 fn writes(
@@ -11,17 +29,10 @@ fn writes(
     entries: &[(u16, u16)],
     lines: &str,
 ) -> Result<(), Fail> {
-    let mut words = WordMap::new(rt.alloc());
-    for (address, word) in entries {
-        words.insert(*address, *word)?;
-    }
-    let text = write_hex(rt.alloc(), &words)?;
+    let text = text_of(rt.alloc(), entries)?;
     assert_eq!(rt; text.as_str(), lines);
     let again = read_hex(rt.alloc(), text.as_str())?;
-    assert_eq!(rt; again.iter().count(), entries.len());
-    for (address, word) in entries {
-        assert_eq!(rt; again.get(*address), Some(*word));
-    }
+    are_words(rt, &again, entries);
     Ok(())
 }
 
@@ -50,27 +61,42 @@ fn the_upper_half_has_its_own_base(rt: HostRuntime) -> Result<(), Fail> {
     )
 }
 
-#[test]
-fn a_full_page_is_written_and_read_back(rt: HostRuntime) -> Result<(), Fail> {
-    let mut words = WordMap::new(rt.alloc());
+/// The text of a full page, whose words are their addresses XOR A55Ah.
+fn full_text(alloc: Global) -> Result<String, Fail> {
+    let mut words = WordMap::new(alloc);
     for address in 0..=u16::MAX {
         words.insert(address, address ^ 0xa55a)?;
     }
-    let text = write_hex(rt.alloc(), &words)?;
+    write_hex(alloc, &words).map_err(Fail::from)
+}
+
+/// A map has the words of that page.
+fn is_full(rt: &impl Abort, words: &WordMap) {
+    for address in 0..=u16::MAX {
+        assert_eq!(rt; words.get(address), Some(address ^ 0xa55a));
+    }
+}
+
+#[test]
+fn a_full_page_is_written_and_read_back(rt: HostRuntime) -> Result<(), Fail> {
+    let text = full_text(rt.alloc())?;
     assert_eq!(rt; text.as_str().lines().count(), 8194);
     let again = read_hex(rt.alloc(), text.as_str())?;
-    for address in 0..=u16::MAX {
-        assert_eq!(rt; again.get(address), Some(address ^ 0xa55a));
-    }
+    is_full(&rt, &again);
     Ok(())
+}
+
+/// What is told of a text that is read: its fault, or `ok`.
+fn told(alloc: Global, text: &str) -> Result<String, AllocError> {
+    match read_hex(alloc, text) {
+        Ok(_) => String::from_str(alloc, "ok"),
+        Err(failure) => failure.to_string(alloc),
+    }
 }
 
 #[test]
 fn faults_are_printed(rt: HostRuntime) -> Result<(), Fail> {
-    let told = match read_hex(rt.alloc(), ":00000001FF\n:00000001FF\n") {
-        Ok(_) => String::from_str(rt.alloc(), "ok")?,
-        Err(failure) => failure.to_string(rt.alloc())?,
-    };
+    let told = told(rt.alloc(), ":00000001FF\n:00000001FF\n")?;
     assert_eq!(rt; told.as_str(), "2: AfterEnd");
     Ok(())
 }
