@@ -14,7 +14,7 @@ use c25_meaning_processor::stop::Stop;
 use std::fmt;
 
 /// An instruction in a state.
-#[derive(Drop)]
+#[derive(Clone, Copy)]
 pub struct Case {
     pub first: u16,
     /// The second word, 0 where the instruction has none.
@@ -30,7 +30,7 @@ pub struct Case {
 }
 
 /// How a case ends.
-#[derive(Drop)]
+#[derive(Clone, Copy)]
 pub struct End {
     pub answer: Result<Tick, Halt>,
     /// The steps that are done.
@@ -191,28 +191,42 @@ impl End {
     }
 }
 
-/// Writes words, a blank before each.
-fn write_words<W: fmt::Write>(f: &mut fmt::Formatter<W>, words: &[u16]) -> fmt::Result {
-    for word in words {
-        write!(f, " {word:04X}")?;
+/// Words, a blank before each.
+#[derive(Clone, Copy)]
+struct Words<'a>(&'a [u16]);
+
+impl fmt::Display for Words<'_> {
+    fn fmt<W: fmt::Write>(&self, f: &mut fmt::Formatter<W>) -> fmt::Result {
+        for word in self.0 {
+            write!(f, " {word:04X}")?;
+        }
+        Ok(())
     }
-    Ok(())
+}
+
+/// Writes the answer of the last step.
+fn write_answer<W: fmt::Write>(
+    f: &mut fmt::Formatter<W>,
+    answer: Result<Tick, Halt>,
+) -> fmt::Result {
+    match answer {
+        Ok(tick) => write!(f, "{tick:?}"),
+        Err(Halt::Stop(stop)) => write!(f, "{stop:?}"),
+        Err(Halt::Sink) => write!(f, "Sink"),
+    }
 }
 
 impl fmt::Display for End {
     fn fmt<W: fmt::Write>(&self, f: &mut fmt::Formatter<W>) -> fmt::Result {
         let regs = &self.regs;
-        match self.answer {
-            Ok(tick) => write!(f, "{tick:?}")?,
-            Err(Halt::Stop(stop)) => write!(f, "{stop:?}")?,
-            Err(Halt::Sink) => write!(f, "Sink")?,
-        }
+        write_answer(f, self.answer)?;
         write!(f, " {} PC {:04X} ACC {:08X}", self.done, regs.pc, regs.acc)?;
         write!(f, " P {:08X} T {:04X}", regs.p, regs.t)?;
-        write!(f, " ST0 {:04X} ST1 {:04X}", regs.st0, regs.st1)?;
-        write!(f, " RPTC {:02X} AR", regs.rptc)?;
-        write_words(f, &regs.ar)?;
-        write!(f, " STACK")?;
-        write_words(f, &regs.stack)
+        let (ar, stack) = (Words(&regs.ar), Words(&regs.stack));
+        write!(
+            f,
+            " ST0 {:04X} ST1 {:04X} RPTC {:02X} AR{ar} STACK{stack}",
+            regs.st0, regs.st1, regs.rptc
+        )
     }
 }

@@ -20,6 +20,17 @@ pub fn mem(name: MemName, low: u16) -> Insn
     Insn::Mem(name, Addr::Direct(low))
 }
 
+/// What the words from 70h on are loaded with: P and T, ACC, and ST1.
+const LOADS: [MemName; 7] = [
+    MemName::Lt,
+    MemName::Mpyu,
+    MemName::Lph,
+    MemName::Lt,
+    MemName::Zalh,
+    MemName::Or,
+    MemName::Lst1,
+];
+
 /// What the registers hold besides PC.
 #[derive(Clone, Copy)]
 pub struct State {
@@ -63,13 +74,10 @@ impl State {
             let operand = Addr::Direct(0x68 + number);
             at = bench.place_insn(at, &Insn::ArMem(ArMemName::Lar, number, operand))?;
         }
-        at = bench.place_insn(at, &mem(MemName::Lt, 0x70))?;
-        at = bench.place_insn(at, &mem(MemName::Mpyu, 0x71))?;
-        at = bench.place_insn(at, &mem(MemName::Lph, 0x72))?;
-        at = bench.place_insn(at, &mem(MemName::Lt, 0x73))?;
-        at = bench.place_insn(at, &mem(MemName::Zalh, 0x74))?;
-        at = bench.place_insn(at, &mem(MemName::Or, 0x75))?;
-        at = bench.place_insn(at, &mem(MemName::Lst1, 0x76))?;
+        for place in 0..7 {
+            let load = LOADS[usize::from(place)];
+            at = bench.place_insn(at, &mem(load, 0x70 + place))?;
+        }
         let switch = if self.st0 / 0x200 % 2 == 1 {
             PlainName::Dint
         } else {
