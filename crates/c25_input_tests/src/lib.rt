@@ -8,3 +8,5 @@ mod commands;
 mod items;
 #[cfg(test)]
 mod scripts;
+#[cfg(test)]
+mod values;

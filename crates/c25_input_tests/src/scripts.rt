@@ -1,34 +1,27 @@
 //! Scripts.
 
-use c25_debug::script::read_script;
-use c25_meaning_common::failure::Failure;
-use c25_meaning_common::placed::Placed;
+use crate::values::{equal, is_printed, refusal};
+use c25_debug::script::{Script, read_script};
 use c25_meaning_stimulus::script::{BadCommand, Cmd};
 use std::test::Fail;
+
+/// The address and the count of the last command, where that shows data memory.
+fn last_data(script: &Script) -> Option<(u16, u32)> {
+    match script.as_slice().last()? {
+        Cmd::Data { address, count } => Some((*address, *count)),
+        _ => None,
+    }
+}
 
 #[test]
 fn a_script_is_read(rt: HostRuntime) -> Result<(), Fail> {
     let script = read_script(rt.alloc(), "step 3\n\nREGS\ndata 60 2\n")?;
-    assert_eq!(rt; script.as_slice().len(), 3);
-    let last = script.as_slice().last().ok_or("no command")?;
-    match *last {
-        Cmd::Data { address, count } => {
-            assert_eq!(rt; (address, count), (0x60, 2));
-        }
-        _ => return Err("another command")?,
-    }
+    equal(&rt, script.as_slice().len(), 3);
+    equal(&rt, last_data(&script), Some((0x60, 2)));
     Ok(())
 }
 
 #[test]
 fn refusals_are_printed(rt: HostRuntime) -> Result<(), Fail> {
-    let refusal = Failure::Fault(Placed {
-        place: 7usize,
-        fault: BadCommand,
-    });
-    assert_eq!(rt;
-        format!(in rt.alloc(); "{refusal}")?.as_str(),
-        "7: BadCommand"
-    );
-    Ok(())
+    is_printed(&rt, refusal(7, BadCommand), "7: BadCommand")
 }
