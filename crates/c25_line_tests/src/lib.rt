@@ -5,3 +5,5 @@
 mod expressions;
 #[cfg(test)]
 mod lines;
+#[cfg(test)]
+mod values;
