@@ -8,7 +8,7 @@ use c25_meaning_objects::object::ObjectFault;
 use c25_meaning_placing::link_fault::LinkFault;
 
 /// A fault, whatever it is told of.
-#[derive(Clone, Copy, Debug)]
+#[derive(Clone, Copy)]
 pub enum AnyFault {
     /// Memory ran out (9).
     Memory,

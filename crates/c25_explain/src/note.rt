@@ -26,7 +26,7 @@ pub fn line_of(text: &str, number: usize) -> Option<&str>
 }
 
 /// Why a file cannot be read.
-#[derive(Clone, Copy, Debug)]
+#[derive(Clone, Copy)]
 pub enum Unread {
     /// It cannot be opened.
     NotOpened,
@@ -37,7 +37,7 @@ pub enum Unread {
 }
 
 /// What a note shows before it explains.
-#[derive(Clone, Copy, Debug)]
+#[derive(Clone, Copy)]
 pub enum Shown<'a> {
     Nothing,
     /// The line of this number of a file, without its end.
@@ -65,10 +65,12 @@ fn unread_line(alloc: Global, file: &str, why: Unread) -> Result<String, NoMemor
     ensures { IfOk result (λ line. string_bytes line ≡ unread_text file.now why) }
 {
     match why {
-        Unread::NotOpened => Ok(format!(in alloc; "{file}: it cannot be opened\n")?),
-        Unread::NotRead => Ok(format!(in alloc;
+        Unread::NotOpened => {
+            format!(in alloc; "{file}: it cannot be opened\n").map_err(NoMemory::from)
+        }
+        Unread::NotRead => format!(in alloc;
             "{file}: a read of it fails, or it has more than 16,777,216 bytes\n"
-        )?),
+        ).map_err(NoMemory::from),
         Unread::NotUtf8 { line } => {
             placed_line(alloc, file, line, "the first line that is not UTF-8")
         }
@@ -101,14 +103,14 @@ fn lesson(alloc: Global, explanation: &Explanation) -> Result<String, NoMemory>
 {
     let meaning = explanation.meaning;
     let advice = explanation.advice;
-    Ok(format!(in alloc; "{meaning}\n{advice}")?)
+    format!(in alloc; "{meaning}\n{advice}").map_err(NoMemory::from)
 }
 
 /// Where the example of a fault is.
 fn example_line(alloc: Global, number: u8) -> Result<String, NoMemory>
     ensures { IfOk result (λ line. string_bytes line ≡ example_line number) }
 {
-    Ok(format!(in alloc; "Example: c25 explain {number}")?)
+    format!(in alloc; "Example: c25 explain {number}").map_err(NoMemory::from)
 }
 
 /// A note of its parts.

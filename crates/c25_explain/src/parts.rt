@@ -4,7 +4,7 @@ use std::fmt;
 
 /// What a fault means and what to do about it. The texts are lines of at most 100 columns, the last one
 /// ended too.
-#[derive(Clone, Copy, Debug)]
+#[derive(Clone, Copy)]
 pub struct Explanation {
     /// The fault's number.
     pub number: u8,
