@@ -1,5 +1,5 @@
 -- The texts of a program say where its sections stand.
-use Rattle.std.proofs.Common.{◌≡◌, ℕ, List, Ok, Err, Result, ap, subst, sym, ◌∙◌}
+use Rattle.std.proofs.Common.{◌≡◌, ℕ, List, Ok, Err, Result, ap, subst, sym, ◌∙◌, inr}
 use Rattle.c25_meaning_commands.specs.Command.{CommandData}
 use Rattle.c25_meaning_commands.specs.CommandText.{command_of}
 use Rattle.c25_meaning_placing.specs.GoodMap.{IsGoodMap}
@@ -9,9 +9,11 @@ use Rattle.c25_meaning_placing.specs.MapText.{IsMapOf}
 use Rattle.c25_meaning_objects.specs.Module.{Contents}
 use Rattle.c25_meaning_placing.specs.Place.{Place}
 use Rattle.c25_meaning_common.specs.Results.{told}
+use Rattle.c25_meaning_common.specs.declared.failure.Failure.TheVariants as failure
 use Rattle.c25_meaning_common.specs.declared.placed.Placed.{Placed}
 use Rattle.c25_meaning_commands.specs.declared.command_fault.CommandFault.{CommandFault}
-use Rattle.c25_chain.specs.Linked.{AreTexts, HasTextsOf, IsLinked, LinkedTexts, places_of, texts_of}
+use Rattle.c25_chain.specs.Linked.{AreTexts, HasTextsOf, IsLinked, LinkedTexts, Links, LinksText, places_of, texts_of}
+use Rattle.c25_chain.specs.Refusal.{Fault}
 use Rattle.c25_chain.specs.declared.fault.Refusal.{Refusal}
 use Rattle.c25_chain.specs.declared.fault.Refusal.TheVariants.{Command}
 use Rattle.c25_chain.specs.declared.linked.Linked.{Linked}
@@ -57,3 +59,9 @@ told_command text command h = by_result (command_of text) h where
   by_result : (r : Result CommandData (Placed ℕ CommandFault)) → told {F = Refusal (List ℕ)} Command r ≡ Ok command → r ≡ Ok command
   by_result (Ok c) e = let same : c ≡ command = cc in ap Ok same
   by_result (Err f) e = absurd cc
+
+-- what modules come to under a command, of which this is the text
+pub links_text : (modules : List Contents) (text : List ℕ) (command : CommandData) (result : Result ImageData Fault) → command_of text ≡ Ok command → Links modules command result → LinksText modules text result
+links_text modules text command (Ok image) read is = record { command = command; read = read; program = is }
+links_text modules text command (Err (failure.NoMemory n)) read is = tt
+links_text modules text command (Err (failure.Fault f)) read is = inr (command, read, is)

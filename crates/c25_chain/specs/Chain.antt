@@ -36,12 +36,20 @@ pub record Inputs : Type 0 where
   pub samples : List Sample
   pub entries : List Entry
 
--- those of its texts, or the first refusal among them
-abbrev pub inputs_in : Given → Result Inputs (Refusal (List ℕ))
-inputs_in g =
-    told Samples (samples_of g.samples) >>= λ samples.
-    told Schedule (schedule_of g.schedule) >>= λ entries.
+-- these samples and entries
+abbrev pub inputs_view : List Sample × List Entry → Inputs
+inputs_view both = record { samples = both.0; entries = both.1 }
+
+-- those of two texts, or the first refusal among them
+abbrev pub inputs_of : (samples schedule : List ℕ) → Result Inputs (Refusal (List ℕ))
+inputs_of samples schedule =
+    told Samples (samples_of samples) >>= λ samples.
+    told Schedule (schedule_of schedule) >>= λ entries.
     Ok (record { samples = samples; entries = entries })
+
+-- those of its texts
+abbrev pub inputs_in : Given → Result Inputs (Refusal (List ℕ))
+inputs_in g = inputs_of g.samples g.schedule
 
 -- ---- the first refusal
 

@@ -1,6 +1,7 @@
 -- A linked program and its texts, or why there is none.
-use Rattle.std.specs.Prelude.{◌≡◌, ◌⊎◌, ℕ, List, map, Result, Ok, Err}
+use Rattle.std.specs.Prelude.{◌≡◌, ◌⊎◌, ℕ, List, map, Result, Ok, Err, String}
 use Rattle.std.specs.String.{string_bytes}
+use Rattle.std.specs.declared.alloc.Global.{Global}
 use Rattle.c25_meaning_commands.specs.Command.{CommandData}
 use Rattle.c25_meaning_commands.specs.CommandText.{command_of}
 use Rattle.c25_meaning_placing.specs.GoodMap.{IsGoodMap}
@@ -17,6 +18,7 @@ use Rattle.c25_chain.specs.Refusal.{Fault, refusal_of}
 use Rattle.c25_chain.specs.declared.fault.Refusal.{Refusal}
 use Rattle.c25_chain.specs.declared.fault.Refusal.TheVariants.{Command, Link}
 use Rattle.c25_chain.specs.declared.linked.Linked.{Linked}
+use Rattle.c25_chain.specs.declared.page.Page.{Page}
 
 -- ---- texts
 
@@ -47,6 +49,14 @@ pub record AreTexts (modules : List Contents) (command : CommandData) (image : I
 -- the texts of what was linked
 abbrev pub texts_of : Linked → LinkedTexts
 texts_of l = record { page0 = string_bytes l.page0.text; page1 = string_bytes l.page1.text; map = string_bytes l.map }
+
+-- the text of an image's map and its pages: the texts of its words, and the words that these are read as
+pub record AreTextsOf (image : ImageData) (map : String Global) (page0 page1 : Page) : Type 0 where
+  pub map_is : IsMapOf (string_bytes map) image.described
+  pub text0 : string_bytes page0.text ≡ written image.program
+  pub text1 : string_bytes page1.text ≡ written image.store
+  pub words0 : page0.words ≡ image.program
+  pub words1 : page1.words ≡ image.store
 
 -- an image with the texts of its words and of its map, and the words that the hex texts are read as
 pub record HasTextsOf (image : ImageData) (l : Linked) : Type 0 where
@@ -82,6 +92,18 @@ pub record IsLinkedUnder (modules : List Contents) (text : List ℕ) (image : Im
 abbrev pub IsRefusedUnder : List Contents → List ℕ → Refusal (List ℕ) → Type 0
 IsRefusedUnder modules text r =
     (told Command (command_of text) ≡ Err r) ⊎ ((command : CommandData) × (command_of text ≡ Ok command) × IsLinkRefusal modules command r)
+
+-- the program of modules under the command of a text
+pub record IsImageUnder (modules : List Contents) (text : List ℕ) (image : ImageData) : Type 0 where
+  pub command : CommandData
+  pub read : command_of text ≡ Ok command
+  pub program : IsProgram modules command image
+
+-- that, or the first refusal, unless memory ran out
+abbrev pub LinksText : List Contents → List ℕ → Result ImageData Fault → Type 0
+LinksText modules text (Ok image) = IsImageUnder modules text image
+LinksText modules text (Err (failure.NoMemory n)) = Unit {0}
+LinksText modules text (Err (failure.Fault f)) = IsRefusedUnder modules text (refusal_of f)
 
 -- what the code answers of modules and the text of a command
 pub record IsLinked (modules : List Contents) (text : List ℕ) (l : Linked) : Type 0 where

@@ -30,6 +30,8 @@ pub fn build(
     ensures { Builds files.now (map string_bytes sources.now) command.now result }
 {
     let Modules { modules, listings } = assemble_all(alloc, files, sources)?;
-    let linked = link_modules(alloc, modules.as_slice(), command)?;
-    Ok(Built { linked, listings })
+    match link_modules(alloc, modules.as_slice(), command) {
+        Ok(linked) => Ok(Built { linked, listings }),
+        Err(refusal) => Err(refusal),
+    }
 }

@@ -5,7 +5,7 @@ ghost use Rattle.c25_meaning_common.specs.Results.{MeetsBy, told};
 ghost use Rattle.c25_meaning_stimulus.specs.Samples.{samples_of};
 ghost use Rattle.c25_meaning_stimulus.specs.Schedule.{schedule_of};
 ghost use Rattle.c25_chain.specs.Refusal.{refusal_of};
-ghost use Rattle.c25_chain.specs.Chain.{Answers, given_of, run_of, texts_of};
+ghost use Rattle.c25_chain.specs.Chain.{Answers, given_of, inputs_of, inputs_view, run_of, texts_of};
 ghost use Rattle.c25_chain.specs.Headline.{CodeStays, HoldsSourceWords, MarksStatements, OfProgram, RunsAsSources, TellsStatementsRun};
 ghost use Rattle.c25_chain.specs.Linked as linked;
 ghost use Rattle.c25_chain.specs.Ready.{Readies};
@@ -78,6 +78,17 @@ pub fn schedule_in(alloc: Global, text: &str) -> Result<Schedule, Fault>
     }
 }
 
+/// The samples of a text and the schedule of another.
+fn inputs_in(alloc: Global, samples: &str, schedule: &str) -> Result<(Samples, Schedule), Fault>
+    ensures { MeetsBy refusal_of inputs_view (inputs_of samples.now schedule.now) result }
+{
+    let samples = samples_in(alloc, samples)?;
+    match schedule_in(alloc, schedule) {
+        Ok(schedule) => Ok((samples, schedule)),
+        Err(refusal) => Err(refusal),
+    }
+}
+
 /// Assembles sources, links their modules under a command file, and reads the samples and the schedule of
 /// a run, so that nothing of it is left to be refused but memory.
 ///
@@ -94,13 +105,14 @@ pub fn make_ready(
     ensures { Readies (given_of files.now (map string_bytes sources.now) command.now samples.now schedule.now) result }
 {
     let built = build(alloc, files, sources, command)?;
-    let samples = samples_in(alloc, samples)?;
-    let schedule = schedule_in(alloc, schedule)?;
-    Ok(Ready {
-        built,
-        samples,
-        schedule,
-    })
+    match inputs_in(alloc, samples, schedule) {
+        Ok((samples, schedule)) => Ok(Ready {
+            built,
+            samples,
+            schedule,
+        }),
+        Err(refusal) => Err(refusal),
+    }
 }
 
 /// What the chain answers of a program and its run.
@@ -161,6 +173,8 @@ pub fn run_chain(
         samples,
         schedule,
     } = make_ready(alloc, files, sources, command, samples, schedule)?;
-    let done = run_linked(alloc, &built.linked, samples, schedule, n)?;
-    Ok(chain_of(built, done))
+    match run_linked(alloc, &built.linked, samples, schedule, n) {
+        Ok(done) => Ok(chain_of(built, done)),
+        Err(error) => Err(error.into()),
+    }
 }

@@ -5,7 +5,7 @@ ghost use Rattle.c25_cmd.specs.View.{command_data};
 ghost use Rattle.c25_meaning_commands.specs.Command.{IsCommand};
 ghost use Rattle.c25_meaning_commands.specs.CommandText.{command_of};
 ghost use Rattle.c25_meaning_common.specs.Results.{MeetsBy, told};
-ghost use Rattle.c25_chain.specs.Linked.{HasTextsOf, Links, LinksUnder};
+ghost use Rattle.c25_chain.specs.Linked.{AreTextsOf, HasTextsOf, Links, LinksText, LinksUnder};
 ghost use Rattle.c25_chain.specs.Refusal.{refusal_of};
 ghost use Rattle.c25_chain.specs.declared.fault.Refusal.TheVariants as refusal;
 
@@ -55,19 +55,39 @@ fn image_of(alloc: Global, modules: &[Module], command: &Command) -> Result<Imag
     }
 }
 
+/// The program of modules under the command that a text spells.
+fn image_under(alloc: Global, modules: &[Module], command: &str) -> Result<Image, Fault>
+    ensures { LinksText modules.now command.now result }
+{
+    let command = command_in(alloc, command)?;
+    image_of(alloc, modules, &command)
+}
+
+/// The text of a program's map, and both of its pages.
+fn map_and_pages(alloc: Global, image: &Image) -> Result<(String, Page, Page), NoMemory>
+    ensures { IfOk result (λ texts. AreTextsOf image.now texts.0 texts.1 texts.2) }
+{
+    let map = image.write_map(alloc)?;
+    let page0 = page_of(alloc, image.words(0))?;
+    match page_of(alloc, image.words(1)) {
+        Ok(page1) => Ok((map, page0, page1)),
+        Err(error) => Err(error),
+    }
+}
+
 /// A program with its texts.
 fn with_texts(alloc: Global, image: Image) -> Result<Linked, NoMemory>
     ensures { IfOk result (HasTextsOf image) }
 {
-    let map = image.write_map(alloc)?;
-    let page0 = page_of(alloc, image.words(0))?;
-    let page1 = page_of(alloc, image.words(1))?;
-    Ok(Linked {
-        image,
-        page0,
-        page1,
-        map,
-    })
+    match map_and_pages(alloc, &image) {
+        Ok((map, page0, page1)) => Ok(Linked {
+            image,
+            page0,
+            page1,
+            map,
+        }),
+        Err(error) => Err(error),
+    }
 }
 
 /// Links modules under the command that a text spells, and writes the map and the hex texts of both
@@ -77,7 +97,9 @@ pub fn link_modules(alloc: Global, modules: &[Module], command: &str) -> Result<
     ensures { LinksUnder modules.now command.now result }
 {
     program_maps_have_their_form();
-    let command = command_in(alloc, command)?;
-    let image = image_of(alloc, modules, &command)?;
-    Ok(with_texts(alloc, image)?)
+    let image = image_under(alloc, modules, command)?;
+    match with_texts(alloc, image) {
+        Ok(linked) => Ok(linked),
+        Err(error) => Err(error.into()),
+    }
 }

@@ -1,14 +1,16 @@
 //! The modules of several sources.
 
-ghost use Rattle.std.specs.Prelude.{◌≡◌, map, string_bytes};
+ghost use Rattle.std.specs.Prelude.{◌≡◌, [], ◌∷◌, ◌++◌, OnOk, map, string_bytes};
+ghost use Rattle.c25_asm.specs.View.{assembled_of};
 ghost use Rattle.c25_meaning_common.specs.Results.{MeetsBy};
 ghost use Rattle.c25_chain.specs.Refusal.{refusal_of};
-ghost use Rattle.c25_chain.specs.Modules.{modules_of, no_modules, with_source};
+ghost use Rattle.c25_chain.specs.Modules.{modules_of, no_modules, with_module, with_source};
 ghost use Rattle.c25_chain.specs.View.{modules_view};
 
 use crate::fault::Fault;
-use crate::sources::{assemble_source, read_back};
+use crate::sources::{Listing, assemble_source, read_back};
 use c25_macro::files::Files;
+use c25_meaning_common::no_memory::NoMemory;
 use c25_obj::Module;
 use std::alloc::Global;
 
@@ -31,16 +33,33 @@ fn none(alloc: Global) -> Modules
     }
 }
 
+/// Puts a module and the text of its listing behind others.
+fn push(all: &mut Modules, read: Module, listing: String) -> Result<(), NoMemory>
+    ensures modules { OnOk result (all.new.modules.items ≡ all.old.modules.items ++ read ∷ []) }
+    ensures listings { OnOk result (all.new.listings.items ≡ all.old.listings.items ++ listing ∷ []) }
+{
+    all.modules.push(read)?;
+    all.listings.push(listing).map_err(NoMemory::from)
+}
+
+/// Passes a source's module through its records, and puts it behind others with the text of its listing.
+fn push_assembled(alloc: Global, listing: &Listing<'_>, all: &mut Modules) -> Result<(), NoMemory>
+    ensures { OnOk result (modules_view all.new ≡ with_module (modules_view all.old) (assembled_of listing.now)) }
+{
+    let text = listing.text(alloc)?;
+    let read = read_back(alloc, &listing.module)?;
+    push(all, read, text)
+}
+
 /// Assembles one source more, and passes its module through its records.
 fn add_source(alloc: Global, files: &Files, name: &str, all: &mut Modules) -> Result<(), Fault>
     ensures { MeetsBy refusal_of (λ _. modules_view all.new) (with_source files.now (modules_view all.old) name.now) result }
 {
     let listing = assemble_source(alloc, files, name)?;
-    let text = listing.text(alloc)?;
-    let module = read_back(alloc, &listing.module)?;
-    all.modules.push(module)?;
-    all.listings.push(text)?;
-    Ok(())
+    match push_assembled(alloc, &listing, all) {
+        Ok(()) => Ok(()),
+        Err(error) => Err(error.into()),
+    }
 }
 
 /// Assembles sources, the texts of which are among these files, one behind another: their modules, and

@@ -19,8 +19,7 @@ fn push_output(out: &mut String, port: u16, word: u16) -> Result<(), NoMemory>
     out.push_str(number.format(port))?;
     out.push_str(" ")?;
     out.push_str(four(word).as_str())?;
-    out.push_str("\n")?;
-    Ok(())
+    out.push_str("\n").map_err(NoMemory::from)
 }
 
 #[tactic(auto, using(crate::proofs::OutputLines::outputs_more, crate::proofs::OutputLines::outputs_none))]
@@ -37,19 +36,12 @@ fn push_outcome(out: &mut String, outcome: Outcome, steps: u32) -> Result<(), No
     ensures { OnOk result (string_bytes out.new ≡ string_bytes out.old ++ outcome_text outcome steps) }
 {
     match outcome {
-        Outcome::Ran => {
-            write!(out, "ran {steps}\n")?;
-            Ok(())
-        }
+        Outcome::Ran => write!(out, "ran {steps}\n").map_err(NoMemory::from),
         Outcome::Left(_, stop) => {
             let name = stop.name();
-            write!(out, "left {steps} {name}\n")?;
-            Ok(())
+            write!(out, "left {steps} {name}\n").map_err(NoMemory::from)
         }
-        Outcome::SinkFault(_) => {
-            write!(out, "sink {steps}\n")?;
-            Ok(())
-        }
+        Outcome::SinkFault(_) => write!(out, "sink {steps}\n").map_err(NoMemory::from),
     }
 }
 

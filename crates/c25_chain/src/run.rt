@@ -47,10 +47,9 @@ pub fn board_of(
     let marks = linked.image.marks();
     let sink = ListSink::new(alloc);
     let run_marks = linked.image.run_marks();
-    let board = Board::new(
+    Board::new(
         alloc, page0, page1, marks, run_marks, schedule, samples, sink,
-    )?;
-    Ok(board)
+    )
 }
 
 /// Runs n steps of a board that has done none, and tells what they did. An output that its list has

@@ -1,11 +1,9 @@
-use Rattle.c25_cmd.specs.View.{command_data}
-use Rattle.c25_chain.proofs.Texts.{is_linked, told_command}
+use Rattle.c25_chain.proofs.Texts.{is_linked}
 use Rattle.c25_chain.proofs.linked.link_modules.Goals as goal
 
-pub returns : goal.returns
-returns c =
-    let command = command_data c.in_ok-command.command in
-    let modules = c.args.modules.now in
+pub returns-in-Ok : goal.returns-in-Ok
+returns-in-Ok c =
     let image = c.in_ok-image.image in
-    is_linked modules c.args.command.now command image c.in_ok-with_texts.field-0 (told_command c.args.command.now command c.in_ok-command.ensures.told) c.in_ok-image.ensures
-    (c.program_maps_have_their_form.ensures.places modules command image c.in_ok-image.ensures) c.in_ok-with_texts.ensures
+    let under = c.in_ok-image.ensures in
+    is_linked c.args.modules.now c.args.command.now under.command image c.in-Ok.linked under.read under.program
+    (c.program_maps_have_their_form.ensures.places c.args.modules.now under.command image under.program) c.in-Ok.ensures
