@@ -5,6 +5,7 @@ ghost use Rattle.std.specs.Option.{option_map};
 ghost use Rattle.std.specs.String.{string_bytes};
 ghost use Rattle.c25_meaning_expansion.specs.Acts as acts;
 ghost use Rattle.c25_meaning_language.specs.DirectiveOperands as directiveoperands;
+ghost use Rattle.c25_meaning_language.specs.Operands.{operands_of};
 ghost use Rattle.c25_text.specs.View.{parts_of};
 ghost use Rattle.c25_expr.specs.Pieces.{pieces_of, operands_view};
 ghost use Rattle.c25_meaning_common.specs.Results.{Meets};
@@ -36,10 +37,10 @@ fn without<'a>(
 ) -> Result<ExpansionAct<'a>, Failure<FaultKind>>
     ensures { Meets view.act_of (acts.without (view.act_of act.entry) (operands_view operands.now)) result }
 {
-    match operands {
-        [] => Ok(act),
-        _ => Err(Failure::Fault(FaultKind::OperandCount)),
-    }
+    operands
+        .is_empty()
+        .then_some(act)
+        .ok_or(Failure::Fault(FaultKind::OperandCount))
 }
 
 /// `.macro`
@@ -97,8 +98,10 @@ fn evaluation_of<'a>(
     match written_of(first) {
         Written::Expression => {
             let name = name_in(alloc, second)?;
-            let expression = expression_in(alloc, first)?;
-            Ok(ExpansionAct::Evaluate { expression, name })
+            match expression_in(alloc, first) {
+                Ok(expression) => Ok(ExpansionAct::Evaluate { expression, name }),
+                Err(failure) => Err(failure),
+            }
         }
         _ => Err(Failure::Fault(FaultKind::OperandForm)),
     }
@@ -125,7 +128,10 @@ fn copy_in<'a>(
     ensures { Meets view.act_of (acts.copy_in (operands_view operands.now)) result }
 {
     match operands {
-        [operand] => Ok(ExpansionAct::Copy(string_in(alloc, operand)?)),
+        [operand] => match string_in(alloc, operand) {
+            Ok(name) => Ok(ExpansionAct::Copy(name)),
+            Err(failure) => Err(failure),
+        },
         _ => Err(Failure::Fault(FaultKind::OperandCount)),
     }
 }
@@ -142,20 +148,46 @@ fn act_of<'a>(
     ensures { Meets view.act_of (acts.act_of directive text.now (parts_of line.now) (operands_view operands.now)) result }
 {
     match directive {
-        Directive::If => Ok(ExpansionAct::If(condition_in(alloc, operands)?)),
-        Directive::ElseIf => Ok(ExpansionAct::ElseIf(condition_in(alloc, operands)?)),
+        Directive::If => match condition_in(alloc, operands) {
+            Ok(condition) => Ok(ExpansionAct::If(condition)),
+            Err(failure) => Err(failure),
+        },
+        Directive::ElseIf => match condition_in(alloc, operands) {
+            Ok(condition) => Ok(ExpansionAct::ElseIf(condition)),
+            Err(failure) => Err(failure),
+        },
         Directive::Else => without(ExpansionAct::Else, operands),
         Directive::EndIf => without(ExpansionAct::EndIf, operands),
         Directive::Macro => definition_in(alloc, line, operands),
         Directive::EndMacro | Directive::EndLoop => without(ExpansionAct::Stray, operands),
         Directive::ExitMacro => without(ExpansionAct::Exit, operands),
-        Directive::Loop => Ok(ExpansionAct::Loop(option_in(alloc, operands)?)),
-        Directive::Break => Ok(ExpansionAct::Break(option_in(alloc, operands)?)),
+        Directive::Loop => match option_in(alloc, operands) {
+            Ok(count) => Ok(ExpansionAct::Loop(count)),
+            Err(failure) => Err(failure),
+        },
+        Directive::Break => match option_in(alloc, operands) {
+            Ok(condition) => Ok(ExpansionAct::Break(condition)),
+            Err(failure) => Err(failure),
+        },
         Directive::Assign => assignment_in(alloc, text, operands),
         Directive::Evaluate => evaluation_in(alloc, operands),
         Directive::Copy => copy_in(alloc, operands),
         Directive::End => without(ExpansionAct::End, operands),
     }
+}
+
+/// What a line with a directive and these parts asks for.
+fn act_in<'a>(
+    alloc: Global,
+    directive: Directive,
+    text: &str,
+    line: &Line<'_>,
+) -> Result<ExpansionAct<'a>, Failure<FaultKind>>
+    ensures { Meets view.act_of (acts.act_of directive text.now (parts_of line.now) (operands_of (parts_of line.now).pieces)) result }
+{
+    let tokens = tokens_of(alloc, line)?;
+    let operands = operands_of(alloc, tokens.as_slice())?;
+    act_of(alloc, directive, text, line, operands.as_slice())
 }
 
 /// The parts of a line.
@@ -214,11 +246,11 @@ pub(crate) fn read_order<'a>(
     ensures { Meets view.order_of (acts.order_of directive text.now) result }
 {
     let line = parts_for(directive, text)?;
-    let tokens = tokens_of(alloc, &line)?;
-    let operands = operands_of(alloc, tokens.as_slice())?;
-    let act = act_of(alloc, directive, text, &line, operands.as_slice())?;
     let label = label_for(alloc, directive, line.label)?;
-    Ok(Order { label, act })
+    match act_in(alloc, directive, text, &line) {
+        Ok(act) => Ok(Order { label, act }),
+        Err(failure) => Err(failure),
+    }
 }
 
 /// What a line that calls a macro asks for.
