@@ -1,9 +1,10 @@
 -- The configuration that an expander stands for, and what its rules say of their answers.
-use Rattle.std.specs.Prelude.{◌≡◌, ℕ, List, [], ◌∷◌, ◌++◌, Option, Some, None, Result, Ok, Err, map}
+use Rattle.std.specs.Prelude.{◌≡◌, ◌==◌, ◌-◌, List, [], ◌∷◌, ◌++◌, true, false, Option, Some, None, Result, Ok, Err, map}
 use Rattle.std.specs.String.{string_bytes}
 use Rattle.c25_meaning_files.specs.Rows.{Row}
 use Rattle.c25_meaning_expansion.specs.Expansion as exp
 use Rattle.c25_meaning_expansion.specs.Expansion.{Read, Config, Rewriting, Gives, Goes, Finishes, Faults, Misses}
+use Rattle.c25_meaning_language.specs.declared.statement.FaultKind.TheVariants as fault
 use Rattle.c25_meaning_common.specs.declared.failure.Failure.{Failure}
 use Rattle.c25_meaning_common.specs.declared.failure.Failure.TheVariants.{NoMemory, Fault}
 use Rattle.c25_macro.specs.Acts.{act_of, bytes_of_names}
@@ -23,13 +24,6 @@ mode_of mode.Reading body = exp.Reading
 mode_of (mode.Acting place act) body = exp.Acting place (act_of act)
 mode_of (mode.InMacro name parameters nested) body = exp.InMacro (string_bytes name) (bytes_of_names parameters.items) body nested
 mode_of (mode.InLoop turns nested) body = exp.InLoop turns body nested
-
--- how many blocks of the kind that is collected are nested in it
-abbrev pub nested_in : Mode → ℕ
-nested_in mode.Reading = 0
-nested_in (mode.Acting place act) = 0
-nested_in (mode.InMacro name parameters nested) = nested
-nested_in (mode.InLoop turns nested) = nested
 
 -- this holds of the lines before the one that was read last
 abbrev pub ForBody : List Row → Row → (List Row → Type 0) → Type 0
@@ -55,6 +49,13 @@ refused_by (Missing place name) = Misses place (string_bytes name)
 abbrev pub Refuses : Rewriting → Failure Refusal → Type 0
 Refuses r (NoMemory n) = Unit {0}
 Refuses r (Fault refusal) = r ≡ refused_by refusal
+
+-- the next line was taken and counted, there was none, or it is one too many
+abbrev pub IsNextRow : State → Result (Option Row) (Failure Refusal) → State → Type 0
+IsNextRow old (Ok (Some row)) new =
+    (old.top.lines.rest ≡ row ∷ new.top.lines.rest) × (new.top.lines.passed ≡ old.top.lines.passed ++ row ∷ []) × ((old.left == 0) ≡ false) × (new.left ≡ old.left - 1)
+IsNextRow old (Ok None) new = (old.top.lines.rest ≡ []) × (new.top.lines.rest ≡ []) × (new.left ≡ old.left)
+IsNextRow old (Err failure) new = (row : Row) × (rest : List Row) × (old.top.lines.rest ≡ row ∷ rest) × ((old.left == 0) ≡ true) × (failure ≡ Fault (Faulty row.place fault.Lines))
 
 -- what is answered is the rewriting
 abbrev pub Follows : Rewriting → Result Progress (Failure Refusal) → Config → Type 0

@@ -67,11 +67,11 @@ impl<'a> State<'a> {
             return Err(fault(FaultKind::Redefined, place));
         }
         self.top.lines.mark();
-        self.mode = Mode::InMacro {
+        self.look(Mode::InMacro {
             name,
             parameters,
             nested: 0,
-        };
+        });
         Ok(())
     }
 
@@ -92,8 +92,7 @@ impl<'a> State<'a> {
         }
         let last = body.last_place(place);
         self.names.begin(arguments)?;
-        self.open(Kind::Expanded, last, body)?;
-        Ok(())
+        self.open(Kind::Expanded, last, body)
     }
 
     /// The lines through the end of the innermost such block are dropped.
@@ -120,7 +119,7 @@ impl<'a> State<'a> {
             return Err(fault(FaultKind::Depth, place));
         }
         self.top.lines.mark();
-        self.mode = Mode::InLoop { turns, nested: 0 };
+        self.look(Mode::InLoop { turns, nested: 0 });
         Ok(())
     }
 
@@ -130,18 +129,15 @@ impl<'a> State<'a> {
         &mut self,
         symbols: &Symbols,
         place: SourcePlace,
-        count: Option<Expr>,
+        count: Option<&Expr>,
     ) -> Result<(), Failure<Refusal>>
-        ensures { GoesOn (rule.begins_loop symbols.now place (option_map tree_of count) (config self.old)) result (config self.new) }
+        ensures { GoesOn (rule.begins_loop symbols.now place (option_map (λ e. tree_of e.now) count.entry) (config self.old)) result (config self.new) }
     {
         match count {
-            Some(count) => {
-                let number = match number(symbols, &count) {
-                    Ok(number) => number,
-                    Err(kind) => return Err(fault(kind, place)),
-                };
-                self.collect(place, turns_of(number))
-            }
+            Some(count) => match number(symbols, count) {
+                Ok(number) => self.collect(place, turns_of(number)),
+                Err(kind) => Err(fault(kind, place)),
+            },
             None => self.collect(place, TURNS),
         }
     }
@@ -167,19 +163,16 @@ impl<'a> State<'a> {
         &mut self,
         symbols: &Symbols,
         place: SourcePlace,
-        condition: Option<Expr>,
+        condition: Option<&Expr>,
     ) -> Result<(), Failure<Refusal>>
         requires reading { self.old.mode ≡ modes.Reading }
-        ensures { GoesOn (rule.breaks symbols.now place (option_map tree_of condition) (config self.old)) result (config self.new) }
+        ensures { GoesOn (rule.breaks symbols.now place (option_map (λ e. tree_of e.now) condition.entry) (config self.old)) result (config self.new) }
     {
         match condition {
-            Some(condition) => {
-                let number = match number(symbols, &condition) {
-                    Ok(number) => number,
-                    Err(kind) => return Err(fault(kind, place)),
-                };
-                self.break_if(!is_zero(number), place)
-            }
+            Some(condition) => match number(symbols, condition) {
+                Ok(number) => self.break_if(!is_zero(number), place),
+                Err(kind) => Err(fault(kind, place)),
+            },
             None => self.break_if(true, place),
         }
     }
@@ -188,8 +181,7 @@ impl<'a> State<'a> {
     pub(crate) fn assign(&mut self, name: &str, text: String) -> Result<(), Failure<Refusal>>
         ensures { GoesOn (exp.Goes (record (config self.old) { names = exp.assigned name.now (string_bytes text) (config self.old).names })) result (config self.new) }
     {
-        self.names.assign(name, text)?;
-        Ok(())
+        self.names.assign(name, text).map_err(Failure::NoMemory)
     }
 
     /// `.eval`
@@ -208,8 +200,7 @@ impl<'a> State<'a> {
             Err(kind) => return Err(fault(kind, place)),
         };
         let text = format!(in self.alloc; "{number}")?;
-        self.names.assign(name, text)?;
-        Ok(())
+        self.assign(name, text)
     }
 
     /// `.copy`
@@ -230,8 +221,7 @@ impl<'a> State<'a> {
                 }
                 let rows = text.rows(file);
                 let last = rows.last_place(place);
-                self.open(Kind::Copied, last, rows)?;
-                Ok(())
+                self.open(Kind::Copied, last, rows)
             }
             None => Err(Failure::Fault(Refusal::Missing { place, name })),
         }

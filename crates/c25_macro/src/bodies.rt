@@ -39,18 +39,21 @@ impl<'a> State<'a> {
             Some(Directive::EndMacro) => {
                 if nested == 0 {
                     let body = self.top.lines.body();
-                    self.names.define(name, Macro { parameters, body })?;
-                    return Ok(());
+                    let definition = Macro { parameters, body };
+                    return self
+                        .names
+                        .define(name, definition)
+                        .map_err(Failure::NoMemory);
                 }
                 nested - 1
             }
             _ => nested,
         };
-        self.mode = Mode::InMacro {
+        self.look(Mode::InMacro {
             name,
             parameters,
             nested,
-        };
+        });
         Ok(())
     }
 
@@ -70,8 +73,7 @@ impl<'a> State<'a> {
         let last = body.last_place(place);
         let rows = body.copy();
         let more = turns - 1;
-        self.open(Kind::Turn { body, more }, last, rows)?;
-        Ok(())
+        self.open(Kind::Turn { body, more }, last, rows)
     }
 
     /// A line of a loop's body, or its end.
@@ -97,7 +99,7 @@ impl<'a> State<'a> {
             }
             _ => nested,
         };
-        self.mode = Mode::InLoop { turns, nested };
+        self.look(Mode::InLoop { turns, nested });
         Ok(())
     }
 }

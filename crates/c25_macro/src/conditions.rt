@@ -57,11 +57,12 @@ impl State<'_> {
         if self.is_full() {
             return Err(fault(FaultKind::Depth, place));
         }
-        self.top.scope.branches.push(Branch {
+        let branch = Branch {
             phase: phase_of(number),
             nested: 0,
-        })?;
-        Ok(())
+        };
+        let branches = &mut self.top.scope.branches;
+        branches.push(branch).map_err(Failure::NoMemory)
     }
 
     /// The innermost `.if` goes on in this phase.
@@ -69,8 +70,9 @@ impl State<'_> {
         ensures { GoesOn (rule.enters branch (other_branches (config self.old).scope.branches) (config self.old) phase) result (config self.new) }
     {
         let branches = &mut self.top.scope.branches;
-        branches.replace(Branch { phase, ..branch })?;
-        Ok(())
+        branches
+            .replace(Branch { phase, ..branch })
+            .map_err(Failure::NoMemory)
     }
 
     /// `.elseif` where a condition is still sought.

@@ -87,8 +87,7 @@ impl Expansions {
     pub(crate) fn push(&mut self, expansion: Expansion) -> Result<(), NoMemory>
         ensures { OnOk result (self.new ≡ expansion ∷ self.old) }
     {
-        self.open.push(expansion)?;
-        Ok(())
+        self.open.push(expansion).map_err(NoMemory::from)
     }
 
     /// Takes the innermost.

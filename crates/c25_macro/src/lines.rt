@@ -23,7 +23,7 @@ use crate::line::Line;
 use crate::orders::{read_call, read_order};
 use crate::refusal::{Refusal, at_place, fault};
 use crate::scope::Block;
-use crate::state::{Mode, Progress, State};
+use crate::state::{Mode, Progress, State, went};
 use c25_expr::symbols::Symbols;
 use c25_files::files::Files;
 use c25_lines::Row;
@@ -58,8 +58,8 @@ impl<'a> State<'a> {
             ExpansionAct::Define { name, parameters } => self.begin_macro(place, name, parameters),
             ExpansionAct::Stray => Err(fault(FaultKind::StrayEnd, place)),
             ExpansionAct::Exit => self.leave_block(Block::Expansion, place),
-            ExpansionAct::Loop(count) => self.begin_loop(symbols, place, count),
-            ExpansionAct::Break(condition) => self.break_loop(symbols, place, condition),
+            ExpansionAct::Loop(count) => self.begin_loop(symbols, place, count.as_ref()),
+            ExpansionAct::Break(condition) => self.break_loop(symbols, place, condition.as_ref()),
             ExpansionAct::Assign { text, name } => self.assign(name.as_str(), text),
             ExpansionAct::Evaluate { expression, name } => {
                 self.evaluate(symbols, place, &expression, name.as_str())
@@ -85,13 +85,10 @@ impl<'a> State<'a> {
         let Order { label, act } = order;
         match label {
             Some(name) => {
-                self.mode = Mode::Acting { place, act };
+                self.look(Mode::Acting { place, act });
                 Ok(Progress::Given(Line::new(place, CowStr::Owned(name))))
             }
-            None => {
-                self.act(files, symbols, place, act)?;
-                Ok(Progress::Went)
-            }
+            None => went(self.act(files, symbols, place, act)),
         }
     }
 
@@ -238,11 +235,9 @@ impl<'a> State<'a> {
     fn nest(&mut self, branch: Branch, nested: usize) -> Result<Progress<'a>, Failure<Refusal>>
         ensures { Follows (rule.nests nested branch (other_branches (config self.old).scope.branches) (config self.old)) result (config self.new) }
     {
-        self.top
-            .scope
-            .branches
-            .replace(Branch { nested, ..branch })?;
-        Ok(Progress::Went)
+        let branches = &mut self.top.scope.branches;
+        let replaced = branches.replace(Branch { nested, ..branch });
+        went(replaced.map_err(Failure::NoMemory))
     }
 
     /// A line whose first word is `.elseif` before substitution.
@@ -259,10 +254,7 @@ impl<'a> State<'a> {
     {
         match branch.phase {
             Phase::Seeking => self.resume(files, symbols, row, Directive::ElseIf),
-            Phase::Taking | Phase::Passing => {
-                self.enter(branch, Phase::Passing)?;
-                Ok(Progress::Went)
-            }
+            Phase::Taking | Phase::Passing => went(self.enter(branch, Phase::Passing)),
             Phase::ElseTaking | Phase::ElsePassing => Err(fault(FaultKind::StrayEnd, row.place())),
         }
     }

@@ -52,8 +52,7 @@ impl Branches {
     pub(crate) fn push(&mut self, branch: Branch) -> Result<(), NoMemory>
         ensures { OnOk result (self.new ≡ branch ∷ self.old) }
     {
-        self.branches.push(branch)?;
-        Ok(())
+        self.branches.push(branch).map_err(NoMemory::from)
     }
 
     /// The innermost.
@@ -68,8 +67,7 @@ impl Branches {
         ensures { OnOk result (self.new ≡ branch ∷ other_branches self.old) }
     {
         let _before = self.branches.pop();
-        self.branches.push(branch)?;
-        Ok(())
+        self.branches.push(branch).map_err(NoMemory::from)
     }
 
     /// Takes the innermost.
@@ -176,8 +174,7 @@ impl<'a> Stack<'a> {
     pub(crate) fn push(&mut self, source: Source<'a>) -> Result<(), NoMemory>
         ensures { OnOk result (self.new ≡ source.entry ∷ self.old) }
     {
-        self.sources.push(source)?;
-        Ok(())
+        self.sources.push(source).map_err(NoMemory::from)
     }
 
     /// How many blocks the sources are and have open, or 32 where they are more.

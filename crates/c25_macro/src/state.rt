@@ -2,20 +2,21 @@
 //! `State` for one rule each: `conditions.rt` `.if`, `blocks.rt` macros, loops and copied files,
 //! `bodies.rt` their bodies, `lines.rt` a line that is read; `step.rt` goes on until a line is given.
 
-ghost use Rattle.std.specs.Prelude.{◌≡◌, ◌<◌, ◌^◌, ◌++◌, Some, None, OnOk, MatchBool};
+ghost use Rattle.std.specs.Prelude.{◌≡◌, ◌<◌, ◌^◌, ◌++◌, Some, None, MatchBool};
 ghost use Rattle.c25_meaning_expansion.specs.Expansion as exp;
 ghost use Rattle.c25_meaning_expansion.specs.ExpansionRuns.{start};
-ghost use Rattle.c25_macro.specs.Config.{config, mode_of};
+ghost use Rattle.c25_macro.specs.Config.{config, mode_of, Follows, GoesOn};
 ghost use Rattle.c25_macro.specs.Scopes.{kind_of, test_of};
 ghost use Rattle.c25_macro.specs.declared.state.Mode.TheVariants as modes;
 
 use crate::act::ExpansionAct;
 use crate::dictionary::Dictionary;
 use crate::line::Line;
+use crate::refusal::Refusal;
 use crate::scope::{Block, Branches, Kind, Scope, Source, Stack};
 use c25_files::text::Text;
 use c25_lines::Rows;
-use c25_meaning_common::no_memory::NoMemory;
+use c25_meaning_common::failure::Failure;
 use c25_meaning_files::place::SourcePlace;
 use std::alloc::Global;
 use std::mem;
@@ -53,6 +54,16 @@ pub(crate) enum Progress<'a> {
     Went,
     /// No line comes any more.
     Finished,
+}
+
+/// What a line that gives none comes to.
+pub(crate) fn went<'a>(done: Result<(), Failure<Refusal>>) -> Result<Progress<'a>, Failure<Refusal>>
+    ensures { (r : exp.Rewriting) (new : exp.Config) → GoesOn r done new → Follows r result new }
+{
+    match done {
+        Ok(()) => Ok(Progress::Went),
+        Err(failure) => Err(failure),
+    }
 }
 
 /// All that stands at a line.
@@ -99,15 +110,22 @@ impl<'a> State<'a> {
         }
     }
 
+    /// The next line is looked at in this way.
+    pub(crate) fn look(&mut self, mode: Mode<'a>)
+        ensures { self.new ≡ record self.old { mode = mode.entry } }
+    {
+        self.mode = mode;
+    }
+
     /// Opens a file, an expansion or a turn.
     pub(crate) fn open(
         &mut self,
         kind: Kind<'a>,
         last: SourcePlace,
         rows: Rows<'a>,
-    ) -> Result<(), NoMemory>
+    ) -> Result<(), Failure<Refusal>>
         requires reading { self.old.mode ≡ modes.Reading }
-        ensures { OnOk result (config self.new ≡ exp.source_opened (kind_of kind.entry) last rows.entry (config self.old)) }
+        ensures { GoesOn (exp.Goes (exp.source_opened (kind_of kind.entry) last rows.entry (config self.old))) result (config self.new) }
     {
         let source = Source {
             lines: rows.into_passage(),
@@ -118,7 +136,7 @@ impl<'a> State<'a> {
             },
         };
         let outer = mem::replace(&mut self.top, source);
-        self.below.push(outer)
+        self.below.push(outer).map_err(Failure::NoMemory)
     }
 
     /// Whether no block may be opened any more.

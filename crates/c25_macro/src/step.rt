@@ -3,17 +3,20 @@
 //! `State` and its other methods: `state.rt` says where they are.
 
 ghost use Rattle.std.specs.Prelude.{◌≡◌, ◌<◌, ◌^◌, [], OnOk};
-ghost use Rattle.c25_meaning_expansion.specs.ExpansionBounds.{IsBounded, nesting};
+ghost use Rattle.std.specs.String.{string_bytes};
+ghost use Rattle.c25_meaning_expansion.specs.Expansion as exp;
+ghost use Rattle.c25_meaning_expansion.specs.ExpansionBounds.{IsBounded};
 ghost use Rattle.c25_meaning_expansion.specs.ExpansionRuns as runs;
 ghost use Rattle.c25_meaning_files.specs.Files as meaning;
 ghost use Rattle.c25_meaning_language.specs.Value.{Table};
-ghost use Rattle.c25_macro.specs.Config.{config, mode_of, nested_in, Follows, ForBody, Answers};
+ghost use Rattle.c25_macro.specs.Acts.{bytes_of_names};
+ghost use Rattle.c25_macro.specs.Config.{config, Follows, IsNextRow, Answers};
 ghost use Rattle.c25_macro.specs.declared.state.Mode.TheVariants as modes;
 
 use crate::line::Line;
 use crate::refusal::{Refusal, fault};
 use crate::scope::Kind;
-use crate::state::{Mode, Progress, State};
+use crate::state::{Mode, Progress, State, went};
 use c25_expr::symbols::Symbols;
 use c25_files::files::Files;
 use c25_lines::Row;
@@ -22,24 +25,31 @@ use c25_meaning_language::statement::FaultKind;
 use std::mem;
 
 impl<'a> State<'a> {
-    /// No block is open that began in the innermost file, expansion or turn.
-    fn is_closed(&self) -> bool
-        ensures { result ≡ runs.is_closed (config self.now) }
+    /// The next line of the innermost file, expansion or turn, if it has one: one less may be read.
+    fn next_row(&mut self) -> Result<Option<Row<'a>>, Failure<Refusal>>
+        ensures next { IsNextRow self.old result self.new }
+        ensures scope { self.new.top.scope ≡ self.old.top.scope }
+        ensures below { self.new.below ≡ self.old.below }
+        ensures mode { self.new.mode ≡ self.old.mode }
+        ensures names { self.new.names ≡ self.old.names }
     {
-        match &self.mode {
-            Mode::Reading => self.top.scope.branches.is_empty(),
-            Mode::Acting { .. } => self.top.scope.branches.is_empty(),
-            Mode::InMacro { .. } => false,
-            Mode::InLoop { .. } => false,
+        let Some(row) = self.top.lines.next() else {
+            return Ok(None);
+        };
+        if self.left == 0 {
+            return Err(fault(FaultKind::Lines, row.place()));
         }
+        self.left -= 1;
+        Ok(Some(row))
     }
 
     /// The next turn of a loop, or what stood behind the file, expansion or turn that ends here.
     fn end_source(&mut self) -> Result<Progress<'a>, Failure<Refusal>>
-        requires { self.old.top.lines.rest ≡ [] }
+        requires ended { self.old.top.lines.rest ≡ [] }
+        requires reading { self.old.mode ≡ modes.Reading }
         ensures { (files : meaning.Files) (s : Table) → Follows (runs.front files s (config self.old).lines (config self.old)) result (config self.new) }
     {
-        if !self.is_closed() {
+        if !self.top.scope.branches.is_empty() {
             return Err(fault(FaultKind::OpenBlock, self.top.scope.last));
         }
         if self.below.is_empty() {
@@ -65,58 +75,56 @@ impl<'a> State<'a> {
         }
     }
 
-    /// A line that was read: it goes into the body that is collected, or does what it asks for.
-    fn take_row(
-        &mut self,
-        files: &'a Files,
-        symbols: &Symbols,
-        row: Row<'a>,
-        mode: Mode<'a>,
-    ) -> Result<Progress<'a>, Failure<Refusal>>
-        requires expansions { (config self.old).names.count < 2 ^ 31 }
-        requires skipped { nesting (config self.old).scope.branches < 2 ^ 31 }
-        requires collected { nested_in mode < 2 ^ 31 }
-        requires reading { self.old.mode ≡ modes.Reading }
-        ensures { ForBody self.old.top.lines.passed row.entry (λ body. Follows (runs.read_by files.now symbols.now row.entry (mode_of mode.entry body) (config self.old)) result (config self.new)) }
-    {
-        match mode {
-            Mode::InMacro {
-                name,
-                parameters,
-                nested,
-            } => {
-                self.collect_macro(row, name, parameters, nested)?;
-                Ok(Progress::Went)
-            }
-            Mode::InLoop { turns, nested } => {
-                self.collect_loop(row, turns, nested)?;
-                Ok(Progress::Went)
-            }
-            Mode::Reading => self.read_line(files, symbols, row),
-            Mode::Acting { .. } => self.read_line(files, symbols, row),
-        }
-    }
-
-    /// The next line is read, or else the innermost file, expansion or turn ends.
+    /// The next line does what it asks for, or else the innermost file, expansion or turn ends.
     fn read(
         &mut self,
         files: &'a Files,
         symbols: &Symbols,
-        mode: Mode<'a>,
     ) -> Result<Progress<'a>, Failure<Refusal>>
-        requires bounded { IsBounded (record (config self.old) { mode = mode_of mode self.old.top.lines.passed }) }
+        requires bounded { IsBounded (config self.old) }
         requires reading { self.old.mode ≡ modes.Reading }
-        ensures { Follows (runs.front files.now symbols.now (config self.old).lines (record (config self.old) { mode = mode_of mode.entry self.old.top.lines.passed })) result (config self.new) }
+        ensures { Follows (runs.front files.now symbols.now (config self.old).lines (config self.old)) result (config self.new) }
     {
-        let Some(row) = self.top.lines.next() else {
-            self.mode = mode;
-            return self.end_source();
-        };
-        if self.left == 0 {
-            return Err(fault(FaultKind::Lines, row.place()));
+        match self.next_row() {
+            Ok(Some(row)) => self.read_line(files, symbols, row),
+            Ok(None) => self.end_source(),
+            Err(refusal) => Err(refusal),
         }
-        self.left -= 1;
-        self.take_row(files, symbols, row, mode)
+    }
+
+    /// The next line goes into the body of this macro, which is open where there is none.
+    fn read_into_macro(
+        &mut self,
+        name: String,
+        parameters: Vec<String>,
+        nested: usize,
+    ) -> Result<Progress<'a>, Failure<Refusal>>
+        requires collected { nested < 2 ^ 31 }
+        requires reading { self.old.mode ≡ modes.Reading }
+        ensures { (files : meaning.Files) (s : Table) → Follows (runs.front files s (config self.old).lines (record (config self.old) { mode = exp.InMacro (string_bytes name) (bytes_of_names parameters.items) self.old.top.lines.passed nested })) result (config self.new) }
+    {
+        match self.next_row() {
+            Ok(Some(row)) => went(self.collect_macro(row, name, parameters, nested)),
+            Ok(None) => Err(fault(FaultKind::OpenBlock, self.top.scope.last)),
+            Err(refusal) => Err(refusal),
+        }
+    }
+
+    /// The next line goes into the body of this loop, which is open where there is none.
+    fn read_into_loop(
+        &mut self,
+        turns: usize,
+        nested: usize,
+    ) -> Result<Progress<'a>, Failure<Refusal>>
+        requires collected { nested < 2 ^ 31 }
+        requires reading { self.old.mode ≡ modes.Reading }
+        ensures { (files : meaning.Files) (s : Table) → Follows (runs.front files s (config self.old).lines (record (config self.old) { mode = exp.InLoop turns self.old.top.lines.passed nested })) result (config self.new) }
+    {
+        match self.next_row() {
+            Ok(Some(row)) => went(self.collect_loop(row, turns, nested)),
+            Ok(None) => Err(fault(FaultKind::OpenBlock, self.top.scope.last)),
+            Err(refusal) => Err(refusal),
+        }
     }
 
     /// One rewriting.
@@ -130,11 +138,14 @@ impl<'a> State<'a> {
         ensures { Follows (runs.rewrite files.now symbols.now (config self.old)) result (config self.new) }
     {
         match mem::replace(&mut self.mode, Mode::Reading) {
-            Mode::Acting { place, act } => {
-                self.act(files, symbols, place, act)?;
-                Ok(Progress::Went)
-            }
-            mode => self.read(files, symbols, mode),
+            Mode::Reading => self.read(files, symbols),
+            Mode::Acting { place, act } => went(self.act(files, symbols, place, act)),
+            Mode::InMacro {
+                name,
+                parameters,
+                nested,
+            } => self.read_into_macro(name, parameters, nested),
+            Mode::InLoop { turns, nested } => self.read_into_loop(turns, nested),
         }
     }
 
