@@ -24,10 +24,10 @@ fn without<'a>(
 ) -> Result<AssemblyAct<'a>, Failure<FaultKind>>
     ensures { Meets act_of (says.without (act_of act.entry) (operands_view operands.now)) result }
 {
-    match operands {
-        [] => Ok(act),
-        _ => Err(Failure::Fault(FaultKind::OperandCount)),
-    }
+    operands
+        .is_empty()
+        .then_some(act)
+        .ok_or(Failure::Fault(FaultKind::OperandCount))
 }
 
 /// `.text`, `.data`
@@ -50,7 +50,10 @@ fn entering<'a>(
     ensures { Meets act_of (says.entering (operands_view operands.now)) result }
 {
     match operands {
-        [operand] => Ok(AssemblyAct::Enter(section_in(alloc, operand)?)),
+        [operand] => match section_in(alloc, operand) {
+            Ok(section) => Ok(AssemblyAct::Enter(section)),
+            Err(failure) => Err(failure),
+        },
         _ => Err(Failure::Fault(FaultKind::OperandCount)),
     }
 }
@@ -65,8 +68,8 @@ fn reserving_pair<'a>(
 {
     match name_in(name) {
         Ok(name) => {
-            let count = later_in(alloc, count)?;
             let section = String::from_str(alloc, ".bss")?;
+            let count = later_in(alloc, count)?;
             Ok(AssemblyAct::Reserve {
                 section,
                 name,
@@ -88,9 +91,9 @@ fn reserving_flagged<'a>(
 {
     match name_in(name) {
         Ok(name) => {
+            let section = String::from_str(alloc, ".bss")?;
             let count = later_in(alloc, count)?;
             let flag = later_in(alloc, flag)?;
-            let section = String::from_str(alloc, ".bss")?;
             Ok(AssemblyAct::Reserve {
                 section,
                 name,
@@ -155,7 +158,10 @@ fn spacing<'a>(
     ensures { Meets act_of (says.with_expression says.Space (operands_view operands.now)) result }
 {
     match operands {
-        [operand] => Ok(AssemblyAct::Space(expression_in(alloc, operand)?)),
+        [operand] => match expression_in(alloc, operand) {
+            Ok(bits) => Ok(AssemblyAct::Space(bits)),
+            Err(failure) => Err(failure),
+        },
         _ => Err(Failure::Fault(FaultKind::OperandCount)),
     }
 }
@@ -169,10 +175,10 @@ fn equating<'a>(
     ensures { Meets act_of (says.with_expression (says.Equate name.now) (operands_view operands.now)) result }
 {
     match operands {
-        [operand] => {
-            let value = expression_in(alloc, operand)?;
-            Ok(AssemblyAct::Equate { name, value })
-        }
+        [operand] => match expression_in(alloc, operand) {
+            Ok(value) => Ok(AssemblyAct::Equate { name, value }),
+            Err(failure) => Err(failure),
+        },
         _ => Err(Failure::Fault(FaultKind::OperandCount)),
     }
 }
@@ -185,7 +191,10 @@ fn loading<'a>(
     ensures { Meets act_of (says.loading (operands_view operands.now)) result }
 {
     match some(operands) {
-        Ok(()) => Ok(AssemblyAct::Load(strings_in(alloc, operands)?)),
+        Ok(()) => match strings_in(alloc, operands) {
+            Ok(words) => Ok(AssemblyAct::Load(words)),
+            Err(failure) => Err(failure),
+        },
         Err(fault) => Err(Failure::Fault(fault)),
     }
 }
@@ -211,7 +220,10 @@ fn putting<'a>(
 ) -> Result<AssemblyAct<'a>, Failure<FaultKind>>
     ensures { Meets act_of (steps.putting target (operands_view operands.now)) result }
 {
-    Ok(AssemblyAct::Put(target, expressions_in(alloc, operands)?))
+    match expressions_in(alloc, operands) {
+        Ok(values) => Ok(AssemblyAct::Put(target, values)),
+        Err(failure) => Err(failure),
+    }
 }
 
 /// What a directive does on a line with this label and these operands.
@@ -235,8 +247,14 @@ pub(crate) fn act_of<'a>(
         Directive::Characters => loading(alloc, operands),
         Directive::Space => spacing(alloc, operands),
         Directive::Set => equating(alloc, label, operands),
-        Directive::Global => Ok(AssemblyAct::Declare(some_names(alloc, operands)?)),
-        Directive::Def => Ok(AssemblyAct::Export(some_names(alloc, operands)?)),
+        Directive::Global => match some_names(alloc, operands) {
+            Ok(names) => Ok(AssemblyAct::Declare(names)),
+            Err(failure) => Err(failure),
+        },
+        Directive::Def => match some_names(alloc, operands) {
+            Ok(names) => Ok(AssemblyAct::Export(names)),
+            Err(failure) => Err(failure),
+        },
         Directive::Label => naming(operands),
         Directive::Registers => without(AssemblyAct::Registers, operands),
         Directive::Ignored => Ok(AssemblyAct::Nothing),

@@ -78,10 +78,10 @@ pub fn operation_of(
     ensures { Meets view.operation_of (operation_of spelling (operands_view operands.now)) result }
 {
     match form_in(alloc, spelling, operands)? {
-        Ok(form) => {
-            let trees = exprs_of(alloc, operands)?;
-            Ok(Operation { form, trees })
-        }
+        Ok(form) => match exprs_of(alloc, operands) {
+            Ok(trees) => Ok(Operation { form, trees }),
+            Err(failure) => Err(failure),
+        },
         Err(fault) => Err(Failure::Fault(fault)),
     }
 }

@@ -165,13 +165,9 @@ fn plain_change(name: PlainName, operands: &[Written]) -> Result<Change, FaultKi
     match name {
         PlainName::Norm => norm(operands),
         PlainName::Spm | PlainName::Fort | PlainName::Cmpr => {
-            expressions(1, 1, operands)?;
-            Ok(Change::Keep)
+            expressions(1, 1, operands).and(Ok(Change::Keep))
         }
-        _ => {
-            expressions(0, 0, operands)?;
-            Ok(Change::Keep)
-        }
+        _ => expressions(0, 0, operands).and(Ok(Change::Keep)),
     }
 }
 
@@ -183,8 +179,7 @@ fn short_form(name: ShortName, operands: &[Written]) -> Result<Form, FaultKind>
         ShortName::Lark => 2,
         _ => 1,
     };
-    expressions(count, count, operands)?;
-    Ok(Form::Short(name))
+    expressions(count, count, operands).and(Ok(Form::Short(name)))
 }
 
 /// The form of an instruction with a constant of 16 bits: `LRLK` has a register before it, the others perhaps a shift
@@ -196,8 +191,7 @@ fn long_form(name: LongName, operands: &[Written]) -> Result<Form, FaultKind>
         LongName::Lrlk => 2,
         _ => 1,
     };
-    expressions(least, 2, operands)?;
-    Ok(Form::Long(name))
+    expressions(least, 2, operands).and(Ok(Form::Long(name)))
 }
 
 /// The form of an instruction by its row of the table of instructions.
@@ -224,17 +218,14 @@ pub fn form_of(spelling: Spelling, operands: &[Written]) -> Result<Form, FaultKi
 {
     match spelling {
         Spelling::Row(mnemonic) => row_form(mnemonic, operands),
-        Spelling::Zac => {
-            expressions(0, 0, operands)?;
-            Ok(Form::Short(ShortName::Lack))
-        }
-        Spelling::Nop => {
-            expressions(0, 0, operands)?;
-            Ok(Form::Mem(MemName::Mar, AddrForm::Direct))
-        }
-        Spelling::Larp => {
-            expressions(1, 1, operands)?;
-            Ok(Form::Mem(MemName::Mar, AddrForm::Indirect(Change::Keep)))
-        }
+        Spelling::Zac => expressions(0, 0, operands).and(Ok(Form::Short(ShortName::Lack))),
+        Spelling::Nop => expressions(0, 0, operands).and(Ok(Form::Mem(
+            MemName::Mar,
+            AddrForm::Direct,
+        ))),
+        Spelling::Larp => expressions(1, 1, operands).and(Ok(Form::Mem(
+            MemName::Mar,
+            AddrForm::Indirect(Change::Keep),
+        ))),
     }
 }

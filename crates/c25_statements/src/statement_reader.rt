@@ -31,8 +31,10 @@ fn instructing<'a>(
 ) -> Result<AssemblyAct<'a>, Failure<FaultKind>>
     ensures { Meets act_of (says.instructing word.now (operands_view operands.now)) result }
 {
-    let Operation { form, trees } = operation_in(alloc, word, operands)?;
-    Ok(AssemblyAct::Put(Target::Instruction(form), trees))
+    match operation_in(alloc, word, operands) {
+        Ok(Operation { form, trees }) => Ok(AssemblyAct::Put(Target::Instruction(form), trees)),
+        Err(failure) => Err(failure),
+    }
 }
 
 /// What a line does whose first word is no directive.
@@ -108,9 +110,11 @@ fn statement_by(
     ensures { Meets statement_of (says.statement_by directive text.now) result }
 {
     let line = parts_for(directive, text)?;
-    let act = act_by(alloc, directive, &line)?;
     let label = label_for(directive, line.label);
-    Ok(Statement { label, act })
+    match act_by(alloc, directive, &line) {
+        Ok(act) => Ok(Statement { label, act }),
+        Err(failure) => Err(failure),
+    }
 }
 
 /// What a line says, or the first fault that it shows by itself: one of its text (10 to 13), a first

@@ -45,14 +45,16 @@ impl Trees {
             return Ok(());
         }
         match read_expr(alloc, tokens) {
-            Ok(expr) => self.exprs.push(expr)?,
-            Err(Failure::Fault(ExpressionFault::TooDeep)) => self.deep = true,
-            Err(Failure::Fault(ExpressionFault::BadExpression)) => {
-                return Err(Failure::Fault(FaultKind::BadExpression));
+            Ok(expr) => Ok(self.exprs.push(expr)?),
+            Err(Failure::Fault(ExpressionFault::TooDeep)) => {
+                self.deep = true;
+                Ok(())
             }
-            Err(Failure::NoMemory(error)) => return Err(error.into()),
+            Err(Failure::Fault(ExpressionFault::BadExpression)) => {
+                Err(Failure::Fault(FaultKind::BadExpression))
+            }
+            Err(Failure::NoMemory(error)) => Err(Failure::NoMemory(error)),
         }
-        Ok(())
     }
 
     /// All of them, or TooDeep (21) where one was told: a token list that is no expression comes before it.
