@@ -1,12 +1,18 @@
 -- Texts that grow at their end.
-use Rattle.std.proofs.Common.{◌≡◌, ℕ, List, [], ◌++◌, ap, ◌∙◌, append_assoc}
+use Rattle.std.proofs.Common.{◌≡◌, ℕ, List, [], ◌∷◌, ◌++◌, Result, Ok, Err, OnOk, ap, ◌∙◌, append_assoc}
 
--- five pieces
-pub counts_joined : (s0 s1 s2 s3 s4 s5 a b c d e : List ℕ) → s1 ≡ s0 ++ a → s2 ≡ s1 ++ b → s3 ≡ s2 ++ c → s4 ≡ s3 ++ d → s5 ≡ s4 ++ e → s5 ≡ s0 ++ (a ++ b ++ c ++ d ++ e)
-counts_joined s0 s1 s2 s3 s4 s5 a b c d e p q r s t =
-    t
-    ∙ ap (λ (x : List ℕ). x ++ e) (s ∙ ap (λ (x : List ℕ). x ++ d) (r ∙ ap (λ (x : List ℕ). x ++ c) (q ∙ ap (λ (x : List ℕ). x ++ b) p)))
+-- a piece, and two more with a blank before each
+counts_joined : (s0 s1 s2 s3 a b c : List ℕ) → s1 ≡ s0 ++ a → s2 ≡ s1 ++ 32 ∷ b → s3 ≡ s2 ++ 32 ∷ c → s3 ≡ s0 ++ (a ++ (32 ∷ []) ++ b ++ (32 ∷ []) ++ c)
+counts_joined s0 s1 s2 s3 a b c p q r =
+    r
+    ∙ ap (λ (x : List ℕ). x ++ 32 ∷ c) (q ∙ ap (λ (x : List ℕ). x ++ 32 ∷ b) p)
     ∙ simp append_assoc
+
+-- the same where the call that appends the last answers
+pub counts_told : {X E : Type 0} (r : Result X E) (s0 s1 s2 s3 a b c : List ℕ) → s1 ≡ s0 ++ a → s2 ≡ s1 ++ 32 ∷ b → OnOk r (s3 ≡ s2 ++ 32 ∷ c)
+    → OnOk r (s3 ≡ s0 ++ (a ++ (32 ∷ []) ++ b ++ (32 ∷ []) ++ c))
+counts_told (Ok x) s0 s1 s2 s3 a b c p q r = counts_joined s0 s1 s2 s3 a b c p q r
+counts_told (Err e) s0 s1 s2 s3 a b c p q r = r
 
 -- the whole text
 pub text_joined : (s0 s1 s2 s3 s4 head symbols ranges last : List ℕ) → s0 ≡ [] → s1 ≡ s0 ++ head → s2 ≡ s1 ++ symbols → s3 ≡ s2 ++ ranges → s4 ≡ s3 ++ last → s4 ≡ head ++ symbols ++ ranges ++ last

@@ -9,10 +9,10 @@ ghost use Rattle.c25_meaning_placing.specs.Place as place;
 ghost use Rattle.c25_symbols.specs.Text.{range_line, word_counts};
 ghost use Rattle.c25_symbols.specs.View.{AreSized, KnowsUsed, range_view};
 
-use crate::digits::{push_five, push_four};
+use crate::digits::{push_count, push_five, push_four, push_name};
 use crate::used::UsedWords;
 use c25_cmd::{Command, MemoryRange};
-use c25_meaning_common::no_memory::NoMemory;
+use std::alloc::AllocError;
 
 /// A range of a page.
 #[derive(Clone, Copy)]
@@ -25,21 +25,18 @@ struct Range<'a> {
 
 /// Appends how many words there are, how many of them are used, and how many are free.
 #[tactic(auto, unfolding(crate::specs::Text::word_counts))]
-fn push_counts(out: &mut String, size: u32, used: u32) -> Result<(), NoMemory>
+fn push_counts(out: &mut String, size: u32, used: u32) -> Result<(), AllocError>
     requires { used ≤ size }
     ensures { OnOk result (string_bytes out.new ≡ string_bytes out.old ++ word_counts size used) }
 {
     push_five(out, size)?;
-    out.push_str(" ")?;
-    push_five(out, used)?;
-    out.push_str(" ")?;
-    push_five(out, size - used)?;
-    Ok(())
+    push_count(out, used)?;
+    push_count(out, size - used)
 }
 
 /// Appends the line of a range.
 #[tactic(auto, unfolding(crate::specs::Text::range_line))]
-fn push_range(out: &mut String, used: &UsedWords, range: &Range<'_>) -> Result<(), NoMemory>
+fn push_range(out: &mut String, used: &UsedWords, range: &Range<'_>) -> Result<(), AllocError>
     requires sized { AreSized used.now }
     requires range { IsRange (range_view range.now) }
     ensures { (places : List place.Place) → KnowsUsed used.now places → OnOk result (string_bytes out.new ≡ string_bytes out.old ++ range_line places (range_view range.now)) }
@@ -50,13 +47,11 @@ fn push_range(out: &mut String, used: &UsedWords, range: &Range<'_>) -> Result<(
     push_four(out, range.origin as u16)?;
     out.push_str(" ")?;
     push_counts(out, range.size, count)?;
-    out.push_str(" ")?;
-    out.push_str(range.name)?;
-    Ok(out.push_str("\n")?)
+    push_name(out, range.name)
 }
 
 /// Appends the lines of the ranges of a command file.
-fn push_named(out: &mut String, used: &UsedWords, memory: &[MemoryRange]) -> Result<(), NoMemory>
+fn push_named(out: &mut String, used: &UsedWords, memory: &[MemoryRange]) -> Result<(), AllocError>
     requires sized { AreSized used.now }
     requires ranges { All IsRange (ranges_of memory.now) }
     ensures { (places : List place.Place) → KnowsUsed used.now places → OnOk result (string_bytes out.new ≡ string_bytes out.old ++ flat_map (range_line places) (ranges_of memory.now)) }
@@ -79,7 +74,7 @@ pub(crate) fn push_ranges(
     out: &mut String,
     used: &UsedWords,
     command: &Command,
-) -> Result<(), NoMemory>
+) -> Result<(), AllocError>
     requires sized { AreSized used.now }
     requires command { IsCommand (command_data command.now) }
     ensures { (places : List place.Place) → KnowsUsed used.now places → OnOk result (string_bytes out.new ≡ string_bytes out.old ++ flat_map (range_line places) (ranges_for (command_data command.now))) }

@@ -10,7 +10,7 @@ ghost use Rattle.c25_symbols.specs.Symbols.{symbols_by_name};
 ghost use Rattle.c25_symbols.specs.Text.{kind_text, place_words, symbol_line, symbols_text};
 ghost use Rattle.c25_symbols.specs.View.{entries_view, entry_view, places_of, places_view};
 
-use crate::digits::push_value;
+use crate::digits::{push_name, push_value, push_word};
 use crate::entries::{Entry, all_entries};
 use crate::order::sort_by_name;
 use crate::ranges::push_ranges;
@@ -20,7 +20,7 @@ use c25_map::{Map, OutputSection};
 use c25_meaning_common::no_memory::NoMemory;
 use c25_meaning_objects::object::SymbolKind;
 use c25_obj::Module;
-use std::alloc::Global;
+use std::alloc::{AllocError, Global};
 
 /// What a symbol's value is.
 fn kind_text(kind: SymbolKind) -> &'static str
@@ -36,32 +36,28 @@ fn kind_text(kind: SymbolKind) -> &'static str
 
 /// Appends what a symbol's value is, and where.
 #[tactic(auto, unfolding(crate::specs::Text::place_words))]
-fn push_place(out: &mut String, entry: &Entry<'_>) -> Result<(), NoMemory>
+fn push_place(out: &mut String, entry: &Entry<'_>) -> Result<(), AllocError>
     ensures { OnOk result (string_bytes out.new ≡ string_bytes out.old ++ place_words (entry_view entry.now)) }
 {
     out.push_str(kind_text(entry.kind))?;
-    out.push_str(" ")?;
-    out.push_str(entry.section)?;
-    out.push_str(" ")?;
-    Ok(out.push_str(entry.source)?)
+    push_word(out, entry.section)?;
+    push_word(out, entry.source)
 }
 
 /// Appends the line of a symbol.
 #[tactic(auto, unfolding(crate::specs::Text::symbol_line))]
-fn push_symbol(out: &mut String, entry: &Entry<'_>) -> Result<(), NoMemory>
+fn push_symbol(out: &mut String, entry: &Entry<'_>) -> Result<(), AllocError>
     ensures { OnOk result (string_bytes out.new ≡ string_bytes out.old ++ symbol_line (entry_view entry.now)) }
 {
     out.push_str("SYMBOL ")?;
     push_value(out, entry.value)?;
     out.push_str(" ")?;
     push_place(out, entry)?;
-    out.push_str(" ")?;
-    out.push_str(entry.name)?;
-    Ok(out.push_str("\n")?)
+    push_name(out, entry.name)
 }
 
 /// Appends the lines of symbols, in their order.
-fn push_entries(out: &mut String, entries: &[Entry<'_>]) -> Result<(), NoMemory>
+fn push_entries(out: &mut String, entries: &[Entry<'_>]) -> Result<(), AllocError>
     ensures { OnOk result (string_bytes out.new ≡ string_bytes out.old ++ flat_map symbol_line (entries_view entries.now)) }
 {
     for entry in entries {
@@ -77,7 +73,7 @@ fn push_symbols(
     modules: &[Module],
     sources: &[String],
     sections: &[OutputSection],
-) -> Result<(), NoMemory>
+) -> Result<(), AllocError>
     ensures { OnOk result (string_bytes out.new ≡ string_bytes out.old ++ flat_map symbol_line (symbols_by_name modules.now (map string_bytes sources.now) (places_view sections.now))) }
 {
     let mut entries = all_entries(alloc, modules, sources, sections)?;
