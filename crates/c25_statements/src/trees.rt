@@ -45,16 +45,14 @@ impl Trees {
             return Ok(());
         }
         match read_expr(alloc, tokens) {
-            Ok(expr) => Ok(self.exprs.push(expr)?),
-            Err(Failure::Fault(ExpressionFault::TooDeep)) => {
-                self.deep = true;
-                Ok(())
-            }
+            Ok(expr) => self.exprs.push(expr)?,
+            Err(Failure::Fault(ExpressionFault::TooDeep)) => self.deep = true,
             Err(Failure::Fault(ExpressionFault::BadExpression)) => {
-                Err(Failure::Fault(FaultKind::BadExpression))
+                return Err(Failure::Fault(FaultKind::BadExpression));
             }
-            Err(Failure::NoMemory(error)) => Err(Failure::NoMemory(error)),
+            Err(Failure::NoMemory(error)) => return Err(error.into()),
         }
+        Ok(())
     }
 
     /// All of them, or TooDeep (21) where one was told: a token list that is no expression comes before it.
