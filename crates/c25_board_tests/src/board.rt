@@ -3,6 +3,7 @@
 ghost use Rattle.std.specs.Prelude.{◌≡◌, IfOk};
 ghost use Rattle.c25_board.specs.Board.{steps};
 
+use crate::values::{equal, is_printed};
 use c25_board::board::{Board, Outcome};
 use c25_board::fixed_sink::FixedSink;
 use c25_board::ports::{ListSink, NoSamples, Sink};
@@ -64,14 +65,15 @@ const STORES_MARKS: [Mark; 4] = [
     },
 ];
 
-/// Puts words into a page, from an address on.
-fn put_words(page: &mut WordMap, start: u16, words: &[u16]) -> Result<(), Fail> {
-    let mut address = start;
+/// A page with these words from its first address on.
+fn page_of(alloc: Global, words: &[u16]) -> Result<WordMap, Fail> {
+    let mut page = WordMap::new(alloc);
+    let mut address: u16 = 0;
     for word in words {
         page.insert(address, *word)?;
         address = address.wrapping_add(1);
     }
-    Ok(())
+    Ok(page)
 }
 
 /// A board with these words, instructions at these places, no schedule and no samples.
@@ -83,13 +85,12 @@ fn board_with<S: Sink + Drop>(
 ) -> Result<Board<NoSamples, S>, Fail>
     ensures { IfOk result (λ board. steps board ≡ 0) }
 {
-    let mut page0 = WordMap::new(alloc);
-    put_words(&mut page0, 0, words)?;
-    let page1 = WordMap::new(alloc);
-    let schedule = read_schedule(alloc, "")?;
     if !marks_fit(marks) {
         return Err(Fail::from("these are no places of instructions"));
     }
+    let page0 = page_of(alloc, words)?;
+    let page1 = WordMap::new(alloc);
+    let schedule = read_schedule(alloc, "")?;
     Ok(Board::new(alloc, &page0, &page1, marks, &[], schedule, NoSamples, sink)?)
 }
 
@@ -97,15 +98,15 @@ fn board_with<S: Sink + Drop>(
 fn runs_are_one_run(rt: HostRuntime) -> Result<(), Fail> {
     let sink = ListSink::new(rt.alloc());
     let mut board = board_with(rt.alloc(), &PROGRAM, &MARKS, sink)?;
-    assert_eq!(rt; board.run(2), Outcome::Ran);
-    assert_eq!(rt; board.sink().words().len(), 0);
-    assert_eq!(rt; board.run(7), Outcome::Ran);
-    assert_eq!(rt; board.steps(), 9);
-    assert_eq!(rt; board.sink().words(), [(1, 0x41)].as_slice());
-    assert_eq!(rt; board.sink().refused(), None);
-    assert_eq!(rt; board.regs().pc, 3);
-    assert_eq!(rt; board.regs().acc, 0x41);
-    assert_eq!(rt; board.data().get(0x60).copied(), Some(0x41));
+    equal(&rt, board.run(2), Outcome::Ran);
+    equal(&rt, board.sink().words().len(), 0);
+    equal(&rt, board.run(7), Outcome::Ran);
+    equal(&rt, board.steps(), 9);
+    equal(&rt, board.sink().words(), [(1, 0x41)].as_slice());
+    equal(&rt, board.sink().refused(), None);
+    equal(&rt, board.regs().pc, 3);
+    equal(&rt, board.regs().acc, 0x41);
+    equal(&rt, board.data().get(0x60).copied(), Some(0x41));
     Ok(())
 }
 
@@ -113,17 +114,18 @@ fn runs_are_one_run(rt: HostRuntime) -> Result<(), Fail> {
 fn cleared_sinks_take_words_again(rt: HostRuntime) -> Result<(), Fail> {
     let sink = FixedSink::<3>::new();
     let mut board = board_with(rt.alloc(), &PUTS, &MARKS, sink)?;
-    assert_eq!(rt; board.run(100), Outcome::SinkFault(8));
-    assert_eq!(rt;
+    equal(&rt, board.run(100), Outcome::SinkFault(8));
+    equal(
+        &rt,
         board.sink().words(),
-        [(1, 0x41), (1, 0x41), (1, 0x41)].as_slice()
+        [(1, 0x41), (1, 0x41), (1, 0x41)].as_slice(),
     );
-    assert_eq!(rt; board.pc(), 2);
-    assert_eq!(rt; board.data_at(0x60), 0x41);
+    equal(&rt, board.pc(), 2);
+    equal(&rt, board.data_at(0x60), 0x41);
     board.sink_mut().clear();
-    assert_eq!(rt; board.steps(), 8);
-    assert_eq!(rt; board.run(1), Outcome::Ran);
-    assert_eq!(rt; board.sink().words(), [(1, 0x41)].as_slice());
+    equal(&rt, board.steps(), 8);
+    equal(&rt, board.run(1), Outcome::Ran);
+    equal(&rt, board.sink().words(), [(1, 0x41)].as_slice());
     Ok(())
 }
 
@@ -132,23 +134,18 @@ fn cleared_sinks_take_words_again(rt: HostRuntime) -> Result<(), Fail> {
 fn data_memory_has_block_b0_under_cnf_1(rt: HostRuntime) -> Result<(), Fail> {
     let sink = ListSink::new(rt.alloc());
     let mut board = board_with(rt.alloc(), &STORES, &STORES_MARKS, sink)?;
-    assert_eq!(rt; board.run(4), Outcome::Ran);
-    assert_eq!(rt; board.settled(), true);
-    assert_eq!(rt; board.data_at(0x200), 0);
-    assert_eq!(rt; board.prog_at(0xff00), 0x41);
-    assert_eq!(rt; board.data().get(0x200).copied(), Some(0x41));
+    equal(&rt, board.run(4), Outcome::Ran);
+    equal(&rt, board.settled(), true);
+    equal(&rt, board.data_at(0x200), 0);
+    equal(&rt, board.prog_at(0xff00), 0x41);
+    equal(&rt, board.data().get(0x200).copied(), Some(0x41));
     Ok(())
 }
 
 #[test]
 fn halts_are_printed(rt: HostRuntime) -> Result<(), Fail> {
-    let left = Halt::Stop(Stop::PortDry).to_string(rt.alloc())?;
-    assert_eq!(rt; left.as_str(), "the code was left: PortDry");
-    for text in [
-        Halt::Sink.to_string(rt.alloc())?,
-        SinkFailed.to_string(rt.alloc())?,
-    ] {
-        assert_eq!(rt; text.as_str(), "the sink failed");
-    }
-    Ok(())
+    let left = Halt::Stop(Stop::PortDry);
+    is_printed(&rt, left, "the code was left: PortDry")?;
+    is_printed(&rt, Halt::Sink, "the sink failed")?;
+    is_printed(&rt, SinkFailed, "the sink failed")
 }

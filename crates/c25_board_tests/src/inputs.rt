@@ -1,8 +1,9 @@
 //! Samples and schedules.
 
+use crate::values::{equal, is_printed};
 use c25_board::ports::Feed;
 use c25_board::samples::read_samples;
-use c25_board::schedule::read_schedule;
+use c25_board::schedule::{Schedule, read_schedule};
 use c25_meaning_common::failure::Failure;
 use c25_meaning_common::placed::Placed;
 use c25_meaning_stimulus::sample::BadSamples;
@@ -29,38 +30,30 @@ fn ports_take_in_turn(rt: HostRuntime) -> Result<(), Fail> {
     Ok(())
 }
 
+/// The last entry of a schedule, where that is a level of BIO: its step and its level.
+fn last_level(schedule: &Schedule) -> Option<(u32, bool)> {
+    let last = schedule.as_slice().last()?;
+    match last.event {
+        Event::Bio(level) => Some((last.step, level)),
+        Event::Latch(_) => None,
+    }
+}
+
 #[test]
 fn a_schedule_is_read(rt: HostRuntime) -> Result<(), Fail> {
     let schedule = read_schedule(rt.alloc(), "5 INT1\n6 BIO0\n")?;
-    assert_eq!(rt; schedule.as_slice().len(), 2);
-    let last = schedule.as_slice().last().ok_or("no entry")?;
-    assert_eq!(rt; last.step, 6);
-    match last.event {
-        Event::Bio(level) => {
-            assert_eq!(rt; level, false);
-        }
-        Event::Latch(_) => return Err("another event")?,
-    }
+    equal(&rt, schedule.as_slice().len(), 2);
+    equal(&rt, last_level(&schedule), Some((6, false)));
     Ok(())
+}
+
+/// The refusal of a line.
+fn refusal<F>(place: usize, fault: F) -> Failure<Placed<usize, F>> {
+    Failure::Fault(Placed { place, fault })
 }
 
 #[test]
 fn refusals_are_printed(rt: HostRuntime) -> Result<(), Fail> {
-    let samples = Failure::Fault(Placed {
-        place: 3usize,
-        fault: BadSamples,
-    });
-    assert_eq!(rt;
-        format!(in rt.alloc(); "{samples}")?.as_str(),
-        "3: BadSamples"
-    );
-    let schedule = Failure::Fault(Placed {
-        place: 12usize,
-        fault: BadSchedule,
-    });
-    assert_eq!(rt;
-        format!(in rt.alloc(); "{schedule}")?.as_str(),
-        "12: BadSchedule"
-    );
-    Ok(())
+    is_printed(&rt, refusal(3, BadSamples), "3: BadSamples")?;
+    is_printed(&rt, refusal(12, BadSchedule), "12: BadSchedule")
 }

@@ -5,3 +5,5 @@
 mod board;
 #[cfg(test)]
 mod inputs;
+#[cfg(test)]
+mod values;
