@@ -1,11 +1,12 @@
 //! Commands that set and clear breakpoints.
 
-ghost use Rattle.std.specs.Prelude.{◌≡◌, IfOk, OnErr, OnOk, string_bytes};
+ghost use Rattle.std.specs.Prelude.{◌≡◌, false, IfOk, OnErr, OnOk, string_bytes};
 ghost use Rattle.c25_meaning_breakpoints.specs.Goes.{is_breakpoint};
 ghost use Rattle.c25_meaning_breakpoints.specs.Set.{can_set, with_breakpoint, without_breakpoint};
 ghost use Rattle.c25_meaning_debugger.specs.Texts.{cleared_text, set_text};
 
 use crate::answers::{push_cleared, push_set};
+use crate::steps::{Told, shown};
 use c25_breaks::breakpoints::{Breakpoints, MOST};
 use c25_meaning_common::no_memory::NoMemory;
 use std::alloc::Global;
@@ -22,15 +23,16 @@ pub(crate) fn tell_set(
     alloc: Global,
     breakpoints: &mut Breakpoints,
     address: u16,
-) -> Result<String, NoMemory>
-    ensures text { IfOk result (λ text. string_bytes text ≡ set_text (can_set breakpoints.old address) address) }
+) -> Result<Told, NoMemory>
+    ensures text { IfOk result (λ told. string_bytes told.text ≡ set_text (can_set breakpoints.old address) address) }
+    ensures refused { IfOk result (λ told. told.is_refused ≡ false) }
     ensures breakpoints { OnOk result (breakpoints.new ≡ with_breakpoint breakpoints.old address) }
     ensures kept { OnErr result (breakpoints.new ≡ breakpoints.old) }
 {
     let mut text = String::new(alloc);
     push_set(&mut text, address, can_be_set(breakpoints, address))?;
     breakpoints.set(address);
-    Ok(text)
+    Ok(shown(text))
 }
 
 /// Clears a breakpoint, and tells whether one was there.
@@ -38,13 +40,14 @@ pub(crate) fn tell_cleared(
     alloc: Global,
     breakpoints: &mut Breakpoints,
     address: u16,
-) -> Result<String, NoMemory>
-    ensures text { IfOk result (λ text. string_bytes text ≡ cleared_text (is_breakpoint breakpoints.old address) address) }
+) -> Result<Told, NoMemory>
+    ensures text { IfOk result (λ told. string_bytes told.text ≡ cleared_text (is_breakpoint breakpoints.old address) address) }
+    ensures refused { IfOk result (λ told. told.is_refused ≡ false) }
     ensures breakpoints { OnOk result (breakpoints.new ≡ without_breakpoint breakpoints.old address) }
     ensures kept { OnErr result (breakpoints.new ≡ breakpoints.old) }
 {
     let mut text = String::new(alloc);
     push_cleared(&mut text, address, breakpoints.contains(address))?;
     breakpoints.clear(address);
-    Ok(text)
+    Ok(shown(text))
 }

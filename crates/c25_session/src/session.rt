@@ -7,7 +7,7 @@ use crate::breakpoints::{tell_cleared, tell_set};
 use crate::shown::{
     show_data, show_list, show_place, show_program, show_registers, show_stack, show_symbols,
 };
-use crate::steps::{Told, shown, tell_steps};
+use crate::steps::{Told, tell_steps};
 use c25_board::board::Board;
 use c25_board::ports::{Feed, Sink};
 use c25_breaks::breakpoints::Breakpoints;
@@ -77,19 +77,15 @@ impl<'a, F: Feed + Drop, S: Sink + Drop> Session<'a, F, S> {
         match *command {
             Cmd::Step(count) => tell_steps(alloc, &mut self.board, count, &Breakpoints::new()),
             Cmd::Run(count) => tell_steps(alloc, &mut self.board, count, &self.breakpoints),
-            Cmd::Break(address) => tell_set(alloc, &mut self.breakpoints, address).map(shown),
-            Cmd::Clear(address) => tell_cleared(alloc, &mut self.breakpoints, address).map(shown),
-            Cmd::Regs => show_registers(alloc, &self.board).map(shown),
-            Cmd::Data { address, count } => show_data(alloc, &self.board, address, count).map(
-                shown,
-            ),
-            Cmd::Prog { address, count } => {
-                show_program(alloc, &self.board, address, count).map(shown)
-            }
-            Cmd::Stack => show_stack(alloc, &self.board).map(shown),
-            Cmd::Where => show_place(alloc, image, &self.board).map(shown),
-            Cmd::List(count) => show_list(alloc, image, self.board.pc(), count).map(shown),
-            Cmd::Symbols => show_symbols(alloc, image).map(shown),
+            Cmd::Break(address) => tell_set(alloc, &mut self.breakpoints, address),
+            Cmd::Clear(address) => tell_cleared(alloc, &mut self.breakpoints, address),
+            Cmd::Regs => show_registers(alloc, &self.board),
+            Cmd::Data { address, count } => show_data(alloc, &self.board, address, count),
+            Cmd::Prog { address, count } => show_program(alloc, &self.board, address, count),
+            Cmd::Stack => show_stack(alloc, &self.board),
+            Cmd::Where => show_place(alloc, image, &self.board),
+            Cmd::List(count) => show_list(alloc, image, self.board.pc(), count),
+            Cmd::Symbols => show_symbols(alloc, image),
         }
     }
 

@@ -1,6 +1,6 @@
 //! Commands that show where a board stands, and the image that it runs.
 
-ghost use Rattle.std.specs.Prelude.{◌≡◌, ◌≤◌, ◌+◌, IfOk, string_bytes};
+ghost use Rattle.std.specs.Prelude.{◌≡◌, ◌≤◌, ◌+◌, false, IfOk, string_bytes};
 ghost use Rattle.c25_board.specs.Board.{state};
 ghost use Rattle.c25_meaning_debugger.specs.Debugger.{IsWhereBy, data_word, program_word, source_line_at};
 ghost use Rattle.c25_meaning_debugger.specs.Texts.{AreLinesOf, IsWhere, marks_from, regs_text, stack_text, symbols_text, words_text};
@@ -12,6 +12,7 @@ use crate::answers::{
     push_copied, push_instruction, push_instructions, push_registers, push_stack, push_words,
 };
 use crate::memories::{DataMemory, ProgramMemory};
+use crate::steps::{Told, shown};
 use c25_board::board::Board;
 use c25_board::ports::{Feed, Sink};
 use c25_link::Image;
@@ -24,24 +25,26 @@ use std::alloc::Global;
 pub(crate) fn show_registers<F: Feed + Drop, S: Sink + Drop>(
     alloc: Global,
     board: &Board<F, S>,
-) -> Result<String, NoMemory>
-    ensures { IfOk result (λ text. string_bytes text ≡ regs_text (regs_of (state board.now).registers)) }
+) -> Result<Told, NoMemory>
+    ensures text { IfOk result (λ told. string_bytes told.text ≡ regs_text (regs_of (state board.now).registers)) }
+    ensures refused { IfOk result (λ told. told.is_refused ≡ false) }
 {
     let mut text = String::new(alloc);
     push_registers(&mut text, &board.regs())?;
-    Ok(text)
+    Ok(shown(text))
 }
 
 /// The hardware stack.
 pub(crate) fn show_stack<F: Feed + Drop, S: Sink + Drop>(
     alloc: Global,
     board: &Board<F, S>,
-) -> Result<String, NoMemory>
-    ensures { IfOk result (λ text. string_bytes text ≡ stack_text (regs_of (state board.now).registers)) }
+) -> Result<Told, NoMemory>
+    ensures text { IfOk result (λ told. string_bytes told.text ≡ stack_text (regs_of (state board.now).registers)) }
+    ensures refused { IfOk result (λ told. told.is_refused ≡ false) }
 {
     let mut text = String::new(alloc);
     push_stack(&mut text, &board.regs())?;
-    Ok(text)
+    Ok(shown(text))
 }
 
 /// Words of data memory.
@@ -50,13 +53,14 @@ pub(crate) fn show_data<F: Feed + Drop, S: Sink + Drop>(
     board: &Board<F, S>,
     address: u16,
     count: u32,
-) -> Result<String, NoMemory>
+) -> Result<Told, NoMemory>
     requires { address + count ≤ 65536 }
-    ensures { IfOk result (λ text. string_bytes text ≡ words_text (data_word (state board.now)) address count) }
+    ensures text { IfOk result (λ told. string_bytes told.text ≡ words_text (data_word (state board.now)) address count) }
+    ensures refused { IfOk result (λ told. told.is_refused ≡ false) }
 {
     let mut text = String::new(alloc);
     push_words(&mut text, &DataMemory { board }, address, count)?;
-    Ok(text)
+    Ok(shown(text))
 }
 
 /// Words of program memory.
@@ -65,23 +69,25 @@ pub(crate) fn show_program<F: Feed + Drop, S: Sink + Drop>(
     board: &Board<F, S>,
     address: u16,
     count: u32,
-) -> Result<String, NoMemory>
+) -> Result<Told, NoMemory>
     requires { address + count ≤ 65536 }
-    ensures { IfOk result (λ text. string_bytes text ≡ words_text (program_word (state board.now)) address count) }
+    ensures text { IfOk result (λ told. string_bytes told.text ≡ words_text (program_word (state board.now)) address count) }
+    ensures refused { IfOk result (λ told. told.is_refused ≡ false) }
 {
     let mut text = String::new(alloc);
     push_words(&mut text, &ProgramMemory { board }, address, count)?;
-    Ok(text)
+    Ok(shown(text))
 }
 
 /// The image's instruction at an address.
-fn show_mark(alloc: Global, image: &Image, address: u16) -> Result<String, NoMemory>
-    ensures { IfOk result (λ text. IsWhere image.now.program (source_line_at image.now) address (marks.size_at image.now.marks address) (string_bytes text)) }
+fn show_mark(alloc: Global, image: &Image, address: u16) -> Result<Told, NoMemory>
+    ensures text { IfOk result (λ told. IsWhere image.now.program (source_line_at image.now) address (marks.size_at image.now.marks address) (string_bytes told.text)) }
+    ensures refused { IfOk result (λ told. told.is_refused ≡ false) }
 {
     let mut text = String::new(alloc);
     let size = size_at(image.marks(), address);
     push_instruction(alloc, &mut text, image, address, size)?;
-    Ok(text)
+    Ok(shown(text))
 }
 
 /// The instruction at PC: that which is fetched there from block B0, if one is, else the image's.
@@ -89,9 +95,10 @@ pub(crate) fn show_place<F: Feed + Drop, S: Sink + Drop>(
     alloc: Global,
     image: &Image,
     board: &Board<F, S>,
-) -> Result<String, NoMemory>
-    ensures { IfOk result (λ text. IsWhereBy image.now (state board.now)
-        (mark_found (state board.now).registers.cnf (state board.now).world (state board.now).registers.pc) (string_bytes text)) }
+) -> Result<Told, NoMemory>
+    ensures text { IfOk result (λ told. IsWhereBy image.now (state board.now)
+        (mark_found (state board.now).registers.cnf (state board.now).world (state board.now).registers.pc) (string_bytes told.text)) }
+    ensures refused { IfOk result (λ told. told.is_refused ≡ false) }
 {
     let address = board.pc();
     match board.run_mark() {
@@ -99,7 +106,7 @@ pub(crate) fn show_place<F: Feed + Drop, S: Sink + Drop>(
             Some(insn) => {
                 let mut text = String::new(alloc);
                 push_copied(alloc, &mut text, image, address, mark.load, insn)?;
-                Ok(text)
+                Ok(shown(text))
             }
             None => show_mark(alloc, image, address),
         },
@@ -113,19 +120,21 @@ pub(crate) fn show_list(
     image: &Image,
     address: u16,
     count: u32,
-) -> Result<String, NoMemory>
-    ensures { IfOk result (λ text. AreLinesOf image.now.program (source_line_at image.now) (marks_from image.now.marks address count) (string_bytes text)) }
+) -> Result<Told, NoMemory>
+    ensures text { IfOk result (λ told. AreLinesOf image.now.program (source_line_at image.now) (marks_from image.now.marks address count) (string_bytes told.text)) }
+    ensures refused { IfOk result (λ told. told.is_refused ≡ false) }
 {
     let mut text = String::new(alloc);
     push_instructions(alloc, &mut text, image, image.marks(), address, count)?;
-    Ok(text)
+    Ok(shown(text))
 }
 
 /// The image's symbols.
-pub(crate) fn show_symbols(alloc: Global, image: &Image) -> Result<String, NoMemory>
-    ensures { IfOk result (λ text. string_bytes text ≡ symbols_text image.now.described.symbols) }
+pub(crate) fn show_symbols(alloc: Global, image: &Image) -> Result<Told, NoMemory>
+    ensures text { IfOk result (λ told. string_bytes told.text ≡ symbols_text image.now.described.symbols) }
+    ensures refused { IfOk result (λ told. told.is_refused ≡ false) }
 {
     let mut text = String::new(alloc);
     push_symbols(&mut text, image.symbols())?;
-    Ok(text)
+    Ok(shown(text))
 }

@@ -4,10 +4,10 @@ use Rattle.c25_meaning_debugger.specs.Texts.{AreLinesOf, marks_from}
 use Rattle.c25_meaning_image.specs.declared.mark.Mark.{Mark}
 use Rattle.c25_session.proofs.shown.show_list.Goals as goal
 
-pub returns : goal.returns
-returns c =
+pub returns-clause-text : goal.returns-clause-text
+returns-clause-text c =
     let image = c.args.image.now in
     let shown = c.in_ok-push_instructions.ensures in
-    subst (λ (ms : List Mark). AreLinesOf image.program (source_line_at image) (marks_from ms c.args.address c.args.count) (string_bytes c.push_instructions.new.text)) c.marks.ensures
+    subst (λ (ms : List Mark). AreLinesOf image.program (source_line_at image) (marks_from ms c.args.address c.args.count) (string_bytes c.shown.result.text)) c.marks.ensures
     (subst (λ (text : List ℕ). AreLinesOf image.program (source_line_at image) (marks_from c.marks.result.now c.args.address c.args.count) text)
-    (sym (shown.2 ∙ ap (λ (text : List ℕ). text ++ shown.0) c.new-text.ensures.bytes)) shown.1)
+    (sym (c.shown.ensures.text ∙ shown.2 ∙ ap (λ (text : List ℕ). text ++ shown.0) c.new-text.ensures.bytes)) shown.1)
