@@ -1,10 +1,13 @@
 -- The answers over a program's words are those over the statements of its sources.
-use Rattle.std.proofs.Common.{◌≡◌, ◌↔◌, ℕ, List}
+use Rattle.std.proofs.Common.{◌≡◌, ◌↔◌, ℕ, List, Result, Ok, Err, String, string_bytes}
+use Rattle.std.specs.Prelude.{IfOk}
+use Rattle.std.specs.declared.alloc.Global.{Global}
 use Rattle.c25_chain.specs.Built.{IsBuilt}
 use Rattle.c25_chain.specs.Chain.{Given}
 use Rattle.c25_chain.specs.Headline.{first_state, source_statements}
 use Rattle.c25_chain.specs.Linked.{LinkedTexts}
-use Rattle.c25_debug_chain.specs.Debug.{AnswersBy, statements_of}
+use Rattle.c25_chain.specs.Refusal.{Fault}
+use Rattle.c25_debug_chain.specs.Debug.{AnswersBy, Debugs, TellsStatements, statements_of}
 use Rattle.c25_meaning_debugger.specs.Debugger.{AnswersScript}
 use Rattle.c25_meaning_files.specs.Files.{Files}
 use Rattle.c25_meaning_linking.specs.Linking.{ImageData}
@@ -30,7 +33,7 @@ Alike =
     → AnswersScript WordStep signals image commands s text
     ↔ AnswersScript (λ lines bio t outcome. outcome ≡ statement_step statements lines bio t) signals image commands s text
 
-pub by_statements : FirstStates → Alike → (g : Given) (script text : List ℕ) → AnswersBy (λ image. WordStep) g script text → AnswersBy (statements_of g) g script text
+by_statements : FirstStates → Alike → (g : Given) (script text : List ℕ) → AnswersBy (λ image. WordStep) g script text → AnswersBy (statements_of g) g script text
 by_statements first_states alike g script text a =
     let samples = (a.inputs).samples in
     let statements = source_statements g.files g.sources (a.image).described in
@@ -47,3 +50,8 @@ by_statements first_states alike g script text a =
       script_read = a.script_read;
       answers = same.0 a.answers;
     }
+
+-- of a text that is answered
+pub told_by_statements : FirstStates → Alike → (g : Given) (script : List ℕ) (result : Result (String Global) Fault) → Debugs g script result → IfOk result (TellsStatements g script)
+told_by_statements first_states alike g script (Ok text) a = by_statements first_states alike g script (string_bytes text) a
+told_by_statements first_states alike g script (Err f) h = tt

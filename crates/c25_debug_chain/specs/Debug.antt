@@ -8,16 +8,21 @@ use Rattle.c25_chain.specs.Headline.{first_state, source_statements}
 use Rattle.c25_chain.specs.Linked.{LinkedTexts}
 use Rattle.c25_chain.specs.Refusal.{Fault, refusal_of}
 use Rattle.c25_chain.specs.declared.fault.Refusal.{Refusal}
+use Rattle.c25_chain.specs.declared.linked.Linked.{Linked}
 use Rattle.c25_chain.specs.declared.fault.Refusal.TheVariants.{Script}
 use Rattle.c25_meaning_common.specs.Results.{told}
 use Rattle.c25_meaning_common.specs.declared.failure.Failure.TheVariants as failure
 use Rattle.c25_meaning_debugger.specs.Debugger.{AnswersScript}
 use Rattle.c25_meaning_linking.specs.Linking.{ImageData}
+use Rattle.c25_meaning_processor.specs.FirstState.{first_of_pages}
 use Rattle.c25_meaning_processor.specs.Run.{Stepping}
 use Rattle.c25_meaning_processor.specs.Statements.{statement_step}
 use Rattle.c25_meaning_processor.specs.WordStep.{WordStep}
+use Rattle.c25_meaning_stimulus.specs.Samples.{samples_at}
 use Rattle.c25_meaning_stimulus.specs.Script.{script_of}
 use Rattle.c25_meaning_stimulus.specs.Signals.{signals_of}
+use Rattle.c25_meaning_stimulus.specs.declared.sample.Sample.{Sample}
+use Rattle.c25_meaning_stimulus.specs.declared.schedule.Entry.{Entry}
 use Rattle.c25_meaning_stimulus.specs.declared.script.Cmd.{Cmd}
 
 -- what one step of a program is
@@ -52,6 +57,19 @@ abbrev pub Debugs : Given → List ℕ → Result (String Global) Fault → Type
 Debugs g script (Ok text) = AnswersBy (λ image. WordStep) g script (string_bytes text)
 Debugs g script (Err (failure.NoMemory m)) = Unit {0}
 Debugs g script (Err (failure.Fault f)) = IsRefused g (refusal_of f) ⊎ IsRefusedScript g script (refusal_of f)
+
+-- the answers of the script of a text over the words of a linked program, from its first state on
+pub record AnswersLinked (l : Linked) (samples : List Sample) (entries : List Entry) (script : List ℕ) (text : List ℕ) : Type 0 where
+  pub commands : List Cmd
+  pub script_read : script_of script ≡ Ok commands
+  pub answers : AnswersScript WordStep (signals_of entries) l.image commands
+      (first_of_pages l.page0.words l.page1.words l.image.marks l.image.run_marks (samples_at samples)) text
+
+-- that, or the refusal of the script, unless memory ran out
+abbrev pub DebugsLinked : Linked → List Sample → List Entry → List ℕ → Result (String Global) Fault → Type 0
+DebugsLinked l samples entries script (Ok text) = AnswersLinked l samples entries script (string_bytes text)
+DebugsLinked l samples entries script (Err (failure.NoMemory m)) = Unit {0}
+DebugsLinked l samples entries script (Err (failure.Fault f)) = told Script (script_of script) ≡ Err (refusal_of f)
 
 -- a step of the statements that the sources say of a program, read from no word
 abbrev pub statements_of : Given → StepOf

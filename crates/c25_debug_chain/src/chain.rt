@@ -2,7 +2,7 @@
 
 ghost use Rattle.std.specs.Prelude.{◌≡◌, IfOk, map, string_bytes, true};
 ghost use Rattle.c25_chain.specs.Chain.{given_of};
-ghost use Rattle.c25_debug_chain.specs.Debug.{Debugs, TellsStatements};
+ghost use Rattle.c25_debug_chain.specs.Debug.{Debugs, DebugsLinked, TellsStatements};
 ghost use Rattle.c25_meaning_debugger.specs.Debugger.{AnswersScript};
 ghost use Rattle.c25_meaning_image.specs.Marks.{fit_from, run_fit};
 ghost use Rattle.c25_meaning_processor.specs.FirstState.{first_of_pages};
@@ -14,11 +14,11 @@ use crate::answers::answers;
 use crate::script::script_in;
 use c25_board::samples::Samples;
 use c25_board::schedule::Schedule;
-use c25_chain::chain::{samples_in, schedule_in};
 use c25_chain::fault::Fault;
 use c25_chain::laws::answers_run_as_their_sources;
 use c25_chain::linked::Linked;
-use c25_chain::{board_of, build};
+use c25_chain::ready::Ready;
+use c25_chain::{board_of, make_ready};
 use c25_debug::script::Script;
 use c25_debugger_laws::laws::debuggers_answer_alike;
 use c25_macro::files::Files;
@@ -44,6 +44,25 @@ fn debug_linked(
     answers(alloc, &mut session, script.as_slice())
 }
 
+/// What a debugger answers to the script of a text over a program, from a reset on.
+fn debug_text(
+    alloc: Global,
+    linked: &Linked,
+    samples: Samples,
+    schedule: Schedule,
+    script: &str,
+) -> Result<String, Fault>
+    requires marks { fit_from 0 linked.now.image.marks ≡ true }
+    requires run_marks { run_fit linked.now.image.marks linked.now.image.run_marks ≡ true }
+    ensures { DebugsLinked linked.now samples schedule script.now result }
+{
+    let script = script_in(alloc, script)?;
+    match debug_linked(alloc, linked, samples, schedule, &script) {
+        Ok(text) => Ok(text),
+        Err(error) => Err(error.into()),
+    }
+}
+
 /// Assembles sources, links their modules under a command file, and answers a script of the debugger
 /// over the program, with these samples and this schedule of interrupt lines and BIO levels. The
 /// answers stand one behind another, each with its line ends.
@@ -67,9 +86,10 @@ pub fn debug_chain(
 {
     answers_run_as_their_sources();
     debuggers_answer_alike();
-    let built = build(alloc, files, sources, command)?;
-    let samples = samples_in(alloc, samples)?;
-    let schedule = schedule_in(alloc, schedule)?;
-    let script = script_in(alloc, script)?;
-    Ok(debug_linked(alloc, &built.linked, samples, schedule, &script)?)
+    let Ready {
+        built,
+        samples,
+        schedule,
+    } = make_ready(alloc, files, sources, command, samples, schedule)?;
+    debug_text(alloc, &built.linked, samples, schedule, script)
 }
