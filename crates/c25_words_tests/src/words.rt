@@ -5,6 +5,9 @@ use c25_words::fault::is_want_of_memory;
 use c25_words::read::read_words;
 use c25_words::task::{RunFiles, Task};
 use std::alloc::{AllocError, Global};
+use std::fmt;
+use std::fmt::{Display, Formatter, Write};
+use std::process::Abort;
 use std::test::Fail;
 
 /// The program's name and the words of a line.
@@ -17,50 +20,71 @@ fn words_of(alloc: Global, line: &str) -> Result<Vec<String>, AllocError> {
     Ok(words)
 }
 
-/// Adds words, each behind a blank.
-fn push_words(out: &mut String, words: &[&str]) -> Result<(), AllocError> {
-    for word in words {
-        write!(out, " {word}")?;
-    }
-    Ok(())
-}
+/// Words, a blank before each.
+#[derive(Clone, Copy)]
+struct Words<'a>(&'a [&'a str]);
 
-/// Adds a flag that was given.
-fn push_flag(out: &mut String, name: &str, given: bool) -> Result<(), AllocError> {
-    if given {
-        write!(out, " {name}")
-    } else {
+impl Display for Words<'_> {
+    fn fmt<W: Write>(&self, f: &mut Formatter<W>) -> fmt::Result {
+        for word in self.0 {
+            write!(f, " {word}")?;
+        }
         Ok(())
     }
 }
 
-/// Adds an option that was given.
-fn push_option(out: &mut String, name: &str, value: Option<&str>) -> Result<(), AllocError> {
-    match value {
-        Some(value) => write!(out, " {name}={value}"),
-        None => Ok(()),
+/// A flag by its name, where it was given.
+#[derive(Clone, Copy)]
+struct Flag(&'static str, bool);
+
+impl Display for Flag {
+    fn fmt<W: Write>(&self, f: &mut Formatter<W>) -> fmt::Result {
+        if self.1 {
+            write!(f, " {}", self.0)
+        } else {
+            Ok(())
+        }
     }
 }
 
-fn push_files(out: &mut String, files: RunFiles<'_>) -> Result<(), AllocError> {
-    push_option(out, "command", files.command)?;
-    push_option(out, "samples", files.samples)?;
-    push_option(out, "schedule", files.schedule)
+/// An option by its name and its value, where it was given.
+#[derive(Clone, Copy)]
+struct Value<'a>(&'static str, Option<&'a str>);
+
+impl Display for Value<'_> {
+    fn fmt<W: Write>(&self, f: &mut Formatter<W>) -> fmt::Result {
+        match self.1 {
+            Some(value) => write!(f, " {}={value}", self.0),
+            None => Ok(()),
+        }
+    }
+}
+
+/// The files of a run that were given.
+#[derive(Clone, Copy)]
+struct Files<'a>(&'a RunFiles<'a>);
+
+impl Display for Files<'_> {
+    fn fmt<W: Write>(&self, f: &mut Formatter<W>) -> fmt::Result {
+        let command = Value("command", self.0.command);
+        let samples = Value("samples", self.0.samples);
+        let schedule = Value("schedule", self.0.schedule);
+        write!(f, "{command}{samples}{schedule}")
+    }
 }
 
 fn show(alloc: Global, task: &Task<'_>) -> Result<String, AllocError> {
-    let mut out = String::new(alloc);
     match task {
-        Task::RunStandardInput => write!(out, "standard input")?,
+        Task::RunStandardInput => String::from_str(alloc, "standard input"),
         Task::Assemble {
             source,
             object,
             listing,
             explain,
         } => {
-            write!(out, "asm {source} object={object}")?;
-            push_option(&mut out, "listing", *listing)?;
-            push_flag(&mut out, "explain", *explain)?;
+            let listing = Value("listing", *listing);
+            let explain = Flag("explain", *explain);
+            format!(in alloc; "asm {source} object={object}{listing}{explain}")
         }
         Task::Link {
             command,
@@ -68,10 +92,8 @@ fn show(alloc: Global, task: &Task<'_>) -> Result<String, AllocError> {
             base,
             explain,
         } => {
-            write!(out, "link {command} :")?;
-            push_words(&mut out, objects)?;
-            write!(out, " base={base}")?;
-            push_flag(&mut out, "explain", *explain)?;
+            let (objects, explain) = (Words(objects), Flag("explain", *explain));
+            format!(in alloc; "link {command} :{objects} base={base}{explain}")
         }
         Task::Build {
             sources,
@@ -80,12 +102,10 @@ fn show(alloc: Global, task: &Task<'_>) -> Result<String, AllocError> {
             symbols,
             explain,
         } => {
-            write!(out, "build")?;
-            push_words(&mut out, sources)?;
-            write!(out, " base={base}")?;
-            push_option(&mut out, "command", *command)?;
-            push_option(&mut out, "symbols", *symbols)?;
-            push_flag(&mut out, "explain", *explain)?;
+            let (sources, explain) = (Words(sources), Flag("explain", *explain));
+            let command = Value("command", *command);
+            let symbols = Value("symbols", *symbols);
+            format!(in alloc; "build{sources} base={base}{command}{symbols}{explain}")
         }
         Task::Run {
             sources,
@@ -94,12 +114,9 @@ fn show(alloc: Global, task: &Task<'_>) -> Result<String, AllocError> {
             regs,
             explain,
         } => {
-            write!(out, "run")?;
-            push_words(&mut out, sources)?;
-            write!(out, " steps={steps}")?;
-            push_files(&mut out, *files)?;
-            push_flag(&mut out, "regs", *regs)?;
-            push_flag(&mut out, "explain", *explain)?;
+            let (sources, files) = (Words(sources), Files(files));
+            let (regs, explain) = (Flag("regs", *regs), Flag("explain", *explain));
+            format!(in alloc; "run{sources} steps={steps}{files}{regs}{explain}")
         }
         Task::Debug {
             sources,
@@ -107,36 +124,41 @@ fn show(alloc: Global, task: &Task<'_>) -> Result<String, AllocError> {
             files,
             explain,
         } => {
-            write!(out, "debug")?;
-            push_words(&mut out, sources)?;
-            write!(out, " script={script}")?;
-            push_files(&mut out, *files)?;
-            push_flag(&mut out, "explain", *explain)?;
+            let (sources, files) = (Words(sources), Files(files));
+            let explain = Flag("explain", *explain);
+            format!(in alloc; "debug{sources} script={script}{files}{explain}")
         }
-        Task::Explain { number } => write!(out, "explain {number}")?,
+        Task::Explain { number } => format!(in alloc; "explain {number}"),
         Task::Disassemble { file, from } => {
-            write!(out, "dis {file}")?;
-            push_option(&mut out, "from", *from)?;
+            let from = Value("from", *from);
+            format!(in alloc; "dis {file}{from}")
         }
     }
-    Ok(out)
 }
 
 /// What reading words answers: a task, or `refused`.
 fn told(alloc: Global, words: &[String]) -> Result<String, Fail> {
     match read_words(alloc, words) {
-        Ok(task) => Ok(show(alloc, &task)?),
+        Ok(task) => show(alloc, &task).map_err(Fail::from),
         Err(fault) if is_want_of_memory(&fault) => Err("no memory".into()),
-        Err(_) => Ok(String::from_str(alloc, "refused")?),
+        Err(_) => String::from_str(alloc, "refused").map_err(Fail::from),
     }
+}
+
+/// What reading the words of a line answers.
+fn answer(alloc: Global, line: &str) -> Result<String, Fail> {
+    let words = words_of(alloc, line)?;
+    told(alloc, &words)
 }
 
 /// The cases of a text, a line each, of which the answer is another one, with that answer.
 fn differing(alloc: Global, cases: &str) -> Result<String, Fail> {
     let mut out = String::new(alloc);
     for case in cases.lines() {
-        let (wanted, line) = case.split_once(" | ").ok_or("no bar")?;
-        let answer = told(alloc, &words_of(alloc, line)?)?;
+        let Some((wanted, line)) = case.split_once(" | ") else {
+            return Err(Fail::from("no bar"));
+        };
+        let answer = answer(alloc, line)?;
         if answer.as_str() != wanted {
             write!(out, "{line}: {answer}\n")?;
         }
@@ -144,40 +166,49 @@ fn differing(alloc: Global, cases: &str) -> Result<String, Fail> {
     Ok(out)
 }
 
+/// Each case of a text is answered as it says.
+fn are_answered(rt: &(impl Abort + AllocGlobal), cases: &str) -> Result<(), Fail> {
+    let differing = differing(rt.alloc(), cases)?;
+    assert_eq!(rt; differing.as_str(), "");
+    Ok(())
+}
+
+/// Words run standard input.
+fn run_standard_input(rt: &(impl Abort + AllocGlobal), words: &[String]) -> Result<(), Fail> {
+    let answer = told(rt.alloc(), words)?;
+    assert_eq!(rt; answer.as_str(), "standard input");
+    Ok(())
+}
+
 #[test]
 fn no_words_run_standard_input(rt: HostRuntime) -> Result<(), Fail> {
     let mut words = Vec::new(rt.alloc());
-    assert_eq!(rt; told(rt.alloc(), &words)?.as_str(), "standard input");
+    run_standard_input(&rt, &words)?;
     words.push(String::from_str(rt.alloc(), "c25")?)?;
-    assert_eq!(rt; told(rt.alloc(), &words)?.as_str(), "standard input");
-    Ok(())
+    run_standard_input(&rt, &words)
 }
 
 #[test]
 fn subcommands_take_their_words(rt: HostRuntime) -> Result<(), Fail> {
-    assert_eq!(rt; differing(rt.alloc(), TASKS)?.as_str(), "");
-    Ok(())
+    are_answered(&rt, TASKS)
 }
 
 #[test]
 fn numbers_of_steps_are_read(rt: HostRuntime) -> Result<(), Fail> {
-    assert_eq!(rt; differing(rt.alloc(), STEPS)?.as_str(), "");
-    Ok(())
+    are_answered(&rt, STEPS)
 }
 
 #[test]
 fn flags_and_values_are_told_apart(rt: HostRuntime) -> Result<(), Fail> {
-    assert_eq!(rt; differing(rt.alloc(), REGS)?.as_str(), "");
-    assert_eq!(rt; differing(rt.alloc(), SYMBOLS)?.as_str(), "");
-    assert_eq!(rt; differing(rt.alloc(), FROM)?.as_str(), "");
-    assert_eq!(rt; differing(rt.alloc(), EXPLAIN)?.as_str(), "");
-    Ok(())
+    are_answered(&rt, REGS)?;
+    are_answered(&rt, SYMBOLS)?;
+    are_answered(&rt, FROM)?;
+    are_answered(&rt, EXPLAIN)
 }
 
 #[test]
 fn other_words_are_refused(rt: HostRuntime) -> Result<(), Fail> {
-    assert_eq!(rt; differing(rt.alloc(), REFUSED)?.as_str(), "");
-    Ok(())
+    are_answered(&rt, REFUSED)
 }
 
 const TASKS: &str = "\
