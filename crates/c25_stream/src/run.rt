@@ -51,10 +51,9 @@ fn board_of(
     let marks = linked.image.marks();
     let sink = Batch::new();
     let run_marks = linked.image.run_marks();
-    let board = Board::new(
+    Board::new(
         alloc, page0, page1, marks, run_marks, schedule, samples, sink,
-    )?;
-    Ok(board)
+    )
 }
 
 /// What is told of a run whose text is printed: how it ended, and where its board stands, if the registers
