@@ -5,6 +5,13 @@ use c25_records::read_module;
 use std::process::Abort;
 use std::test::Fail;
 
+/// A module is written as these bytes.
+fn has_bytes(rt: &(impl Abort + AllocGlobal), object: &Module, bytes: &[u8]) -> Result<(), Fail> {
+    let written = write_module(rt.alloc(), object)?;
+    assert_eq!(rt; written.as_slice(), bytes);
+    Ok(())
+}
+
 /// Lists are a module's, which is written as these bytes.
 pub(crate) fn is_written(
     rt: &(impl Abort + AllocGlobal),
@@ -12,16 +19,13 @@ pub(crate) fn is_written(
     bytes: &[u8],
 ) -> Result<(), Fail> {
     assert!(rt; spells(&parts));
-    let written = write_module(rt.alloc(), &module(parts))?;
-    assert_eq!(rt; written.as_slice(), bytes);
-    Ok(())
+    has_bytes(rt, &module(parts), bytes)
 }
 
 /// The module of bytes, which is written as these bytes again.
 pub(crate) fn read_back(rt: &(impl Abort + AllocGlobal), bytes: &[u8]) -> Result<Module, Fail> {
     let object = read_module(rt.alloc(), bytes)?;
     assert!(rt; spells(object.parts()));
-    let written = write_module(rt.alloc(), &object)?;
-    assert_eq!(rt; written.as_slice(), bytes);
+    has_bytes(rt, &object, bytes)?;
     Ok(object)
 }

@@ -2,7 +2,7 @@
 
 use crate::altered::{spells_with_file, spells_with_symbol};
 use crate::both_ways::{is_written, read_back};
-use crate::items::{SymbolRow, mark, relocation, sections, symbols_of};
+use crate::items::{SymbolRow, mark, no_lists, push_sections, push_symbols, relocation};
 use c25_meaning_common::relocation::RelocationKind;
 use c25_meaning_objects::object::{
     ModuleMark, Relocation, RelocationBase, Scope, SymbolKind, Version,
@@ -49,18 +49,19 @@ fn relocations() -> [Relocation; 3] {
     ]
 }
 
+/// Puts the lists of that module into lists that are empty.
+fn fill(alloc: Global, parts: &mut Parts) -> Result<(), AllocError> {
+    push_sections(alloc, parts, &[0xff80, 0, 0xc800, 0x2000])?;
+    push_symbols(alloc, parts, &SYMBOLS)?;
+    parts.marks.extend_from_slice(&marks())?;
+    parts.relocations.extend_from_slice(&relocations())
+}
+
 /// The lists of that module.
 fn every_kind(alloc: Global) -> Result<Parts, AllocError> {
-    Ok(Parts {
-        sections: sections(alloc, &[0xff80, 0, 0xc800, 0x2000])?,
-        marks: marks().to_vec(alloc)?,
-        symbols: symbols_of(alloc, &SYMBOLS)?,
-        relocations: relocations().to_vec(alloc)?,
-        version: Version::One,
-        files: Vec::new(alloc),
-        lines: Vec::new(alloc),
-        blocks: Vec::new(alloc),
-    })
+    let mut parts = no_lists(alloc, Version::One);
+    fill(alloc, &mut parts)?;
+    Ok(parts)
 }
 
 #[test]
@@ -98,26 +99,30 @@ fn every_kind_of_record_is_read(rt: HostRuntime) -> Result<(), Fail> {
     Ok(())
 }
 
-/// Whether lists are a module's as they are, with a symbol of the name of another, with a file, and without sections.
-fn answers(alloc: Global, mut parts: Parts) -> Result<[bool; 4], AllocError> {
-    let again = Symbol {
+/// A symbol of the name of another.
+fn second_go(alloc: Global) -> Result<Symbol, AllocError> {
+    let name = String::from_str(alloc, "GO")?;
+    Ok(Symbol {
         kind: SymbolKind::Absolute,
         scope: Scope::Local,
         value: 0,
-        name: String::from_str(alloc, "GO")?,
-    };
-    let file = String::from_str(alloc, "a.asm")?;
-    let with_symbol = spells_with_symbol(&mut parts, again)?;
-    let with_file = spells_with_file(&mut parts, file)?;
-    let whole = spells(&parts);
+        name,
+    })
+}
+
+/// Whether lists are a module's as they are, with a symbol of the name of another, with a file, and without sections.
+fn answers(alloc: Global, parts: &mut Parts) -> Result<[bool; 4], AllocError> {
+    let with_symbol = spells_with_symbol(parts, second_go(alloc)?)?;
+    let with_file = spells_with_file(parts, String::from_str(alloc, "a.asm")?)?;
+    let whole = spells(parts);
     parts.sections.clear();
-    Ok([whole, with_symbol, with_file, spells(&parts)])
+    Ok([whole, with_symbol, with_file, spells(parts)])
 }
 
 #[test]
 fn lists_of_no_module_spell_nothing(rt: HostRuntime) -> Result<(), Fail> {
-    let parts = every_kind(rt.alloc())?;
-    let answers = answers(rt.alloc(), parts)?;
+    let mut parts = every_kind(rt.alloc())?;
+    let answers = answers(rt.alloc(), &mut parts)?;
     assert_eq!(rt; answers, [true, false, false, false]);
     Ok(())
 }

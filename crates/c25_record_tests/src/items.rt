@@ -2,49 +2,79 @@
 
 use c25_meaning_common::relocation::RelocationKind;
 use c25_meaning_objects::object::{
-    Block, LineMark, ModuleMark, Relocation, RelocationBase, Scope, SymbolKind,
+    Block, LineMark, ModuleMark, Relocation, RelocationBase, Scope, SymbolKind, Version,
 };
-use c25_obj::{Body, Section, Symbol};
+use c25_obj::{Body, Parts, Section, Symbol};
 use std::alloc::{AllocError, Global};
 
-/// A section `.text` with these words, and a section `.bss` of 300 words.
-pub(crate) fn sections(alloc: Global, words: &[u16]) -> Result<Vec<Section>, AllocError> {
-    let mut sections = Vec::new(alloc);
-    sections.push(Section {
-        name: String::from_str(alloc, ".text")?,
-        body: Body::Initialised(words.to_vec(alloc)?),
-    })?;
-    sections.push(Section {
-        name: String::from_str(alloc, ".bss")?,
-        body: Body::Uninitialised(300),
-    })?;
-    Ok(sections)
+/// Lists of a version without anything.
+pub(crate) fn no_lists(alloc: Global, version: Version) -> Parts {
+    Parts {
+        sections: Vec::new(alloc),
+        marks: Vec::new(alloc),
+        symbols: Vec::new(alloc),
+        relocations: Vec::new(alloc),
+        version,
+        files: Vec::new(alloc),
+        lines: Vec::new(alloc),
+        blocks: Vec::new(alloc),
+    }
+}
+
+/// Adds a section of this name.
+fn push_section(
+    alloc: Global,
+    parts: &mut Parts,
+    name: &str,
+    body: Body,
+) -> Result<(), AllocError> {
+    let name = String::from_str(alloc, name)?;
+    parts.sections.push(Section { name, body })?;
+    Ok(())
+}
+
+/// Adds a section `.text` with these words, and a section `.bss` of 300 words.
+pub(crate) fn push_sections(
+    alloc: Global,
+    parts: &mut Parts,
+    words: &[u16],
+) -> Result<(), AllocError> {
+    let text = Body::Initialised(words.to_vec(alloc)?);
+    push_section(alloc, parts, ".text", text)?;
+    push_section(alloc, parts, ".bss", Body::Uninitialised(300))
 }
 
 /// A symbol's kind, scope, value and name.
 pub(crate) type SymbolRow = (SymbolKind, Scope, i32, &'static str);
 
-/// The symbols of a table.
-pub(crate) fn symbols_of(alloc: Global, rows: &[SymbolRow]) -> Result<Vec<Symbol>, AllocError> {
-    let mut symbols = Vec::new(alloc);
+/// Adds the symbols of a table.
+pub(crate) fn push_symbols(
+    alloc: Global,
+    parts: &mut Parts,
+    rows: &[SymbolRow],
+) -> Result<(), AllocError> {
     for (kind, scope, value, name) in rows {
-        symbols.push(Symbol {
+        let name = String::from_str(alloc, name)?;
+        parts.symbols.push(Symbol {
             kind: *kind,
             scope: *scope,
             value: *value,
-            name: String::from_str(alloc, name)?,
+            name,
         })?;
     }
-    Ok(symbols)
+    Ok(())
 }
 
-/// Files of these names.
-pub(crate) fn files_of(alloc: Global, names: &[&str]) -> Result<Vec<String>, AllocError> {
-    let mut files = Vec::new(alloc);
+/// Adds files of these names.
+pub(crate) fn push_files(
+    alloc: Global,
+    parts: &mut Parts,
+    names: &[&str],
+) -> Result<(), AllocError> {
     for name in names {
-        files.push(String::from_str(alloc, name)?)?;
+        parts.files.push(String::from_str(alloc, name)?)?;
     }
-    Ok(files)
+    Ok(())
 }
 
 /// A relocation of a word of the first section.

@@ -2,7 +2,9 @@
 
 use crate::altered::{spells_in, spells_with_block, spells_with_file, spells_with_line};
 use crate::both_ways::{is_written, read_back};
-use crate::items::{SymbolRow, block, files_of, line, mark, relocation, sections, symbols_of};
+use crate::items::{
+    SymbolRow, block, line, mark, no_lists, push_files, push_sections, push_symbols, relocation,
+};
 use c25_meaning_common::relocation::RelocationKind;
 use c25_meaning_objects::object::{
     Block, LineMark, Relocation, RelocationBase, Scope, SymbolKind, Version,
@@ -63,18 +65,27 @@ fn blocks() -> [Block; 2] {
     [block(0, 128), block(200, 100)]
 }
 
+/// Puts the marks, relocations, lines and blocks of that module into lists that have none.
+fn push_places(parts: &mut Parts) -> Result<(), AllocError> {
+    parts.marks.extend_from_slice(&[mark(0, 1), mark(2, 1)])?;
+    parts.relocations.extend_from_slice(&relocations())?;
+    parts.lines.extend_from_slice(&lines())?;
+    parts.blocks.extend_from_slice(&blocks())
+}
+
+/// Puts the lists of that module into lists that are empty.
+fn fill(alloc: Global, parts: &mut Parts) -> Result<(), AllocError> {
+    push_sections(alloc, parts, &[0x5500, 0, 0xc800, 0])?;
+    push_symbols(alloc, parts, &SYMBOLS)?;
+    push_files(alloc, parts, &["a.asm", "b.inc"])?;
+    push_places(parts)
+}
+
 /// The lists of that module.
 fn every_kind(alloc: Global) -> Result<Parts, AllocError> {
-    Ok(Parts {
-        sections: sections(alloc, &[0x5500, 0, 0xc800, 0])?,
-        marks: vec![in alloc; mark(0, 1), mark(2, 1)]?,
-        symbols: symbols_of(alloc, &SYMBOLS)?,
-        relocations: relocations().to_vec(alloc)?,
-        version: Version::Two,
-        files: files_of(alloc, &["a.asm", "b.inc"])?,
-        lines: lines().to_vec(alloc)?,
-        blocks: blocks().to_vec(alloc)?,
-    })
+    let mut parts = no_lists(alloc, Version::Two);
+    fill(alloc, &mut parts)?;
+    Ok(parts)
 }
 
 /// Whether lists are of version 2, with one instruction in line 1 of `a.asm`.
@@ -127,19 +138,18 @@ fn every_kind_of_record_is_read(rt: HostRuntime) -> Result<(), Fail> {
 
 /// Whether lists are a module's as they are, in version 1, with a file that is not used, with a line of no mark, and with
 /// a block that overlaps another.
-fn answers(alloc: Global, mut parts: Parts) -> Result<[bool; 5], AllocError> {
-    let file = String::from_str(alloc, "c.inc")?;
-    let with_file = spells_with_file(&mut parts, file)?;
-    let with_line = spells_with_line(&mut parts, line(1, 8))?;
-    let with_block = spells_with_block(&mut parts, block(299, 1))?;
-    let in_first = spells_in(&mut parts, Version::One);
-    Ok([spells(&parts), in_first, with_file, with_line, with_block])
+fn answers(alloc: Global, parts: &mut Parts) -> Result<[bool; 5], AllocError> {
+    let with_file = spells_with_file(parts, String::from_str(alloc, "c.inc")?)?;
+    let with_line = spells_with_line(parts, line(1, 8))?;
+    let with_block = spells_with_block(parts, block(299, 1))?;
+    let in_first = spells_in(parts, Version::One);
+    Ok([spells(parts), in_first, with_file, with_line, with_block])
 }
 
 #[test]
 fn lists_of_no_module_spell_nothing(rt: HostRuntime) -> Result<(), Fail> {
-    let parts = every_kind(rt.alloc())?;
-    let answers = answers(rt.alloc(), parts)?;
+    let mut parts = every_kind(rt.alloc())?;
+    let answers = answers(rt.alloc(), &mut parts)?;
     assert_eq!(rt; answers, [true, false, false, false, false]);
     Ok(())
 }
