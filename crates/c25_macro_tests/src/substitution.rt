@@ -6,6 +6,7 @@ use c25_substitution::strings::string_text;
 use c25_substitution::substitution::{substitute, substitute_before_comma, unsubstituted};
 use c25_substitution::texts::SubstitutionTexts;
 use c25_substitution::visible::Visible;
+use std::alloc::{AllocError, Global};
 use std::process::Abort;
 use std::test::Fail;
 
@@ -23,7 +24,9 @@ L .asg 1;,k|L .asg k;,k"#;
 
 /// A line is substituted as its row says.
 fn replaces(rt: &(impl Abort + AllocGlobal), names: &Visible<'_>, row: &str) -> Result<(), Fail> {
-    let (wanted, line) = row.split_once('|').ok_or("no row")?;
+    let Some((wanted, line)) = row.split_once('|') else {
+        return Err(Fail::from("no row"));
+    };
     let found = substitute(rt.alloc(), names, 0, line)?;
     assert_eq!(rt; found.as_str(), wanted);
     Ok(())
@@ -35,9 +38,22 @@ fn replaces_before_comma(
     names: &Visible<'_>,
     row: &str,
 ) -> Result<(), Fail> {
-    let (wanted, line) = row.split_once('|').ok_or("no row")?;
+    let Some((wanted, line)) = row.split_once('|') else {
+        return Err(Fail::from("no row"));
+    };
     let found = substitute_before_comma(rt.alloc(), names, 0, line)?;
     assert_eq!(rt; found.as_str(), wanted);
+    Ok(())
+}
+
+/// All lines are substituted as their rows say.
+fn all_are_replaced(rt: &(impl Abort + AllocGlobal), names: &Visible<'_>) -> Result<(), Fail> {
+    for row in LINES.lines() {
+        replaces(rt, names, row)?;
+    }
+    for row in ASSIGNMENTS.lines() {
+        replaces_before_comma(rt, names, row)?;
+    }
     Ok(())
 }
 
@@ -49,13 +65,7 @@ fn lines_that_no_source_may_have_are_substituted(rt: HostRuntime) -> Result<(), 
         arguments: None,
         texts: &texts,
     };
-    for row in LINES.lines() {
-        replaces(&rt, &names, row)?;
-    }
-    for row in ASSIGNMENTS.lines() {
-        replaces_before_comma(&rt, &names, row)?;
-    }
-    Ok(())
+    all_are_replaced(&rt, &names)
 }
 
 #[test]
@@ -78,19 +88,33 @@ fn has(rt: &(impl Abort + AllocGlobal), arguments: &Arguments, name: &str, wante
     assert_eq!(rt; text, wanted);
 }
 
+/// Whether a name takes this text, as a parameter alone does.
+fn takes(
+    alloc: Global,
+    arguments: &mut Arguments,
+    name: &str,
+    text: &str,
+) -> Result<bool, AllocError> {
+    let text = String::from_str(alloc, text)?;
+    Ok(arguments.set(name, text).is_ok())
+}
+
+/// The argument of the parameter `x` of a call `P 4,p`.
+fn arguments_of_call(alloc: Global) -> Result<Arguments, Fail> {
+    let mut names = Vec::new(alloc);
+    names.push(String::from_str(alloc, "x")?)?;
+    arguments(alloc, names.as_slice(), " P 4,p").map_err(Fail::from)
+}
+
 /// A text for a name that is no parameter is handed back.
 #[test]
 fn only_parameters_have_arguments(rt: HostRuntime) -> Result<(), Fail> {
-    let alloc = rt.alloc();
-    let mut names = Vec::new(alloc);
-    names.push(String::from_str(alloc, "x")?)?;
-    let mut found = arguments(alloc, names.as_slice(), " P 4,p")?;
+    let mut found = arguments_of_call(rt.alloc())?;
     has(&rt, &found, "x", Some("4,p"));
     has(&rt, &found, "y", None);
-    let unknown = found.set("y", String::from_str(alloc, "3")?).is_err();
-    assert!(rt; unknown);
-    let known = found.set("x", String::from_str(alloc, "3")?).is_ok();
-    assert!(rt; known);
+    let unknown = takes(rt.alloc(), &mut found, "y", "3")?;
+    let known = takes(rt.alloc(), &mut found, "x", "3")?;
+    assert_eq!(rt; (unknown, known), (false, true));
     has(&rt, &found, "x", Some("3"));
     Ok(())
 }
