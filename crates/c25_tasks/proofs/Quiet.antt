@@ -1,5 +1,5 @@
--- What stays as it is, and files that cannot be written.
-use Rattle.std.proofs.Common.{◌≡◌, ◌∙◌, ap, inl, inr, refl, sym, subst, ℕ, List, append-nil, map, Option, None, Some}
+-- What stays as it is, and files that are written or cannot be.
+use Rattle.std.proofs.Common.{◌≡◌, ◌∙◌, ap, inl, inr, refl, sym, subst, ◌∷◌, ◌++◌, [], ℕ, List, append-nil, map, Option, None, Some}
 use Rattle.std.specs.Io.KnownBytes.{Keeps}
 use Rattle.std.specs.Prelude.{Ok, Result, String, Vec}
 use Rattle.std.specs.String.{string_bytes}
@@ -7,6 +7,7 @@ use Rattle.std.specs.declared.alloc.Global.{Global}
 use Rattle.c25_chain.specs.Refusal.{Fault, refusal_of}
 use Rattle.c25_chain.specs.declared.fault.Refusal.{Refusal}
 use Rattle.c25_chain.specs.declared.fault.Refusal.TheVariants.{File}
+use Rattle.c25_chain.specs.declared.built.Built.{Built}
 use Rattle.c25_disk.specs.Held.{Held, Stay}
 use Rattle.c25_disk.specs.Written.{IsUnwritten, contents_of}
 use Rattle.c25_meaning_common.specs.declared.placed.Placed.{Placed}
@@ -18,9 +19,14 @@ use Rattle.c25_meaning_common.specs.declared.failure.Failure.{Failure}
 use Rattle.c25_meaning_common.specs.declared.failure.Failure.TheVariants as failure
 use Rattle.c25_meaning_files.specs.Files.{Files}
 use Rattle.c25_report.specs.declared.ending.Ending.{Ending}
+use Rattle.c25_report.specs.ProgramFiles.{files_of}
+use Rattle.c25_report.specs.declared.texts.ProgramFileTexts.{ProgramFileTexts}
+use Rattle.c25_tasks.specs.Building.{WritesProgram, texts_in}
 use Rattle.c25_tasks.specs.Files.{IsToldOfFile}
 use Rattle.c25_tasks.specs.Notes.{IsExplainedBy, IsNoted, name_by}
-use Rattle.c25_tasks.specs.Tells.{IsReportOf, IsUnwrittenAmong, Wrote, WritesTold}
+use Rattle.c25_tasks.specs.Symbols.{WritesWithSymbols}
+use Rattle.c25_tasks.specs.declared.symbols.BuiltWithSymbols.{BuiltWithSymbols}
+use Rattle.c25_tasks.specs.Tells.{IsReportOf, IsUnwrittenAmong, Wrote, Writes, WritesTexts, WritesTold}
 use Rattle.c25_tasks.specs.declared.notes.Notes.{Notes}
 use Rattle.c25_tasks.specs.declared.notes.Notes.TheVariants.{Nothing, Explanations}
 
@@ -64,14 +70,34 @@ reported_anew held other notes f r e note told unwritable is =
     let Of : Held → Refusal (String Global) → Type 0 = λ h g. IsReportOf h notes (failure.Fault g) e note in
     subst (λ (g : Refusal (String Global)). Of other g) (sym told) (of_refusal_anew held other notes f e note unwritable (subst (λ (g : Refusal (String Global)). Of held g) told is))
 
-unwritten : (held other : Held) (notes : Notes) (old new : Option Files) (outputs : List Output) (refusal : Failure (Placed (String Global) FileFault)) (fault : Fault) (e : Ending) (note : List ℕ) → IsUnwritten old new outputs refusal → IsToldOfFile refusal fault → IsReportOf held notes fault e note → IsUnwrittenAmong other notes (map contents_of outputs) e note (old, new)
+pub unwritten : (held other : Held) (notes : Notes) (old new : Option Files) (outputs : List Output) (refusal : Failure (Placed (String Global) FileFault)) (fault : Fault) (e : Ending) (note : List ℕ) → IsUnwritten old new outputs refusal → IsToldOfFile refusal fault → IsReportOf held notes fault e note → IsUnwrittenAmong other notes (map contents_of outputs) e note (old, new)
 unwritten held other notes old new outputs (failure.NoMemory n) (failure.NoMemory m) e note (file, ends, is) told comes = (file, ends, (failure.NoMemory m, tt, comes))
 unwritten held other notes old new outputs (failure.NoMemory n) (failure.Fault r) e note is told comes = absurd told
 unwritten held other notes old new outputs (failure.Fault f) (failure.NoMemory m) e note is told comes = absurd told
 unwritten held other notes old new outputs (failure.Fault f) (failure.Fault r) e note (file, ends, is) told comes =
     (file, ends, (failure.Fault r, refused_so f r file.0 told is.0 is.1, reported_anew held other notes f r e note told is.1 comes))
 
-pub told_unwritten : (held other : Held) (notes : Notes) (told : Result (Vec Output Global) Fault) (outputs : Vec Output Global) (shown : List Output) (refusal : Failure (Placed (String Global) FileFault)) (fault : Fault) (e : Ending) (note : List ℕ) (written : Wrote) → told ≡ Ok outputs → shown ≡ outputs.items → IsUnwritten written.0 written.1 shown refusal → IsToldOfFile refusal fault → IsReportOf held notes fault e note → WritesTold other notes told e note written
-told_unwritten held other notes told outputs shown refusal fault e note written is same among as_fault comes =
-    let of_outputs = subst (λ (os : List Output). IsUnwrittenAmong other notes (map contents_of os) e note written) same (unwritten held other notes written.0 written.1 shown refusal fault e note among as_fault comes) in
-    subst (λ (t : Result (Vec Output Global) Fault). WritesTold other notes t e note written) (sym is) (inr of_outputs)
+-- files that are all written, or of which one cannot be, seen through what they are lent as
+pub told_writes : (held : Held) (notes : Notes) (told : Result (Vec Output Global) Fault) (outputs : Vec Output Global) (shown : List Output) (e : Ending) (note : List ℕ) (written : Wrote) → told ≡ Ok outputs → shown ≡ outputs.items → Writes held notes (map contents_of shown) e note written → WritesTold held notes told e note written
+told_writes held notes told outputs shown e note written is same writes =
+    let of_outputs = subst (λ (os : List Output). Writes held notes (map contents_of os) e note written) same writes in
+    subst (λ (t : Result (Vec Output Global) Fault). WritesTold held notes t e note written) (sym is) of_outputs
+
+pub writes_texts : (held : Held) (notes : Notes) (files : Files) (outputs shown : List Output) (e : Ending) (note : List ℕ) (written : Wrote) → map contents_of outputs ≡ files → shown ≡ outputs → Writes held notes (map contents_of shown) e note written → WritesTexts held notes files e note written
+writes_texts held notes files outputs shown e note written are same writes =
+    inl (subst (λ (fs : Files). Writes held notes fs e note written) (ap (λ (os : List Output). map contents_of os) same ∙ are) writes)
+
+-- ---- the files of a program
+
+pub writes_program : (held : Held) (notes : Notes) (base : List ℕ) (told : Result Built Fault) (built : Built) (texts : ProgramFileTexts) (e : Ending) (note : List ℕ) (written : Wrote)
+    → told ≡ Ok built → texts ≡ texts_in built → WritesTexts held notes (files_of base texts) e note written → WritesProgram held notes base told e note written
+writes_program held notes base told built texts e note written is of writes =
+    let of_built = subst (λ (ts : ProgramFileTexts). WritesTexts held notes (files_of base ts) e note written) of writes in
+    subst (λ (t : Result Built Fault). WritesProgram held notes base t e note written) (sym is) of_built
+
+pub writes_symbols : (held : Held) (notes : Notes) (base file : List ℕ) (told : Result BuiltWithSymbols Fault) (b : BuiltWithSymbols) (texts : ProgramFileTexts) (bytes : List ℕ) (e : Ending) (note : List ℕ) (written : Wrote)
+    → told ≡ Ok b → texts ≡ texts_in b.built → bytes ≡ string_bytes b.symbols → WritesTexts held notes (files_of base texts ++ (file, bytes) ∷ []) e note written → WritesWithSymbols held notes base file told e note written
+writes_symbols held notes base file told b texts bytes e note written is of same writes =
+    let of_built = subst (λ (ts : ProgramFileTexts). WritesTexts held notes (files_of base ts ++ (file, bytes) ∷ []) e note written) of writes in
+    let of_symbols = subst (λ (bs : List ℕ). WritesTexts held notes (files_of base (texts_in b.built) ++ (file, bs) ∷ []) e note written) same of_built in
+    subst (λ (t : Result BuiltWithSymbols Fault). WritesWithSymbols held notes base file t e note written) (sym is) of_symbols

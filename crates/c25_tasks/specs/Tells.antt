@@ -115,3 +115,7 @@ WritesTold held notes (Err fault) e note written = IsReportOf held notes fault e
 -- memory ran out, and nothing is written
 abbrev pub IsShortOf : Ending → (note : List ℕ) → Wrote → Type 0
 IsShortOf e note written = IsShort e × (note ≡ []) × Stay written.0 written.1
+
+-- these files are written, unless memory runs out before
+abbrev pub WritesTexts : Held → Notes → Files → Ending → (note : List ℕ) → Wrote → Type 0
+WritesTexts held notes files e note written = Writes held notes files e note written ⊎ IsShortOf e note written

@@ -66,7 +66,10 @@ fn object_of_source<'a>(
     ensures { MeetsBy refusal_of output_files (asm_written object.entry.now None files.now source.now) result }
 {
     let assembled = assemble_module(alloc, files, source)?;
-    Ok(object_of(alloc, &assembled, object)?)
+    match object_of(alloc, &assembled, object) {
+        Ok(outputs) => Ok(outputs),
+        Err(error) => Err(error.into()),
+    }
 }
 
 /// The files that are written of a source where a listing is asked for.
@@ -80,7 +83,10 @@ fn listed_of_source<'a>(
     ensures { MeetsBy refusal_of output_files (asm_written object.entry.now (Some list.entry.now) files.now source.now) result }
 {
     let listing = assemble_source(alloc, files, source)?;
-    Ok(listed_of(alloc, &listing, object, list)?)
+    match listed_of(alloc, &listing, object, list) {
+        Ok(outputs) => Ok(outputs),
+        Err(error) => Err(error.into()),
+    }
 }
 
 /// A source that is to be assembled, and the names of the files that are written of it.

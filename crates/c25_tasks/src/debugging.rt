@@ -56,5 +56,5 @@ pub(crate) fn debug_sources<D: Disk, O: Write>(
     ensures { DebugsTold (D.bytes_of disk.now) notes.entry (texts_of sources.now) script.now beside.entry result.ending (string_bytes result.note) (O.contents out.old, O.contents out.new) }
 {
     let told = answer(alloc, disk, sources, script, beside);
-    report_answers(alloc, disk, &told, notes, out)
+    report_answers(alloc, disk, told, notes, out)
 }

@@ -78,7 +78,10 @@ fn object_text(alloc: Global, file: &Object<'_>) -> Result<String, Fault>
     ensures { IsTextOf IsModuleText (module_in (file.now.name.now, file.now.bytes.items)) result }
 {
     let module = module_of(alloc, file)?;
-    Ok(disassemble_module(alloc, &module)?)
+    match disassemble_module(alloc, &module) {
+        Ok(text) => Ok(text),
+        Err(error) => Err(error.into()),
+    }
 }
 
 /// Tells that a word is no address, unless memory runs out.
@@ -108,7 +111,7 @@ fn refuse_object(alloc: Global, file: &Object<'_>) -> Ending
 {
     match module_of(alloc, file) {
         Ok(_module) => is_object(alloc, file.name),
-        Err(fault) => ending_of_fault(alloc, &fault),
+        Err(fault) => ending_of_fault(alloc, fault),
     }
 }
 
@@ -123,10 +126,7 @@ fn print_object<O: Write>(
 {
     match start {
         Some(_address) => refuse_object(alloc, file),
-        None => {
-            let told = object_text(alloc, file);
-            report_text(alloc, &told, out)
-        }
+        None => report_text(alloc, object_text(alloc, file), out),
     }
 }
 
@@ -136,7 +136,7 @@ fn print_file<O: Write>(alloc: Global, file: &Object<'_>, start: Option<u16>, ou
 {
     if is_hex(file.bytes.as_slice()) {
         let told = hex_text(alloc, file, start.unwrap_or(0));
-        report_text(alloc, &told, out)
+        report_text(alloc, told, out)
     } else {
         print_object(alloc, file, start, out)
     }
@@ -157,7 +157,7 @@ fn print_named<D: Disk, O: Write>(
             let file = Object { name, bytes };
             print_file(alloc, &file, start, out)
         }
-        Err(failure) => ending_of_fault(alloc, &fault_of_file(failure)),
+        Err(failure) => ending_of_fault(alloc, fault_of_file(failure)),
     }
 }
 

@@ -7,15 +7,16 @@ ghost use Rattle.c25_link.specs.Misfits as misfits;
 ghost use Rattle.c25_words.specs.Task.{text_of, texts_of};
 ghost use Rattle.c25_tasks.specs.Fields.{IsFieldNote, IsFieldOfObjects, IsFieldOfSources, IsFieldOver, IsLineText, IsNoteOfField, ShowsField, ShowsFieldOver, line_text, line_view, name_at};
 
-use crate::files::{missing_name, names_of, read_optional};
+use crate::files::{fault_of_copies, missing_name, names_of, read_optional};
 use crate::objects::{modules_of, read_objects};
+use crate::sources::sources_of;
 use c25_chain::assemble_all;
 use c25_chain::fault::{Fault, Refusal};
 use c25_cmd::read_command;
 use c25_details::misfit_text;
 use c25_disk::disk::Disk;
 use c25_disk::work::Work;
-use c25_disk::{read_file, read_sources, with_copies};
+use c25_disk::{read_file, with_copies};
 use c25_explain::note::line_of;
 use c25_link::{Misfit, SourceLine, first_misfit};
 use c25_macro::files::Files;
@@ -91,7 +92,7 @@ fn field_of(
         return Ok(None);
     };
     match first_misfit(alloc, modules, &command) {
-        Ok(Some(misfit)) => Ok(Some(note_of_field(alloc, names, &misfit)?)),
+        Ok(Some(misfit)) => note_of_field(alloc, names, &misfit).map(Some),
         Ok(None) | Err(_) => Ok(None),
     }
 }
@@ -130,25 +131,19 @@ fn field_of_sources<D: Disk>(
     disk: &D,
     command: Option<&str>,
     sources: &[&str],
-) -> Option<FieldNote>
-    ensures { IfSome result (IsFieldOfSources (D.bytes_of disk.now) (texts_of sources.now) (text_of command.entry)) }
+) -> Result<Option<FieldNote>, Fault>
+    ensures { IfOk result (λ note. IfSome note (IsFieldOfSources (D.bytes_of disk.now) (texts_of sources.now) (text_of command.entry))) }
 {
-    let Ok(files) = read_sources(alloc, disk, sources) else {
-        return None;
-    };
-    let Ok(command) = read_optional(alloc, disk, command) else {
-        return None;
-    };
-    let Ok(names) = names_of(alloc, sources) else {
-        return None;
-    };
+    let names = names_of(alloc, sources)?;
+    let command = read_optional(alloc, disk, command)?;
+    let files = sources_of(alloc, disk, sources)?;
     let work = Fields {
         sources: names.as_slice(),
         command: command.as_str(),
     };
     match with_copies(alloc, disk, files, &work) {
-        Ok(note) => note,
-        Err(_) => None,
+        Ok(note) => Ok(note),
+        Err(failure) => Err(fault_of_copies(failure)),
     }
 }
 
@@ -158,33 +153,41 @@ fn field_of_objects<D: Disk>(
     disk: &D,
     command: Option<&str>,
     objects: &[&str],
-) -> Option<FieldNote>
-    ensures { IfSome result (IsFieldOfObjects (D.bytes_of disk.now) (texts_of objects.now) (text_of command.entry)) }
+) -> Result<Option<FieldNote>, Fault>
+    ensures { IfOk result (λ note. IfSome note (IsFieldOfObjects (D.bytes_of disk.now) (texts_of objects.now) (text_of command.entry))) }
 {
-    let Ok(command) = read_optional(alloc, disk, command) else {
-        return None;
-    };
-    let Ok(read) = read_objects(alloc, disk, objects) else {
-        return None;
-    };
-    let Ok(modules) = modules_of(alloc, read.as_slice()) else {
-        return None;
-    };
-    let Ok(names) = names_of(alloc, objects) else {
-        return None;
-    };
+    let command = read_optional(alloc, disk, command)?;
+    let read = read_objects(alloc, disk, objects)?;
+    let modules = modules_of(alloc, read.as_slice())?;
+    let names = names_of(alloc, objects)?;
     match field_of(
         alloc,
         names.as_slice(),
         modules.as_slice(),
         command.as_str(),
     ) {
-        Ok(note) => note,
-        Err(_) => None,
+        Ok(note) => Ok(note),
+        Err(error) => Err(error.into()),
     }
 }
 
 /// What is told of the first such field of objects, if there are any, and else of sources.
+fn field_found<D: Disk>(
+    alloc: Global,
+    disk: &D,
+    command: Option<&str>,
+    sources: &[&str],
+    objects: &[&str],
+) -> Result<Option<FieldNote>, Fault>
+    ensures { IfOk result (λ note. IfSome note (IsFieldOver (D.bytes_of disk.now) (text_of command.entry) (texts_of sources.now) (texts_of objects.now))) }
+{
+    match objects {
+        [] => field_of_sources(alloc, disk, command, sources),
+        [_, ..] => field_of_objects(alloc, disk, command, objects),
+    }
+}
+
+/// The same, or nothing where that fails.
 fn field_over<D: Disk>(
     alloc: Global,
     disk: &D,
@@ -194,9 +197,9 @@ fn field_over<D: Disk>(
 ) -> Option<FieldNote>
     ensures { IfSome result (IsFieldOver (D.bytes_of disk.now) (text_of command.entry) (texts_of sources.now) (texts_of objects.now)) }
 {
-    match objects {
-        [] => field_of_sources(alloc, disk, command, sources),
-        [_, ..] => field_of_objects(alloc, disk, command, objects),
+    match field_found(alloc, disk, command, sources, objects) {
+        Ok(note) => note,
+        Err(_) => None,
     }
 }
 

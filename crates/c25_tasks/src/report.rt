@@ -28,12 +28,12 @@ fn line_of(alloc: Global, fault: &Fault) -> Ending
 
 /// What a fault comes to.
 #[tactic(auto, using(crate::proofs::Done::ends_of))]
-pub(crate) fn ending_of_fault(alloc: Global, fault: &Fault) -> Ending
-    ensures { IsEndingOf fault.now result }
+pub(crate) fn ending_of_fault(alloc: Global, fault: Fault) -> Ending
+    ensures { IsEndingOf fault result }
 {
-    match fault {
+    match &fault {
         Failure::NoMemory(error) => Ending::NoMemory(*error),
-        Failure::Fault(_) => line_of(alloc, fault),
+        Failure::Fault(_) => line_of(alloc, &fault),
     }
 }
 
@@ -41,14 +41,14 @@ pub(crate) fn ending_of_fault(alloc: Global, fault: &Fault) -> Ending
 pub(crate) fn report_of_fault<D: Disk>(
     alloc: Global,
     disk: &D,
-    fault: &Fault,
+    fault: Fault,
     notes: Notes<'_>,
 ) -> Report
-    ensures { IsReportOf (D.bytes_of disk.now) notes.entry fault.now result.ending (string_bytes result.note) }
+    ensures { IsReportOf (D.bytes_of disk.now) notes.entry fault result.ending (string_bytes result.note) }
 {
-    match fault {
+    match &fault {
         Failure::NoMemory(error) => Report::without_note(alloc, Ending::NoMemory(*error)),
-        Failure::Fault(refusal) => match write_fault(alloc, fault) {
+        Failure::Fault(refusal) => match write_fault(alloc, &fault) {
             Ok(line) => {
                 let ending = Ending::Faulty(line);
                 let note = note_of(alloc, disk, refusal, notes);
@@ -62,10 +62,10 @@ pub(crate) fn report_of_fault<D: Disk>(
 /// Prints a text that was asked for, or tells why there is none.
 pub(crate) fn report_text<O: Write>(
     alloc: Global,
-    answer: &Result<String, Fault>,
+    answer: Result<String, Fault>,
     out: &mut O,
 ) -> Ending
-    ensures { TellsText answer.now result (O.contents out.old, O.contents out.new) }
+    ensures { TellsText answer result (O.contents out.old, O.contents out.new) }
 {
     match answer {
         Ok(text) => print_answers(text.as_str(), out),
@@ -77,11 +77,11 @@ pub(crate) fn report_text<O: Write>(
 pub(crate) fn report_answers<D: Disk, O: Write>(
     alloc: Global,
     disk: &D,
-    answer: &Result<String, Fault>,
+    answer: Result<String, Fault>,
     notes: Notes<'_>,
     out: &mut O,
 ) -> Report
-    ensures { TellsAnswers (D.bytes_of disk.now) notes.entry answer.now result.ending (string_bytes result.note) (O.contents out.old, O.contents out.new) }
+    ensures { TellsAnswers (D.bytes_of disk.now) notes.entry answer result.ending (string_bytes result.note) (O.contents out.old, O.contents out.new) }
 {
     match answer {
         Ok(text) => {
@@ -106,6 +106,6 @@ pub(crate) fn report_run<D: Disk, O: Write>(
 {
     match answer {
         Ok(ready) => print_run(alloc, ready, steps, regs, out),
-        Err(fault) => report_of_fault(alloc, disk, &fault, notes),
+        Err(fault) => report_of_fault(alloc, disk, fault, notes),
     }
 }

@@ -1,12 +1,14 @@
 //! The tasks of the program.
 
-ghost use Rattle.std.specs.Prelude.{◌≡◌, string_bytes};
+ghost use Rattle.std.specs.Prelude.{◌≡◌, ◌++◌, ◌∷◌, [], map, string_bytes};
+ghost use Rattle.c25_disk.specs.Written.{contents_of};
+ghost use Rattle.c25_report.specs.ProgramFiles.{files_of};
 ghost use Rattle.c25_words.specs.Task.{text_of, texts_of};
 ghost use Rattle.c25_tasks.specs.Assembly.{Assembles};
 ghost use Rattle.c25_tasks.specs.Building.{WritesProgram};
 ghost use Rattle.c25_tasks.specs.Program.{AreNotesUnder, Does, effect_of};
 ghost use Rattle.c25_tasks.specs.Symbols.{BuildsToDisk, WritesWithSymbols};
-ghost use Rattle.c25_tasks.specs.Tells.{WritesTold};
+ghost use Rattle.c25_tasks.specs.Tells.{Writes, WritesTexts, WritesTold};
 
 use crate::assembly::asm_outputs;
 use crate::building::built;
@@ -20,31 +22,43 @@ use crate::report::report_of_fault;
 use crate::running::run_sources;
 use crate::standard_input::run_standard_input;
 use crate::symbols::{BuiltWithSymbols, built_with_symbols};
-use crate::texts::{outputs_of, outputs_with_symbols};
+use crate::texts::{outputs_with_symbols, texts_of};
 use c25_chain::built::Built;
 use c25_chain::fault::Fault;
 use c25_disk::disk::Disk;
 use c25_disk::{Output, write_outputs};
 use c25_report::ending::{Ending, Report};
-use c25_report::texts::file_names;
+use c25_report::texts::{ProgramFileTexts, file_names, program_outputs};
 use c25_words::task::{RunFiles, Task};
 use std::alloc::Global;
 use std::io::{Read, Write};
 
-/// Writes the files that all work came to.
-fn write_told<D: Disk>(
+/// Writes files.
+fn write_files<D: Disk>(
     alloc: Global,
-    told: &Result<Vec<Output<'_>>, Fault>,
+    outputs: &[Output<'_>],
     notes: Notes<'_>,
     disk: &mut D,
 ) -> Report
-    ensures { WritesTold (D.bytes_of disk.old) notes.entry told.now result.ending (string_bytes result.note) (D.written disk.old, D.written disk.new) }
+    ensures { Writes (D.bytes_of disk.old) notes.entry (map contents_of outputs.now) result.ending (string_bytes result.note) (D.written disk.old, D.written disk.new) }
+{
+    match write_outputs(alloc, disk, outputs) {
+        Ok(()) => Report::without_note(alloc, Ending::Done),
+        Err(failure) => report_of_fault(alloc, disk, fault_of_file(failure), notes),
+    }
+}
+
+/// Writes the files that all work came to.
+fn write_told<D: Disk>(
+    alloc: Global,
+    told: Result<Vec<Output<'_>>, Fault>,
+    notes: Notes<'_>,
+    disk: &mut D,
+) -> Report
+    ensures { WritesTold (D.bytes_of disk.old) notes.entry told.entry result.ending (string_bytes result.note) (D.written disk.old, D.written disk.new) }
 {
     match told {
-        Ok(outputs) => match write_outputs(alloc, disk, outputs) {
-            Ok(()) => Report::without_note(alloc, Ending::Done),
-            Err(failure) => report_of_fault(alloc, disk, &fault_of_file(failure), notes),
-        },
+        Ok(outputs) => write_files(alloc, outputs.as_slice(), notes, disk),
         Err(fault) => report_of_fault(alloc, disk, fault, notes),
     }
 }
@@ -61,11 +75,54 @@ fn assemble_to_disk<D: Disk>(
     ensures { Assembles (D.bytes_of disk.old) notes.entry source.now object.now (text_of listing.entry) result.ending (string_bytes result.note) (D.written disk.old, D.written disk.new) }
 {
     let told = asm_outputs(alloc, disk, source, object, listing);
-    write_told(alloc, &told, notes, disk)
+    write_told(alloc, told, notes, disk)
+}
+
+/// Writes the files of texts behind a base name.
+#[tactic(auto, using(crate::proofs::Quiet::stays, crate::proofs::Quiet::writes_texts))]
+fn write_texts<D: Disk>(
+    alloc: Global,
+    base: &str,
+    texts: ProgramFileTexts,
+    notes: Notes<'_>,
+    disk: &mut D,
+) -> Report
+    ensures { WritesTexts (D.bytes_of disk.old) notes.entry (files_of base.now texts) result.ending (string_bytes result.note) (D.written disk.old, D.written disk.new) }
+{
+    let names = match file_names(alloc, base, texts.listings.len()) {
+        Ok(names) => names,
+        Err(error) => return Report::without_note(alloc, Ending::NoMemory(error)),
+    };
+    match program_outputs(alloc, &names, texts) {
+        Ok(outputs) => write_files(alloc, outputs.as_slice(), notes, disk),
+        Err(error) => Report::without_note(alloc, Ending::NoMemory(error)),
+    }
+}
+
+/// The same, and behind them a file of the symbols.
+#[tactic(auto, using(crate::proofs::Quiet::stays, crate::proofs::Quiet::writes_texts))]
+fn write_texts_with_symbols<D: Disk>(
+    alloc: Global,
+    base: &str,
+    texts: ProgramFileTexts,
+    symbols: Output<'_>,
+    notes: Notes<'_>,
+    disk: &mut D,
+) -> Report
+    ensures { WritesTexts (D.bytes_of disk.old) notes.entry (files_of base.now texts ++ contents_of symbols.entry ∷ []) result.ending (string_bytes result.note) (D.written disk.old, D.written disk.new) }
+{
+    let names = match file_names(alloc, base, texts.listings.len()) {
+        Ok(names) => names,
+        Err(error) => return Report::without_note(alloc, Ending::NoMemory(error)),
+    };
+    match outputs_with_symbols(alloc, &names, texts, symbols) {
+        Ok(outputs) => write_files(alloc, outputs.as_slice(), notes, disk),
+        Err(error) => Report::without_note(alloc, Ending::NoMemory(error)),
+    }
 }
 
 /// Writes the files of a program behind a base name.
-#[tactic(auto, using(crate::proofs::Quiet::stays))]
+#[tactic(auto, using(crate::proofs::Quiet::writes_program))]
 fn write_program<D: Disk>(
     alloc: Global,
     base: &str,
@@ -75,22 +132,14 @@ fn write_program<D: Disk>(
 ) -> Report
     ensures { WritesProgram (D.bytes_of disk.old) notes.entry base.now told result.ending (string_bytes result.note) (D.written disk.old, D.written disk.new) }
 {
-    let built = match told {
-        Ok(built) => built,
-        Err(fault) => return report_of_fault(alloc, disk, &fault, notes),
-    };
-    let names = match file_names(alloc, base, built.listings.len()) {
-        Ok(names) => names,
-        Err(error) => return Report::without_note(alloc, Ending::NoMemory(error)),
-    };
-    match outputs_of(alloc, &names, built) {
-        Ok(outputs) => write_told(alloc, &Ok(outputs), notes, disk),
-        Err(error) => Report::without_note(alloc, Ending::NoMemory(error)),
+    match told {
+        Ok(built) => write_texts(alloc, base, texts_of(built), notes, disk),
+        Err(fault) => report_of_fault(alloc, disk, fault, notes),
     }
 }
 
 /// Writes the files of a program behind a base name, and one of its symbols.
-#[tactic(auto, using(crate::proofs::Quiet::stays))]
+#[tactic(auto, using(crate::proofs::Quiet::writes_symbols))]
 fn write_with_symbols<D: Disk>(
     alloc: Global,
     base: &str,
@@ -101,17 +150,13 @@ fn write_with_symbols<D: Disk>(
 ) -> Report
     ensures { WritesWithSymbols (D.bytes_of disk.old) notes.entry base.now file.now told result.ending (string_bytes result.note) (D.written disk.old, D.written disk.new) }
 {
-    let told = match told {
-        Ok(told) => told,
-        Err(fault) => return report_of_fault(alloc, disk, &fault, notes),
-    };
-    let names = match file_names(alloc, base, told.built.listings.len()) {
-        Ok(names) => names,
-        Err(error) => return Report::without_note(alloc, Ending::NoMemory(error)),
-    };
-    match outputs_with_symbols(alloc, &names, file, told) {
-        Ok(outputs) => write_told(alloc, &Ok(outputs), notes, disk),
-        Err(error) => Report::without_note(alloc, Ending::NoMemory(error)),
+    match told {
+        Ok(BuiltWithSymbols { built, symbols }) => {
+            let bytes = symbols.into_bytes();
+            let symbols = Output { name: file, bytes };
+            write_texts_with_symbols(alloc, base, texts_of(built), symbols, notes, disk)
+        }
+        Err(fault) => report_of_fault(alloc, disk, fault, notes),
     }
 }
 

@@ -1,11 +1,10 @@
 //! The files that are written of what was built.
 
-ghost use Rattle.std.specs.Prelude.{◌≡◌, ◌++◌, ◌∷◌, [], ℕ, List, IfOk, map, string_bytes};
+ghost use Rattle.std.specs.Prelude.{◌≡◌, ◌++◌, ◌∷◌, [], ℕ, List, IfOk, map};
 ghost use Rattle.c25_disk.specs.Written.{contents_of};
 ghost use Rattle.c25_report.specs.ProgramFiles.{AreNames, files_of};
 ghost use Rattle.c25_tasks.specs.Building.{texts_in};
 
-use crate::symbols::BuiltWithSymbols;
 use c25_chain::built::Built;
 use c25_chain::linked::Linked;
 use c25_chain::page::Page;
@@ -14,13 +13,9 @@ use c25_meaning_common::no_memory::NoMemory;
 use c25_report::texts::{ProgramFileNames, ProgramFileTexts, program_outputs};
 use std::alloc::Global;
 
-/// The files that are written of a program: both hex texts, the map, and the listings.
-pub(crate) fn outputs_of<'a>(
-    alloc: Global,
-    names: &'a ProgramFileNames,
-    built: Built,
-) -> Result<Vec<Output<'a>>, NoMemory>
-    ensures { (base : List ℕ) → AreNames base built.listings.len names.entry.now → IfOk result (λ outputs. map contents_of outputs.items ≡ files_of base (texts_in built)) }
+/// The texts that are written of a program: both hex texts, the map, and the listings.
+pub(crate) fn texts_of(built: Built) -> ProgramFileTexts
+    ensures { result ≡ texts_in built }
 {
     let Built { linked, listings } = built;
     let Linked {
@@ -31,28 +26,25 @@ pub(crate) fn outputs_of<'a>(
     } = linked;
     let Page { text: page0, .. } = page0;
     let Page { text: page1, .. } = page1;
-    let texts = ProgramFileTexts {
+    ProgramFileTexts {
         page0,
         page1,
         map,
         listings,
-    };
-    program_outputs(alloc, names, texts)
+    }
 }
 
-/// The same, and behind them a file of the symbols.
+/// The files of such texts, and behind them that of the symbols.
 pub(crate) fn outputs_with_symbols<'a>(
     alloc: Global,
     names: &'a ProgramFileNames,
-    file: &'a str,
-    told: BuiltWithSymbols,
+    texts: ProgramFileTexts,
+    symbols: Output<'a>,
 ) -> Result<Vec<Output<'a>>, NoMemory>
-    ensures { (base : List ℕ) → AreNames base told.built.listings.len names.entry.now
-        → IfOk result (λ outputs. map contents_of outputs.items ≡ files_of base (texts_in told.built) ++ (file.entry.now, string_bytes told.symbols) ∷ []) }
+    ensures { (base : List ℕ) → AreNames base texts.listings.len names.entry.now
+        → IfOk result (λ outputs. map contents_of outputs.items ≡ files_of base texts ++ contents_of symbols.entry ∷ []) }
 {
-    let BuiltWithSymbols { built, symbols } = told;
-    let mut outputs = outputs_of(alloc, names, built)?;
-    let bytes = symbols.into_bytes();
-    outputs.push(Output { name: file, bytes })?;
+    let mut outputs = program_outputs(alloc, names, texts)?;
+    outputs.push(symbols)?;
     Ok(outputs)
 }
