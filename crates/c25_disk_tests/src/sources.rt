@@ -5,6 +5,7 @@ use crate::shelf::Shelf;
 use c25_disk::disk::{Disk, Refused};
 use c25_disk::{read_file, read_sources};
 use std::cell::Cell;
+use std::process::Abort;
 use std::test::Fail;
 
 /// A shelf that counts how often a file is opened.
@@ -33,6 +34,23 @@ impl<'a> Disk for Counting<'a> {
     }
 }
 
+/// Sources that are read have their texts, and no others are read.
+fn have_texts(rt: &(impl Abort + AllocGlobal), disk: &Counting<'_>) -> Result<(), Fail> {
+    let files = read_sources(rt.alloc(), disk, &["b", "a"])?;
+    let texts = [files.text("a"), files.text("b"), files.text("c")];
+    assert_eq!(rt; texts, [Some(" NOP\n"), Some(""), None]);
+    Ok(())
+}
+
+/// Each of two sources is opened once; a file has its text.
+fn are_read(rt: &(impl Abort + AllocGlobal), disk: &Counting<'_>) -> Result<(), Fail> {
+    have_texts(rt, disk)?;
+    assert_eq!(rt; disk.opened.get(), 2);
+    let text = read_file(rt.alloc(), disk, "a")?;
+    assert_eq!(rt; text.as_str(), " NOP\n");
+    Ok(())
+}
+
 #[test]
 fn each_source_is_opened_once(rt: HostRuntime) -> Result<(), Fail> {
     let disk = Counting {
@@ -44,12 +62,5 @@ fn each_source_is_opened_once(rt: HostRuntime) -> Result<(), Fail> {
         },
         opened: Cell::new(0),
     };
-    let files = read_sources(rt.alloc(), &disk, &["b", "a"])?;
-    assert_eq!(rt; files.text("a"), Some(" NOP\n"));
-    assert_eq!(rt; files.text("b"), Some(""));
-    assert!(rt; files.text("c").is_none());
-    assert_eq!(rt; disk.opened.get(), 2);
-    let text = read_file(rt.alloc(), &disk, "a")?;
-    assert_eq!(rt; text.as_str(), " NOP\n");
-    Ok(())
+    are_read(&rt, &disk)
 }

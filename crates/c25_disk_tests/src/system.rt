@@ -3,25 +3,40 @@
 use c25_disk::disk::{Disk, Refused};
 use c25_disk::system::System;
 use c25_disk::{Output, read_file, write_outputs};
+use std::alloc::{AllocError, Global};
+use std::process::Abort;
+use std::rt::Files;
 use std::test::Fail;
 use std::{fs, process};
+
+/// A file of this name with this text, as it is to be written.
+fn outputs_of<'a>(alloc: Global, name: &'a str, text: &str) -> Result<Vec<Output<'a>>, AllocError> {
+    let bytes = text.as_bytes().to_vec(alloc)?;
+    let mut outputs = Vec::new(alloc);
+    outputs.push(Output { name, bytes })?;
+    Ok(outputs)
+}
+
+/// A text is written to a file, and read from it again.
+fn is_written<R: Files>(
+    rt: &(impl Abort + AllocGlobal),
+    system: &mut System<'_, R>,
+    name: &str,
+    text: &str,
+) -> Result<(), Fail> {
+    let outputs = outputs_of(rt.alloc(), name, text)?;
+    write_outputs(rt.alloc(), system, &outputs)?;
+    let read = read_file(rt.alloc(), system, name)?;
+    assert_eq!(rt; read.as_str(), text);
+    Ok(())
+}
 
 #[test]
 fn what_is_written_is_read(rt: HostRuntime) -> Result<(), Fail> {
     let name = format!(in rt.alloc(); "/tmp/c25_disk_{}", process::id(rt.process()))?;
     let mut system = System::new(&rt);
-    for text in ["longer", "text"] {
-        let mut bytes = Vec::new(rt.alloc());
-        bytes.extend_from_slice(text.as_bytes())?;
-        let mut outputs = Vec::new(rt.alloc());
-        outputs.push(Output {
-            name: name.as_str(),
-            bytes,
-        })?;
-        write_outputs(rt.alloc(), &mut system, &outputs)?;
-        let read = read_file(rt.alloc(), &system, &name)?;
-        assert_eq!(rt; read.as_str(), text);
-    }
+    is_written(&rt, &mut system, &name, "longer")?;
+    is_written(&rt, &mut system, &name, "text")?;
     fs::remove_file(&rt, &name)?;
     assert!(rt; system.open(&name).is_err());
     assert_eq!(rt; system.write("/", b"x"), Err(Refused));

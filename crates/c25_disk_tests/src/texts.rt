@@ -63,16 +63,21 @@ fn the_limit_is_16777216_bytes(rt: HostRuntime) -> Result<(), Fail> {
     cannot_be_read(&rt, &mut past)
 }
 
-#[test]
-fn a_text_joins_the_files(rt: HostRuntime) -> Result<(), Fail> {
-    let mut files = Files::new(rt.alloc());
+/// Adds a file `b` with the text 2, and one that is read a byte at a time.
+fn add_two(files: &mut Files) -> Result<(), Fail> {
     files.add("b", "2")?;
     let mut reader = Pieces {
         rest: "a\u{e9}\r".as_bytes(),
         most: 1,
         fails: false,
     };
-    files.add_from("a", &mut reader)?;
+    files.add_from("a", &mut reader).map_err(Fail::from)
+}
+
+#[test]
+fn a_text_joins_the_files(rt: HostRuntime) -> Result<(), Fail> {
+    let mut files = Files::new(rt.alloc());
+    add_two(&mut files)?;
     has(&rt, &files, "a", Some("a\u{e9}\r"));
     has(&rt, &files, "b", Some("2"));
     Ok(())
