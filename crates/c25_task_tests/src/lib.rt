@@ -9,4 +9,6 @@ mod memory;
 #[cfg(test)]
 mod program;
 #[cfg(test)]
+mod values;
+#[cfg(test)]
 mod worlds;

@@ -1,10 +1,11 @@
 //! Lines that a text does not have: no fault is told of them.
 
+use crate::values::equal;
 use c25_explain::note::line_of;
 
 #[test]
 fn a_text_has_no_line_0_and_none_behind_its_last(rt: HostRuntime) {
-    assert!(rt; line_of("A\nB\n", 0).is_none());
-    assert_eq!(rt; line_of("A\nB\n", 2), Some("B"));
-    assert!(rt; line_of("A\nB\n", 3).is_none());
+    equal(&rt, line_of("A\nB\n", 0), None);
+    equal(&rt, line_of("A\nB\n", 2), Some("B"));
+    equal(&rt, line_of("A\nB\n", 3), None);
 }

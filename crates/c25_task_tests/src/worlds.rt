@@ -2,6 +2,7 @@
 
 ghost use Rattle.std.specs.Io.{WritesAtMost};
 
+use c25_disk_tests::readers::Pieces;
 use c25_disk_tests::shelf::Shelf;
 use std::alloc::Global;
 use std::env::FillError;
@@ -102,6 +103,15 @@ impl Write for Narrow {
 
     fn flush(&mut self) -> io::Result<()> {
         Ok(())
+    }
+}
+
+/// An input with these bytes, nine at most at a time.
+pub(crate) fn input_of(bytes: &[u8]) -> Pieces<'_> {
+    Pieces {
+        rest: bytes,
+        most: 9,
+        fails: false,
     }
 }
 
