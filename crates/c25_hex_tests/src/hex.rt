@@ -1,5 +1,6 @@
 //! Texts from outside: lines that were added up by hand.
 
+use crate::values::equal;
 use c25_hex::{read_hex, write_hex};
 use c25_meaning_image::word_map::WordMap;
 use std::alloc::{AllocError, Global};
@@ -17,9 +18,9 @@ fn text_of(alloc: Global, entries: &[(u16, u16)]) -> Result<String, Fail> {
 
 /// These are the words of a map, and no others.
 fn are_words(rt: &impl Abort, words: &WordMap, entries: &[(u16, u16)]) {
-    assert_eq!(rt; words.iter().count(), entries.len());
+    equal(rt, words.iter().count(), entries.len());
     for (address, word) in entries {
-        assert_eq!(rt; words.get(*address), Some(*word));
+        equal(rt, words.get(*address), Some(*word));
     }
 }
 
@@ -30,7 +31,7 @@ fn writes(
     lines: &str,
 ) -> Result<(), Fail> {
     let text = text_of(rt.alloc(), entries)?;
-    assert_eq!(rt; text.as_str(), lines);
+    equal(rt, text.as_str(), lines);
     let again = read_hex(rt.alloc(), text.as_str())?;
     are_words(rt, &again, entries);
     Ok(())
@@ -73,14 +74,14 @@ fn full_text(alloc: Global) -> Result<String, Fail> {
 /// A map has the words of that page.
 fn is_full(rt: &impl Abort, words: &WordMap) {
     for address in 0..=u16::MAX {
-        assert_eq!(rt; words.get(address), Some(address ^ 0xa55a));
+        equal(rt, words.get(address), Some(address ^ 0xa55a));
     }
 }
 
 #[test]
 fn a_full_page_is_written_and_read_back(rt: HostRuntime) -> Result<(), Fail> {
     let text = full_text(rt.alloc())?;
-    assert_eq!(rt; text.as_str().lines().count(), 8194);
+    equal(&rt, text.as_str().lines().count(), 8194);
     let again = read_hex(rt.alloc(), text.as_str())?;
     is_full(&rt, &again);
     Ok(())
@@ -97,6 +98,6 @@ fn told(alloc: Global, text: &str) -> Result<String, AllocError> {
 #[test]
 fn faults_are_printed(rt: HostRuntime) -> Result<(), Fail> {
     let told = told(rt.alloc(), ":00000001FF\n:00000001FF\n")?;
-    assert_eq!(rt; told.as_str(), "2: AfterEnd");
+    equal(&rt, told.as_str(), "2: AfterEnd");
     Ok(())
 }

@@ -6,4 +6,6 @@ mod hex;
 #[cfg(test)]
 mod marks;
 #[cfg(test)]
+mod values;
+#[cfg(test)]
 mod words;

@@ -1,5 +1,6 @@
 //! Words by their addresses.
 
+use crate::values::equal;
 use c25_meaning_image::word_map::WordMap;
 use std::test::Fail;
 
@@ -13,13 +14,13 @@ fn set_words(words: &mut WordMap) -> Result<(), Fail> {
 #[test]
 fn words_are_set_and_found(rt: HostRuntime) -> Result<(), Fail> {
     let mut words = WordMap::new(rt.alloc());
-    assert_eq!(rt; words.get(0), None);
+    equal(&rt, words.get(0), None);
     set_words(&mut words)?;
-    assert_eq!(rt; [words.get(7), words.get(8)], [Some(2), None]);
+    equal(&rt, words.get(7), Some(2));
+    equal(&rt, words.get(8), None);
     let mut entries = words.iter();
-    assert_eq!(rt;
-        [entries.next(), entries.next(), entries.next()],
-        [Some((&7, &2)), Some((&0xffff, &3)), None]
-    );
+    equal(&rt, entries.next(), Some((&7, &2)));
+    equal(&rt, entries.next(), Some((&0xffff, &3)));
+    equal(&rt, entries.next(), None);
     Ok(())
 }
