@@ -1,5 +1,7 @@
--- An option is `None` or a `Some`, and not both.
-use Rattle.std.proofs.Common.{◌≡◌, Option, Some, None}
+-- What is said of `None` holds of an option that is no `Some`.
+use Rattle.std.proofs.Common.{◌≡◌, Option, Some, None, refl}
+use Rattle.std.specs.Prelude.{IfNone}
 
-pub none_and_some : {A : Type 0} (r : Option A) (x : A) → r ≡ None → r ≡ Some x → ⊥
-none_and_some r x none some = cc
+pub none_left : {A : Type 0} (r : Option A) (P : Type 0) → IfNone r P → ((x : A) → r ≡ Some x → ⊥) → P
+none_left None P given others = given
+none_left (Some x) P given others = absurd (others x refl)

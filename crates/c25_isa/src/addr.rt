@@ -1,6 +1,6 @@
 //! The operand byte: where an instruction finds its data word (SPRU014, "Memory Addressing Modes").
 
-ghost use Rattle.std.specs.Prelude.{◌≡◌, ◌+◌, ◌*◌, ◌<◌, ◌≤◌, ◌^◌, Some, IfSome, Option, ℕ};
+ghost use Rattle.std.specs.Prelude.{◌≡◌, ◌+◌, ◌*◌, ◌<◌, ◌≤◌, ◌^◌, IfSome, IfNone, Option, ℕ};
 ghost use Rattle.c25_meaning_instructions.specs.Table.{operand_byte, indirect_byte, change_number, AddrInRange, NextInRange};
 ghost use Rattle.c25_meaning_instructions.specs.declared.insn.Addr.{Addr};
 ghost use Rattle.c25_meaning_instructions.specs.declared.insn.Change.{Change};
@@ -33,7 +33,7 @@ pub(crate) fn number_of_change(change: Change) -> u16
 /// The change of a number; 3 is reserved.
 pub(crate) fn change_of_number(number: u16) -> Option<Change>
     ensures found { IfSome result (λ change. change_number change ≡ number) }
-    ensures all { (change : Change) → change_number change ≡ number → result ≡ Some change }
+    ensures none { IfNone result ((change : Change) → change_number change ≡ number → ⊥) }
 {
     match number {
         0 => Some(Change::Keep),
@@ -80,8 +80,8 @@ pub(crate) fn indirect_of_byte(byte: u16) -> Option<(Change, Option<u16>)>
     requires high { byte < 256 }
     ensures found { IfSome result
         (λ found. NextInRange found.1 × (indirect_byte found.0 found.1 ≡ byte)) }
-    ensures all { (change : Change) (next : Option ℕ) → NextInRange next
-        → indirect_byte change next ≡ byte → result ≡ Some (change, next) }
+    ensures none { IfNone result ((change : Change) (next : Option ℕ) → NextInRange next
+        → indirect_byte change next ≡ byte → ⊥) }
 {
     let change = change_of_number(ChangeField::get(byte))?;
     match LowField::get(byte) {
@@ -95,7 +95,7 @@ pub(crate) fn indirect_of_byte(byte: u16) -> Option<(Change, Option<u16>)>
 pub(crate) fn addr_of_byte(byte: u16) -> Option<Addr>
     requires { byte < 256 }
     ensures found { IfSome result (λ addr. AddrInRange addr × (operand_byte addr ≡ byte)) }
-    ensures all { (addr : Addr) → AddrInRange addr → operand_byte addr ≡ byte → result ≡ Some addr }
+    ensures none { IfNone result ((addr : Addr) → AddrInRange addr → operand_byte addr ≡ byte → ⊥) }
 {
     if byte < 0x80 {
         return Some(Addr::Direct(byte));

@@ -1,7 +1,7 @@
 //! Instructions with an auxiliary register and a memory operand: one word, the register in the high
 //! byte.
 
-ghost use Rattle.std.specs.Prelude.{◌≡◌, ℕ, pos, ◌+◌, ◌*◌, ◌%◌, ◌++◌, ◌<◌, ◌≤◌, ◌^◌, Some, IfSome, OnOk, string_bytes};
+ghost use Rattle.std.specs.Prelude.{◌≡◌, ℕ, pos, ◌+◌, ◌*◌, ◌%◌, ◌++◌, ◌<◌, ◌≤◌, ◌^◌, IfSome, IfNone, OnOk, string_bytes};
 ghost use Rattle.c25_meaning_instructions.specs.Table.{ar_mem_row, size, placed, opcode_word, Reads, AddrInRange};
 ghost use Rattle.c25_meaning_instructions.specs.Show.{show};
 ghost use Rattle.c25_meaning_instructions.specs.declared.mnemonic.ArMemName.{ArMemName};
@@ -11,9 +11,9 @@ ghost use Rattle.c25_meaning_instructions.specs.declared.insn.Insn.TheVariants a
 
 use crate::{addr, rows, text};
 use c25_bits::Field;
-use c25_meaning_common::no_memory::NoMemory;
 use c25_meaning_instructions::insn::{Addr, Insn};
 use c25_meaning_instructions::mnemonic::ArMemName;
+use std::alloc::AllocError;
 
 macro_rules! ar_mem_rows {
     ($what:ident $value:expr) => {
@@ -36,9 +36,8 @@ fn base_of(name: ArMemName) -> u16
 fn row_of(first: u16) -> Option<(ArMemName, u16)>
     ensures found { IfSome result (λ found. (found.1 < 8)
         × ((ar_mem_row found.0).base + found.1 * 2 ^ 8 + first % 256 ≡ first)) }
-    ensures all { (name : ArMemName) (register low : ℕ) → register < 8 → low < 256
-        → (ar_mem_row name).base + placed (pos register) 8 3 + low ≡ first
-        → result ≡ Some (name, register) }
+    ensures none { IfNone result ((name : ArMemName) (register low : ℕ) → register < 8 → low < 256
+        → (ar_mem_row name).base + placed (pos register) 8 3 + low ≡ first → ⊥) }
 {
     ar_mem_rows!(numbered_at first >> 8)
 }
@@ -69,9 +68,8 @@ pub(crate) fn encode(name: ArMemName, register: u16, addr: Addr) -> u16
 /// The instruction of this family that a first word reads as.
 pub(crate) fn decode(first: u16) -> Option<Insn>
     ensures found { (second : ℕ) → IfSome result (Reads first second) }
-    ensures all { (second : ℕ) (name : ArMemName) (register : ℕ) (addr : Addr)
-        → Reads first second (insn.ArMem name register addr)
-        → result ≡ Some (insn.ArMem name register addr) }
+    ensures none { IfNone result ((second : ℕ) (name : ArMemName) (register : ℕ) (addr : Addr)
+        → Reads first second (insn.ArMem name register addr) → ⊥) }
 {
     let (name, register) = row_of(first)?;
     let addr = addr::addr_of_byte(Field::<0, 8>::get(first))?;
@@ -84,7 +82,7 @@ pub(crate) fn show(
     name: ArMemName,
     register: u16,
     addr: Addr,
-) -> Result<(), NoMemory>
+) -> Result<(), AllocError>
     ensures { OnOk result
         (string_bytes out.new ≡ string_bytes out.old ++ show (insn.ArMem name register addr)) }
 {

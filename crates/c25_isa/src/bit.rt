@@ -1,6 +1,6 @@
 //! The test of a bit of a memory operand: one word, the bit code in the high byte.
 
-ghost use Rattle.std.specs.Prelude.{◌≡◌, ℕ, pos, ◌+◌, ◌*◌, ◌%◌, ◌++◌, ◌<◌, ◌≤◌, ◌^◌, Some, IfSome, OnOk, string_bytes};
+ghost use Rattle.std.specs.Prelude.{◌≡◌, ℕ, pos, ◌+◌, ◌*◌, ◌%◌, ◌++◌, ◌<◌, ◌≤◌, ◌^◌, IfSome, IfNone, OnOk, string_bytes};
 ghost use Rattle.c25_meaning_instructions.specs.Table.{bit_row, size, placed, opcode_word, Reads, AddrInRange};
 ghost use Rattle.c25_meaning_instructions.specs.Show.{show};
 ghost use Rattle.c25_meaning_instructions.specs.declared.mnemonic.BitName.{BitName};
@@ -10,9 +10,9 @@ ghost use Rattle.c25_meaning_instructions.specs.declared.insn.Insn.TheVariants a
 
 use crate::{addr, rows, text};
 use c25_bits::Field;
-use c25_meaning_common::no_memory::NoMemory;
 use c25_meaning_instructions::insn::{Addr, Insn};
 use c25_meaning_instructions::mnemonic::BitName;
+use std::alloc::AllocError;
 
 macro_rules! bit_rows {
     ($what:ident $value:expr) => {
@@ -34,8 +34,8 @@ fn base_of(name: BitName) -> u16
 fn row_of(first: u16) -> Option<(BitName, u16)>
     ensures found { IfSome result (λ found. (found.1 < 16)
         × ((bit_row found.0).base + found.1 * 2 ^ 8 + first % 256 ≡ first)) }
-    ensures all { (name : BitName) (code low : ℕ) → code < 16 → low < 256
-        → (bit_row name).base + placed (pos code) 8 4 + low ≡ first → result ≡ Some (name, code) }
+    ensures none { IfNone result ((name : BitName) (code low : ℕ) → code < 16 → low < 256
+        → (bit_row name).base + placed (pos code) 8 4 + low ≡ first → ⊥) }
 {
     bit_rows!(numbered_at first >> 8)
 }
@@ -66,9 +66,8 @@ pub(crate) fn encode(name: BitName, addr: Addr, code: u16) -> u16
 /// The instruction of this family that a first word reads as.
 pub(crate) fn decode(first: u16) -> Option<Insn>
     ensures found { (second : ℕ) → IfSome result (Reads first second) }
-    ensures all { (second : ℕ) (name : BitName) (addr : Addr) (code : ℕ)
-        → Reads first second (insn.Bit name addr code)
-        → result ≡ Some (insn.Bit name addr code) }
+    ensures none { IfNone result ((second : ℕ) (name : BitName) (addr : Addr) (code : ℕ)
+        → Reads first second (insn.Bit name addr code) → ⊥) }
 {
     let (name, code) = row_of(first)?;
     let addr = addr::addr_of_byte(Field::<0, 8>::get(first))?;
@@ -76,13 +75,11 @@ pub(crate) fn decode(first: u16) -> Option<Insn>
 }
 
 /// Appends an instruction's text.
-pub(crate) fn show(out: &mut String, name: BitName, addr: Addr, code: u16) -> Result<(), NoMemory>
+pub(crate) fn show(out: &mut String, name: BitName, addr: Addr, code: u16) -> Result<(), AllocError>
     ensures { OnOk result
         (string_bytes out.new ≡ string_bytes out.old ++ show (insn.Bit name addr code)) }
 {
-    out.push_str(text_of(name))?;
-    out.push_str(" ")?;
-    text::push_place(out, addr)?;
+    text::push_with_place(out, text_of(name), addr)?;
     write!(out, ",{code}")?;
     text::push_tail(out, addr)
 }

@@ -1,6 +1,6 @@
 //! Jumps: two words, the first with an indirect operand byte below a high byte of the row's own.
 
-ghost use Rattle.std.specs.Prelude.{◌≡◌, ℕ, Option, ◌+◌, ◌*◌, ◌++◌, ◌≤◌, ◌^◌, Some, IfSome, OnOk, string_bytes};
+ghost use Rattle.std.specs.Prelude.{◌≡◌, ℕ, Option, ◌+◌, ◌*◌, ◌++◌, ◌≤◌, ◌^◌, IfSome, IfNone, OnOk, string_bytes};
 ghost use Rattle.c25_meaning_instructions.specs.Table.{jump_row, size, opcode_word, Reads, NextInRange};
 ghost use Rattle.c25_meaning_instructions.specs.Show.{show};
 ghost use Rattle.c25_meaning_instructions.specs.declared.mnemonic.JumpName.{JumpName};
@@ -10,9 +10,9 @@ ghost use Rattle.c25_meaning_instructions.specs.declared.insn.Insn.TheVariants a
 
 use crate::{addr, rows, text};
 use c25_bits::Field;
-use c25_meaning_common::no_memory::NoMemory;
 use c25_meaning_instructions::insn::{Change, Insn};
 use c25_meaning_instructions::mnemonic::JumpName;
+use std::alloc::AllocError;
 
 macro_rules! jump_rows {
     ($what:ident $value:expr) => {
@@ -48,7 +48,7 @@ fn base_of(name: JumpName) -> u16
 /// The row that has a high byte.
 fn name_at(high: u16) -> Option<JumpName>
     ensures found { IfSome result (λ name. (jump_row name).base ≡ 256 * high) }
-    ensures all { (name : JumpName) → (jump_row name).base ≡ 256 * high → result ≡ Some name }
+    ensures none { IfNone result ((name : JumpName) → (jump_row name).base ≡ 256 * high → ⊥) }
 {
     jump_rows!(name_at high)
 }
@@ -78,9 +78,8 @@ pub(crate) fn encode(name: JumpName, word: u16, change: Change, next: Option<u16
 /// The instruction of this family that two words read as.
 pub(crate) fn decode(first: u16, second: u16) -> Option<Insn>
     ensures found { IfSome result (Reads first second) }
-    ensures all { (name : JumpName) (word : ℕ) (change : Change) (next : Option ℕ)
-        → Reads first second (insn.Jump name word change next)
-        → result ≡ Some (insn.Jump name word change next) }
+    ensures none { IfNone result ((name : JumpName) (word : ℕ) (change : Change) (next : Option ℕ)
+        → Reads first second (insn.Jump name word change next) → ⊥) }
 {
     let name = name_at(Field::<8, 8>::get(first))?;
     let byte = Field::<0, 8>::get(first);
@@ -98,13 +97,11 @@ pub(crate) fn show(
     word: u16,
     change: Change,
     next: Option<u16>,
-) -> Result<(), NoMemory>
+) -> Result<(), AllocError>
     ensures { OnOk result
         (string_bytes out.new ≡ string_bytes out.old ++ show (insn.Jump name word change next)) }
 {
-    out.push_str(text_of(name))?;
-    out.push_str(" ")?;
-    text::push_long(out, word)?;
+    text::push_with_long(out, text_of(name), word)?;
     out.push_str(",")?;
     out.push_str(text::text_of_change(change))?;
     text::push_next(out, next)

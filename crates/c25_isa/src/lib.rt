@@ -6,7 +6,7 @@
 #![tactic(auto)]
 
 ghost use Rattle.std.specs.Prelude.{◌≡◌, Some, IfSome};
-ghost use Rattle.c25_meaning_instructions.specs.Table.{words, size, InRange, Reads};
+ghost use Rattle.c25_meaning_instructions.specs.Table.{opcode_word, second_word, words, size, InRange, Reads};
 ghost use Rattle.c25_meaning_instructions.specs.declared.insn.Insn.{Insn};
 
 mod addr;
@@ -31,33 +31,49 @@ pub use text::show;
 /// The one or two words of an instruction, in the order of their addresses.
 pub type Code = ArrayVec<u16, 2>;
 
+/// The first word of an instruction.
+fn first_word(insn: &Insn) -> u16
+    requires { InRange insn.now }
+    ensures { result ≡ opcode_word insn.now }
+{
+    match *insn {
+        Insn::Mem(name, addr) => mem::encode(name, addr),
+        Insn::Shifted(name, addr, shift) => shifted::encode(name, addr, shift),
+        Insn::ArMem(name, register, addr) => ar_mem::encode(name, register, addr),
+        Insn::Port(name, addr, port) => port::encode(name, addr, port),
+        Insn::Bit(name, addr, number) => bit::encode(name, addr, number),
+        Insn::Short(name, register, number) => short::encode(name, register, number),
+        Insn::Long(name, number, high) => long::encode(name, number, high),
+        Insn::LongMem(name, word, addr) => long_mem::encode(name, word, addr),
+        Insn::Jump(name, word, change, next) => jump::encode(name, word, change, next),
+        Insn::Plain(name, operand) => plain::encode(name, operand),
+    }
+}
+
+/// The second word of an instruction, where it has one.
+fn second_word(insn: &Insn) -> Option<u16>
+    requires { InRange insn.now }
+    ensures { result ≡ second_word insn.now }
+{
+    match *insn {
+        Insn::Long(_, word, _) | Insn::LongMem(_, word, _) | Insn::Jump(_, word, _, _) => Some(
+            word,
+        ),
+        _ => None,
+    }
+}
+
 /// The words of an instruction whose operands are in range. No memory is taken.
 pub fn encode(insn: &Insn) -> Code
     requires { InRange insn.now }
     ensures { result.items ≡ words insn.now }
 {
     let mut code = Code::new();
-    match *insn {
-        Insn::Mem(name, addr) => code.push(mem::encode(name, addr)),
-        Insn::Shifted(name, addr, shift) => code.push(shifted::encode(name, addr, shift)),
-        Insn::ArMem(name, register, addr) => code.push(ar_mem::encode(name, register, addr)),
-        Insn::Port(name, addr, port) => code.push(port::encode(name, addr, port)),
-        Insn::Bit(name, addr, number) => code.push(bit::encode(name, addr, number)),
-        Insn::Short(name, register, number) => code.push(short::encode(name, register, number)),
-        Insn::Long(name, number, high) => {
-            code.push(long::encode(name, number, high));
-            code.push(number);
-        }
-        Insn::LongMem(name, word, addr) => {
-            code.push(long_mem::encode(name, word, addr));
-            code.push(word);
-        }
-        Insn::Jump(name, word, change, next) => {
-            code.push(jump::encode(name, word, change, next));
-            code.push(word);
-        }
-        Insn::Plain(name, operand) => code.push(plain::encode(name, operand)),
-    }
+    code.push(first_word(insn));
+    let Some(second) = second_word(insn) else {
+        return code;
+    };
+    code.push(second);
     code
 }
 

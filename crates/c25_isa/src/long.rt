@@ -1,7 +1,7 @@
 //! Instructions with a long number: two words, the first with a register or a shift in its high
 //! byte.
 
-ghost use Rattle.std.specs.Prelude.{◌≡◌, ℕ, ◌+◌, ◌*◌, ◌++◌, ◌<◌, ◌^◌, Some, IfSome, OnOk, string_bytes};
+ghost use Rattle.std.specs.Prelude.{◌≡◌, ℕ, ◌+◌, ◌*◌, ◌++◌, ◌<◌, ◌^◌, IfSome, IfNone, OnOk, string_bytes};
 ghost use Rattle.c25_meaning_instructions.specs.Table.{long_row, size, high_limit, opcode_word, Reads};
 ghost use Rattle.c25_meaning_instructions.specs.Show.{show};
 ghost use Rattle.c25_meaning_instructions.specs.declared.mnemonic.LongName.{LongName};
@@ -10,9 +10,9 @@ ghost use Rattle.c25_meaning_instructions.specs.declared.insn.Insn.TheVariants a
 
 use crate::{rows, text};
 use c25_bits::Field;
-use c25_meaning_common::no_memory::NoMemory;
 use c25_meaning_instructions::insn::Insn;
 use c25_meaning_instructions::mnemonic::LongName;
+use std::alloc::AllocError;
 
 macro_rules! long_rows {
     ($what:ident $value:expr) => {
@@ -39,7 +39,7 @@ fn base_of(name: LongName) -> u16
 /// The row that has a first word, where its register or shift is 0.
 fn name_at(base: u16) -> Option<LongName>
     ensures found { IfSome result (λ name. (long_row name).base ≡ base) }
-    ensures all { (name : LongName) → (long_row name).base ≡ base → result ≡ Some name }
+    ensures none { IfNone result ((name : LongName) → (long_row name).base ≡ base → ⊥) }
 {
     long_rows!(name_at base)
 }
@@ -69,9 +69,8 @@ pub(crate) fn encode(name: LongName, number: u16, high: u16) -> u16
 /// The instruction of this family that two words read as.
 pub(crate) fn decode(first: u16, second: u16) -> Option<Insn>
     ensures found { IfSome result (Reads first second) }
-    ensures all { (name : LongName) (number high : ℕ)
-        → Reads first second (insn.Long name number high)
-        → result ≡ Some (insn.Long name number high) }
+    ensures none { IfNone result ((name : LongName) (number high : ℕ)
+        → Reads first second (insn.Long name number high) → ⊥) }
 {
     let high = Field::<8, 4>::get(first);
     let name = name_at(first - (high << 8))?;
@@ -82,20 +81,24 @@ pub(crate) fn decode(first: u16, second: u16) -> Option<Insn>
 }
 
 /// Appends an instruction's text.
-pub(crate) fn show(out: &mut String, name: LongName, number: u16, high: u16) -> Result<(), NoMemory>
+pub(crate) fn show(
+    out: &mut String,
+    name: LongName,
+    number: u16,
+    high: u16,
+) -> Result<(), AllocError>
     ensures { OnOk result
         (string_bytes out.new ≡ string_bytes out.old ++ show (insn.Long name number high)) }
 {
-    out.push_str(text_of(name))?;
     match name {
         LongName::Lrlk => {
+            out.push_str(text_of(name))?;
             write!(out, " AR{high},")?;
             text::push_long(out, number)
         }
         _ => {
-            out.push_str(" ")?;
-            text::push_long(out, number)?;
-            Ok(write!(out, ",{high}")?)
+            text::push_with_long(out, text_of(name), number)?;
+            write!(out, ",{high}")
         }
     }
 }

@@ -1,7 +1,7 @@
 //! Instructions with a long address and a memory operand: two words, the first like those with a
 //! memory operand alone.
 
-ghost use Rattle.std.specs.Prelude.{◌≡◌, ℕ, ◌+◌, ◌*◌, ◌++◌, ◌≤◌, ◌^◌, Some, IfSome, OnOk, string_bytes};
+ghost use Rattle.std.specs.Prelude.{◌≡◌, ℕ, ◌+◌, ◌*◌, ◌++◌, ◌≤◌, ◌^◌, IfSome, IfNone, OnOk, string_bytes};
 ghost use Rattle.c25_meaning_instructions.specs.Table.{long_mem_row, size, opcode_word, Reads, AddrInRange};
 ghost use Rattle.c25_meaning_instructions.specs.Show.{show};
 ghost use Rattle.c25_meaning_instructions.specs.declared.mnemonic.LongMemName.{LongMemName};
@@ -11,9 +11,9 @@ ghost use Rattle.c25_meaning_instructions.specs.declared.insn.Insn.TheVariants a
 
 use crate::{addr, rows, text};
 use c25_bits::Field;
-use c25_meaning_common::no_memory::NoMemory;
 use c25_meaning_instructions::insn::{Addr, Insn};
 use c25_meaning_instructions::mnemonic::LongMemName;
+use std::alloc::AllocError;
 
 macro_rules! long_mem_rows {
     ($what:ident $value:expr) => {
@@ -37,8 +37,8 @@ fn base_of(name: LongMemName) -> u16
 /// The row that has a high byte.
 fn name_at(high: u16) -> Option<LongMemName>
     ensures found { IfSome result (λ name. (long_mem_row name).base ≡ 256 * high) }
-    ensures all { (name : LongMemName)
-        → (long_mem_row name).base ≡ 256 * high → result ≡ Some name }
+    ensures none { IfNone result ((name : LongMemName)
+        → (long_mem_row name).base ≡ 256 * high → ⊥) }
 {
     long_mem_rows!(name_at high)
 }
@@ -68,9 +68,8 @@ pub(crate) fn encode(name: LongMemName, word: u16, addr: Addr) -> u16
 /// The instruction of this family that two words read as.
 pub(crate) fn decode(first: u16, second: u16) -> Option<Insn>
     ensures found { IfSome result (Reads first second) }
-    ensures all { (name : LongMemName) (word : ℕ) (addr : Addr)
-        → Reads first second (insn.LongMem name word addr)
-        → result ≡ Some (insn.LongMem name word addr) }
+    ensures none { IfNone result ((name : LongMemName) (word : ℕ) (addr : Addr)
+        → Reads first second (insn.LongMem name word addr) → ⊥) }
 {
     let name = name_at(Field::<8, 8>::get(first))?;
     let addr = addr::addr_of_byte(Field::<0, 8>::get(first))?;
@@ -83,13 +82,11 @@ pub(crate) fn show(
     name: LongMemName,
     word: u16,
     addr: Addr,
-) -> Result<(), NoMemory>
+) -> Result<(), AllocError>
     ensures { OnOk result
         (string_bytes out.new ≡ string_bytes out.old ++ show (insn.LongMem name word addr)) }
 {
-    out.push_str(text_of(name))?;
-    out.push_str(" ")?;
-    text::push_long(out, word)?;
+    text::push_with_long(out, text_of(name), word)?;
     out.push_str(",")?;
     text::push_place(out, addr)?;
     text::push_tail(out, addr)

@@ -1,7 +1,7 @@
 //! Instructions with one memory operand: one word, a high byte of the row's own above the operand
 //! byte.
 
-ghost use Rattle.std.specs.Prelude.{◌≡◌, ℕ, ◌+◌, ◌*◌, ◌++◌, ◌≤◌, ◌^◌, Some, IfSome, OnOk, string_bytes};
+ghost use Rattle.std.specs.Prelude.{◌≡◌, ℕ, ◌+◌, ◌*◌, ◌++◌, ◌≤◌, ◌^◌, IfSome, IfNone, OnOk, string_bytes};
 ghost use Rattle.c25_meaning_instructions.specs.Table.{mem_row, size, opcode_word, Reads, AddrInRange};
 ghost use Rattle.c25_meaning_instructions.specs.Show.{show};
 ghost use Rattle.c25_meaning_instructions.specs.declared.mnemonic.MemName.{MemName};
@@ -11,9 +11,9 @@ ghost use Rattle.c25_meaning_instructions.specs.declared.insn.Insn.TheVariants a
 
 use crate::{addr, rows, text};
 use c25_bits::Field;
-use c25_meaning_common::no_memory::NoMemory;
 use c25_meaning_instructions::insn::{Addr, Insn};
 use c25_meaning_instructions::mnemonic::MemName;
+use std::alloc::AllocError;
 
 macro_rules! mem_rows {
     ($what:ident $value:expr) => {
@@ -76,7 +76,7 @@ fn base_of(name: MemName) -> u16
 /// The row that has a high byte.
 fn name_at(high: u16) -> Option<MemName>
     ensures found { IfSome result (λ name. (mem_row name).base ≡ 256 * high) }
-    ensures all { (name : MemName) → (mem_row name).base ≡ 256 * high → result ≡ Some name }
+    ensures none { IfNone result ((name : MemName) → (mem_row name).base ≡ 256 * high → ⊥) }
 {
     mem_rows!(name_at high)
 }
@@ -106,9 +106,8 @@ pub(crate) fn encode(name: MemName, addr: Addr) -> u16
 /// The instruction of this family that a first word reads as.
 pub(crate) fn decode(first: u16) -> Option<Insn>
     ensures found { (second : ℕ) → IfSome result (Reads first second) }
-    ensures all { (second : ℕ) (name : MemName) (addr : Addr)
-        → Reads first second (insn.Mem name addr)
-        → result ≡ Some (insn.Mem name addr) }
+    ensures none { IfNone result ((second : ℕ) (name : MemName) (addr : Addr)
+        → Reads first second (insn.Mem name addr) → ⊥) }
 {
     let name = name_at(Field::<8, 8>::get(first))?;
     let addr = addr::addr_of_byte(Field::<0, 8>::get(first))?;
@@ -116,12 +115,10 @@ pub(crate) fn decode(first: u16) -> Option<Insn>
 }
 
 /// Appends an instruction's text.
-pub(crate) fn show(out: &mut String, name: MemName, addr: Addr) -> Result<(), NoMemory>
+pub(crate) fn show(out: &mut String, name: MemName, addr: Addr) -> Result<(), AllocError>
     ensures { OnOk result
         (string_bytes out.new ≡ string_bytes out.old ++ show (insn.Mem name addr)) }
 {
-    out.push_str(text_of(name))?;
-    out.push_str(" ")?;
-    text::push_place(out, addr)?;
+    text::push_with_place(out, text_of(name), addr)?;
     text::push_tail(out, addr)
 }

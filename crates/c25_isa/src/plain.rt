@@ -1,7 +1,7 @@
 //! Instructions without a memory operand: one word, some with a number or a change of the auxiliary
 //! register in it.
 
-ghost use Rattle.std.specs.Prelude.{◌≡◌, ℕ, ◌+◌, ◌++◌, ◌≤◌, ◌<◌, ◌^◌, Some, IfSome, OnOk, string_bytes};
+ghost use Rattle.std.specs.Prelude.{◌≡◌, ℕ, ◌+◌, ◌++◌, ◌≤◌, ◌<◌, ◌^◌, IfSome, IfNone, OnOk, string_bytes};
 ghost use Rattle.c25_isa.specs.Extent.{plain_extent};
 ghost use Rattle.c25_meaning_instructions.specs.Table.{plain_row, size, plain_number, PlainInRange, opcode_word, Reads};
 ghost use Rattle.c25_meaning_instructions.specs.Show.{show};
@@ -11,9 +11,9 @@ ghost use Rattle.c25_meaning_instructions.specs.declared.insn.Insn.TheVariants a
 ghost use Rattle.c25_meaning_instructions.specs.declared.mnemonic.Mnemonic.TheVariants as family;
 
 use crate::{addr, rows, text};
-use c25_meaning_common::no_memory::NoMemory;
 use c25_meaning_instructions::insn::{Insn, PlainOperand};
 use c25_meaning_instructions::mnemonic::PlainName;
+use std::alloc::AllocError;
 
 macro_rules! plain_rows {
     ($what:ident $value:expr) => {
@@ -85,15 +85,14 @@ pub(crate) fn size_of(name: PlainName) -> u16
     plain_rows!(words_of name)
 }
 
-/// The row of a first word, and how far that is above the row's first.
-fn row_of(first: u16) -> Option<(PlainName, u16)>
-    ensures found { IfSome result (λ found. (found.1 < plain_extent found.0)
-        × ((plain_row found.0).base + found.1 ≡ first)) }
-    ensures all { (name : PlainName) (operand : PlainOperand) → PlainInRange name operand
-        → (plain_row name).base + plain_number name operand ≡ first
-        → result ≡ Some (name, plain_number name operand) }
+/// The row that has a first word.
+fn name_at(first: u16) -> Option<PlainName>
+    ensures found { IfSome result (λ name. ((plain_row name).base ≤ first)
+        × (first < (plain_row name).base + plain_extent name)) }
+    ensures none { IfNone result ((name : PlainName) → (plain_row name).base ≤ first
+        → first < (plain_row name).base + plain_extent name → ⊥) }
 {
-    plain_rows!(numbered_at first)
+    plain_rows!(name_at first)
 }
 
 /// The operand that adds a number to a row's first word.
@@ -101,9 +100,8 @@ fn operand_of(name: PlainName, number: u16) -> Option<PlainOperand>
     requires { number < plain_extent name }
     ensures found { IfSome result
         (λ operand. PlainInRange name operand × (plain_number name operand ≡ number)) }
-    ensures all { (operand : PlainOperand)
-        → PlainInRange name operand → plain_number name operand ≡ number
-        → result ≡ Some operand }
+    ensures none { IfNone result ((operand : PlainOperand) → PlainInRange name operand
+        → plain_number name operand ≡ number → ⊥) }
 {
     match name {
         PlainName::Spm | PlainName::Fort | PlainName::Cmpr => Some(PlainOperand::Number(number)),
@@ -136,27 +134,30 @@ pub(crate) fn encode(name: PlainName, operand: PlainOperand) -> u16
 /// The instruction of this family that a first word reads as.
 pub(crate) fn decode(first: u16) -> Option<Insn>
     ensures found { (second : ℕ) → IfSome result (Reads first second) }
-    ensures all { (second : ℕ) (name : PlainName) (operand : PlainOperand)
-        → Reads first second (insn.Plain name operand)
-        → result ≡ Some (insn.Plain name operand) }
+    ensures none { IfNone result ((second : ℕ) (name : PlainName) (operand : PlainOperand)
+        → Reads first second (insn.Plain name operand) → ⊥) }
 {
-    let (name, number) = row_of(first)?;
-    let operand = operand_of(name, number)?;
+    let name = name_at(first)?;
+    let operand = operand_of(name, first - base_of(name))?;
     Some(Insn::Plain(name, operand))
 }
 
 /// Appends an instruction's text.
-pub(crate) fn show(out: &mut String, name: PlainName, operand: PlainOperand) -> Result<(), NoMemory>
+pub(crate) fn show(
+    out: &mut String,
+    name: PlainName,
+    operand: PlainOperand,
+) -> Result<(), AllocError>
     ensures { OnOk result
         (string_bytes out.new ≡ string_bytes out.old ++ show (insn.Plain name operand)) }
 {
     out.push_str(text_of(name))?;
     match operand {
         PlainOperand::Nothing => Ok(()),
-        PlainOperand::Number(number) => Ok(write!(out, " {number}")?),
+        PlainOperand::Number(number) => write!(out, " {number}"),
         PlainOperand::Change(change) => {
             out.push_str(" ")?;
-            Ok(out.push_str(text::text_of_change(change))?)
+            out.push_str(text::text_of_change(change))
         }
     }
 }

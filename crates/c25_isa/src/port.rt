@@ -1,6 +1,6 @@
 //! Instructions with a memory operand and a port: one word, the port in the high byte.
 
-ghost use Rattle.std.specs.Prelude.{◌≡◌, ℕ, pos, ◌+◌, ◌*◌, ◌%◌, ◌++◌, ◌<◌, ◌≤◌, ◌^◌, Some, IfSome, OnOk, string_bytes};
+ghost use Rattle.std.specs.Prelude.{◌≡◌, ℕ, pos, ◌+◌, ◌*◌, ◌%◌, ◌++◌, ◌<◌, ◌≤◌, ◌^◌, IfSome, IfNone, OnOk, string_bytes};
 ghost use Rattle.c25_meaning_instructions.specs.Table.{port_row, size, placed, opcode_word, Reads, AddrInRange};
 ghost use Rattle.c25_meaning_instructions.specs.Show.{show};
 ghost use Rattle.c25_meaning_instructions.specs.declared.mnemonic.PortName.{PortName};
@@ -10,9 +10,9 @@ ghost use Rattle.c25_meaning_instructions.specs.declared.insn.Insn.TheVariants a
 
 use crate::{addr, rows, text};
 use c25_bits::Field;
-use c25_meaning_common::no_memory::NoMemory;
 use c25_meaning_instructions::insn::{Addr, Insn};
 use c25_meaning_instructions::mnemonic::PortName;
+use std::alloc::AllocError;
 
 macro_rules! port_rows {
     ($what:ident $value:expr) => {
@@ -35,8 +35,8 @@ fn base_of(name: PortName) -> u16
 fn row_of(first: u16) -> Option<(PortName, u16)>
     ensures found { IfSome result (λ found. (found.1 < 16)
         × ((port_row found.0).base + found.1 * 2 ^ 8 + first % 256 ≡ first)) }
-    ensures all { (name : PortName) (port low : ℕ) → port < 16 → low < 256
-        → (port_row name).base + placed (pos port) 8 4 + low ≡ first → result ≡ Some (name, port) }
+    ensures none { IfNone result ((name : PortName) (port low : ℕ) → port < 16 → low < 256
+        → (port_row name).base + placed (pos port) 8 4 + low ≡ first → ⊥) }
 {
     port_rows!(numbered_at first >> 8)
 }
@@ -67,9 +67,8 @@ pub(crate) fn encode(name: PortName, addr: Addr, port: u16) -> u16
 /// The instruction of this family that a first word reads as.
 pub(crate) fn decode(first: u16) -> Option<Insn>
     ensures found { (second : ℕ) → IfSome result (Reads first second) }
-    ensures all { (second : ℕ) (name : PortName) (addr : Addr) (port : ℕ)
-        → Reads first second (insn.Port name addr port)
-        → result ≡ Some (insn.Port name addr port) }
+    ensures none { IfNone result ((second : ℕ) (name : PortName) (addr : Addr) (port : ℕ)
+        → Reads first second (insn.Port name addr port) → ⊥) }
 {
     let (name, port) = row_of(first)?;
     let addr = addr::addr_of_byte(Field::<0, 8>::get(first))?;
@@ -77,13 +76,16 @@ pub(crate) fn decode(first: u16) -> Option<Insn>
 }
 
 /// Appends an instruction's text.
-pub(crate) fn show(out: &mut String, name: PortName, addr: Addr, port: u16) -> Result<(), NoMemory>
+pub(crate) fn show(
+    out: &mut String,
+    name: PortName,
+    addr: Addr,
+    port: u16,
+) -> Result<(), AllocError>
     ensures { OnOk result
         (string_bytes out.new ≡ string_bytes out.old ++ show (insn.Port name addr port)) }
 {
-    out.push_str(text_of(name))?;
-    out.push_str(" ")?;
-    text::push_place(out, addr)?;
+    text::push_with_place(out, text_of(name), addr)?;
     write!(out, ",PA{port}")?;
     text::push_tail(out, addr)
 }

@@ -1,6 +1,6 @@
 //! Instructions with a memory operand and a shift: one word, the shift in the high byte.
 
-ghost use Rattle.std.specs.Prelude.{◌≡◌, ℕ, pos, ◌+◌, ◌*◌, ◌%◌, ◌++◌, ◌<◌, ◌≤◌, ◌^◌, Some, IfSome, OnOk, string_bytes};
+ghost use Rattle.std.specs.Prelude.{◌≡◌, ℕ, pos, ◌+◌, ◌*◌, ◌%◌, ◌++◌, ◌<◌, ◌≤◌, ◌^◌, IfSome, IfNone, OnOk, string_bytes};
 ghost use Rattle.c25_meaning_instructions.specs.Table.{shifted_row, size, placed, opcode_word, Reads, AddrInRange, shift_limit};
 ghost use Rattle.c25_meaning_instructions.specs.Show.{show};
 ghost use Rattle.c25_meaning_instructions.specs.declared.mnemonic.ShiftedName.{ShiftedName};
@@ -10,9 +10,9 @@ ghost use Rattle.c25_meaning_instructions.specs.declared.insn.Insn.TheVariants a
 
 use crate::{addr, rows, text};
 use c25_bits::Field;
-use c25_meaning_common::no_memory::NoMemory;
 use c25_meaning_instructions::insn::{Addr, Insn};
 use c25_meaning_instructions::mnemonic::ShiftedName;
+use std::alloc::AllocError;
 
 macro_rules! shifted_rows {
     ($what:ident $value:expr) => {
@@ -38,9 +38,8 @@ fn base_of(name: ShiftedName) -> u16
 fn row_of(first: u16) -> Option<(ShiftedName, u16)>
     ensures found { IfSome result (λ found. (found.1 < shift_limit found.0)
         × ((shifted_row found.0).base + found.1 * 2 ^ 8 + first % 256 ≡ first)) }
-    ensures all { (name : ShiftedName) (shift low : ℕ) → shift < shift_limit name → low < 256
-        → (shifted_row name).base + placed (pos shift) 8 4 + low ≡ first
-        → result ≡ Some (name, shift) }
+    ensures none { IfNone result ((name : ShiftedName) (shift low : ℕ) → shift < shift_limit name
+        → low < 256 → (shifted_row name).base + placed (pos shift) 8 4 + low ≡ first → ⊥) }
 {
     shifted_rows!(numbered_at first >> 8)
 }
@@ -71,9 +70,8 @@ pub(crate) fn encode(name: ShiftedName, addr: Addr, shift: u16) -> u16
 /// The instruction of this family that a first word reads as.
 pub(crate) fn decode(first: u16) -> Option<Insn>
     ensures found { (second : ℕ) → IfSome result (Reads first second) }
-    ensures all { (second : ℕ) (name : ShiftedName) (addr : Addr) (shift : ℕ)
-        → Reads first second (insn.Shifted name addr shift)
-        → result ≡ Some (insn.Shifted name addr shift) }
+    ensures none { IfNone result ((second : ℕ) (name : ShiftedName) (addr : Addr) (shift : ℕ)
+        → Reads first second (insn.Shifted name addr shift) → ⊥) }
 {
     let (name, shift) = row_of(first)?;
     let addr = addr::addr_of_byte(Field::<0, 8>::get(first))?;
@@ -86,13 +84,11 @@ pub(crate) fn show(
     name: ShiftedName,
     addr: Addr,
     shift: u16,
-) -> Result<(), NoMemory>
+) -> Result<(), AllocError>
     ensures { OnOk result
         (string_bytes out.new ≡ string_bytes out.old ++ show (insn.Shifted name addr shift)) }
 {
-    out.push_str(text_of(name))?;
-    out.push_str(" ")?;
-    text::push_place(out, addr)?;
+    text::push_with_place(out, text_of(name), addr)?;
     write!(out, ",{shift}")?;
     text::push_tail(out, addr)
 }

@@ -1,6 +1,6 @@
 //! Instructions with a short number: one word, whose low 8, 9 or 13 bits hold the number.
 
-ghost use Rattle.std.specs.Prelude.{◌≡◌, ℕ, ℤ, ◌+◌, ◌*◌, ◌++◌, ◌<◌, ◌≤◌, ◌^◌, Some, IfSome, OnOk, string_bytes};
+ghost use Rattle.std.specs.Prelude.{◌≡◌, ℕ, ℤ, ◌+◌, ◌*◌, ◌++◌, ◌<◌, ◌≤◌, ◌^◌, IfSome, IfNone, OnOk, string_bytes};
 ghost use Rattle.c25_bits.specs.Cut.{cut};
 ghost use Rattle.c25_isa.specs.Extent.{extent};
 ghost use Rattle.c25_meaning_instructions.specs.Table.{short_row, size, short_width, ShortInRange, opcode_word, Reads};
@@ -11,9 +11,9 @@ ghost use Rattle.c25_meaning_instructions.specs.declared.insn.Insn.TheVariants a
 
 use crate::rows;
 use c25_bits::Field;
-use c25_meaning_common::no_memory::NoMemory;
 use c25_meaning_instructions::insn::Insn;
 use c25_meaning_instructions::mnemonic::ShortName;
+use std::alloc::AllocError;
 
 macro_rules! short_rows {
     ($what:ident $value:expr) => {
@@ -43,8 +43,8 @@ fn base_of(name: ShortName) -> u16
 fn name_at(first: u16) -> Option<ShortName>
     ensures found { IfSome result
         (λ name. ((short_row name).base ≤ first) × (first < (short_row name).base + extent name)) }
-    ensures all { (name : ShortName) → (short_row name).base ≤ first
-        → first < (short_row name).base + extent name → result ≡ Some name }
+    ensures none { IfNone result ((name : ShortName) → (short_row name).base ≤ first
+        → first < (short_row name).base + extent name → ⊥) }
 {
     short_rows!(name_at first >> 8)
 }
@@ -84,9 +84,8 @@ pub(crate) fn encode(name: ShortName, register: u16, number: i16) -> u16
 /// The instruction of this family that a first word reads as.
 pub(crate) fn decode(first: u16) -> Option<Insn>
     ensures found { (second : ℕ) → IfSome result (Reads first second) }
-    ensures all { (second : ℕ) (name : ShortName) (register : ℕ) (number : ℤ)
-        → Reads first second (insn.Short name register number)
-        → result ≡ Some (insn.Short name register number) }
+    ensures none { IfNone result ((second : ℕ) (name : ShortName) (register : ℕ) (number : ℤ)
+        → Reads first second (insn.Short name register number) → ⊥) }
 {
     let name = name_at(first)?;
     let low = Field::<0, 8>::get(first) as i16;
@@ -107,13 +106,13 @@ pub(crate) fn show(
     name: ShortName,
     register: u16,
     number: i16,
-) -> Result<(), NoMemory>
+) -> Result<(), AllocError>
     ensures { OnOk result
         (string_bytes out.new ≡ string_bytes out.old ++ show (insn.Short name register number)) }
 {
     out.push_str(text_of(name))?;
     match name {
-        ShortName::Lark => Ok(write!(out, " AR{register},{number}")?),
-        _ => Ok(write!(out, " {number}")?),
+        ShortName::Lark => write!(out, " AR{register},{number}"),
+        _ => write!(out, " {number}"),
     }
 }
