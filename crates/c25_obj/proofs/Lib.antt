@@ -4,3 +4,4 @@ pub mod Small
 mod ByName
 mod AllSymbols
 mod Lengths
+mod Puts
