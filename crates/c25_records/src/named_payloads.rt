@@ -146,15 +146,10 @@ fn body_of(alloc: Global, flag: u8, bytes: &[u8]) -> Result<Body, Failure<Object
     }
 }
 
-/// The section that a payload says, where it may follow these.
+/// What a section's payload says: the bytes of its name, and what it has.
 #[tactic(auto, unfolding(c25_meaning_objects::specs::RecordReading::section_of))]
-pub(crate) fn section_after(
-    alloc: Global,
-    before: &[Section],
-    bytes: &[u8],
-) -> Result<Section, Failure<ObjectFault>>
-    ensures { Meets section_data
-        (reading.checked (spec.section_fits (sections_data before.now)) (reading.section_of bytes.now)) result }
+fn section_of(alloc: Global, bytes: &[u8]) -> Result<(&[u8], Body), Failure<ObjectFault>>
+    ensures { Meets (λ s. record { name = s.0.now; body = body_data s.1 }) (ok_or (reading.section_of bytes.now) ObjectFault.BadField) result }
 {
     if bytes.len() < 2 {
         return Err(Failure::Fault(ObjectFault::BadField));
@@ -166,6 +161,19 @@ pub(crate) fn section_after(
     }
     let (name, rest) = rest.split_at(len);
     let body = body_of(alloc, bytes[0], rest)?;
+    Ok((name, body))
+}
+
+/// The section that a payload says, where it may follow these.
+pub(crate) fn section_after(
+    alloc: Global,
+    before: &[Section],
+    bytes: &[u8],
+) -> Result<Section, Failure<ObjectFault>>
+    ensures { Meets section_data
+        (reading.checked (spec.section_fits (sections_data before.now)) (reading.section_of bytes.now)) result }
+{
+    let (name, body) = section_of(alloc, bytes)?;
     if !is_section_name(name) {
         return Err(Failure::Fault(ObjectFault::BadField));
     }
