@@ -1,9 +1,9 @@
 -- What it is for items to fit: the lists of a module one by one, and the sizes of single items.
-use Rattle.std.proofs.Common.{◌≡◌, ℕ, ◌<◌, ◌≤◌, ◌^◌, Bool, true, not, ◌&&◌, leb, ltb, List, [], ◌∷◌, ◌++◌, length, slice_index, refl, ap, ◌∙◌}
+use Rattle.std.proofs.Common.{◌≡◌, ℕ, ◌<◌, ◌≤◌, ◌^◌, Bool, true, false, not, ◌&&◌, leb, ltb, List, [], ◌∷◌, ◌++◌, ◌+◌, length, slice_index, take, drop, get_or, refl, sym, ap, ◌∙◌}
 use Rattle.std.specs.List.{flat_map, list_all}
 use Rattle.std.specs.Str.{is_utf8}
 use Rattle.std.proofs.lemmas.Bool.{ltb-true, leb-true}
-use Rattle.std.proofs.lemmas.List.{append-nil}
+use Rattle.std.proofs.lemmas.List.{append-nil, at_drop_more, take_more}
 use Rattle.std.proofs.lemmas.List.Concat.{flat_map-cons, flat_map-append}
 use Rattle.c25_meaning_common.specs.Bytes.{begins_name, goes_on_name}
 use Rattle.c25_meaning_objects.specs.declared.object.Version.{Version}
@@ -70,3 +70,21 @@ file_short before name e =
     let b = both _ (not (has_file before name)) e in
     let a = both (is_utf8 name) (ltb (length name) (2 ^ 32)) b.0 in
     ltb-true _ _ a.1
+
+-- ---- a list looked at item by item: those behind a place are held against those before it
+
+-- what is left of the list, with its first item
+opened : {A : Type 0} (fits : List A → A → Bool) (xs : List A) (i : ℕ) (d : A) (b : Bool) → i < length xs → fits (take i xs) (get_or xs i d) ≡ b
+    → each_fits fits (take i xs) (drop i xs) ≡ (b && each_fits fits (take i xs ++ get_or xs i d ∷ []) (drop (i + 1) xs))
+opened {A} fits xs i d b lt here =
+    at_drop_more (λ (r : List A). each_fits fits (take i xs) r) xs i d lt ∙ ap (λ (t : Bool). t && each_fits fits (take i xs ++ get_or xs i d ∷ []) (drop (i + 1) xs)) here
+
+-- it fits
+pub fits_more : {A : Type 0} (fits : List A → A → Bool) (xs : List A) (i : ℕ) (d : A) → i < length xs → each_fits fits (take i xs) (drop i xs) ≡ each_fits fits [] xs → fits (take i xs) (get_or xs i d) ≡ true
+    → each_fits fits (take (i + 1) xs) (drop (i + 1) xs) ≡ each_fits fits [] xs
+fits_more {A} fits xs i d lt so here = ap (λ (before : List A). each_fits fits before (drop (i + 1) xs)) (take_more xs i d lt) ∙ sym (opened fits xs i d true lt here) ∙ so
+
+-- or does not
+pub fits_not : {A : Type 0} (fits : List A → A → Bool) (xs : List A) (i : ℕ) (d : A) → i < length xs → each_fits fits (take i xs) (drop i xs) ≡ each_fits fits [] xs → fits (take i xs) (get_or xs i d) ≡ false
+    → false ≡ each_fits fits [] xs
+fits_not fits xs i d lt so here = sym (opened fits xs i d false lt here) ∙ so
