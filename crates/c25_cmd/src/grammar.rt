@@ -131,6 +131,6 @@ pub(crate) fn page_number_at(tokens: &[Token]) -> Result<(u8, &[Token]), Refused
 pub(crate) fn setting_at(keyword: Keyword, tokens: &[Token]) -> Result<&[Token], Refused>
     ensures { Meets (λ x. tokens_of x.now) (setting_at keyword (tokens_of tokens.now)) result }
 {
-    let (_, tokens) = wanted(Want::Keyword(keyword), tokens)?;
+    let tokens = after(Want::Keyword(keyword), tokens)?;
     after(Want::Sign(Sign::Equals), tokens)
 }

@@ -30,7 +30,7 @@ fn page_at(page: u8, tokens: &[Token]) -> Result<(u8, &[Token]), Refused>
         return Ok((page, tokens));
     }
     let (number, tokens) = page_number_at(past(Want::Keyword(Keyword::Page), tokens))?;
-    let (_, tokens) = wanted(Want::Sign(Sign::Colon), tokens)?;
+    let tokens = after(Want::Sign(Sign::Colon), tokens)?;
     Ok((number, tokens))
 }
 
@@ -43,7 +43,7 @@ fn attributes_at(tokens: &[Token]) -> Result<&[Token], Refused>
         return Ok(tokens);
     }
     let tokens = past(Want::Sign(Sign::OpenParenthesis), tokens);
-    let (_, tokens) = wanted(Want::AnyWord, tokens)?;
+    let tokens = after(Want::AnyWord, tokens)?;
     after(Want::Sign(Sign::CloseParenthesis), tokens)
 }
 
@@ -98,7 +98,7 @@ fn range_at<'a>(
         return Err(refusal(CommandFault::Twice, tokens));
     }
     let rest = attributes_at(rest)?;
-    let (_, rest) = wanted(Want::Sign(Sign::Colon), rest)?;
+    let rest = after(Want::Sign(Sign::Colon), rest)?;
     let ((origin, length), rest) = extent_at(page, ranges, rest)?;
     let name = String::from_str(alloc, name.text.as_str())?;
     let range = MemoryRange {
@@ -161,8 +161,8 @@ pub(crate) fn memory_at(
 ) -> Result<(Vec<MemoryRange>, &[Token]), Refused>
     ensures { Meets (λ x. (ranges_of x.0.items, tokens_of x.1.now)) (memory_at (tokens_of tokens.now)) result }
 {
-    let (_, tokens) = wanted(Want::Sign(Sign::OpenBrace), tokens)?;
+    let tokens = after(Want::Sign(Sign::OpenBrace), tokens)?;
     let ((_, ranges), tokens) = ranges_at(alloc, tokens)?;
-    let (_, tokens) = wanted(Want::Sign(Sign::CloseBrace), tokens)?;
+    let tokens = after(Want::Sign(Sign::CloseBrace), tokens)?;
     Ok((ranges, tokens))
 }

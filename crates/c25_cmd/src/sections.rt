@@ -28,7 +28,7 @@ fn input_at<'a>(name: &str, tokens: &'a [Token]) -> Result<&'a [Token], Refused>
         return Ok(tokens);
     }
     let tokens = past(Want::Sign(Sign::Star), tokens);
-    let (_, tokens) = wanted(Want::Sign(Sign::OpenParenthesis), tokens)?;
+    let tokens = after(Want::Sign(Sign::OpenParenthesis), tokens)?;
     let (word, rest) = wanted(Want::Name, tokens)?;
     if word.text.as_str() != name {
         return Err(refusal(CommandFault::Syntax, tokens));
@@ -74,7 +74,7 @@ fn target_at(alloc: Global, tokens: &[Token]) -> Result<(Target, &[Token]), Refu
     }
     if begins(Want::Keyword(Keyword::Load), tokens) {
         let tokens = past(Want::Keyword(Keyword::Load), tokens);
-        let (_, tokens) = wanted(Want::LoadSign, tokens)?;
+        let tokens = after(Want::LoadSign, tokens)?;
         return place_at(alloc, tokens);
     }
     Ok((Target::Anywhere, tokens))
@@ -101,7 +101,7 @@ fn run_at(tokens: &[Token]) -> Result<(Option<u32>, &[Token]), Refused>
         return Ok((None, tokens));
     }
     let tokens = past(Want::Keyword(Keyword::Run), tokens);
-    let (_, tokens) = wanted(Want::Sign(Sign::Equals), tokens)?;
+    let tokens = after(Want::Sign(Sign::Equals), tokens)?;
     let (number, tokens) = number_at(tokens)?;
     Ok((Some(number), past(Want::Sign(Sign::Comma), tokens)))
 }
@@ -166,7 +166,7 @@ fn add_placing<'a>(
     if !is_fresh {
         return Err(refusal(CommandFault::Twice, tokens));
     }
-    let (_, rest) = wanted(Want::Sign(Sign::Colon), rest)?;
+    let rest = after(Want::Sign(Sign::Colon), rest)?;
     let (placing, rest) = placing_at(alloc, name.text.as_str(), rest)?;
     sections.list.push(placing)?;
     Ok(rest)
@@ -200,8 +200,8 @@ pub(crate) fn sections_at(
 ) -> Result<(Vec<Placing>, &[Token]), Refused>
     ensures { Meets (λ x. (placings_of x.0.items, tokens_of x.1.now)) (sections_at (tokens_of tokens.now)) result }
 {
-    let (_, tokens) = wanted(Want::Sign(Sign::OpenBrace), tokens)?;
+    let tokens = after(Want::Sign(Sign::OpenBrace), tokens)?;
     let (placings, tokens) = placings_at(alloc, tokens)?;
-    let (_, tokens) = wanted(Want::Sign(Sign::CloseBrace), tokens)?;
+    let tokens = after(Want::Sign(Sign::CloseBrace), tokens)?;
     Ok((placings, tokens))
 }
