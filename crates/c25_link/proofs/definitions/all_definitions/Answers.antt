@@ -3,7 +3,7 @@ use Rattle.c25_meaning_objects.specs.Module.{Contents}
 use Rattle.c25_meaning_placing.specs.Place.{by_modules}
 use Rattle.c25_meaning_linking.specs.Words.{Definition, module_definitions}
 use Rattle.c25_obj.specs.View.{contents}
-use Rattle.c25_meaning_placing.proofs.ByModules.{by_modules_more}
+use Rattle.c25_meaning_placing.proofs.ByModules.{by_modules_more, by_modules_all}
 use Rattle.c25_link.proofs.definitions.all_definitions.Goals as goal
 
 pub loop-number-preserved : goal.loop-number-preserved
@@ -14,3 +14,6 @@ loop-number-preserved c =
     ∙ ap (λ (ds : List Definition). ds ++ module_definitions i (contents c.parts.result.now)) c.loop-number.invariant
     ∙ ap (λ (m : Contents). so_far ++ module_definitions i m) c.parts.ensures.kept
     ∙ sym (by_modules_more module_definitions c.args.modules.now i c.index-modules-number.result c.loop-number-test.true c.index-modules-number.is)
+
+pub returns : goal.returns
+returns c = c.loop-number.invariant ∙ by_modules_all module_definitions c.args.modules.now c.loop-number.number c.loop-number-test.false

@@ -1,6 +1,7 @@
-use Rattle.std.proofs.Common.{List, take, ap, sym, ◌∙◌, ◌++◌}
+use Rattle.std.proofs.Common.{List, Some, length, take, ap, sym, refl, ◌∙◌, ◌++◌}
+use Rattle.std.proofs.lemmas.Option.{slice_get_read}
 use Rattle.c25_meaning_objects.specs.Module.{Contents}
-use Rattle.c25_meaning_placing.proofs.ByModules.{by_modules_more}
+use Rattle.c25_meaning_placing.proofs.ByModules.{by_modules_more, by_modules_all}
 use Rattle.c25_meaning_placing.specs.Place.{by_modules}
 use Rattle.c25_obj.specs.View.{contents}
 use Rattle.c25_link.specs.Layout.{places_in}
@@ -18,3 +19,13 @@ loop-number-preserved c =
     ∙ ap (λ (ls : List LinePlace). ls ++ own i (contents c.parts.result.now)) c.loop-number.invariant
     ∙ ap (λ (m : Contents). so_far ++ own i m) c.parts.ensures.kept
     ∙ sym (by_modules_more own modules i c.module-item.result c.loop-number-test.true c.module-item.is)
+
+pub push_places-requires-clause-owner : goal.push_places-requires-clause-owner
+push_places-requires-clause-owner c =
+    let modules = c.args.layout.now.modules.now in
+    slice_get_read modules (length modules) c.loop-number.number c.module-item.result refl c.loop-number-test.true c.module-item.is ∙ ap Some (sym c.parts.ensures.kept)
+
+pub returns : goal.returns
+returns c =
+    let modules = c.args.layout.now.modules.now in
+    c.loop-number.invariant ∙ by_modules_all (module_places modules (places_in c.args.layout.now)) modules c.loop-number.number c.loop-number-test.false
