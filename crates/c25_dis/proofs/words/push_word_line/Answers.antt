@@ -21,3 +21,21 @@ returns-in-Some c =
       three_behind (string_bytes c.args.text.now) (gap_text c.args.end address) (line_text address word second insn) (codes "\n") (string_bytes c.push_gap.new.text) (string_bytes c.push_line.new.text) (string_bytes c.push_text.new.text)
           c.in_ok-push_gap.ensures c.in_ok-push_line.ensures c.in_ok-push_text.ensures,
     )
+
+pub returns-in-None : goal.returns-in-None
+returns-in-None c =
+    let address = c.args.address in
+    let word = c.args.word in
+    let second = c.read_word-second.result.second in
+    let insn = c.read_word-second.result.insn in (
+      gap_text c.args.end address ++ line_text address word second insn ++ codes "\n",
+      record {
+        second = second;
+        insn = insn;
+        taken = c.read_word-second.ensures;
+        end_is = ap (λ (o : Option ℕ). Some (address + length (word ∷ option_to_list o))) (sym c.in-None.is);
+        text_is = refl;
+      },
+      three_behind (string_bytes c.args.text.now) (gap_text c.args.end address) (line_text address word second insn) (codes "\n") (string_bytes c.push_gap.new.text) (string_bytes c.push_line.new.text) (string_bytes c.push_text.new.text)
+          c.in_ok-push_gap.ensures c.in_ok-push_line.ensures c.in_ok-push_text.ensures,
+    )
