@@ -1,6 +1,6 @@
 use Rattle.std.proofs.Common.{◌≡◌, ◌+◌, ◌++◌, List, ap, get_or, map, string_bytes, subst, sym, take, ◌∙◌}
 use Rattle.c25_meaning_objects.specs.Module.{SectionData}
-use Rattle.c25_meaning_placing.proofs.ByModules.{by_modules_more}
+use Rattle.c25_meaning_placing.proofs.ByModules.{by_modules_more, by_modules_all}
 use Rattle.c25_meaning_placing.specs.Place.{all_sections}
 use Rattle.c25_obj.specs.View.{contents, sections_data}
 use Rattle.c25_symbols.specs.Parts.{KnowsNext}
@@ -25,3 +25,9 @@ loop-number-preserved c =
           ∙ ap (λ (xs : List Listed). xs ++ module_symbols modules sources places i m) c.loop-number.invariant.1
           ∙ sym (by_modules_more (module_symbols modules sources places) modules i m c.loop-number-test.true at),
     )
+
+pub returns : goal.returns
+returns c =
+    let modules = c.args.modules.now in
+    c.loop-number.invariant.1
+    ∙ by_modules_all (module_symbols modules (map string_bytes c.args.sources.now) (places_view c.args.sections.now)) modules c.loop-number.number c.loop-number-test.false

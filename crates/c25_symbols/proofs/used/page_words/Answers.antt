@@ -1,4 +1,6 @@
 use Rattle.std.proofs.Common.{◌≡◌, ◌+◌, Bool, List, length, sym, subst, take, rules}
+use Rattle.std.proofs.lemmas.List.{take_all}
+use Rattle.c25_map.specs.declared.map.OutputSection.{OutputSection}
 use Rattle.c25_meaning_placing.specs.Place.{Place}
 use Rattle.c25_symbols.specs.View.{KnowsPage, places_view}
 use Rattle.c25_symbols.proofs.Marked.{marked_none, written_back}
@@ -16,3 +18,7 @@ loop-section-preserved c =
     let knows : KnowsPage c.deref_mut.result.now c.args.page before = subst (λ (ws : List Bool). KnowsPage ws c.args.page before) (sym c.deref_mut.ensures.value) c.loop-section.invariant in
     subst (λ (ws : List Bool). KnowsPage ws c.args.page (places_view (take (i + 1) c.args.sections.now))) (sym (written_back c.loop-section.words.len c.mark_section.new.words _ sized))
     (subst (λ (ps : List Place). KnowsPage c.mark_section.new.words c.args.page ps) (sym (places_more c.args.sections.now i c.section-item.result c.loop-section-test.true c.section-item.is)) (c.mark_section.ensures.known before knows))
+
+pub returns : goal.returns
+returns c =
+    subst (λ (ss : List OutputSection). KnowsPage c.loop-section.words.items c.args.page (places_view ss)) (take_all c.loop-section.section-index c.args.sections.now c.loop-section-test.false) c.loop-section.invariant
