@@ -14,19 +14,19 @@ pub counts_told : {X E : Type 0} (r : Result X E) (s0 s1 s2 s3 a b c : List ℕ)
 counts_told (Ok x) s0 s1 s2 s3 a b c p q r = counts_joined s0 s1 s2 s3 a b c p q r
 counts_told (Err e) s0 s1 s2 s3 a b c p q r = r
 
--- a line of a page, an address, words and a name
-range_joined : (s0 s1 s2 s3 s4 s5 head page origin counts name : List ℕ) → s1 ≡ s0 ++ (head ++ page ++ 32 ∷ []) → s2 ≡ s1 ++ origin → s3 ≡ s2 ++ 32 ∷ [] → s4 ≡ s3 ++ counts
-    → s5 ≡ s4 ++ 32 ∷ name ++ 10 ∷ [] → s5 ≡ s0 ++ (head ++ page ++ (32 ∷ []) ++ origin ++ (32 ∷ []) ++ counts ++ (32 ∷ []) ++ name ++ 10 ∷ [])
-range_joined s0 s1 s2 s3 s4 s5 head page origin counts name p q r s t =
+-- a line of four pieces and a name, with a blank behind the second
+line_joined : (s0 s1 s2 s3 s4 s5 head x y name : List ℕ) → s1 ≡ s0 ++ head → s2 ≡ s1 ++ x → s3 ≡ s2 ++ 32 ∷ [] → s4 ≡ s3 ++ y → s5 ≡ s4 ++ 32 ∷ name ++ 10 ∷ []
+    → s5 ≡ s0 ++ (head ++ x ++ (32 ∷ []) ++ y ++ (32 ∷ []) ++ name ++ 10 ∷ [])
+line_joined s0 s1 s2 s3 s4 s5 head x y name p q r s t =
     t
-    ∙ ap (λ (x : List ℕ). x ++ 32 ∷ name ++ 10 ∷ []) (s ∙ ap (λ (x : List ℕ). x ++ counts) (r ∙ ap (λ (x : List ℕ). x ++ 32 ∷ []) (q ∙ ap (λ (x : List ℕ). x ++ origin) p)))
+    ∙ ap (λ (z : List ℕ). z ++ 32 ∷ name ++ 10 ∷ []) (s ∙ ap (λ (z : List ℕ). z ++ y) (r ∙ ap (λ (z : List ℕ). z ++ 32 ∷ []) (q ∙ ap (λ (z : List ℕ). z ++ x) p)))
     ∙ simp append_assoc
 
 -- the same where the call that appends the name answers
-pub range_told : {X E : Type 0} (r : Result X E) (s0 s1 s2 s3 s4 s5 head page origin counts name : List ℕ) → s1 ≡ s0 ++ (head ++ page ++ 32 ∷ []) → s2 ≡ s1 ++ origin → s3 ≡ s2 ++ 32 ∷ [] → s4 ≡ s3 ++ counts
-    → OnOk r (s5 ≡ s4 ++ 32 ∷ name ++ 10 ∷ []) → OnOk r (s5 ≡ s0 ++ (head ++ page ++ (32 ∷ []) ++ origin ++ (32 ∷ []) ++ counts ++ (32 ∷ []) ++ name ++ 10 ∷ []))
-range_told (Ok x) s0 s1 s2 s3 s4 s5 head page origin counts name p q r s t = range_joined s0 s1 s2 s3 s4 s5 head page origin counts name p q r s t
-range_told (Err e) s0 s1 s2 s3 s4 s5 head page origin counts name p q r s t = t
+pub line_told : {X E : Type 0} (r : Result X E) (s0 s1 s2 s3 s4 s5 head x y name : List ℕ) → s1 ≡ s0 ++ head → s2 ≡ s1 ++ x → s3 ≡ s2 ++ 32 ∷ [] → s4 ≡ s3 ++ y → OnOk r (s5 ≡ s4 ++ 32 ∷ name ++ 10 ∷ [])
+    → OnOk r (s5 ≡ s0 ++ (head ++ x ++ (32 ∷ []) ++ y ++ (32 ∷ []) ++ name ++ 10 ∷ []))
+line_told (Ok z) s0 s1 s2 s3 s4 s5 head x y name p q r s t = line_joined s0 s1 s2 s3 s4 s5 head x y name p q r s t
+line_told (Err e) s0 s1 s2 s3 s4 s5 head x y name p q r s t = t
 
 -- the whole text
 pub text_joined : (s0 s1 s2 s3 s4 head symbols ranges last : List ℕ) → s0 ≡ [] → s1 ≡ s0 ++ head → s2 ≡ s1 ++ symbols → s3 ≡ s2 ++ ranges → s4 ≡ s3 ++ last → s4 ≡ head ++ symbols ++ ranges ++ last
