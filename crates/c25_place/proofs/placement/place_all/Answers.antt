@@ -1,7 +1,9 @@
 use Rattle.std.proofs.Common.{List, Err, take, drop, suc, sym, subst}
+use Rattle.std.proofs.lemmas.List.{take_all}
 use Rattle.c25_meaning_placing.specs.GoodMap.{Request, ArePlaced}
 use Rattle.c25_place.specs.Placement.{ArePlacedOrRefused}
 use Rattle.c25_place.specs.View.{request_view, requests_view, places_view}
+use Rattle.c25_place.specs.declared.requests.Request as asked
 use Rattle.c25_place.proofs.Listed.{mapped_more, split_at}
 use Rattle.c25_place.proofs.Placing.{placed_next, refused}
 use Rattle.c25_place.proofs.placement.place_all.Goals as goal
@@ -23,3 +25,8 @@ loop-request-preserved c = (
       (placed_next all (requests_view modules (take i c.args.requests.now)) (places_view c.loop-request.placed.places.items) after _ (c.loop-request.invariant.2 all modules knows blocks) (c.in-Ok.ensures.placed all modules knows blocks)),
   c.in-Ok.ensures.within,
 )
+
+pub returns-clause-placed : goal.returns-clause-placed
+returns-clause-placed c = λ all modules knows blocks.
+    subst (λ (rs : List asked.Request). ArePlaced all (requests_view modules rs) (places_view c.loop-request.placed.places.items))
+    (take_all c.loop-request.request-index c.args.requests.now c.loop-request-test.false) (c.loop-request.invariant.2 all modules knows blocks)

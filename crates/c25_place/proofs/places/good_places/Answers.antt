@@ -6,8 +6,9 @@ use Rattle.c25_meaning_placing.specs.GoodMap as good
 use Rattle.c25_meaning_placing.specs.Place.{all_sections}
 use Rattle.std.specs.Borrow.{Bor}
 use Rattle.c25_obj.specs.declared.parts.Section.{Section}
-use Rattle.c25_place.specs.Outputs.{KnowsOutputs}
+use Rattle.c25_place.specs.Outputs.{AreSmall, KnowsOutputs}
 use Rattle.c25_place.specs.Placement.{ArePlacedOrRefused}
+use Rattle.c25_place.specs.Requests.{HasPages}
 use Rattle.c25_place.specs.View.{requests_view, sections_view}
 use Rattle.c25_place.specs.declared.requests.Request.{Request}
 use Rattle.c25_place.proofs.Commanded.{pages_are}
@@ -37,3 +38,12 @@ returns-clause-placed c =
   where
     knows : KnowsOutputs c.in_ok-outputs.outputs (all_sections c.args.modules.now)
     knows = subst (λ ss. KnowsOutputs c.in_ok-outputs.outputs ss) (ap (λ (bs : List (Bor Section)). sections_view bs) c.deref.ensures.value ∙ c.in_ok-sections.ensures.sections) c.in_ok-outputs.ensures
+
+pub new-requires-clause-small : goal.new-requires-clause-small
+new-requires-clause-small c = subst (λ (bs : List (Bor Section)). AreSmall bs) (sym c.deref.ensures.value) c.in_ok-sections.ensures.small
+
+pub place_all-requires-clause-pages : goal.place_all-requires-clause-pages
+place_all-requires-clause-pages c = subst (λ (rs : List Request). HasPages rs) (sym c.deref-3.ensures.value) c.in_ok-list.ensures.pages
+
+pub place_all-requires-clause-ranges : goal.place_all-requires-clause-ranges
+place_all-requires-clause-ranges c = c.in_ok-ranges.ensures.has

@@ -1,6 +1,11 @@
-use Rattle.std.proofs.Common.{ap, ◌∙◌, ◌+◌, arith}
+use Rattle.std.proofs.Common.{List, ap, ◌∙◌, ◌+◌, arith}
+use Rattle.std.proofs.lemmas.List.{take_all}
+use Rattle.std.specs.Borrow.{Bor}
 use Rattle.std.specs.Option.{unwrap_or}
 use Rattle.c25_obj.specs.View.{section_data}
+use Rattle.c25_obj.specs.declared.parts.Section.{Section}
+use Rattle.c25_place.specs.Outputs.{output_of}
+use Rattle.c25_place.specs.View.{sections_view}
 use Rattle.c25_place.proofs.Bounded.{sum_bounded, small_at, output_next, made_with, made_by}
 use Rattle.c25_place.proofs.Sized.{nothing}
 use Rattle.c25_place.proofs.outputs.Outputs.new.Goals.{then-before, else-before}
@@ -26,3 +31,8 @@ loop-section-preserved c = elim c.if-before.branch [
       (c.output_or_none-before.ensures ∙ ap (λ o. unwrap_or o nothing) (c.copied.ensures ∙ c.get.ensures.value ∙ c.loop-section.invariant c.as_str-name.result.now))
       (made_by c.output_or_none-before.result (section_data c.section-item.result.now) c.from.result c.if-before.output w.has_words.result (c.from.ensures ∙ c.body_size.ensures) w.if-before.false w.has_words.ensures w.output-is)
 ]
+
+pub returns : goal.returns
+returns c = λ name.
+    c.loop-section.invariant name
+    ∙ ap (λ (ss : List (Bor Section)). output_of name (sections_view ss)) (take_all c.loop-section.section-index c.args.sections.now c.loop-section-test.false)
