@@ -51,7 +51,6 @@ impl<'a> Line<'a> {
 /// column 1 is no label or a name among the operands is too long, `BadConstant` for a run that
 /// begins with a digit and is no constant, `OpenQuote` for a string that is not closed and a `'`
 /// that begins no character, `StrayText` for a character of no token.
-#[tactic(auto, using(crate::proofs::Scans::scan_end), unfolding(c25_meaning_lines::specs::Line::statement_of))]
 pub fn split_line(text: &str) -> Result<Line<'_>, LineFault>
     ensures { MatchResult result (λ l. line_of text.now ≡ Ok (parts_of l)) (λ f. line_of text.now ≡ Err f) }
 {
