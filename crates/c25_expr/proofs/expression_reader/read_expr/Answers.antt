@@ -26,12 +26,16 @@ returns-in_err-take-clause-bad c =
     rw (p.1, p.2) (λ bad. no_tree (marks_of ts)
     (sym c.loop-i.invariant.told ∙ run_more ts c.loop-i.i _ (state_of c.loop-i.builder) _ c.loop-i-test.true (refused.0 (as_unit _ _ bad))))
 
+pub returns-in_err-take-clause-deep : goal.returns-in_err-take-clause-deep
+returns-in_err-take-clause-deep c =
+    let p = err_from_is_err_and c.from_residual-in_err-take.result c.from_residual-in_err-take.ensures.1 in
+    let refused = failed (step (state_of c.loop-i.builder) (mark_of (piece_of (get_or c.args.tokens.now c.loop-i.i _)))) c.in_err-take.field-0.0 c.in_err-take.ensures in
+    rw (p.1, p.2) (λ deep. absurd (refused.1 (as_unit _ _ deep)))
+
 pub returns-in_err-take-clause-told : goal.returns-in_err-take-clause-told
 returns-in_err-take-clause-told c =
     let p = err_from_is_err_and c.from_residual-in_err-take.result c.from_residual-in_err-take.ensures.1 in
-    let ts = c.args.tokens.now in
-    let refused = failed (step (state_of c.loop-i.builder) (mark_of (piece_of (get_or ts c.loop-i.i _)))) c.in_err-take.field-0.0 c.in_err-take.ensures in
-    reads_tree ts c.from_residual-in_err-take.result (rw p.1 tt) (returns-in_err-take-clause-bad c) (rw (p.1, p.2) (λ deep. absurd (refused.1 (as_unit _ _ deep))))
+    reads_tree c.args.tokens.now c.from_residual-in_err-take.result (rw p.1 tt) (returns-in_err-take-clause-bad c) (returns-in_err-take-clause-deep c)
 
 pub returns-then-nesting-gt-MOST_NESTED-clause-bad : goal.returns-then-nesting-gt-MOST_NESTED-clause-bad
 returns-then-nesting-gt-MOST_NESTED-clause-bad c = λ bad.
