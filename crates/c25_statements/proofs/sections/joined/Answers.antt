@@ -1,0 +1,18 @@
+use Rattle.std.proofs.Common.{arith}
+use Rattle.std.proofs.lemmas.Grind.{common_steps}
+use Rattle.c25_statements.proofs.sections.joined.Goals as goal
+
+pub loop-token-init : goal.loop-token-init
+loop-token-init c = grind (arith, common_steps)
+
+pub loop-token-preserved : goal.loop-token-preserved
+loop-token-preserved c = grind (arith, common_steps)
+
+pub returns : goal.returns
+returns c = grind (arith, common_steps)
+
+pub returns-in_default : goal.returns-in_default
+returns-in_default c = grind (arith, common_steps)
+
+pub returns-then-not-stands_behind : goal.returns-then-not-stands_behind
+returns-then-not-stands_behind c = grind (arith, common_steps)
