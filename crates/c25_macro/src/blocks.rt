@@ -129,9 +129,9 @@ impl<'a> State<'a> {
         &mut self,
         symbols: &Symbols,
         place: SourcePlace,
-        count: Option<&Expr>,
+        count: Option<Expr>,
     ) -> Result<(), Failure<Refusal>>
-        ensures { GoesOn (rule.begins_loop symbols.now place (option_map (λ e. tree_of e.now) count.entry) (config self.old)) result (config self.new) }
+        ensures { GoesOn (rule.begins_loop symbols.now place (option_map tree_of count) (config self.old)) result (config self.new) }
     {
         match count {
             Some(count) => match number(symbols, count) {
@@ -163,10 +163,10 @@ impl<'a> State<'a> {
         &mut self,
         symbols: &Symbols,
         place: SourcePlace,
-        condition: Option<&Expr>,
+        condition: Option<Expr>,
     ) -> Result<(), Failure<Refusal>>
         requires reading { self.old.mode ≡ modes.Reading }
-        ensures { GoesOn (rule.breaks symbols.now place (option_map (λ e. tree_of e.now) condition.entry) (config self.old)) result (config self.new) }
+        ensures { GoesOn (rule.breaks symbols.now place (option_map tree_of condition) (config self.old)) result (config self.new) }
     {
         match condition {
             Some(condition) => match number(symbols, condition) {
@@ -190,10 +190,10 @@ impl<'a> State<'a> {
         &mut self,
         symbols: &Symbols,
         place: SourcePlace,
-        expression: &Expr,
+        expression: Expr,
         name: &str,
     ) -> Result<(), Failure<Refusal>>
-        ensures { GoesOn (rule.evaluates symbols.now place (tree_of expression.now) name.now (config self.old)) result (config self.new) }
+        ensures { GoesOn (rule.evaluates symbols.now place (tree_of expression) name.now (config self.old)) result (config self.new) }
     {
         let number = match number(symbols, expression) {
             Ok(number) => number,

@@ -46,9 +46,9 @@ impl State<'_> {
         &mut self,
         symbols: &Symbols,
         place: SourcePlace,
-        condition: &Expr,
+        condition: Expr,
     ) -> Result<(), Failure<Refusal>>
-        ensures { GoesOn (rule.begins_if symbols.now place (tree_of condition.now) (config self.old)) result (config self.new) }
+        ensures { GoesOn (rule.begins_if symbols.now place (tree_of condition) (config self.old)) result (config self.new) }
     {
         let number = match number(symbols, condition) {
             Ok(number) => number,
@@ -78,14 +78,13 @@ impl State<'_> {
     /// `.elseif` where a condition is still sought.
     fn seek(
         &mut self,
-        symbols: &Symbols,
         place: SourcePlace,
-        condition: &Expr,
+        number: Result<i32, FaultKind>,
         branch: Branch,
     ) -> Result<(), Failure<Refusal>>
-        ensures { GoesOn (rule.needed symbols.now place (tree_of condition.now) (λ number. rule.enters branch (other_branches (config self.old).scope.branches) (config self.old) (rule.phase_of number))) result (config self.new) }
+        ensures { GoesOn (rule.with_number place number (λ number. rule.enters branch (other_branches (config self.old).scope.branches) (config self.old) (rule.phase_of number))) result (config self.new) }
     {
-        match number(symbols, condition) {
+        match number {
             Ok(number) => self.enter(branch, phase_of(number)),
             Err(kind) => Err(fault(kind, place)),
         }
@@ -96,18 +95,19 @@ impl State<'_> {
         &mut self,
         symbols: &Symbols,
         place: SourcePlace,
-        condition: &Expr,
+        condition: Expr,
     ) -> Result<(), Failure<Refusal>>
-        ensures { GoesOn (rule.elseif_by symbols.now place (tree_of condition.now) (config self.old).scope.branches (config self.old)) result (config self.new) }
+        ensures { GoesOn (rule.elseif_by symbols.now place (tree_of condition) (config self.old).scope.branches (config self.old)) result (config self.new) }
     {
+        let number = number(symbols, condition);
         let Some(branch) = self.top.scope.branches.innermost() else {
-            return match number(symbols, condition) {
+            return match number {
                 Ok(_) => Err(fault(FaultKind::StrayEnd, place)),
                 Err(kind) => Err(fault(kind, place)),
             };
         };
         match branch.phase {
-            Phase::Seeking => self.seek(symbols, place, condition, branch),
+            Phase::Seeking => self.seek(place, number, branch),
             Phase::Taking | Phase::Passing => self.enter(branch, Phase::Passing),
             Phase::ElseTaking | Phase::ElsePassing => Err(fault(FaultKind::StrayEnd, place)),
         }

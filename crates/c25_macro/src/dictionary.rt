@@ -3,7 +3,9 @@
 ghost use Rattle.std.specs.Prelude.{◌≡◌, ◌<◌, ◌^◌, ◌∷◌, [], is_some, OnOk};
 ghost use Rattle.std.specs.Option.{option_map};
 ghost use Rattle.std.specs.String.{string_bytes};
+ghost use Rattle.c25_meaning_lines.specs.Line.{first_word};
 ghost use Rattle.c25_meaning_expansion.specs.Expansion as exp;
+ghost use Rattle.c25_meaning_expansion.specs.ExpansionRules as rule;
 ghost use Rattle.c25_meaning_language.specs.Texts.{with_name};
 ghost use Rattle.c25_macro.specs.Acts.{macro_of};
 ghost use Rattle.c25_macro.specs.Dictionary.{dictionary_of};
@@ -17,6 +19,7 @@ use c25_meaning_common::no_memory::NoMemory;
 use c25_substitution::parameters::Arguments;
 use c25_substitution::texts::SubstitutionTexts;
 use c25_substitution::visible::Visible;
+use c25_text::line::first_word;
 use std::alloc::Global;
 
 /// What names stand for: macros, the names of `.asg` and `.eval`, and the parameters of the expansions
@@ -45,11 +48,14 @@ impl<'a> Dictionary<'a> {
         }
     }
 
-    /// The macro of a name.
-    pub(crate) fn macro_named(&self, name: &str) -> Option<&Macro<'a>>
-        ensures { option_map (λ m. macro_of m.now) result ≡ exp.macro_named (dictionary_of self.now) name.now }
+    /// The macro that the first word of a line names.
+    pub(crate) fn macro_called(&self, text: &str) -> Option<&Macro<'a>>
+        ensures { option_map (λ m. macro_of m.now) result ≡ rule.macro_of (first_word text.now) (dictionary_of self.now) }
     {
-        self.macros.get(name)
+        match first_word(text) {
+            Some(name) => self.macros.get(name),
+            None => None,
+        }
     }
 
     /// Whether a macro has this name.

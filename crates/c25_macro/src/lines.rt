@@ -33,7 +33,6 @@ use c25_meaning_files::place::SourcePlace;
 use c25_meaning_language::long_line::LongLine;
 use c25_meaning_language::statement::FaultKind;
 use c25_substitution::substitution::{substitute, substitute_before_comma, unsubstituted};
-use c25_text::line::first_word;
 use std::borrow::CowStr;
 
 impl<'a> State<'a> {
@@ -51,18 +50,18 @@ impl<'a> State<'a> {
         ensures { GoesOn (rule.acts files.now symbols.now place (act_of act.entry) (config self.old)) result (config self.new) }
     {
         match act {
-            ExpansionAct::If(condition) => self.begin_if(symbols, place, &condition),
-            ExpansionAct::ElseIf(condition) => self.elseif(symbols, place, &condition),
+            ExpansionAct::If(condition) => self.begin_if(symbols, place, condition),
+            ExpansionAct::ElseIf(condition) => self.elseif(symbols, place, condition),
             ExpansionAct::Else => self.pass_else(place),
             ExpansionAct::EndIf => self.end_if(place),
             ExpansionAct::Define { name, parameters } => self.begin_macro(place, name, parameters),
             ExpansionAct::Stray => Err(fault(FaultKind::StrayEnd, place)),
             ExpansionAct::Exit => self.leave_block(Block::Expansion, place),
-            ExpansionAct::Loop(count) => self.begin_loop(symbols, place, count.as_ref()),
-            ExpansionAct::Break(condition) => self.break_loop(symbols, place, condition.as_ref()),
+            ExpansionAct::Loop(count) => self.begin_loop(symbols, place, count),
+            ExpansionAct::Break(condition) => self.break_loop(symbols, place, condition),
             ExpansionAct::Assign { text, name } => self.assign(name.as_str(), text),
             ExpansionAct::Evaluate { expression, name } => {
-                self.evaluate(symbols, place, &expression, name.as_str())
+                self.evaluate(symbols, place, expression, name.as_str())
             }
             ExpansionAct::Copy(name) => self.copy(files, place, name),
             ExpansionAct::End => self.end_all(place),
@@ -124,10 +123,7 @@ impl<'a> State<'a> {
         ensures { Follows (rule.calls files.now symbols.now line.entry (rule.macro_of (first_word line.entry.text) (config self.old).names) (config self.old)) result (config self.new) }
     {
         let alloc = self.alloc;
-        let Some(word) = first_word(line.text()) else {
-            return Ok(Progress::Given(line));
-        };
-        match self.names.macro_named(word) {
+        match self.names.macro_called(line.text()) {
             Some(called) => {
                 let order = read_call(alloc, called, line.text());
                 self.consume(files, symbols, line.place(), order)
@@ -148,10 +144,7 @@ impl<'a> State<'a> {
         ensures { Follows (rule.uses files.now symbols.now line.entry (rule.directive_in (first_word line.entry.text)) (config self.old)) result (config self.new) }
     {
         match directive_in(line.text()) {
-            Some(directive) => {
-                let order = read_order(self.alloc, directive, line.text());
-                self.consume(files, symbols, line.place(), order)
-            }
+            Some(directive) => self.obey(files, symbols, line.place(), directive, line.text()),
             None => self.call(files, symbols, line),
         }
     }

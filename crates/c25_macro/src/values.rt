@@ -24,11 +24,11 @@ fn absolute_number(value: Value) -> Result<i32, FaultKind>
     }
 }
 
-/// The number that an expression stands for under the symbols so far.
-pub(crate) fn number(symbols: &Symbols, expr: &Expr) -> Result<i32, FaultKind>
-    ensures { result ≡ absolute_number (valued symbols.now (tree_of expr.now)) }
+/// The number that an expression stands for under the symbols so far. It is needed no more behind that.
+pub(crate) fn number(symbols: &Symbols, expr: Expr) -> Result<i32, FaultKind>
+    ensures { result ≡ absolute_number (valued symbols.now (tree_of expr)) }
 {
-    match value(expr, symbols) {
+    match value(&expr, symbols) {
         Ok(value) => absolute_number(value),
         Err(kind) => Err(value_fault(kind)),
     }
