@@ -172,7 +172,7 @@ fn put_sheet(
 fn zeros(alloc: Global, count: usize) -> Result<Vec<u16>, NoMemory>
     ensures { IfOk result (λ v. v.items ≡ replicate count 0) }
 {
-    Ok(vec![in alloc; 0; count]?)
+    vec![in alloc; 0; count].map_err(NoMemory::from)
 }
 
 /// An item's words.

@@ -1,7 +1,10 @@
-//! What the second phase goes over. Its methods are in `making.rt` and `wrong.rt`.
+//! What the second phase goes over. Its other methods are in `making.rt` and `wrong.rt`.
+
+ghost use Rattle.std.specs.Prelude.{◌≡◌};
 
 use crate::item::LaidContent;
 use crate::names::DistinctNames;
+use crate::progress::Progress;
 use crate::sections::Sections;
 use c25_expr::symbols::Symbols;
 use std::alloc::Global;
@@ -17,4 +20,33 @@ pub(crate) struct Laid<'a> {
     /// The names of `.global`, `.ref` and `.def`.
     pub(crate) exported: DistinctNames,
     pub(crate) items: Vec<LaidContent<'a>>,
+}
+
+impl<'a> Laid<'a> {
+    /// What it goes over of what the lines have made.
+    pub(crate) fn of(progress: Progress<'a>) -> Laid<'a>
+        ensures sections { result.sections ≡ progress.entry.sections }
+        ensures symbols { result.symbols ≡ progress.entry.symbols }
+        ensures declared { result.declared ≡ progress.entry.declared }
+        ensures exported { result.exported ≡ progress.entry.exported }
+        ensures items { result.items ≡ progress.entry.items }
+    {
+        let Progress {
+            alloc,
+            sections,
+            symbols,
+            declared,
+            exported,
+            items,
+            ..
+        } = progress;
+        Laid {
+            alloc,
+            sections,
+            symbols,
+            declared,
+            exported,
+            items,
+        }
+    }
 }

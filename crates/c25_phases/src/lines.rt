@@ -15,6 +15,7 @@ use c25_meaning_objects::object::LineMark;
 use indexmap::IndexSet;
 use std::alloc::Global;
 use std::marker::Model;
+use std::mem;
 
 /// Files in the order of their first use, and lines with the numbers of their files.
 #[derive(Drop)]
@@ -79,11 +80,11 @@ impl<'a> Lines<'a> {
         ensures { OnOk result (self.new ≡ with_line self.old (source_line line.now)) }
     {
         let number = self.number_of(line.file)?;
-        self.lines.push(LineMark {
+        let mark = LineMark {
             file: number as u16,
             line: line.line,
-        })?;
-        Ok(())
+        };
+        self.lines.push(mark).map_err(NoMemory::from)
     }
 
     /// Those of the marks of a section.
@@ -107,7 +108,10 @@ impl<'a> Lines<'a> {
             recent: _,
             lines,
         } = self;
-        match copied(alloc, files.as_slice()) {
+        let names = copied(alloc, files.as_slice());
+        // They borrow the sources' names, which the module has copies of.
+        mem::drop(files);
+        match names {
             Ok(names) => Ok((names, lines)),
             Err(error) => Err(error),
         }

@@ -138,7 +138,10 @@ impl<'a> Laid<'a> {
         // They are not needed any more, and are most of what the lines take.
         self.items = Vec::new(self.alloc);
         let sections = mem::replace(&mut self.sections, Sections::new(self.alloc));
-        Ok(module_with(self.alloc, sections, &self.symbols, &self.exported)?)
+        match module_with(self.alloc, sections, &self.symbols, &self.exported) {
+            Ok(parts) => Ok(parts),
+            Err(error) => Err(Failure::NoMemory(error)),
+        }
     }
 }
 
@@ -149,23 +152,7 @@ pub fn finish(progress: Progress<'_>) -> Result<Parts, Failure<AsmFault<'_>>>
     requires files { length (emission.lines_in (progress_of progress).sections).files ≤ 65535 }
     ensures { MeetsBy fault_of contents (emission.finished (progress_of progress.entry)) result }
 {
-    let Progress {
-        alloc,
-        sections,
-        symbols,
-        declared,
-        exported,
-        items,
-        ..
-    } = progress;
-    let mut laid = Laid {
-        alloc,
-        sections,
-        symbols,
-        declared,
-        exported,
-        items,
-    };
+    let mut laid = Laid::of(progress);
     let parts = laid.take_parts();
     // Of all that the lines have made only the module stays.
     mem::drop(laid);

@@ -123,8 +123,7 @@ impl<'a> Section<'a> {
     pub(crate) fn block(&mut self, block: Block) -> Result<(), NoMemory>
         ensures { OnOk result (self.new ≡ with_block block self.old) }
     {
-        self.blocks.push(block)?;
-        Ok(())
+        self.blocks.push(block).map_err(NoMemory::from)
     }
 
     /// Words and relocations behind those that are there.
@@ -136,8 +135,9 @@ impl<'a> Section<'a> {
         ensures { OnOk result (self.new ≡ extended words.now relocations.now self.old) }
     {
         self.words.extend_from_slice(words)?;
-        self.relocations.extend_from_slice(relocations)?;
-        Ok(())
+        self.relocations
+            .extend_from_slice(relocations)
+            .map_err(NoMemory::from)
     }
 
     /// The section of the module.

@@ -62,8 +62,7 @@ impl<'a> Sections<'a> {
         requires { length self.old < 255 }
         ensures { OnOk result (self.new ≡ self.old ++ section.entry ∷ []) }
     {
-        self.sections.push(section)?;
-        Ok(())
+        self.sections.push(section).map_err(NoMemory::from)
     }
 
     /// The number of the section of a name.

@@ -81,8 +81,7 @@ impl Sheet {
     fn put_number(&mut self, number: u16) -> Result<(), NoMemory>
         ensures { OnOk result (self.new ≡ with_number number self.old) }
     {
-        self.numbers.push(number)?;
-        Ok(())
+        self.numbers.push(number).map_err(NoMemory::from)
     }
 
     /// An address more, where the field takes one.

@@ -80,23 +80,7 @@ pub fn first_wrong(progress: Progress<'_>) -> Result<Option<WrongItem<'_>>, NoMe
     requires { name_count (progress_of progress).names (progress_of progress).declared ≤ 65535 }
     ensures { IfOk result (λ wrong. option_map wrong_of wrong ≡ first_wrong (progress_of progress.entry)) }
 {
-    let Progress {
-        alloc,
-        sections,
-        symbols,
-        declared,
-        exported,
-        items,
-        ..
-    } = progress;
-    let mut laid = Laid {
-        alloc,
-        sections,
-        symbols,
-        declared,
-        exported,
-        items,
-    };
+    let mut laid = Laid::of(progress);
     let wrong = laid.wrong_item();
     // Of all that the lines have made only the answer stays.
     mem::drop(laid);
