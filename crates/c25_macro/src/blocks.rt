@@ -91,8 +91,10 @@ impl<'a> State<'a> {
             return Err(fault(FaultKind::Depth, place));
         }
         let last = body.last_place(place);
-        self.names.begin(arguments)?;
-        self.open(Kind::Expanded, last, body)
+        match self.names.begin(arguments) {
+            Ok(()) => self.open(Kind::Expanded, last, body),
+            Err(error) => Err(Failure::NoMemory(error)),
+        }
     }
 
     /// The lines through the end of the innermost such block are dropped.

@@ -21,6 +21,7 @@ use c25_substitution::texts::SubstitutionTexts;
 use c25_substitution::visible::Visible;
 use c25_text::line::first_word;
 use std::alloc::Global;
+use std::mem;
 
 /// What names stand for: macros, the names of `.asg` and `.eval`, and the parameters of the expansions
 /// that are open.
@@ -136,7 +137,7 @@ impl<'a> Dictionary<'a> {
         ensures { dictionary_of self.new ≡ exp.without_ended (kind_of kind.now) (dictionary_of self.old) }
     {
         if let Kind::Expanded = kind {
-            let _ended = self.expansions.pop();
+            mem::drop(self.expansions.pop());
         }
     }
 

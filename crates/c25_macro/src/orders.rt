@@ -80,8 +80,10 @@ fn assignment_in<'a>(
     match last_of_two(operands) {
         Some(last) => {
             let name = name_in(alloc, last)?;
-            let text = assigned_text(alloc, text)?;
-            Ok(ExpansionAct::Assign { text, name })
+            match assigned_text(alloc, text) {
+                Ok(text) => Ok(ExpansionAct::Assign { text, name }),
+                Err(error) => Err(Failure::NoMemory(error)),
+            }
         }
         None => Err(Failure::Fault(FaultKind::OperandCount)),
     }
@@ -98,8 +100,10 @@ fn evaluation_of<'a>(
     match written_of(first) {
         Written::Expression => {
             let name = name_in(alloc, second)?;
-            let expression = expression_in(alloc, first)?;
-            Ok(ExpansionAct::Evaluate { expression, name })
+            match expression_in(alloc, first) {
+                Ok(expression) => Ok(ExpansionAct::Evaluate { expression, name }),
+                Err(failure) => Err(failure),
+            }
         }
         _ => Err(Failure::Fault(FaultKind::OperandForm)),
     }
@@ -126,7 +130,10 @@ fn copy_in<'a>(
     ensures { Meets view.act_of (acts.copy_in (operands_view operands.now)) result }
 {
     match operands {
-        [operand] => Ok(ExpansionAct::Copy(string_in(alloc, operand)?)),
+        [operand] => match string_in(alloc, operand) {
+            Ok(name) => Ok(ExpansionAct::Copy(name)),
+            Err(failure) => Err(failure),
+        },
         _ => Err(Failure::Fault(FaultKind::OperandCount)),
     }
 }
@@ -143,15 +150,27 @@ fn act_of<'a>(
     ensures { Meets view.act_of (acts.act_of directive text.now (parts_of line.now) (operands_view operands.now)) result }
 {
     match directive {
-        Directive::If => Ok(ExpansionAct::If(condition_in(alloc, operands)?)),
-        Directive::ElseIf => Ok(ExpansionAct::ElseIf(condition_in(alloc, operands)?)),
+        Directive::If => match condition_in(alloc, operands) {
+            Ok(condition) => Ok(ExpansionAct::If(condition)),
+            Err(failure) => Err(failure),
+        },
+        Directive::ElseIf => match condition_in(alloc, operands) {
+            Ok(condition) => Ok(ExpansionAct::ElseIf(condition)),
+            Err(failure) => Err(failure),
+        },
         Directive::Else => without(ExpansionAct::Else, operands),
         Directive::EndIf => without(ExpansionAct::EndIf, operands),
         Directive::Macro => definition_in(alloc, line, operands),
         Directive::EndMacro | Directive::EndLoop => without(ExpansionAct::Stray, operands),
         Directive::ExitMacro => without(ExpansionAct::Exit, operands),
-        Directive::Loop => Ok(ExpansionAct::Loop(option_in(alloc, operands)?)),
-        Directive::Break => Ok(ExpansionAct::Break(option_in(alloc, operands)?)),
+        Directive::Loop => match option_in(alloc, operands) {
+            Ok(count) => Ok(ExpansionAct::Loop(count)),
+            Err(failure) => Err(failure),
+        },
+        Directive::Break => match option_in(alloc, operands) {
+            Ok(condition) => Ok(ExpansionAct::Break(condition)),
+            Err(failure) => Err(failure),
+        },
         Directive::Assign => assignment_in(alloc, text, operands),
         Directive::Evaluate => evaluation_in(alloc, operands),
         Directive::Copy => copy_in(alloc, operands),
@@ -230,8 +249,10 @@ pub(crate) fn read_order<'a>(
 {
     let line = parts_for(directive, text)?;
     let label = label_for(alloc, directive, line.label)?;
-    let act = act_in(alloc, directive, text, &line)?;
-    Ok(Order { label, act })
+    match act_in(alloc, directive, text, &line) {
+        Ok(act) => Ok(Order { label, act }),
+        Err(failure) => Err(failure),
+    }
 }
 
 /// What a line that calls a macro asks for.
@@ -246,9 +267,11 @@ pub(crate) fn read_call<'a>(
     let line = parts_in(text)?;
     let label = text_of(alloc, line.label)?;
     let body = called.body.copy();
-    let arguments = arguments(alloc, called.parameters.as_slice(), text)?;
-    Ok(Order {
-        label,
-        act: ExpansionAct::Call { body, arguments },
-    })
+    match arguments(alloc, called.parameters.as_slice(), text) {
+        Ok(arguments) => Ok(Order {
+            label,
+            act: ExpansionAct::Call { body, arguments },
+        }),
+        Err(error) => Err(Failure::NoMemory(error)),
+    }
 }

@@ -96,8 +96,7 @@ fn follow(
     ensures kept { OnErr result (trail.new.items ≡ trail.old.items) }
 {
     if before < after {
-        trail.push(line)?;
-        return Ok(());
+        return trail.push(line).map_err(NoMemory::from);
     }
     let left = trail.len().saturating_sub(before - after);
     trail.truncate(left);
@@ -112,13 +111,14 @@ impl<'a> Tracer<'a> {
         let Some((file, text)) = files.find(name) else {
             return Ok(None);
         };
-        let state = Box::new(alloc, State::new(alloc, file, text))?;
-        let trail = Vec::new(alloc);
-        Ok(Some(Tracer {
-            files,
-            state,
-            trail,
-        }))
+        match Box::new(alloc, State::new(alloc, file, text)) {
+            Ok(state) => Ok(Some(Tracer {
+                files,
+                state,
+                trail: Vec::new(alloc),
+            })),
+            Err(error) => Err(NoMemory::from(error)),
+        }
     }
 
     /// One rewriting, under the symbols that the lines before it have defined.

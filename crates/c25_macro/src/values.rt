@@ -3,7 +3,6 @@
 ghost use Rattle.std.specs.Prelude.{◌≡◌};
 ghost use Rattle.c25_meaning_language.specs.Statement.{valued};
 ghost use Rattle.c25_meaning_expansion.specs.ExpansionRules.{absolute_number};
-ghost use Rattle.c25_meaning_language.specs.Absolute.{number_by};
 ghost use Rattle.c25_meaning_language.specs.Value.{is_zero};
 ghost use Rattle.c25_expr.specs.View.{tree_of};
 
@@ -12,24 +11,21 @@ use c25_expr::symbols::Symbols;
 use c25_expr::tree::Expr;
 use c25_expr::value::value;
 use c25_meaning_language::statement::FaultKind;
-use c25_meaning_language::value::{Base, Value};
+use c25_meaning_language::value::Base;
+use std::mem;
 
-/// The number of a value that counts from nothing.
-fn absolute_number(value: Value) -> Result<i32, FaultKind>
-    ensures { result ≡ number_by value.base value.offset }
-{
-    match value.base {
-        Base::Absolute => Ok(value.offset),
-        _ => Err(FaultKind::NotAbsolute),
-    }
-}
-
-/// The number that an expression stands for under the symbols so far. It is needed no more behind that.
+/// The number that an expression stands for under the symbols so far.
 pub(crate) fn number(symbols: &Symbols, expr: Expr) -> Result<i32, FaultKind>
     ensures { result ≡ absolute_number (valued symbols.now (tree_of expr)) }
 {
-    match value(&expr, symbols) {
-        Ok(value) => absolute_number(value),
+    let value = value(&expr, symbols);
+    // It is not needed any more.
+    mem::drop(expr);
+    match value {
+        Ok(value) => match value.base {
+            Base::Absolute => Ok(value.offset),
+            _ => Err(FaultKind::NotAbsolute),
+        },
         Err(kind) => Err(value_fault(kind)),
     }
 }
