@@ -14,7 +14,7 @@ use crate::listing::Entry;
 use c25_meaning_common::no_memory::NoMemory;
 use c25_obj::{Body, Parts};
 use c25_substitution::strings::trimmed_end;
-use std::alloc::Global;
+use std::alloc::{AllocError, Global};
 use std::fmt::Write;
 
 /// A module, and which of its words have a relocation.
@@ -48,22 +48,20 @@ fn word_at(parts: &Parts, section: u16, offset: u32) -> u16
 
 /// Appends a word as four hexadecimal digits.
 #[tactic(auto, using(std::proofs::lemmas::Fmt::hex_byte))]
-fn push_word(out: &mut String, word: u16) -> Result<(), NoMemory>
+fn push_word(out: &mut String, word: u16) -> Result<(), AllocError>
     ensures { OnOk result (string_bytes out.new ≡ string_bytes out.old ++ four_digits word) }
 {
     let high = word >> 8;
     let low = word % 256;
-    write!(out, "{high:02X}{low:02X}")?;
-    Ok(())
+    write!(out, "{high:02X}{low:02X}")
 }
 
 /// Appends a line's number, at the right of six columns.
 #[tactic(auto, using(crate::proofs::Columns::six_columns))]
-fn push_number(out: &mut String, number: usize) -> Result<(), NoMemory>
+fn push_number(out: &mut String, number: usize) -> Result<(), AllocError>
     ensures { OnOk result (string_bytes out.new ≡ string_bytes out.old ++ listing.number_column number) }
 {
-    write!(out, "{number:6}")?;
-    Ok(())
+    write!(out, "{number:6}")
 }
 
 fn sign(is_relocated: bool) -> &'static str
@@ -73,7 +71,7 @@ fn sign(is_relocated: bool) -> &'static str
 }
 
 /// Ends a line: it goes out without the blanks at its end, and another begins.
-fn end(out: &mut String, line: &mut String) -> Result<(), NoMemory>
+fn end(out: &mut String, line: &mut String) -> Result<(), AllocError>
     ensures { OnOk result ((string_bytes out.new ≡ string_bytes out.old ++ listing.listed (string_bytes line.old)) × (string_bytes line.new ≡ [])) }
 {
     out.push_str(trimmed_end(line.as_str()))?;
@@ -93,7 +91,7 @@ impl<'m> Marked<'m> {
 
     /// Appends the offset and the word there.
     #[tactic(auto, using(crate::proofs::Columns::low_digits))]
-    fn push_column(&self, line: &mut String, section: u16, offset: u32) -> Result<(), NoMemory>
+    fn push_column(&self, line: &mut String, section: u16, offset: u32) -> Result<(), AllocError>
         ensures { OnOk result (string_bytes line.new ≡ string_bytes line.old ++ listing.word_column (contents self.now.parts.now) section offset) }
     {
         let word = word_at(self.parts, section, offset);
@@ -113,7 +111,7 @@ impl<'m> Marked<'m> {
         section: u16,
         offset: u32,
         text: &str,
-    ) -> Result<(), NoMemory>
+    ) -> Result<(), AllocError>
         ensures { OnOk result ((string_bytes out.new ≡ string_bytes out.old ++ listing.word_line (contents self.now.parts.now) section offset (string_bytes line.old) text.now) × (string_bytes line.new ≡ [])) }
     {
         line.push_str(" ")?;
@@ -131,7 +129,7 @@ impl<'m> Marked<'m> {
         section: u16,
         offset: u32,
         count: u32,
-    ) -> Result<(), NoMemory>
+    ) -> Result<(), AllocError>
         requires empty { string_bytes line.old ≡ [] }
         requires within { offset + count ≤ 65536 }
         ensures { OnOk result ((string_bytes out.new ≡ string_bytes out.old ++ listing.further (contents self.now.parts.now) section offset count) × (string_bytes line.new ≡ [])) }
@@ -149,7 +147,7 @@ impl<'m> Marked<'m> {
         out: &mut String,
         line: &mut String,
         entry: &Entry<'_>,
-    ) -> Result<(), NoMemory>
+    ) -> Result<(), AllocError>
         requires { string_bytes line.old ≡ [] }
         ensures { OnOk result ((string_bytes out.new ≡ string_bytes out.old ++ listing.entry_text (contents self.now.parts.now) (entry_of entry.now)) × (string_bytes line.new ≡ [])) }
     {
