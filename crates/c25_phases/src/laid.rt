@@ -8,6 +8,7 @@ use crate::progress::Progress;
 use crate::sections::Sections;
 use c25_expr::symbols::Symbols;
 use std::alloc::Global;
+use std::mem;
 
 /// What the second phase goes over: of what the lines have made, what it needs.
 #[derive(Drop)]
@@ -38,8 +39,11 @@ impl<'a> Laid<'a> {
             declared,
             exported,
             items,
+            files,
             ..
         } = progress;
+        // The marks of the sections have the names of their files.
+        mem::drop(files);
         Laid {
             alloc,
             sections,
