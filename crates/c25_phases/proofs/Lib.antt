@@ -1,5 +1,6 @@
 pub mod Declared
 pub mod Filed
+pub mod Gathered
 pub mod Keys
 pub mod Listed
 pub mod Passed
