@@ -75,9 +75,8 @@ fn end(out: &mut String, line: &mut String) -> Result<(), AllocError>
     ensures { OnOk result ((string_bytes out.new ≡ string_bytes out.old ++ listing.listed (string_bytes line.old)) × (string_bytes line.new ≡ [])) }
 {
     out.push_str(trimmed_end(line.as_str()))?;
-    out.push_str("\n")?;
     line.clear();
-    Ok(())
+    out.push_str("\n")
 }
 
 impl<'m> Marked<'m> {
