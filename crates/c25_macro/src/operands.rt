@@ -67,7 +67,10 @@ pub(crate) fn option_in(
 {
     match operands {
         [] => Ok(None),
-        [operand] => Ok(Some(expression_in(alloc, operand)?)),
+        [operand] => match expression_in(alloc, operand) {
+            Ok(expression) => Ok(Some(expression)),
+            Err(failure) => Err(failure),
+        },
         _ => Err(Failure::Fault(FaultKind::OperandCount)),
     }
 }
