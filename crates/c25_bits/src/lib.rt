@@ -87,6 +87,3 @@ pub fn reverse_sub(first: u16, second: u16) -> u16
         .wrapping_sub(second.reverse_bits())
         .reverse_bits()
 }
-
-#[cfg(test)]
-mod tests;

@@ -91,10 +91,8 @@ impl<'a> State<'a> {
             return Err(fault(FaultKind::Depth, place));
         }
         let last = body.last_place(place);
-        match self.names.begin(arguments) {
-            Ok(()) => self.open(Kind::Expanded, last, body),
-            Err(error) => Err(Failure::NoMemory(error)),
-        }
+        self.names.begin(arguments)?;
+        self.open(Kind::Expanded, last, body)
     }
 
     /// The lines through the end of the innermost such block are dropped.

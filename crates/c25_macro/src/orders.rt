@@ -80,10 +80,8 @@ fn assignment_in<'a>(
     match last_of_two(operands) {
         Some(last) => {
             let name = name_in(alloc, last)?;
-            match assigned_text(alloc, text) {
-                Ok(text) => Ok(ExpansionAct::Assign { text, name }),
-                Err(error) => Err(Failure::NoMemory(error)),
-            }
+            let text = assigned_text(alloc, text)?;
+            Ok(ExpansionAct::Assign { text, name })
         }
         None => Err(Failure::Fault(FaultKind::OperandCount)),
     }
@@ -100,10 +98,8 @@ fn evaluation_of<'a>(
     match written_of(first) {
         Written::Expression => {
             let name = name_in(alloc, second)?;
-            match expression_in(alloc, first) {
-                Ok(expression) => Ok(ExpansionAct::Evaluate { expression, name }),
-                Err(failure) => Err(failure),
-            }
+            let expression = expression_in(alloc, first)?;
+            Ok(ExpansionAct::Evaluate { expression, name })
         }
         _ => Err(Failure::Fault(FaultKind::OperandForm)),
     }
@@ -130,10 +126,7 @@ fn copy_in<'a>(
     ensures { Meets view.act_of (acts.copy_in (operands_view operands.now)) result }
 {
     match operands {
-        [operand] => match string_in(alloc, operand) {
-            Ok(name) => Ok(ExpansionAct::Copy(name)),
-            Err(failure) => Err(failure),
-        },
+        [operand] => Ok(ExpansionAct::Copy(string_in(alloc, operand)?)),
         _ => Err(Failure::Fault(FaultKind::OperandCount)),
     }
 }
@@ -150,27 +143,15 @@ fn act_of<'a>(
     ensures { Meets view.act_of (acts.act_of directive text.now (parts_of line.now) (operands_view operands.now)) result }
 {
     match directive {
-        Directive::If => match condition_in(alloc, operands) {
-            Ok(condition) => Ok(ExpansionAct::If(condition)),
-            Err(failure) => Err(failure),
-        },
-        Directive::ElseIf => match condition_in(alloc, operands) {
-            Ok(condition) => Ok(ExpansionAct::ElseIf(condition)),
-            Err(failure) => Err(failure),
-        },
+        Directive::If => Ok(ExpansionAct::If(condition_in(alloc, operands)?)),
+        Directive::ElseIf => Ok(ExpansionAct::ElseIf(condition_in(alloc, operands)?)),
         Directive::Else => without(ExpansionAct::Else, operands),
         Directive::EndIf => without(ExpansionAct::EndIf, operands),
         Directive::Macro => definition_in(alloc, line, operands),
         Directive::EndMacro | Directive::EndLoop => without(ExpansionAct::Stray, operands),
         Directive::ExitMacro => without(ExpansionAct::Exit, operands),
-        Directive::Loop => match option_in(alloc, operands) {
-            Ok(count) => Ok(ExpansionAct::Loop(count)),
-            Err(failure) => Err(failure),
-        },
-        Directive::Break => match option_in(alloc, operands) {
-            Ok(condition) => Ok(ExpansionAct::Break(condition)),
-            Err(failure) => Err(failure),
-        },
+        Directive::Loop => Ok(ExpansionAct::Loop(option_in(alloc, operands)?)),
+        Directive::Break => Ok(ExpansionAct::Break(option_in(alloc, operands)?)),
         Directive::Assign => assignment_in(alloc, text, operands),
         Directive::Evaluate => evaluation_in(alloc, operands),
         Directive::Copy => copy_in(alloc, operands),
@@ -249,10 +230,8 @@ pub(crate) fn read_order<'a>(
 {
     let line = parts_for(directive, text)?;
     let label = label_for(alloc, directive, line.label)?;
-    match act_in(alloc, directive, text, &line) {
-        Ok(act) => Ok(Order { label, act }),
-        Err(failure) => Err(failure),
-    }
+    let act = act_in(alloc, directive, text, &line)?;
+    Ok(Order { label, act })
 }
 
 /// What a line that calls a macro asks for.
@@ -267,11 +246,9 @@ pub(crate) fn read_call<'a>(
     let line = parts_in(text)?;
     let label = text_of(alloc, line.label)?;
     let body = called.body.copy();
-    match arguments(alloc, called.parameters.as_slice(), text) {
-        Ok(arguments) => Ok(Order {
-            label,
-            act: ExpansionAct::Call { body, arguments },
-        }),
-        Err(error) => Err(Failure::NoMemory(error)),
-    }
+    let arguments = arguments(alloc, called.parameters.as_slice(), text)?;
+    Ok(Order {
+        label,
+        act: ExpansionAct::Call { body, arguments },
+    })
 }

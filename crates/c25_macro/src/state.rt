@@ -114,7 +114,7 @@ impl<'a> State<'a> {
     pub(crate) fn look(&mut self, mode: Mode<'a>)
         ensures { self.new ≡ record self.old { mode = mode.entry } }
     {
-        mem::drop(mem::replace(&mut self.mode, mode));
+        self.mode = mode;
     }
 
     /// Opens a file, an expansion or a turn.

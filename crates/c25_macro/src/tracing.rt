@@ -111,14 +111,13 @@ impl<'a> Tracer<'a> {
         let Some((file, text)) = files.find(name) else {
             return Ok(None);
         };
-        match Box::new(alloc, State::new(alloc, file, text)) {
-            Ok(state) => Ok(Some(Tracer {
-                files,
-                state,
-                trail: Vec::new(alloc),
-            })),
-            Err(error) => Err(NoMemory::from(error)),
-        }
+        let state = Box::new(alloc, State::new(alloc, file, text))?;
+        let trail = Vec::new(alloc);
+        Ok(Some(Tracer {
+            files,
+            state,
+            trail,
+        }))
     }
 
     /// One rewriting, under the symbols that the lines before it have defined.

@@ -138,10 +138,7 @@ impl<'a> Laid<'a> {
         // They are not needed any more, and are most of what the lines take.
         self.items = Vec::new(self.alloc);
         let sections = mem::replace(&mut self.sections, Sections::new(self.alloc));
-        match module_with(self.alloc, sections, &self.symbols, &self.exported) {
-            Ok(parts) => Ok(parts),
-            Err(error) => Err(Failure::NoMemory(error)),
-        }
+        Ok(module_with(self.alloc, sections, &self.symbols, &self.exported)?)
     }
 }
 
