@@ -1,7 +1,7 @@
 //! The task of the program's words.
 
 ghost use Rattle.std.specs.Prelude.{◌≡◌, ◌<◌, ◌≤◌, IfErr, IfOk, IfSome, IsSomeAnd, Ok, codes, length, map, string_bytes, true};
-ghost use Rattle.clap.specs.Words.{one_of, subcommand_rows_of, takes};
+ghost use Rattle.clap.specs.Words.{app_of, one_of, subcommand_rows_of, takes};
 ghost use Rattle.c25_meaning_common.specs.Results.{IsNoMemory};
 ghost use Rattle.c25_words.specs.Complete.{IsComplete, IsFlagIn, IsFoundComplete, IsNumberText, IsThere, rows_in};
 ghost use Rattle.c25_words.specs.Program.{program};
@@ -14,7 +14,7 @@ use crate::program::program;
 use crate::task::Task;
 use c25_meaning_common::failure::Failure;
 use c25_meaning_common::no_memory::NoMemory;
-use clap::ArgMatches;
+use clap::{ArgMatches, Command};
 use std::alloc::Global;
 
 /// The task of `asm`.
@@ -134,14 +134,30 @@ fn found_task<'a>(alloc: Global, matches: &ArgMatches<'a>) -> Result<Task<'a>, W
     }
 }
 
+/// Reads words by the program's command line, as a command of `clap`.
+fn read_by<'a>(
+    alloc: Global,
+    command: Command<'a>,
+    words: &'a [String],
+) -> Result<Task<'a>, WordsFault>
+    requires { app_of command ≡ program }
+    ensures read { Reads (map string_bytes words.now) result }
+    ensures takes { takes program (map string_bytes words.now) ≡ true → IfErr result IsWantOfMemory }
+{
+    match command.try_get_matches_from(words) {
+        Ok(matches) => found_task(alloc, &matches),
+        Err(error) => Err(Failure::Fault(error)),
+    }
+}
+
 /// Reads words of which there are others behind the program's name.
 fn read_some<'a>(alloc: Global, words: &'a [String]) -> Result<Task<'a>, WordsFault>
     ensures read { Reads (map string_bytes words.now) result }
     ensures takes { takes program (map string_bytes words.now) ≡ true → IfErr result IsWantOfMemory }
 {
-    match program(alloc)?.try_get_matches_from(words) {
-        Ok(matches) => found_task(alloc, &matches),
-        Err(error) => Err(Failure::Fault(error)),
+    match program(alloc) {
+        Ok(command) => read_by(alloc, command, words),
+        Err(error) => Err(Failure::NoMemory(NoMemory::from(error))),
     }
 }
 
