@@ -1,16 +1,11 @@
 -- Sessions over files that were read from a disk.
 use Rattle.std.proofs.Common.{◌≡◌, subst, ℕ, List}
-use Rattle.std.specs.Prelude.{Result, Ok, Err, String}
-use Rattle.std.specs.Result.{IsErrAnd}
+use Rattle.std.specs.Prelude.{Result, String}
 use Rattle.std.specs.declared.alloc.Global.{Global}
-use Rattle.c25_chain.specs.Chain.{given_of}
 use Rattle.c25_chain.specs.Refusal.{Fault}
-use Rattle.c25_debug_chain.specs.Debug.{Debugs}
 use Rattle.c25_disk.specs.Held.{Held}
 use Rattle.c25_meaning_files.specs.Files.{Files}
-use Rattle.c25_meaning_common.specs.Results.{IsNoMemory}
 use Rattle.c25_tasks.specs.Debugging.{DebugsOver}
-use Rattle.c25_tasks.proofs.Gathered.{over_short}
 
 pub debugs_over : (held : Held) (given : Files) (names sources : List (List ℕ)) (command samples schedule script command_shown samples_shown schedule_shown script_shown : List ℕ) (answer : Result (String Global) Fault) → sources ≡ names → command_shown ≡ command → samples_shown ≡ samples → schedule_shown ≡ schedule → script_shown ≡ script → DebugsOver held given sources command_shown samples_shown schedule_shown script_shown answer → DebugsOver held given names command samples schedule script answer
 debugs_over held given names sources command samples schedule script command_shown samples_shown schedule_shown script_shown answer named same_command same_samples same_schedule same_script comes =
@@ -19,8 +14,3 @@ debugs_over held given names sources command samples schedule script command_sho
     let with_samples = subst (λ (t : List ℕ). DebugsOver held given names command t schedule_shown script_shown answer) same_samples with_command in
     let with_schedule = subst (λ (t : List ℕ). DebugsOver held given names command samples t script_shown answer) same_schedule with_samples in
     subst (λ (t : List ℕ). DebugsOver held given names command samples schedule t answer) same_script with_schedule
-
-pub debugs_told : (held : Held) (given : Files) (names : List (List ℕ)) (command samples schedule script : List ℕ) (answer : Result (String Global) Fault) → IsErrAnd answer IsNoMemory → DebugsOver held given names command samples schedule script answer
-debugs_told held given names command samples schedule script (Ok text) short = absurd short
-debugs_told held given names command samples schedule script (Err fault) short =
-    over_short held given (λ all result. Debugs (given_of all names command samples schedule) script result) fault short

@@ -1,7 +1,9 @@
 -- Work over files that were read from a disk.
 use Rattle.std.proofs.Common.{◌≡◌, inl, inr, sym, subst, ℕ, List, [], ◌∷◌, append-nil, arith}
 use Rattle.std.proofs.lemmas.List.Elements.{All-nil}
-use Rattle.std.specs.Prelude.{IfOk, Option, Result, Ok, Err}
+use Rattle.std.specs.Borrow.{Bor}
+use Rattle.std.specs.Prelude.{IfOk, Option, Some, Result, Ok, Err, String}
+use Rattle.std.specs.declared.alloc.Global.{Global}
 use Rattle.std.specs.Result.{IsErrAnd}
 use Rattle.c25_chain.specs.Built.{Builds}
 use Rattle.c25_chain.specs.Chain.{given_of}
@@ -14,8 +16,9 @@ use Rattle.c25_meaning_files.specs.Files.{Files}
 use Rattle.c25_meaning_common.specs.Results.{IsNoMemory}
 use Rattle.c25_meaning_common.specs.declared.failure.Failure.TheVariants as failure
 use Rattle.c25_tasks.specs.Building.{BuildsOver}
+use Rattle.c25_words.specs.Task.{text_of}
 use Rattle.c25_words.specs.declared.task.RunFiles.{RunFiles}
-use Rattle.c25_tasks.specs.Files.{ComesTo, FailsWith, IsUnread}
+use Rattle.c25_tasks.specs.Files.{ComesTo, FailsWith, IsUnread, ReadsNamed, ReadsOptional}
 use Rattle.c25_tasks.specs.Running.{ReadiesFrom, ReadiesInput, ReadiesOver, ReadiesText, stdin}
 use Rattle.c25_tasks.specs.Tells.{IsOfSources}
 
@@ -27,6 +30,16 @@ is_held held file = IsAllOf (held file.0) file.1
 pub fails_with : {A : Type 0} (answer : Result A Fault) (fault : Fault) (holds : Fault → Type 0) → IsErrAnd answer (λ e. e ≡ fault) → holds fault → FailsWith answer holds
 fails_with (Ok a) fault holds is held = absurd is
 fails_with (Err e) fault holds is held = subst holds (sym is) held
+
+-- ---- files that need not be named
+
+-- a file that is named is read
+pub optional_named : (held : Held) (asked : Option (Bor (List ℕ))) (name : Bor (List ℕ)) (answer : Result (String Global) Fault) → asked ≡ Some name → ReadsNamed held name.now answer → ReadsOptional held (text_of asked) answer
+optional_named held asked name answer is read = subst (λ (a : Option (Bor (List ℕ))). ReadsOptional held (text_of a) answer) (sym is) (of_name answer read)
+  where
+    of_name : (r : Result (String Global) Fault) → ReadsNamed held name.now r → ReadsOptional held (Some name.now) r
+    of_name (Ok text) all = all
+    of_name (Err fault) unread = unread
 
 -- ---- want of memory
 
@@ -45,9 +58,8 @@ pub builds_over : (held : Held) (given : Files) (names sources : List (List ℕ)
 builds_over held given names sources command shown answer named same comes =
     subst (λ (t : List ℕ). BuildsOver held given names t answer) same (subst (λ (ns : List (List ℕ)). BuildsOver held given ns shown answer) named comes)
 
-pub builds_told : (held : Held) (given : Files) (names : List (List ℕ)) (command : List ℕ) (answer : Result Built Fault) → IsErrAnd answer IsNoMemory → BuildsOver held given names command answer
-builds_told held given names command (Ok built) short = absurd short
-builds_told held given names command (Err fault) short = over_short held given (λ files result. Builds files names command result) fault short
+pub builds_short : (held : Held) (given : Files) (names : List (List ℕ)) (command : List ℕ) (fault : Fault) → IsNoMemory fault → BuildsOver held given names command (Err fault)
+builds_short held given names command fault short = over_short held given (λ files result. Builds files names command result) fault short
 
 -- ---- programs that are ready to run
 
@@ -61,10 +73,6 @@ readies_over held given names sources command samples schedule command_shown sam
 pub readies_short : (held : Held) (given : Files) (names : List (List ℕ)) (command samples schedule : List ℕ) (fault : Fault) → IsNoMemory fault → ReadiesOver held given names command samples schedule (Err fault)
 readies_short held given names command samples schedule fault short =
     over_short held given (λ all result. Readies (given_of all names command samples schedule) result) fault short
-
-pub readies_told : (held : Held) (given : Files) (names : List (List ℕ)) (command samples schedule : List ℕ) (answer : Result Ready Fault) → IsErrAnd answer IsNoMemory → ReadiesOver held given names command samples schedule answer
-readies_told held given names command samples schedule (Ok ready) short = absurd short
-readies_told held given names command samples schedule (Err fault) short = readies_short held given names command samples schedule fault short
 
 -- what is ready is a program of sources
 of_sources : (held : Held) (given : Files) (names : List (List ℕ)) (command samples schedule : List ℕ) (answer : Result Ready Fault) → ReadiesOver held given names command samples schedule answer → IfOk answer IsOfSources

@@ -11,3 +11,4 @@ pub mod Disassembled
 pub mod WithSymbols
 pub mod Openings
 pub mod Misfitted
+pub mod Gathering

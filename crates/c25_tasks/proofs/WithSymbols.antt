@@ -1,7 +1,6 @@
 -- Programs with their symbols, over files that were read from a disk.
 use Rattle.std.proofs.Common.{◌≡◌, refl, sym, subst, ℕ, List, string_bytes}
 use Rattle.std.specs.Prelude.{Result, Ok, Err, String}
-use Rattle.std.specs.Result.{IsErrAnd}
 use Rattle.std.specs.declared.alloc.Global.{Global}
 use Rattle.c25_chain.specs.Linked.{IsLinked, places_of}
 use Rattle.c25_chain.specs.Modules.{modules_of}
@@ -40,6 +39,5 @@ pub over_same : (held : Held) (given : Files) (names sources : List (List ℕ)) 
 over_same held given names sources command shown answer named same comes =
     subst (λ (t : List ℕ). BuildsWithSymbolsOver held given names t answer) same (subst (λ (ns : List (List ℕ)). BuildsWithSymbolsOver held given ns shown answer) named comes)
 
-pub over_told : (held : Held) (given : Files) (names : List (List ℕ)) (command : List ℕ) (answer : Result BuiltWithSymbols Fault) → IsErrAnd answer IsNoMemory → BuildsWithSymbolsOver held given names command answer
-over_told held given names command (Ok b) short = absurd short
-over_told held given names command (Err fault) short = over_short held given (λ files result. BuildsWithSymbols files names command result) fault short
+pub over_told : (held : Held) (given : Files) (names : List (List ℕ)) (command : List ℕ) (fault : Fault) → IsNoMemory fault → BuildsWithSymbolsOver held given names command (Err fault)
+over_told held given names command fault short = over_short held given (λ files result. BuildsWithSymbols files names command result) fault short

@@ -1,9 +1,11 @@
 -- What is built of sources on a disk, and the files that are written of it.
-use Rattle.std.specs.Prelude.{◌⊎◌, ℕ, List, Option, Result, Ok, Err}
+use Rattle.std.specs.Prelude.{◌⊎◌, ℕ, List, [], ◌∷◌, ◌++◌, Option, Some, None, Result, Ok, Err}
 use Rattle.c25_chain.specs.Built.{Builds}
 use Rattle.c25_chain.specs.Refusal.{Fault}
 use Rattle.c25_chain.specs.declared.built.Built.{Built}
 use Rattle.c25_disk.specs.Held.{Held, Stay}
+use Rattle.c25_disk.specs.Written.{contents_of}
+use Rattle.c25_disk.specs.declared.writing.Output.{Output}
 use Rattle.c25_meaning_files.specs.Files.{Files}
 use Rattle.c25_report.specs.ProgramFiles.{files_of}
 use Rattle.c25_report.specs.declared.ending.Ending.{Ending}
@@ -27,6 +29,11 @@ BuildsFrom held names command answer = AfterSources held names (λ given. AfterO
 -- the texts of what was built
 abbrev pub texts_in : Built → ProgramFileTexts
 texts_in built = record { page0 = built.linked.page0.text; page1 = built.linked.page1.text; map = built.linked.map; listings = built.listings }
+
+-- files, and one more behind them, if there is one
+abbrev pub and_file : Files → Option Output → Files
+and_file files None = files
+and_file files (Some file) = files ++ contents_of file ∷ []
 
 -- what is written of what was built, unless memory runs out before; where there is nothing, nothing is written
 abbrev pub WritesProgram : Held → Notes → List ℕ → Result Built Fault → Ending → (note : List ℕ) → Wrote → Type 0

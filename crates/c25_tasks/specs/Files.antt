@@ -113,6 +113,10 @@ IsToldOf (Err failure) (Err fault) = IsToldOfCopies failure fault
 
 -- what is told of work over given files and at most 256 others that it asks for: what it comes to over the files that are there in the
 -- end, or that the one that it then lacks cannot be had (8)
+abbrev pub ComesToBy : {A : Type 0} → (missing : Refusal (String Global) → Option (List ℕ)) → Held → Files → (Files → Result A Fault → Type 0) → Result A Fault → Type 0
+ComesToBy {A} missing held given comes_to answer =
+    (result : Result A (Failure (CopyFault (Refusal (String Global))))) × EndsOver held given comes_to missing result × IsToldOf result answer
+
+-- the same of work that asks for a file by such a refusal
 abbrev pub ComesTo : {A : Type 0} → Held → Files → (Files → Result A Fault → Type 0) → Result A Fault → Type 0
-ComesTo {A} held given comes_to answer =
-    (result : Result A (Failure (CopyFault (Refusal (String Global))))) × EndsOver held given comes_to missing_name result × IsToldOf result answer
+ComesTo held given comes_to answer = ComesToBy missing_name held given comes_to answer

@@ -15,3 +15,4 @@ pub mod Debugging
 pub mod Explaining
 pub mod Disassembly
 pub mod Program
+pub mod Inputs

@@ -10,14 +10,15 @@ ghost use Rattle.c25_words.specs.Task.{text_of};
 ghost use Rattle.c25_tasks.specs.Assembly.{AsmOutputs, asm_files, asm_written, output_files};
 ghost use Rattle.c25_tasks.specs.Files.{missing_name};
 
-use crate::files::{fault_of_copies, missing_name};
+use crate::copies::work_over;
+use crate::files::missing_name;
 use crate::sources::sources_of;
 use c25_chain::fault::{Fault, Refusal};
 use c25_chain::sources::Listing;
 use c25_chain::{assemble_module, assemble_source};
+use c25_disk::Output;
 use c25_disk::disk::Disk;
 use c25_disk::work::Work;
-use c25_disk::{Output, with_copies};
 use c25_macro::files::Files;
 use c25_meaning_common::no_memory::NoMemory;
 use c25_obj::{Module, write_module};
@@ -144,8 +145,5 @@ pub(crate) fn asm_outputs<'a, D: Disk>(
         object,
         list,
     };
-    match with_copies(alloc, disk, files, &work) {
-        Ok(outputs) => Ok(outputs),
-        Err(failure) => Err(fault_of_copies(failure)),
-    }
+    work_over(alloc, disk, files, &work)
 }

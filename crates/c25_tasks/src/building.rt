@@ -3,9 +3,8 @@
 ghost use Rattle.c25_words.specs.Task.{text_of, texts_of};
 ghost use Rattle.c25_tasks.specs.Building.{BuildsFrom};
 
-use crate::copies::{Build, build_over};
-use crate::files::{names_of, read_optional};
-use crate::sources::sources_of;
+use crate::copies::{Build, work_over};
+use crate::sources::{Inputs, command_alone, inputs_of};
 use c25_chain::built::Built;
 use c25_chain::fault::Fault;
 use c25_disk::disk::Disk;
@@ -21,12 +20,15 @@ pub(crate) fn built<D: Disk>(
 ) -> Result<Built, Fault>
     ensures { BuildsFrom (D.bytes_of disk.now) (texts_of sources.now) (text_of command.entry) result }
 {
-    let files = sources_of(alloc, disk, sources)?;
-    let command = read_optional(alloc, disk, command)?;
-    let sources = names_of(alloc, sources)?;
+    let inputs = inputs_of(alloc, disk, sources, command_alone(command))?;
+    let Inputs {
+        files,
+        names,
+        beside,
+    } = inputs;
     let work = Build {
-        sources: sources.as_slice(),
-        command: command.as_str(),
+        sources: names.as_slice(),
+        command: beside.command.as_str(),
     };
-    build_over(alloc, disk, files, &work)
+    work_over(alloc, disk, files, &work)
 }

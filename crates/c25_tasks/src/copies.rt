@@ -1,12 +1,8 @@
 //! What the chain does over the files of a disk.
 
 ghost use Rattle.std.specs.Option.{option_map};
-ghost use Rattle.std.specs.Prelude.{◌≡◌, map, string_bytes};
-ghost use Rattle.c25_chain.specs.Built.{Builds};
-ghost use Rattle.c25_chain.specs.Ready.{Readies};
-ghost use Rattle.c25_debug_chain.specs.Debug.{Debugs};
-ghost use Rattle.c25_tasks.specs.Files.{ComesTo, missing_name};
-ghost use Rattle.c25_tasks.specs.View.{debugged_of, readied_of};
+ghost use Rattle.std.specs.Prelude.{◌≡◌};
+ghost use Rattle.c25_tasks.specs.Files.{ComesToBy, missing_name};
 
 use crate::files::{fault_of_copies, missing_name};
 use c25_chain::built::Built;
@@ -133,47 +129,17 @@ impl<'a> Work for Debug<'a> {
     }
 }
 
-/// Builds sources among these files, and those that they copy from a disk.
-pub(crate) fn build_over<D: Disk>(
+/// Work over these files, and those of a disk that it asks for.
+pub(crate) fn work_over<D: Disk, W: Work<Fault = Refusal<String>>>(
     alloc: Global,
     disk: &D,
     files: Files,
-    work: &Build<'_>,
-) -> Result<Built, Fault>
-    ensures { ComesTo (D.bytes_of disk.now) files (λ given result. Builds given (map string_bytes work.now.sources.now) work.now.command.now result) result }
+    work: &W,
+) -> Result<W::Answer, Fault>
+    ensures { ComesToBy W.missing_of (D.bytes_of disk.now) files (W.comes_to work.now) result }
 {
     match with_copies(alloc, disk, files, work) {
-        Ok(built) => Ok(built),
-        Err(failure) => Err(fault_of_copies(failure)),
-    }
-}
-
-/// Makes sources among these files ready to run, and those that they copy from a disk.
-pub(crate) fn ready_over<D: Disk>(
-    alloc: Global,
-    disk: &D,
-    files: Files,
-    work: &Run<'_>,
-) -> Result<Ready, Fault>
-    ensures { ComesTo (D.bytes_of disk.now) files (λ given result. Readies (readied_of given work.now) result) result }
-{
-    match with_copies(alloc, disk, files, work) {
-        Ok(ready) => Ok(ready),
-        Err(failure) => Err(fault_of_copies(failure)),
-    }
-}
-
-/// Debugs sources among these files, and those that they copy from a disk.
-pub(crate) fn debug_over<D: Disk>(
-    alloc: Global,
-    disk: &D,
-    files: Files,
-    work: &Debug<'_>,
-) -> Result<String, Fault>
-    ensures { ComesTo (D.bytes_of disk.now) files (λ given result. Debugs (debugged_of given work.now) work.now.script.now result) result }
-{
-    match with_copies(alloc, disk, files, work) {
-        Ok(text) => Ok(text),
+        Ok(answer) => Ok(answer),
         Err(failure) => Err(fault_of_copies(failure)),
     }
 }

@@ -4,11 +4,11 @@ ghost use Rattle.std.specs.Prelude.{string_bytes};
 ghost use Rattle.c25_words.specs.Task.{texts_of};
 ghost use Rattle.c25_tasks.specs.Debugging.{DebugsFrom, DebugsTold};
 
-use crate::copies::{Debug, debug_over};
-use crate::files::{names_of, read_named, read_optional};
+use crate::copies::{Debug, work_over};
+use crate::files::read_named;
 use crate::notes::Notes;
 use crate::report::report_answers;
-use crate::sources::sources_of;
+use crate::sources::{Inputs, inputs_of};
 use c25_chain::fault::Fault;
 use c25_disk::disk::Disk;
 use c25_report::ending::Report;
@@ -27,20 +27,21 @@ fn answer<D: Disk>(
 ) -> Result<String, Fault>
     ensures { DebugsFrom (D.bytes_of disk.now) (texts_of sources.now) script.now beside.entry result }
 {
-    let files = sources_of(alloc, disk, sources)?;
-    let command = read_optional(alloc, disk, beside.command)?;
-    let samples = read_optional(alloc, disk, beside.samples)?;
-    let schedule = read_optional(alloc, disk, beside.schedule)?;
+    let inputs = inputs_of(alloc, disk, sources, beside)?;
     let script = read_named(alloc, disk, script)?;
-    let sources = names_of(alloc, sources)?;
+    let Inputs {
+        files,
+        names,
+        beside,
+    } = inputs;
     let work = Debug {
-        sources: sources.as_slice(),
-        command: command.as_str(),
-        samples: samples.as_str(),
-        schedule: schedule.as_str(),
+        sources: names.as_slice(),
+        command: beside.command.as_str(),
+        samples: beside.samples.as_str(),
+        schedule: beside.schedule.as_str(),
         script: script.as_str(),
     };
-    debug_over(alloc, disk, files, &work)
+    work_over(alloc, disk, files, &work)
 }
 
 /// Debugs sources by a script, and prints the answers.

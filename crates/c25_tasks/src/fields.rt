@@ -7,16 +7,17 @@ ghost use Rattle.c25_link.specs.Misfits as misfits;
 ghost use Rattle.c25_words.specs.Task.{text_of, texts_of};
 ghost use Rattle.c25_tasks.specs.Fields.{IsFieldNote, IsFieldOfObjects, IsFieldOfSources, IsFieldOver, IsLineText, IsNoteOfField, ShowsField, ShowsFieldOver, line_text, line_view, name_at};
 
-use crate::files::{fault_of_copies, missing_name, names_of, read_optional};
+use crate::copies::work_over;
+use crate::files::{missing_name, names_of, read_optional};
 use crate::objects::{modules_of, read_objects};
-use crate::sources::sources_of;
+use crate::sources::{Inputs, command_alone, inputs_of};
 use c25_chain::assemble_all;
 use c25_chain::fault::{Fault, Refusal};
 use c25_cmd::read_command;
 use c25_details::misfit_text;
 use c25_disk::disk::Disk;
+use c25_disk::read_file;
 use c25_disk::work::Work;
-use c25_disk::{read_file, with_copies};
 use c25_explain::note::line_of;
 use c25_link::{Misfit, SourceLine, first_misfit};
 use c25_macro::files::Files;
@@ -134,17 +135,17 @@ fn field_of_sources<D: Disk>(
 ) -> Result<Option<FieldNote>, Fault>
     ensures { IfOk result (λ note. IfSome note (IsFieldOfSources (D.bytes_of disk.now) (texts_of sources.now) (text_of command.entry))) }
 {
-    let names = names_of(alloc, sources)?;
-    let command = read_optional(alloc, disk, command)?;
-    let files = sources_of(alloc, disk, sources)?;
+    let inputs = inputs_of(alloc, disk, sources, command_alone(command))?;
+    let Inputs {
+        files,
+        names,
+        beside,
+    } = inputs;
     let work = Fields {
         sources: names.as_slice(),
-        command: command.as_str(),
+        command: beside.command.as_str(),
     };
-    match with_copies(alloc, disk, files, &work) {
-        Ok(note) => Ok(note),
-        Err(failure) => Err(fault_of_copies(failure)),
-    }
+    work_over(alloc, disk, files, &work)
 }
 
 /// What is told of the first such field of objects.
@@ -184,22 +185,6 @@ fn field_found<D: Disk>(
     match objects {
         [] => field_of_sources(alloc, disk, command, sources),
         [_, ..] => field_of_objects(alloc, disk, command, objects),
-    }
-}
-
-/// The same, or nothing where that fails.
-fn field_over<D: Disk>(
-    alloc: Global,
-    disk: &D,
-    command: Option<&str>,
-    sources: &[&str],
-    objects: &[&str],
-) -> Option<FieldNote>
-    ensures { IfSome result (IsFieldOver (D.bytes_of disk.now) (text_of command.entry) (texts_of sources.now) (texts_of objects.now)) }
-{
-    match field_found(alloc, disk, command, sources, objects) {
-        Ok(note) => note,
-        Err(_) => None,
     }
 }
 
@@ -251,7 +236,7 @@ pub(crate) fn field_text<D: Disk>(
 ) -> String
     ensures { ShowsFieldOver (D.bytes_of disk.now) (text_of command.entry) (texts_of sources.now) (texts_of objects.now) (string_bytes result) }
 {
-    let Some(note) = field_over(alloc, disk, command, sources, objects) else {
+    let Ok(Some(note)) = field_found(alloc, disk, command, sources, objects) else {
         return String::new(alloc);
     };
     match field_shown(alloc, disk, &note) {

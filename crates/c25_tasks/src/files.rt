@@ -65,10 +65,7 @@ pub(crate) fn read_optional<D: Disk>(
     ensures { ReadsOptional (D.bytes_of disk.now) (text_of name.entry) result }
 {
     match name {
-        Some(name) => match read_file(alloc, disk, name) {
-            Ok(text) => Ok(text),
-            Err(failure) => Err(fault_of_file(failure)),
-        },
+        Some(name) => read_named(alloc, disk, name),
         None => Ok(String::new(alloc)),
     }
 }

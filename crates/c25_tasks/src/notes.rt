@@ -200,7 +200,7 @@ fn behind_text<D: Disk>(
     match refusal {
         Refusal::Command(placed) => standing_text(alloc, disk, command, placed.place),
         Refusal::Link(placed) => link_text(alloc, disk, command, sources, objects, placed),
-        Refusal::Source(_) => trail_text(alloc, disk, sources, refusal),
+        Refusal::Source(placed) => trail_text(alloc, disk, sources, placed),
         Refusal::NoFile { .. }
         | Refusal::Object(_)
         | Refusal::Hex(_)

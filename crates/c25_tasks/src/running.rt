@@ -4,11 +4,10 @@ ghost use Rattle.std.specs.Prelude.{string_bytes};
 ghost use Rattle.c25_words.specs.Task.{texts_of};
 ghost use Rattle.c25_tasks.specs.Running.{ReadiesFrom, RunsTold};
 
-use crate::copies::{Run, ready_over};
-use crate::files::{names_of, read_optional};
+use crate::copies::{Run, work_over};
 use crate::notes::Notes;
 use crate::report::report_run;
-use crate::sources::sources_of;
+use crate::sources::{Inputs, inputs_of};
 use c25_chain::fault::Fault;
 use c25_chain::ready::Ready;
 use c25_disk::disk::Disk;
@@ -27,18 +26,19 @@ fn answer<D: Disk>(
 ) -> Result<Ready, Fault>
     ensures { ReadiesFrom (D.bytes_of disk.now) (texts_of sources.now) beside.entry result }
 {
-    let files = sources_of(alloc, disk, sources)?;
-    let command = read_optional(alloc, disk, beside.command)?;
-    let samples = read_optional(alloc, disk, beside.samples)?;
-    let schedule = read_optional(alloc, disk, beside.schedule)?;
-    let sources = names_of(alloc, sources)?;
+    let inputs = inputs_of(alloc, disk, sources, beside)?;
+    let Inputs {
+        files,
+        names,
+        beside,
+    } = inputs;
     let work = Run {
-        sources: sources.as_slice(),
-        command: command.as_str(),
-        samples: samples.as_str(),
-        schedule: schedule.as_str(),
+        sources: names.as_slice(),
+        command: beside.command.as_str(),
+        samples: beside.samples.as_str(),
+        schedule: beside.schedule.as_str(),
     };
-    ready_over(alloc, disk, files, &work)
+    work_over(alloc, disk, files, &work)
 }
 
 /// Runs sources, prints the run as it goes, and notes the registers at its end or what is noted of a fault,

@@ -4,7 +4,7 @@ ghost use Rattle.std.specs.Prelude.{string_bytes};
 ghost use Rattle.c25_tasks.specs.Files.{ComesTo};
 ghost use Rattle.c25_tasks.specs.Running.{ReadiesInput, ReadiesText, Runs};
 
-use crate::copies::{Run, ready_over};
+use crate::copies::{Run, work_over};
 use crate::files::names_of;
 use crate::notes::Notes;
 use crate::report::report_run;
@@ -41,7 +41,7 @@ fn ready_text<D: Disk>(alloc: Global, disk: &D, text: &str) -> Result<Ready, Fau
         samples: "",
         schedule: "",
     };
-    ready_over(alloc, disk, files, &work)
+    work_over(alloc, disk, files, &work)
 }
 
 /// Makes the text that a reader gives ready.

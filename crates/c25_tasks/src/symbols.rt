@@ -8,11 +8,12 @@ ghost use Rattle.c25_meaning_commands.specs.CommandText.{command_of};
 ghost use Rattle.c25_meaning_placing.specs.GoodMap.{ranges_for};
 ghost use Rattle.c25_symbols.specs.Text.{symbols_text};
 ghost use Rattle.c25_words.specs.Task.{text_of, texts_of};
-ghost use Rattle.c25_tasks.specs.Files.{ComesTo, missing_name};
+ghost use Rattle.c25_tasks.specs.Files.{missing_name};
 ghost use Rattle.c25_tasks.specs.Symbols.{BuildsWithSymbols, BuildsWithSymbolsFrom};
 
-use crate::files::{fault_of_copies, missing_name, names_of, read_optional};
-use crate::sources::sources_of;
+use crate::copies::work_over;
+use crate::files::missing_name;
+use crate::sources::{Inputs, command_alone, inputs_of};
 use c25_chain::built::Built;
 use c25_chain::fault::{Fault, Refusal};
 use c25_chain::linked::Linked;
@@ -20,7 +21,6 @@ use c25_chain::modules::Modules;
 use c25_chain::{assemble_all, link_modules};
 use c25_cmd::read_command;
 use c25_disk::disk::Disk;
-use c25_disk::with_copies;
 use c25_disk::work::Work;
 use c25_macro::files::Files;
 use c25_meaning_common::failure::Failure;
@@ -103,21 +103,6 @@ impl<'a> Work for BuildWithSymbols<'a> {
     }
 }
 
-/// Builds sources among these files, and those that they copy from a disk.
-fn build_over<D: Disk>(
-    alloc: Global,
-    disk: &D,
-    files: Files,
-    work: &BuildWithSymbols<'_>,
-) -> Result<BuiltWithSymbols, Fault>
-    ensures { ComesTo (D.bytes_of disk.now) files (λ given result. BuildsWithSymbols given (map string_bytes work.now.sources.now) work.now.command.now result) result }
-{
-    match with_copies(alloc, disk, files, work) {
-        Ok(built) => Ok(built),
-        Err(failure) => Err(fault_of_copies(failure)),
-    }
-}
-
 /// The program of sources on a disk with its symbols, under a command file where one is named. The
 /// sources are read first, and then the command file.
 pub(crate) fn built_with_symbols<D: Disk>(
@@ -128,12 +113,15 @@ pub(crate) fn built_with_symbols<D: Disk>(
 ) -> Result<BuiltWithSymbols, Fault>
     ensures { BuildsWithSymbolsFrom (D.bytes_of disk.now) (texts_of sources.now) (text_of command.entry) result }
 {
-    let files = sources_of(alloc, disk, sources)?;
-    let command = read_optional(alloc, disk, command)?;
-    let sources = names_of(alloc, sources)?;
+    let inputs = inputs_of(alloc, disk, sources, command_alone(command))?;
+    let Inputs {
+        files,
+        names,
+        beside,
+    } = inputs;
     let work = BuildWithSymbols {
-        sources: sources.as_slice(),
-        command: command.as_str(),
+        sources: names.as_slice(),
+        command: beside.command.as_str(),
     };
-    build_over(alloc, disk, files, &work)
+    work_over(alloc, disk, files, &work)
 }

@@ -1,11 +1,11 @@
 //! The tasks of the program.
 
-ghost use Rattle.std.specs.Prelude.{◌≡◌, ◌++◌, ◌∷◌, [], map, string_bytes};
+ghost use Rattle.std.specs.Prelude.{◌≡◌, [], map, string_bytes};
 ghost use Rattle.c25_disk.specs.Written.{contents_of};
 ghost use Rattle.c25_report.specs.ProgramFiles.{files_of};
 ghost use Rattle.c25_words.specs.Task.{text_of, texts_of};
 ghost use Rattle.c25_tasks.specs.Assembly.{Assembles};
-ghost use Rattle.c25_tasks.specs.Building.{WritesProgram};
+ghost use Rattle.c25_tasks.specs.Building.{WritesProgram, and_file};
 ghost use Rattle.c25_tasks.specs.Program.{AreNotesUnder, Does, effect_of};
 ghost use Rattle.c25_tasks.specs.Symbols.{BuildsToDisk, WritesWithSymbols};
 ghost use Rattle.c25_tasks.specs.Tells.{Writes, WritesTexts, WritesTold};
@@ -22,13 +22,13 @@ use crate::report::report_of_fault;
 use crate::running::run_sources;
 use crate::standard_input::run_standard_input;
 use crate::symbols::{BuiltWithSymbols, built_with_symbols};
-use crate::texts::{outputs_with_symbols, texts_of};
+use crate::texts::{outputs_of, texts_of};
 use c25_chain::built::Built;
 use c25_chain::fault::Fault;
 use c25_disk::disk::Disk;
 use c25_disk::{Output, write_outputs};
 use c25_report::ending::{Ending, Report};
-use c25_report::texts::{ProgramFileTexts, file_names, program_outputs};
+use c25_report::texts::{ProgramFileTexts, file_names};
 use c25_words::task::{RunFiles, Task};
 use std::alloc::Global;
 use std::io::{Read, Write};
@@ -78,44 +78,23 @@ fn assemble_to_disk<D: Disk>(
     write_told(alloc, told, notes, disk)
 }
 
-/// Writes the files of texts behind a base name.
+/// Writes the files of texts behind a base name, and behind them one of symbols, if there is one.
 #[tactic(auto, using(crate::proofs::Quiet::stays, crate::proofs::Quiet::writes_texts))]
 fn write_texts<D: Disk>(
     alloc: Global,
     base: &str,
     texts: ProgramFileTexts,
+    symbols: Option<Output<'_>>,
     notes: Notes<'_>,
     disk: &mut D,
 ) -> Report
-    ensures { WritesTexts (D.bytes_of disk.old) notes.entry (files_of base.now texts) result.ending (string_bytes result.note) (D.written disk.old, D.written disk.new) }
+    ensures { WritesTexts (D.bytes_of disk.old) notes.entry (and_file (files_of base.now texts) symbols.entry) result.ending (string_bytes result.note) (D.written disk.old, D.written disk.new) }
 {
     let names = match file_names(alloc, base, texts.listings.len()) {
         Ok(names) => names,
         Err(error) => return Report::without_note(alloc, Ending::NoMemory(error)),
     };
-    match program_outputs(alloc, &names, texts) {
-        Ok(outputs) => write_files(alloc, outputs.as_slice(), notes, disk),
-        Err(error) => Report::without_note(alloc, Ending::NoMemory(error)),
-    }
-}
-
-/// The same, and behind them a file of the symbols.
-#[tactic(auto, using(crate::proofs::Quiet::stays, crate::proofs::Quiet::writes_texts))]
-fn write_texts_with_symbols<D: Disk>(
-    alloc: Global,
-    base: &str,
-    texts: ProgramFileTexts,
-    symbols: Output<'_>,
-    notes: Notes<'_>,
-    disk: &mut D,
-) -> Report
-    ensures { WritesTexts (D.bytes_of disk.old) notes.entry (files_of base.now texts ++ contents_of symbols.entry ∷ []) result.ending (string_bytes result.note) (D.written disk.old, D.written disk.new) }
-{
-    let names = match file_names(alloc, base, texts.listings.len()) {
-        Ok(names) => names,
-        Err(error) => return Report::without_note(alloc, Ending::NoMemory(error)),
-    };
-    match outputs_with_symbols(alloc, &names, texts, symbols) {
+    match outputs_of(alloc, &names, texts, symbols) {
         Ok(outputs) => write_files(alloc, outputs.as_slice(), notes, disk),
         Err(error) => Report::without_note(alloc, Ending::NoMemory(error)),
     }
@@ -133,7 +112,7 @@ fn write_program<D: Disk>(
     ensures { WritesProgram (D.bytes_of disk.old) notes.entry base.now told result.ending (string_bytes result.note) (D.written disk.old, D.written disk.new) }
 {
     match told {
-        Ok(built) => write_texts(alloc, base, texts_of(built), notes, disk),
+        Ok(built) => write_texts(alloc, base, texts_of(built), None, notes, disk),
         Err(fault) => report_of_fault(alloc, disk, fault, notes),
     }
 }
@@ -153,8 +132,8 @@ fn write_with_symbols<D: Disk>(
     match told {
         Ok(BuiltWithSymbols { built, symbols }) => {
             let bytes = symbols.into_bytes();
-            let symbols = Output { name: file, bytes };
-            write_texts_with_symbols(alloc, base, texts_of(built), symbols, notes, disk)
+            let symbols = Some(Output { name: file, bytes });
+            write_texts(alloc, base, texts_of(built), symbols, notes, disk)
         }
         Err(fault) => report_of_fault(alloc, disk, fault, notes),
     }

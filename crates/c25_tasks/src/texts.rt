@@ -3,7 +3,7 @@
 ghost use Rattle.std.specs.Prelude.{◌≡◌, ◌++◌, ◌∷◌, [], ℕ, List, IfOk, map};
 ghost use Rattle.c25_disk.specs.Written.{contents_of};
 ghost use Rattle.c25_report.specs.ProgramFiles.{AreNames, files_of};
-ghost use Rattle.c25_tasks.specs.Building.{texts_in};
+ghost use Rattle.c25_tasks.specs.Building.{and_file, texts_in};
 
 use c25_chain::built::Built;
 use c25_chain::linked::Linked;
@@ -34,17 +34,28 @@ pub(crate) fn texts_of(built: Built) -> ProgramFileTexts
     }
 }
 
-/// The files of such texts, and behind them that of the symbols.
-pub(crate) fn outputs_with_symbols<'a>(
+/// Such files, and one more behind them.
+fn with_file<'a>(files: Vec<Output<'a>>, file: Output<'a>) -> Result<Vec<Output<'a>>, NoMemory>
+    ensures { IfOk result (λ outputs. map contents_of outputs.items ≡ map contents_of files.entry.items ++ contents_of file.entry ∷ []) }
+{
+    let mut outputs = files;
+    outputs.push(file)?;
+    Ok(outputs)
+}
+
+/// The files of such texts, and behind them that of the symbols, if there is one.
+pub(crate) fn outputs_of<'a>(
     alloc: Global,
     names: &'a ProgramFileNames,
     texts: ProgramFileTexts,
-    symbols: Output<'a>,
+    symbols: Option<Output<'a>>,
 ) -> Result<Vec<Output<'a>>, NoMemory>
     ensures { (base : List ℕ) → AreNames base texts.listings.len names.entry.now
-        → IfOk result (λ outputs. map contents_of outputs.items ≡ files_of base texts ++ contents_of symbols.entry ∷ []) }
+        → IfOk result (λ outputs. map contents_of outputs.items ≡ and_file (files_of base texts) symbols.entry) }
 {
-    let mut outputs = program_outputs(alloc, names, texts)?;
-    outputs.push(symbols)?;
-    Ok(outputs)
+    let outputs = program_outputs(alloc, names, texts)?;
+    match symbols {
+        Some(file) => with_file(outputs, file),
+        None => Ok(outputs),
+    }
 }

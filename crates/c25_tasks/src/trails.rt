@@ -5,9 +5,8 @@ ghost use Rattle.std.specs.Prelude.{◌≡◌, IfOk, IsTrue, string_bytes};
 ghost use Rattle.c25_macro.specs.Tracers.{fault_in};
 ghost use Rattle.c25_meaning_language.specs.ExpansionFault.{Faulty};
 ghost use Rattle.c25_words.specs.Task.{texts_of};
-ghost use Rattle.c25_tasks.specs.Trails.{IsFirstTrail, IsTrailText, ShowsTrailOver, openings_text, opening_text, text_at, wanted_by};
+ghost use Rattle.c25_tasks.specs.Trails.{IsFirstTrail, ShowsTrailOver, openings_text, opening_text, text_at, wanted_by};
 
-use c25_chain::fault::Refusal;
 use c25_disk::disk::Disk;
 use c25_disk::work::Work;
 use c25_disk::{read_sources, with_copies};
@@ -16,6 +15,7 @@ use c25_macro::files::Files;
 use c25_macro::tracer::StepFault;
 use c25_meaning_common::failure::Failure;
 use c25_meaning_common::no_memory::NoMemory;
+use c25_meaning_common::placed::{FileLine, Placed};
 use c25_meaning_files::place::SourcePlace;
 use c25_meaning_language::statement::FaultKind;
 use c25_trail::{Refused, Traced, trace};
@@ -160,48 +160,28 @@ impl Work for Trace<'_> {
     }
 }
 
-/// The lines that led to a line of a source, as they are shown, over what the disk has now; no text
-/// where the sources cannot be read again, are not refused for that line, or memory runs out.
-fn trail_over<D: Disk>(alloc: Global, disk: &D, sources: &[&str], refused: FaultyLine<'_>) -> String
-    ensures { ShowsTrailOver (D.bytes_of disk.now) (texts_of sources.now) (Faulty refused.entry.file.now refused.entry.line refused.entry.kind) (string_bytes result) }
+/// The lines that led to where a line of a source is refused, as they are shown: those that called, copied
+/// or repeated it, over what the disk has now. No text where the sources cannot be read again, are not
+/// refused for that line, or memory runs out.
+pub(crate) fn trail_text<D: Disk>(
+    alloc: Global,
+    disk: &D,
+    sources: &[&str],
+    refused: &Placed<FileLine<String>, FaultKind>,
+) -> String
+    ensures { ShowsTrailOver (D.bytes_of disk.now) (texts_of sources.now) (Faulty (string_bytes refused.now.place.file) refused.now.place.line refused.now.fault) (string_bytes result) }
 {
     let Ok(files) = read_sources(alloc, disk, sources) else {
         return String::new(alloc);
+    };
+    let refused = FaultyLine {
+        file: refused.place.file.as_str(),
+        line: refused.place.line,
+        kind: refused.fault,
     };
     let work = Trace { sources, refused };
     match with_copies(alloc, disk, files, &work) {
         Ok(text) => text,
         Err(_) => String::new(alloc),
-    }
-}
-
-/// The lines that led to where a refusal is told, as they are shown: of a source's line those that
-/// called, copied or repeated it.
-pub(crate) fn trail_text<D: Disk>(
-    alloc: Global,
-    disk: &D,
-    sources: &[&str],
-    refusal: &Refusal<String>,
-) -> String
-    ensures { IsTrailText (D.bytes_of disk.now) (texts_of sources.now) refusal.now (string_bytes result) }
-{
-    match refusal {
-        Refusal::Source(placed) => {
-            let refused = FaultyLine {
-                file: placed.place.file.as_str(),
-                line: placed.place.line,
-                kind: placed.fault,
-            };
-            trail_over(alloc, disk, sources, refused)
-        }
-        Refusal::NoFile { .. }
-        | Refusal::Object(_)
-        | Refusal::Command(_)
-        | Refusal::Link(_)
-        | Refusal::Hex(_)
-        | Refusal::Schedule { .. }
-        | Refusal::Samples { .. }
-        | Refusal::Script { .. }
-        | Refusal::File(_) => String::new(alloc),
     }
 }

@@ -1,9 +1,16 @@
-use Rattle.std.proofs.Common.{◌∙◌, ap, map, string_bytes}
+use Rattle.std.proofs.Common.{◌∙◌, ap, map, string_bytes, subst}
 use Rattle.c25_words.specs.Task.{text_of, texts_of}
-use Rattle.c25_tasks.proofs.Misfitted.{field_of_sources}
+use Rattle.c25_words.specs.declared.task.RunFiles.{RunFiles}
+use Rattle.c25_tasks.specs.Files.{IsOptional}
+use Rattle.c25_tasks.proofs.Gathering.{inputs_are}
+use Rattle.c25_tasks.proofs.Misfitted.{field_of_work}
 use Rattle.c25_tasks.proofs.fields.field_of_sources.Goals as goal
 
-pub returns-in-Ok : goal.returns-in-Ok
-returns-in-Ok g c =
-    field_of_sources (g.D.Disk.bytes_of c.args.disk.now) (texts_of c.args.sources.now) (map string_bytes c.as_slice.result.now) (text_of c.args.command) _ _ c.as_str.result.now c.in-Ok.note
-    (ap (λ names. map string_bytes names) c.as_slice.ensures.value ∙ c.in_ok-names.ensures) c.as_str.ensures.value c.in_ok-files.ensures c.in_ok-command.ensures c.in-Ok.ensures
+pub returns : goal.returns
+returns g c =
+    let held = g.D.Disk.bytes_of c.args.disk.now in
+    let names = texts_of c.args.sources.now in
+    let are = inputs_are held names c.command_alone.result c.in_ok-inputs.inputs c.in_ok-inputs.ensures in
+    let of_command = subst (λ (files : RunFiles). IsOptional held (text_of files.command) (string_bytes c.in_ok-inputs.inputs.beside.command)) c.command_alone.ensures are.2 in
+    field_of_work held names (map string_bytes c.as_slice.result.now) (text_of c.args.command) _ _ c.as_str.result.now c.work_over.result
+    (ap (λ xs. map string_bytes xs) c.as_slice.ensures.value ∙ are.1) c.as_str.ensures.value are.0 of_command c.work_over.ensures

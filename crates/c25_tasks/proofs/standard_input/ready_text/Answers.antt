@@ -9,4 +9,4 @@ pub returns-in_err-sources : goal.returns-in_err-sources
 returns-in_err-sources g c = text_told _ _ _ c.from_residual.ensures.1
 
 pub returns : goal.returns
-returns g c = text_ready _ _ _ _ _ (search rules) (ap (λ xs. map string_bytes xs) c.as_slice.ensures.value ∙ c.in_ok-sources.ensures) c.ready_over.ensures
+returns g c = text_ready _ _ _ _ _ (search rules) (ap (λ xs. map string_bytes xs) c.as_slice.ensures.value ∙ c.in_ok-sources.ensures) c.work_over.ensures
