@@ -39,10 +39,7 @@ fn with_argument<'a>(subcommand: Made<'a>, argument: Arg<'a>) -> Made<'a>
     requires { argument.global ≡ false }
     ensures { (shape : Shape) (rule : Rule) → IfOk subcommand.entry (IsSubcommand shape) → rule_of argument.entry ≡ rule → IfOk result (IsSubcommand (added shape rule)) }
 {
-    match subcommand {
-        Ok(subcommand) => subcommand.arg(argument),
-        Err(error) => Err(error),
-    }
+    subcommand?.arg(argument)
 }
 
 /// The flag by which a fault is explained.
@@ -200,13 +197,7 @@ fn bare_program<'a>(alloc: Global) -> Command<'a>
 fn with_subcommand<'a>(program: Made<'a>, subcommand: Made<'a>) -> Made<'a>
     ensures { (app : App) (shape : Shape) → IfOk program.entry (λ c. app_of c ≡ app) → IfOk subcommand.entry (IsSubcommand shape) → IfOk result (λ c. app_of c ≡ with_subcommand app shape) }
 {
-    match program {
-        Ok(program) => match subcommand {
-            Ok(subcommand) => program.subcommand(subcommand),
-            Err(error) => Err(error),
-        },
-        Err(error) => Err(error),
-    }
+    program?.subcommand(subcommand?)
 }
 
 /// The program with its subcommands.
