@@ -1,6 +1,6 @@
 -- Lines of runs, one behind another.
-use Rattle.std.proofs.Common.{◌≡◌, ℕ, ◌+◌, ◌≤◌, List, [], ◌∷◌, ◌++◌, length, take, drop, sym, ap, ◌∙◌, arith, append_assoc, length-drop}
-use Rattle.std.proofs.lemmas.List.{append-nil, drop-append-le, drop_all, map-append, take-append-le, take_all}
+use Rattle.std.proofs.Common.{◌≡◌, ℕ, ◌+◌, ◌≤◌, ◌<◌, List, [], ◌∷◌, ◌++◌, length, take, drop, get_or, sym, ap, ◌∙◌, arith, append_assoc, length-drop}
+use Rattle.std.proofs.lemmas.List.{append-nil, drop-append-le, drop_all, drop_more, map-append, take-append-le, take_all}
 use Rattle.c25_meaning_assembly.specs.Sections.{Origin}
 use Rattle.c25_phases.specs.Runs.{lines_of, origins_in, total}
 use Rattle.c25_phases.specs.declared.source_lines.FileRun.{FileRun}
@@ -34,3 +34,19 @@ run_ends (x ∷ runs) file numbers r all =
 pub total_more : (runs : List FileRun) (r : FileRun) → total (runs ++ r ∷ []) ≡ total runs + r.count
 total_more [] r = omega arith
 total_more (x ∷ runs) r = omega (arith, total_more runs r)
+
+-- one run more, of the first of the numbers that are left
+pub run_more : (runs : List FileRun) (i : ℕ) (d : FileRun) (file numbers first rest : List ℕ) (before after all : List Origin) → i < length runs
+    → first ≡ take (get_or runs i d).count numbers → rest ≡ drop (get_or runs i d).count numbers → after ≡ before ++ lines_of (get_or runs i d).file.now first
+    → before ++ origins_in (drop i runs) file numbers ≡ all → after ++ origins_in (drop (i + 1) runs) file rest ≡ all
+run_more runs i d file numbers first rest before after all lt front left is told =
+    let r = get_or runs i d in
+    ap (λ l. l ++ origins_in (drop (i + 1) runs) file rest) (is ∙ ap (λ ns. before ++ lines_of r.file.now ns) front)
+    ∙ ap (λ ns. (before ++ lines_of r.file.now (take r.count numbers)) ++ origins_in (drop (i + 1) runs) file ns) left
+    ∙ append_assoc before (lines_of r.file.now (take r.count numbers)) (origins_in (drop (i + 1) runs) file (drop r.count numbers))
+    ∙ ap (λ rs. before ++ origins_in rs file numbers) (sym (drop_more runs i d lt))
+    ∙ told
+
+-- the numbers that are left are enough for the runs that are
+pub few_more : (runs : List FileRun) (i : ℕ) (d : FileRun) (left all : ℕ) → i < length runs → left + (get_or runs i d).count ≡ all → total (drop i runs) ≤ all → total (drop (i + 1) runs) ≤ left
+few_more runs i d left all lt is few = omega (arith, ap total (drop_more runs i d lt), is, few)
