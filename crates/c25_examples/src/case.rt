@@ -1,9 +1,9 @@
 //! Cases: a call of the program over files in memory, and what must come of it.
 
 use crate::files::{File, Folder};
-use anyhow::Result;
 use c25_tasks::run_words;
-use std::alloc::Global;
+use std::alloc::{AllocError, Global};
+use std::io;
 use std::process::ExitCode;
 
 /// A call of the program, and what must come of it.
@@ -13,17 +13,26 @@ pub(crate) struct Case<'a> {
     /// The program's name first.
     pub(crate) words: Vec<String>,
     pub(crate) input: Vec<u8>,
-    pub(crate) given: Vec<File<'a>>,
+    pub(crate) given: Vec<File>,
     pub(crate) status: u8,
     pub(crate) output: Vec<u8>,
-    /// What goes to standard error, where that is looked at.
-    pub(crate) errors: Option<Vec<u8>>,
-    pub(crate) written: Vec<File<'a>>,
+    /// Whether what goes to standard error is looked at.
+    pub(crate) has_errors: bool,
+    pub(crate) errors: Vec<u8>,
+    pub(crate) written: Vec<File>,
+}
+
+/// Tells a part of what came of a case that is not as it must be.
+fn tell_unless(rt: &HostRuntime, is_right: bool, name: &str, told: &str) -> io::Result<()> {
+    if is_right {
+        return Ok(());
+    }
+    println!(rt; "{name}: {told}")
 }
 
 impl<'a> Case<'a> {
     /// The case of this name that has nothing yet but the program's name.
-    pub(crate) fn new(alloc: Global, name: &'a str) -> Result<Case<'a>> {
+    pub(crate) fn new(alloc: Global, name: &'a str) -> Result<Case<'a>, AllocError> {
         let mut words = Vec::new(alloc);
         words.push(String::from_str(alloc, "c25")?)?;
         Ok(Case {
@@ -33,42 +42,47 @@ impl<'a> Case<'a> {
             given: Vec::new(alloc),
             status: 0,
             output: Vec::new(alloc),
-            errors: None,
+            has_errors: false,
+            errors: Vec::new(alloc),
             written: Vec::new(alloc),
         })
     }
 
-    /// Calls the program, and tells each part of what comes of it that is not as it must be.
-    pub(crate) fn run<R: Print + AllocGlobal>(&self, rt: &R) -> Result<()> {
+    /// Tells each part of what came of the call that is not as it must be.
+    fn compare(
+        &self,
+        rt: &HostRuntime,
+        status: ExitCode,
+        output: &[u8],
+        errors: &[u8],
+        folder: &Folder<'_>,
+    ) -> io::Result<()> {
         let name = self.name;
+        if status != ExitCode::from(self.status) {
+            println!(rt; "{name}: another status than {}", self.status)?;
+        }
+        let has_output = output == self.output.as_slice();
+        tell_unless(rt, has_output, name, "another standard output")?;
+        let has_errors = !self.has_errors || errors == self.errors.as_slice();
+        tell_unless(rt, has_errors, name, "another standard error")?;
+        let has_written = folder.wrote(&self.written);
+        tell_unless(rt, has_written, name, "other files written")
+    }
+
+    /// Calls the program, and tells each part of what comes of it that is not as it must be.
+    pub(crate) fn run(&self, rt: &HostRuntime) -> io::Result<()> {
         let mut folder = Folder::new(rt.alloc(), &self.given);
-        let mut input = self.input.as_slice();
         let mut output = Vec::<u8>::new(rt.alloc());
         let mut errors = Vec::<u8>::new(rt.alloc());
-        let ended = run_words(
+        let status = run_words(
             rt.alloc(),
             &self.words,
             &mut folder,
-            &mut input,
+            &mut self.input.as_slice(),
             &mut output,
             &mut errors,
-        );
-        if ended.status() != ExitCode::from(self.status) {
-            println!(rt; "{name}: another status than {}", self.status)?;
-        }
-        if output.as_slice() != self.output.as_slice() {
-            println!(rt; "{name}: another standard output")?;
-        }
-        if self
-            .errors
-            .as_ref()
-            .is_some_and(|wanted| errors.as_slice() != wanted.as_slice())
-        {
-            println!(rt; "{name}: another standard error")?;
-        }
-        if !folder.wrote(&self.written) {
-            println!(rt; "{name}: other files written")?;
-        }
-        Ok(())
+        )
+        .status();
+        self.compare(rt, status, &output, &errors, &folder)
     }
 }

@@ -4,29 +4,18 @@ use c25_disk::disk::{Disk, Refused};
 use std::alloc::{AllocError, Global};
 
 /// A file: its name and its bytes.
-#[derive(Drop)]
-pub(crate) struct File<'a> {
-    pub(crate) name: &'a str,
+#[derive(Drop, PartialEq)]
+pub(crate) struct File {
+    pub(crate) name: String,
     pub(crate) bytes: Vec<u8>,
 }
 
-/// A file that was written.
-#[derive(Drop)]
-struct Written {
-    name: String,
-    bytes: Vec<u8>,
-}
-
-impl Written {
-    fn new(alloc: Global, name: &str, bytes: &[u8]) -> Result<Written, AllocError> {
+impl File {
+    /// The file of this name and these bytes.
+    pub(crate) fn new(alloc: Global, name: &str, bytes: &[u8]) -> Result<File, AllocError> {
         let name = String::from_str(alloc, name)?;
-        let mut held = Vec::new(alloc);
-        held.extend_from_slice(bytes)?;
-        Ok(Written { name, bytes: held })
-    }
-
-    fn is(&self, file: &File<'_>) -> bool {
-        self.name.as_str() == file.name && self.bytes.as_slice() == file.bytes.as_slice()
+        let bytes = bytes.to_vec(alloc)?;
+        Ok(File { name, bytes })
     }
 }
 
@@ -34,12 +23,12 @@ impl Written {
 #[derive(Drop)]
 pub(crate) struct Folder<'a> {
     alloc: Global,
-    given: &'a [File<'a>],
-    written: Vec<Written>,
+    given: &'a [File],
+    written: Vec<File>,
 }
 
 impl<'a> Folder<'a> {
-    pub(crate) fn new(alloc: Global, given: &'a [File<'a>]) -> Folder<'a> {
+    pub(crate) fn new(alloc: Global, given: &'a [File]) -> Folder<'a> {
         Folder {
             alloc,
             given,
@@ -47,13 +36,14 @@ impl<'a> Folder<'a> {
         }
     }
 
-    fn has_written(&self, file: &File<'_>) -> bool {
-        self.written.iter().any(|written| written.is(file))
-    }
-
     /// Whether these files were written, and no others.
-    pub(crate) fn wrote(&self, files: &[File<'_>]) -> bool {
-        self.written.len() == files.len() && files.iter().all(|file| self.has_written(file))
+    pub(crate) fn wrote(&self, files: &[File]) -> bool {
+        for file in files {
+            if !self.written.contains(file) {
+                return false;
+            }
+        }
+        self.written.len() == files.len()
     }
 }
 
@@ -68,7 +58,7 @@ impl<'a> Disk for Folder<'a> {
 
     fn open(&self, name: &str) -> Result<&'a [u8], Refused> {
         for file in self.given {
-            if file.name == name {
+            if file.name.as_str() == name {
                 return Ok(file.bytes.as_slice());
             }
         }
@@ -79,10 +69,10 @@ impl<'a> Disk for Folder<'a> {
         if name.contains('/') {
             return Err(Refused);
         }
-        let Ok(written) = Written::new(self.alloc, name, bytes) else {
+        let Ok(file) = File::new(self.alloc, name, bytes) else {
             return Err(Refused);
         };
-        match self.written.push(written) {
+        match self.written.push(file) {
             Ok(()) => Ok(()),
             Err(_) => Err(Refused),
         }

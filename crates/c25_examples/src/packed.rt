@@ -11,8 +11,7 @@ use crate::case::Case;
 use crate::files::File;
 use anyhow::{Context, Result, bail};
 use std::alloc::Global;
-use std::rt::Files;
-use std::{fs, str};
+use std::{fs, io, str};
 
 /// The first line of bytes, without its line feed, and what stands behind it.
 fn split_line(bytes: &[u8]) -> Result<(&str, &[u8])> {
@@ -52,14 +51,17 @@ fn put_bytes<'a>(all: &mut Vec<u8>, told: &str, bytes: &'a [u8]) -> Result<&'a [
 /// what stands behind them.
 fn put_file<'a>(
     alloc: Global,
-    files: &mut Vec<File<'a>>,
-    told: &'a str,
+    files: &mut Vec<File>,
+    told: &str,
     bytes: &'a [u8],
 ) -> Result<&'a [u8]> {
     let (length, name) = told.split_once(' ').context("a file without a name")?;
-    if !files.last().is_some_and(|file| file.name == name) {
-        let bytes = Vec::new(alloc);
-        files.push(File { name, bytes })?;
+    let goes_on = match files.last() {
+        Some(file) => file.name.as_str() == name,
+        None => false,
+    };
+    if !goes_on {
+        files.push(File::new(alloc, name, b"")?)?;
     }
     match files.last_mut() {
         Some(file) => put_bytes(&mut file.bytes, length, bytes),
@@ -71,8 +73,8 @@ fn put_file<'a>(
 /// behind it.
 fn put_entry<'a>(
     alloc: Global,
-    case: &mut Case<'a>,
-    line: &'a str,
+    case: &mut Case<'_>,
+    line: &str,
     bytes: &'a [u8],
 ) -> Result<&'a [u8]> {
     let (kind, told) = line.split_once(' ').context("an entry without a value")?;
@@ -88,10 +90,8 @@ fn put_entry<'a>(
         "input" => put_bytes(&mut case.input, told, bytes),
         "output" => put_bytes(&mut case.output, told, bytes),
         "errors" => {
-            let mut errors = Vec::new(alloc);
-            let rest = put_bytes(&mut errors, told, bytes)?;
-            case.errors = Some(errors);
-            Ok(rest)
+            case.has_errors = true;
+            put_bytes(&mut case.errors, told, bytes)
         }
         "given" => put_file(alloc, &mut case.given, told, bytes),
         "written" => put_file(alloc, &mut case.written, told, bytes),
@@ -99,34 +99,44 @@ fn put_entry<'a>(
     }
 }
 
-/// The cases of a file's bytes.
-fn cases_of(alloc: Global, bytes: &[u8]) -> Result<Vec<Case<'_>>> {
-    let mut cases = Vec::new(alloc);
+/// Begins a case or puts an entry into the last one, as the first line of these bytes says, and gives what stands behind.
+fn put_line<'a>(alloc: Global, cases: &mut Vec<Case<'a>>, bytes: &'a [u8]) -> Result<&'a [u8]> {
+    let (line, rest) = split_line(bytes)?;
+    if let Some(name) = line.strip_prefix("case ") {
+        cases.push(Case::new(alloc, name)?)?;
+        return Ok(rest);
+    }
+    match cases.last_mut() {
+        Some(case) => put_entry(alloc, case, line, rest),
+        None => bail!("an entry of no case"),
+    }
+}
+
+/// Puts the cases of a file's bytes behind these.
+fn put_cases<'a>(alloc: Global, cases: &mut Vec<Case<'a>>, bytes: &'a [u8]) -> Result<()> {
     let mut rest = bytes;
     for _ in 0..bytes.len() {
         if rest.is_empty() {
             break;
         }
-        let (line, behind) = split_line(rest)?;
-        rest = match (line.strip_prefix("case "), cases.last_mut()) {
-            (Some(name), _) => {
-                cases.push(Case::new(alloc, name)?)?;
-                behind
-            }
-            (None, Some(case)) => put_entry(alloc, case, line, behind)?,
-            (None, None) => bail!("an entry of no case"),
-        };
+        rest = put_line(alloc, cases, rest)?;
     }
-    Ok(cases)
+    Ok(())
 }
 
-/// Runs the cases of a file, and tells how many there are.
-pub(crate) fn run_cases<R: Files + Print + AllocGlobal>(rt: &R, file: &str) -> Result<()> {
-    let bytes = fs::read(rt, file)?;
-    let cases = cases_of(rt.alloc(), &bytes)?;
-    for case in &cases {
+/// Runs cases, and tells how many there are.
+fn run_all(rt: &HostRuntime, cases: &[Case<'_>]) -> io::Result<()> {
+    for case in cases {
         case.run(rt)?;
     }
-    println!(rt; "{} cases", cases.len())?;
+    println!(rt; "{} cases", cases.len())
+}
+
+/// Runs the cases of a file.
+pub(crate) fn run_cases(rt: &HostRuntime, file: &str) -> Result<()> {
+    let bytes = fs::read(rt, file)?;
+    let mut cases = Vec::new(rt.alloc());
+    put_cases(rt.alloc(), &mut cases, &bytes)?;
+    run_all(rt, &cases)?;
     Ok(())
 }

@@ -1,72 +1,101 @@
-//! Sessions: commands that are run in the order of their lines.
+//! Sessions: commands that are run in the order of their lines. They are those of a shell that the manual's examples need,
+//! and calls of the libraries.
 
-use crate::command::{Call, Command, Input, Lines, command_of};
-use crate::library::{show_chain, show_hex, show_line_of, show_list, show_map};
-use crate::values::show_values;
-use anyhow::{Result, bail};
+use crate::command::{Input, call_of, lines_of};
+use crate::library::call_library;
+use anyhow::{Context, Result, bail};
 use c25_disk::system::System;
 use c25_tasks::run_words;
+use std::alloc::{AllocError, Global};
 use std::io::Write;
 use std::process::ExitCode;
-use std::rt::Files;
 use std::{fs, io};
 
+/// The words of a line.
+pub(crate) fn words_of(alloc: Global, line: &str) -> Result<Vec<String>, AllocError> {
+    let mut words = Vec::new(alloc);
+    for word in line.split_whitespace() {
+        words.push(String::from_str(alloc, word)?)?;
+    }
+    Ok(words)
+}
+
 /// What stands on standard input.
-fn input_of<R: Files + AllocGlobal>(rt: &R, input: Input<'_>) -> Result<String> {
+fn input_of(rt: &HostRuntime, input: Input<'_>) -> io::Result<String> {
     match input {
         Input::Nothing => Ok(String::new(rt.alloc())),
         Input::Line(text) => Ok(format!(in rt.alloc(); "{text}\n")?),
-        Input::File(name) => Ok(fs::read_to_string(rt, name)?),
+        Input::File(name) => fs::read_to_string(rt, name),
     }
 }
 
-/// Calls the program `c25`. What goes to standard error is shown last.
-fn run_call<R: Files + Print + AllocGlobal>(rt: &R, call: &Call<'_>) -> Result<ExitCode> {
-    let mut words = Vec::new(rt.alloc());
-    for word in call.words.split_whitespace() {
-        words.push(String::from_str(rt.alloc(), word)?)?;
-    }
+/// Calls the program `c25` with these words and this on standard input. What goes to standard error is kept.
+fn answer(rt: &HostRuntime, words: &[String], input: &str, errors: &mut Vec<u8>) -> ExitCode {
+    let mut disk = System::new(rt);
+    let mut input = input.as_bytes();
+    let mut output = io::writer(rt);
+    run_words(
+        rt.alloc(),
+        words,
+        &mut disk,
+        &mut input,
+        &mut output,
+        errors,
+    )
+    .status()
+}
+
+/// The call of a line: what goes to standard error is shown last, and what is left is the status.
+fn run_call(rt: &HostRuntime, line: &str, status: &mut ExitCode) -> Result<()> {
+    let Some(call) = call_of(line) else {
+        bail!("no command: {line}");
+    };
+    let words = words_of(rt.alloc(), call.words)?;
     let input = input_of(rt, call.input)?;
     let mut errors = Vec::<u8>::new(rt.alloc());
-    let ended = run_words(
-        rt.alloc(),
-        &words,
-        &mut System::new(rt),
-        &mut input.as_bytes(),
-        &mut io::writer(rt),
-        &mut errors,
-    );
-    if call.shows_errors {
-        io::writer(rt).write_all(&errors)?;
+    *status = answer(rt, &words, &input, &mut errors);
+    if !call.shows_errors {
+        errors.clear();
     }
-    Ok(ended.status())
-}
-
-/// Bytes as hexadecimal digits, a blank before each, and a line feed.
-fn show_line<R: Print>(rt: &R, bytes: &[u8]) -> Result<()> {
-    for byte in bytes {
-        print!(rt; " {byte:02x}")?;
-    }
-    println!(rt)?;
+    io::writer(rt).write_all(&errors)?;
     Ok(())
 }
 
-/// The bytes of a file, 16 a line.
-fn show_bytes<R: Files + Print + AllocGlobal>(rt: &R, name: &str) -> Result<()> {
+/// What ends the digits of a byte: a line feed behind 16 and behind the last.
+fn end_of(at: usize, count: usize) -> &'static str {
+    if at % 16 == 15 || at.saturating_add(1) == count {
+        "\n"
+    } else {
+        ""
+    }
+}
+
+/// Bytes as hexadecimal digits, a blank before each, 16 a line.
+fn show_digits(rt: &HostRuntime, bytes: &[u8]) -> io::Result<()> {
+    for (at, byte) in bytes.iter().enumerate() {
+        print!(rt; " {byte:02x}{}", end_of(at, bytes.len()))?;
+    }
+    Ok(())
+}
+
+/// `od -An -v -tx1 FILE`: its bytes.
+fn show_bytes(rt: &HostRuntime, told: &str) -> Result<()> {
+    let name = told.strip_prefix("-An -v -tx1 ").context("no bytes")?;
     let bytes = fs::read(rt, name)?;
-    for line in bytes.chunks(16) {
-        show_line(rt, line)?;
-    }
+    show_digits(rt, &bytes)?;
     Ok(())
 }
 
-/// Lines of a file.
-fn show_lines<R: Files + Print + AllocGlobal>(rt: &R, lines: Lines<'_>) -> Result<()> {
+/// `sed -n FIRST,LASTp FILE`: these of its lines, from 1 on.
+fn show_lines(rt: &HostRuntime, told: &str) -> Result<()> {
+    let lines = lines_of(told).context("no lines of a file")?;
     let text = fs::read_to_string(rt, lines.file)?;
-    for (before, line) in text.lines().enumerate() {
-        if before < lines.last && lines.first <= before.saturating_add(1) {
-            println!(rt; "{line}")?;
-        }
+    for line in text
+        .lines()
+        .take(lines.last)
+        .skip(lines.first.saturating_sub(1))
+    {
+        println!(rt; "{line}")?;
     }
     Ok(())
 }
@@ -81,38 +110,32 @@ fn number_of(status: ExitCode) -> u8 {
     u8::MAX
 }
 
-/// Runs a command. What is left is the status of the last call.
-fn run_command<R: Files + Print + AllocGlobal>(
-    rt: &R,
-    command: Command<'_>,
-    status: &mut ExitCode,
-) -> Result<()> {
-    match command {
-        Command::Call(call) => *status = run_call(rt, &call)?,
-        Command::Show(name) => rt.print(fs::read_to_string(rt, name)?)?,
-        Command::ShowBytes(name) => show_bytes(rt, name)?,
-        Command::ShowLines(lines) => show_lines(rt, lines)?,
-        Command::Status => println!(rt; "{}", number_of(*status))?,
-        Command::ReadHex(name) => show_hex(rt, name)?,
-        Command::ReadMap(name) => show_map(rt, name)?,
-        Command::RunChain(names) => show_chain(rt, names)?,
-        Command::LineOf(names) => show_line_of(rt, names)?,
-        Command::List(names) => show_list(rt, names)?,
-        Command::Values(name) => show_values(rt, name)?,
+/// Runs a command: `c25 WORDS..`; `cat FILE`; `od` and `sed` as above; `echo $?`, the status of the call before; or a call of
+/// a library. What is left is the status of the last call.
+fn run_command(rt: &HostRuntime, line: &str, status: &mut ExitCode) -> Result<()> {
+    let (name, told) = line.split_once(' ').unwrap_or((line, ""));
+    match name {
+        "cat" => Ok(rt.print(fs::read_to_string(rt, told)?)?),
+        "od" => show_bytes(rt, told),
+        "sed" => show_lines(rt, told),
+        "echo" if told == "$?" => Ok(rt.println(number_of(*status))?),
+        "c25" | "echo" => run_call(rt, line, status),
+        _ => call_library(rt, name, told),
+    }
+}
+
+/// Runs the commands of lines, each behind its line.
+fn run_lines(rt: &HostRuntime, text: &str) -> Result<()> {
+    let mut status = ExitCode::SUCCESS;
+    for line in text.lines() {
+        println!(rt; "$ {line}")?;
+        run_command(rt, line, &mut status)?;
     }
     Ok(())
 }
 
-/// Runs the commands of the file `session`, each behind its line.
-pub(crate) fn run_session<R: Files + Print + AllocGlobal>(rt: &R) -> Result<()> {
+/// Runs the commands of the file `session`.
+pub(crate) fn run_session(rt: &HostRuntime) -> Result<()> {
     let text = fs::read_to_string(rt, "session")?;
-    let mut status = ExitCode::SUCCESS;
-    for line in text.lines() {
-        println!(rt; "$ {line}")?;
-        match command_of(line) {
-            Some(command) => run_command(rt, command, &mut status)?,
-            None => bail!("no command: {line}"),
-        }
-    }
-    Ok(())
+    run_lines(rt, &text)
 }

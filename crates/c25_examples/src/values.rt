@@ -6,10 +6,9 @@ use c25_expr::operands::tokens_of;
 use c25_expr::symbols::Symbols;
 use c25_expr::value::value;
 use c25_meaning_language::value::{Base, Value};
-use c25_text::line::{Line, split_line};
+use c25_text::line::{Word, split_line};
 use std::alloc::Global;
-use std::fs;
-use std::rt::Files;
+use std::io;
 
 /// Names of each kind of value.
 const NAMES: [(&str, Base, i32); 10] = [
@@ -31,80 +30,68 @@ const HERE: Value = Value {
     offset: 20,
 };
 
+/// What a line says alone.
+enum Said {
+    /// How many tokens it has.
+    Tokens(usize),
+    /// The value of the expression that all its operands are.
+    Value(Value),
+}
+
 /// These names, and `$`.
-fn symbols_of(alloc: Global) -> Result<Symbols> {
-    let mut symbols = Symbols::new(alloc);
+fn define_all(symbols: &mut Symbols) -> Result<()> {
     for (name, base, offset) in NAMES {
         symbols.define(name, Value { base, offset })?;
     }
     symbols.set_here(HERE);
-    Ok(symbols)
+    Ok(())
+}
+
+/// The value that the operands of `.word` are as one expression, or how many tokens another line has.
+fn said_by(alloc: Global, symbols: &Symbols, text: &str) -> Result<Said> {
+    let line = split_line(text)?;
+    let tokens = tokens_of(alloc, &line)?;
+    let Some(Word { text: ".word", .. }) = line.word else {
+        return Ok(Said::Tokens(tokens.len()));
+    };
+    let expr = read_expr(alloc, &tokens)?;
+    Ok(Said::Value(value(&expr, symbols)?))
 }
 
 /// The kind of a value, the number of its section or name, and its offset.
-fn show_value<R: Print>(rt: &R, value: Value) -> Result<()> {
+fn show_value(rt: &HostRuntime, value: Value) -> io::Result<()> {
     let offset = value.offset;
     match value.base {
-        Base::Absolute => print!(rt; "absolute {offset}")?,
-        Base::Section(number) => print!(rt; "section {number} {offset}")?,
-        Base::Loaded(number) => print!(rt; "load {number} {offset}")?,
-        Base::External(number) => print!(rt; "external {number} {offset}")?,
+        Base::Absolute => print!(rt; "absolute {offset}"),
+        Base::Section(number) => print!(rt; "section {number} {offset}"),
+        Base::Loaded(number) => print!(rt; "load {number} {offset}"),
+        Base::External(number) => print!(rt; "external {number} {offset}"),
+    }
+}
+
+/// What a line says alone, or its fault.
+fn show_said(rt: &HostRuntime, said: Result<Said>) -> io::Result<()> {
+    match said {
+        Ok(Said::Tokens(count)) => print!(rt; "tokens {count}"),
+        Ok(Said::Value(value)) => show_value(rt, value),
+        Err(fault) => print!(rt; "{fault}"),
+    }
+}
+
+/// Lines, each behind what it says alone.
+fn show_all(rt: &HostRuntime, symbols: &Symbols, text: &str) -> io::Result<()> {
+    for line in text.lines() {
+        show_said(rt, said_by(rt.alloc(), symbols, line))?;
+        println!(rt; "|{line}")?;
     }
     Ok(())
-}
-
-/// The value of the expression that all operands of a line are, or its fault.
-fn show_expression<R: Print + AllocGlobal>(
-    rt: &R,
-    symbols: &Symbols,
-    line: &Line<'_>,
-) -> Result<()> {
-    let tokens = tokens_of(rt.alloc(), line)?;
-    let expr = match read_expr(rt.alloc(), &tokens) {
-        Ok(expr) => expr,
-        Err(failure) => {
-            print!(rt; "{failure}")?;
-            return Ok(());
-        }
-    };
-    match value(&expr, symbols) {
-        Ok(value) => show_value(rt, value),
-        Err(fault) => {
-            print!(rt; "{fault}")?;
-            Ok(())
-        }
-    }
-}
-
-/// How many tokens a line has.
-fn show_count<R: Print + AllocGlobal>(rt: &R, line: &Line<'_>) -> Result<()> {
-    let tokens = tokens_of(rt.alloc(), line)?;
-    print!(rt; "tokens {}", tokens.len())?;
-    Ok(())
-}
-
-/// What a line says alone.
-fn show_line<R: Print + AllocGlobal>(rt: &R, symbols: &Symbols, text: &str) -> Result<()> {
-    match split_line(text) {
-        Ok(line) if line.word.map(|word| word.text) == Some(".word") => {
-            show_expression(rt, symbols, &line)
-        }
-        Ok(line) => show_count(rt, &line),
-        Err(fault) => {
-            print!(rt; "{fault}")?;
-            Ok(())
-        }
-    }
 }
 
 /// `values FILE`: each line behind its fault, or behind the value that the operands of `.word` are as one expression, where
 /// some names stand for values of each kind, or else behind how many tokens it has.
-pub(crate) fn show_values<R: Files + Print + AllocGlobal>(rt: &R, name: &str) -> Result<()> {
-    let text = fs::read_to_string(rt, name)?;
-    let symbols = symbols_of(rt.alloc())?;
-    for line in text.lines() {
-        show_line(rt, &symbols, line)?;
-        println!(rt; "|{line}")?;
-    }
+pub(crate) fn show_values(rt: &HostRuntime, text: &str) -> Result<()> {
+    let mut symbols = Symbols::new(rt.alloc());
+    define_all(&mut symbols)?;
+    show_all(rt, &symbols, text)?;
     Ok(())
 }
