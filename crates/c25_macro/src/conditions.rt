@@ -99,6 +99,7 @@ impl State<'_> {
     ) -> Result<(), Failure<Refusal>>
         ensures { GoesOn (rule.elseif_by symbols.now place (tree_of condition) (config self.old).scope.branches (config self.old)) result (config self.new) }
     {
+        // It is told of only where a condition is still sought, or no `.if` is open.
         let number = number(symbols, condition);
         let Some(branch) = self.top.scope.branches.innermost() else {
             return match number {

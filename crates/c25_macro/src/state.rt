@@ -114,7 +114,8 @@ impl<'a> State<'a> {
     pub(crate) fn look(&mut self, mode: Mode<'a>)
         ensures { self.new ≡ record self.old { mode = mode.entry } }
     {
-        self.mode = mode;
+        // An assignment would take the mode before apart here, form by form, which is dear to prove.
+        mem::drop(mem::replace(&mut self.mode, mode));
     }
 
     /// Opens a file, an expansion or a turn.
