@@ -378,3 +378,5 @@ L  .word -03Q  /0<03Q ; c
  .word "é"
  .word 70000 ; a comment
  .word 1+
+ .word x
+ .word X

@@ -1,0 +1,3 @@
+ .def GO
+ .sect "a"
+GO NOP

@@ -1,0 +1,1 @@
+-e GO MEMORY { P : o = 10h, l = 2 } SECTIONS { a : load = 11h }
