@@ -3,7 +3,6 @@
 ghost use Rattle.std.specs.Prelude.{◌<◌};
 ghost use Rattle.c25_meaning_instructions.specs.Table.{InRange};
 
-use crate::bench::Bench;
 use crate::generator::Generator;
 use bitflags::Flags;
 use c25_core::Core;
@@ -11,6 +10,7 @@ use c25_meaning_common::no_memory::NoMemory;
 use c25_meaning_instructions::insn::{Addr, Change, Insn, PlainOperand};
 use c25_meaning_instructions::mnemonic::{ArMemName, JumpName, MemName, PlainName};
 use c25_meaning_processor::lines::Lines;
+use c25_processor_tests::bench::Bench;
 
 /// An instruction with a direct operand.
 pub fn mem(name: MemName, low: u16) -> Insn

@@ -3,15 +3,14 @@
 //! `stdout` has the answers of another model of the processor, written apart from this one.
 #![tactic(auto)]
 
-mod bench;
 mod case;
 mod generator;
 mod state;
 mod sum;
 
 use anyhow::{Result, bail};
-use bench::Bench;
-use c25_core::Tick;
+use c25_core::{Bus, Tick};
+use c25_processor_tests::bench::Bench;
 use case::Case;
 use generator::Generator;
 use sum::Sum;
@@ -28,6 +27,16 @@ fn read_row(line: &str) -> Option<(&str, u16, u16)> {
     Some((name, base, operands))
 }
 
+/// Fills both memories.
+fn fill(bench: &mut Bench, generator: &mut Generator) {
+    for address in 0..=u16::MAX {
+        bench.set_data(address, generator.word());
+    }
+    for address in 0..=u16::MAX {
+        bench.set_program(address, generator.word());
+    }
+}
+
 /// Prints how the first state of a row ends; how many of its states end without a stop; and the sums
 /// of how all of them end and of both memories then.
 fn run_row(
@@ -42,7 +51,7 @@ fn run_row(
         let case = Case::draw(generator, base, operands);
         let end = case.run(bench, generator)?;
         end.add_to(&mut sum);
-        bench.add_outputs(&mut sum);
+        sum.add_outputs(bench);
         if end.answer == Ok(Tick::Ran) {
             ran += 1;
         }
@@ -50,14 +59,14 @@ fn run_row(
             println!(rt; "{name} {:04X} {:04X}: {end}", case.first, case.second)?;
         }
     }
-    println!(rt; "{name} {ran} {sum} {}", bench.sum())?;
+    println!(rt; "{name} {ran} {sum} {}", Sum::of_memories(bench))?;
     Ok(())
 }
 
 fn main(rt: HostRuntime) -> Result<()> {
     let mut generator = Generator::new();
     let mut bench = Bench::new(rt.alloc())?;
-    bench.fill(&mut generator);
+    fill(&mut bench, &mut generator);
     for line in rt.lines(rt.alloc()) {
         let line = line?;
         let Some(row) = read_row(line.as_str()) else {
@@ -67,6 +76,3 @@ fn main(rt: HostRuntime) -> Result<()> {
     }
     Ok(())
 }
-
-#[cfg(test)]
-mod tests;

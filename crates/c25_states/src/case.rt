@@ -1,6 +1,5 @@
 //! One state, the instruction that meets it, and how that ends.
 
-use crate::bench::Bench;
 use crate::generator::Generator;
 use crate::state::State;
 use crate::sum::Sum;
@@ -11,6 +10,7 @@ use c25_meaning_common::no_memory::NoMemory;
 use c25_meaning_processor::lines::Lines;
 use c25_meaning_processor::registers::Regs;
 use c25_meaning_processor::stop::Stop;
+use c25_processor_tests::bench::Bench;
 use std::fmt;
 
 /// An instruction in a state.

@@ -4,7 +4,7 @@ use Rattle.std.specs.Prelude.{slice_set, option_to_list}
 use Rattle.std.proofs.lemmas.Bool.Decides.{nat_tests}
 use mathlib.Core.Path.{fun_ext}
 use Rattle.c25_meaning_processor.specs.State.{taken}
-use Rattle.c25_core_tests.specs.Worlds.{samples_of}
+use Rattle.c25_processor_tests.specs.Worlds.{samples_of}
 
 none_left : (sample : Option ℕ) → drop 1 (option_to_list sample) ≡ []
 none_left None = refl

@@ -4,8 +4,6 @@
 ghost use Rattle.std.specs.Prelude.{◌≡◌, IfOk, OnOk, OnErr, vec_len};
 ghost use Rattle.c25_meaning_instructions.specs.Table.{InRange};
 
-use crate::generator::Generator;
-use crate::sum::Sum;
 use c25_core::{Bus, SinkFailed};
 use c25_isa::encode;
 use c25_meaning_common::no_memory::NoMemory;
@@ -92,16 +90,6 @@ impl Bench {
         self.outputs.clear();
     }
 
-    /// Fills both memories.
-    pub fn fill(&mut self, generator: &mut Generator) {
-        for address in 0..=u16::MAX {
-            self.words[usize::from(address)] = generator.word();
-        }
-        for address in 0..=u16::MAX {
-            self.program[usize::from(address)] = generator.word();
-        }
-    }
-
     /// Writes eight data words.
     pub fn write_eight(&mut self, address: u16, eight: &[u16; 8]) {
         let mut at = address;
@@ -110,26 +98,11 @@ impl Bench {
             at = at.wrapping_add(1);
         }
     }
-
-    /// The sum of both memories.
-    pub fn sum(&self) -> Sum {
-        let mut sum = Sum::new();
-        sum.add_all(self.words.as_slice());
-        sum.add_all(self.program.as_slice());
-        sum
-    }
-
-    /// Adds what was put out to a sum.
-    pub fn add_outputs(&self, sum: &mut Sum) {
-        for (port, word) in self.outputs.as_slice() {
-            sum.add_all(&[*port, *word]);
-        }
-    }
 }
 
 impl Bus for Bench {
     ghost use Rattle.c25_meaning_processor.specs.Memory.{memory_of};
-    ghost use Rattle.c25_core_tests.specs.Worlds.{samples_of};
+    ghost use Rattle.c25_processor_tests.specs.Worlds.{samples_of};
 
     ghost world = { λ b. record { words = memory_of b.words.items; program = memory_of b.program.items; marks = b.marks.items; run_marks = b.run_marks.items; samples = samples_of b.samples; outputs = b.outputs.items } };
 

@@ -1,0 +1,19 @@
+//! Tests of the processor through public calls: fields of words (`c25_bits`), the instruction set (`c25_isa`, `c25_mnemonics`),
+//! single steps (`c25_core`), and the board and its samples (`c25_board`); the bus that tests are made with.
+#![tactic(auto)]
+
+pub mod bench;
+#[cfg(test)]
+mod bits;
+#[cfg(test)]
+mod board;
+#[cfg(test)]
+mod names;
+#[cfg(test)]
+mod samples;
+#[cfg(test)]
+mod steps;
+#[cfg(test)]
+mod sweep;
+#[cfg(test)]
+mod values;
