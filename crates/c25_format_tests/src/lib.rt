@@ -1,0 +1,20 @@
+//! Tests of what reads and writes files besides sources: items of a line each (`c25_items`), object records (`c25_obj`,
+//! `c25_records`), Intel hex texts (`c25_hex`), and the words and marks of images (`c25_meaning_image`).
+#![tactic(auto)]
+
+#[cfg(test)]
+mod hex;
+#[cfg(test)]
+mod items;
+#[cfg(test)]
+mod marks;
+#[cfg(test)]
+mod module_lists;
+#[cfg(test)]
+mod objects;
+#[cfg(test)]
+mod refusals;
+#[cfg(test)]
+mod values;
+#[cfg(test)]
+mod words;
