@@ -1,19 +1,21 @@
 //! Disks that refuse one write and take all others: that file is told (7), those before it are written, and
 //! nothing behind it.
 
+ghost use Rattle.std.specs.Prelude.{◌<◌, length};
+
 use crate::call::{Wanted, call, refuses, writes};
 use crate::memory_reader::{End, Reading};
 use crate::programs::{ASSEMBLED, BUILT, FILES, LINKED, text_of};
 use crate::world::{File, World};
-use anyhow::Result;
+use std::io;
 
-/// A call that writes these files, on a disk that refuses the write behind so many.
-fn refuse_behind<R: Print + AllocGlobal>(
-    rt: &R,
+/// A call on a disk that refuses the write behind so many.
+fn refuse_behind(
+    rt: &HostRuntime,
     line: &str,
     before: usize,
     wanted: Wanted<'_>,
-) -> Result<()> {
+) -> io::Result<()> {
     let mut world = World::with_refusal(rt.alloc(), FILES, before);
     let mut input = Reading {
         rest: b"",
@@ -23,26 +25,37 @@ fn refuse_behind<R: Print + AllocGlobal>(
     call(rt, line, &mut world, &mut input, wanted)
 }
 
-/// Each write of a call is refused in its turn, and then none.
-fn refuse_each<R: Print + AllocGlobal>(rt: &R, line: &str, files: &'static [File]) -> Result<()> {
-    for before in 0..files.len() {
-        let (name, _) = files[before];
-        let written = text_of(rt.alloc(), &files[..before])?;
-        let errors = format!(in rt.alloc(); "{name}: 7 CannotWrite\n")?;
-        let wanted = Wanted {
-            written: &written,
-            ..refuses(errors.as_str())
-        };
-        refuse_behind(rt, line, before, wanted)?;
-    }
+/// The write behind so many of a call's is refused.
+fn refuse_one(rt: &HostRuntime, line: &str, files: &'static [File], before: usize) -> io::Result<()>
+    requires { before < length files.now }
+{
+    let (name, _) = files[before];
+    let written = text_of(rt.alloc(), &files[..before])?;
+    let errors = format!(in rt.alloc(); "{name}: 7 CannotWrite\n")?;
+    let wanted = Wanted {
+        written: &written,
+        ..refuses(errors.as_str())
+    };
+    refuse_behind(rt, line, before, wanted)
+}
+
+/// No write of a call is refused.
+fn refuse_none(rt: &HostRuntime, line: &str, files: &'static [File]) -> io::Result<()> {
     let written = text_of(rt.alloc(), files)?;
-    refuse_behind(rt, line, files.len(), writes(&written))?;
-    println!(rt; "{line}: write 1 to {} refused", files.len())?;
-    Ok(())
+    refuse_behind(rt, line, files.len(), writes(&written))
+}
+
+/// Each write of a call is refused in its turn, and then none.
+fn refuse_each(rt: &HostRuntime, line: &str, files: &'static [File]) -> io::Result<()> {
+    for before in 0..files.len() {
+        refuse_one(rt, line, files, before)?;
+    }
+    refuse_none(rt, line, files)?;
+    println!(rt; "{line}: write 1 to {} refused", files.len())
 }
 
 /// Each call that writes files.
-pub(crate) fn run_all<R: Print + AllocGlobal>(rt: &R) -> Result<()> {
+pub(crate) fn run_all(rt: &HostRuntime) -> io::Result<()> {
     println!(rt; "== disks")?;
     refuse_each(rt, "c25 asm t.asm --obj t.obj --list t.lst", &ASSEMBLED)?;
     refuse_each(rt, "c25 link no.cmd a.obj --out b", &LINKED)?;

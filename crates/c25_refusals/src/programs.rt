@@ -1,8 +1,7 @@
 //! Programs with files of each kind, and what is written of them.
 
 use crate::world::File;
-use anyhow::Result;
-use std::alloc::Global;
+use std::alloc::{AllocError, Global};
 
 /// The source `a.asm` gives the one word of port 2 out at port 3 and sleeps.
 pub(crate) const FILES: &[File] = &[
@@ -53,7 +52,7 @@ pub(crate) const BUILT: [File; 4] = [
 ];
 
 /// Files as a disk keeps what was written: each name, a line feed, and the file's bytes.
-pub(crate) fn text_of(alloc: Global, files: &[File]) -> Result<Vec<u8>> {
+pub(crate) fn text_of(alloc: Global, files: &[File]) -> Result<Vec<u8>, AllocError> {
     let mut text = Vec::new(alloc);
     for (name, bytes) in files {
         text.extend_from_slice(name.as_bytes())?;

@@ -4,6 +4,7 @@ ghost use Rattle.std.specs.Prelude.{◌≡◌, IfOk};
 ghost use Rattle.c25_board.specs.Board.{steps};
 ghost use Rattle.c25_debug.specs.WithinMemory.{IsWithin};
 
+use crate::call::words_of;
 use anyhow::{Result, bail};
 use c25_board::board::{Board, Outcome};
 use c25_board::fixed_sink::FixedSink;
@@ -11,6 +12,7 @@ use c25_board::ports::Sink;
 use c25_board::samples::{Samples, read_samples};
 use c25_board::schedule::read_schedule;
 use c25_chain::build;
+use c25_chain::built::Built;
 use c25_link::Image;
 use c25_macro::files::Files;
 use c25_meaning_image::marks::marks_fit;
@@ -74,8 +76,8 @@ fn board_of<S: Fixed + Drop>(alloc: Global, image: &Image) -> Result<Board<Sampl
 }
 
 /// Prints how a run ended, and what the board has come to.
-fn tell<S: Fixed + Drop, R: Print>(
-    rt: &R,
+fn tell<S: Fixed + Drop>(
+    rt: &HostRuntime,
     run: &str,
     outcome: Outcome,
     board: &Board<Samples, S>,
@@ -86,7 +88,7 @@ fn tell<S: Fixed + Drop, R: Print>(
 }
 
 /// Runs a new board into its full sink, and on once the sink is cleared.
-fn run_board<S: Fixed + Drop, R: Print>(rt: &R, board: &mut Board<Samples, S>) -> Result<()>
+fn run_board<S: Fixed + Drop>(rt: &HostRuntime, board: &mut Board<Samples, S>) -> Result<()>
     requires { steps board.old ≡ 0 }
 {
     let outcome = board.run(100);
@@ -100,8 +102,8 @@ fn run_board<S: Fixed + Drop, R: Print>(rt: &R, board: &mut Board<Samples, S>) -
 }
 
 /// Prints what a session answers to a command, and whether that tells of a word that was refused.
-fn show<S: Fixed + Drop, R: Print>(
-    rt: &R,
+fn show<S: Fixed + Drop>(
+    rt: &HostRuntime,
     session: &mut Session<'_, Samples, S>,
     command: &Cmd,
 ) -> Result<()>
@@ -113,8 +115,8 @@ fn show<S: Fixed + Drop, R: Print>(
 }
 
 /// Runs a session into its full sink, tries the word again, and looks at where it stands.
-fn debug_board<S: Fixed + Drop, R: Print>(
-    rt: &R,
+fn debug_board<S: Fixed + Drop>(
+    rt: &HostRuntime,
     session: &mut Session<'_, Samples, S>,
 ) -> Result<()> {
     show(rt, session, &Cmd::Step(100))?;
@@ -124,50 +126,50 @@ fn debug_board<S: Fixed + Drop, R: Print>(
     Ok(())
 }
 
-/// A sink under a board and under a session.
-fn run_sink<S: Fixed + Drop, R: Print + AllocGlobal>(rt: &R, image: &Image) -> Result<()> {
-    println!(rt; "== a sink for {} words", S::ROOM)?;
+/// A sink under a board.
+fn run_under_board<S: Fixed + Drop>(rt: &HostRuntime, image: &Image) -> Result<()> {
     let mut board = board_of::<S>(rt.alloc(), image)?;
-    run_board(rt, &mut board)?;
+    run_board(rt, &mut board)
+}
+
+/// A sink under a session.
+fn run_under_session<S: Fixed + Drop>(rt: &HostRuntime, image: &Image) -> Result<()> {
     let board = board_of::<S>(rt.alloc(), image)?;
     let mut session = Session::new(rt.alloc(), board, image);
     debug_board(rt, &mut session)
 }
 
-/// A sink of each size.
-fn run_sinks<R: Print + AllocGlobal>(rt: &R, image: &Image) -> Result<()> {
-    run_sink::<FixedSink<0>, R>(rt, image)?;
-    run_sink::<FixedSink<1>, R>(rt, image)?;
-    run_sink::<FixedSink<2>, R>(rt, image)?;
-    run_sink::<FixedSink<3>, R>(rt, image)?;
-    run_sink::<FixedSink<4>, R>(rt, image)?;
-    run_sink::<FixedSink<5>, R>(rt, image)?;
-    run_sink::<FixedSink<6>, R>(rt, image)?;
-    run_sink::<FixedSink<7>, R>(rt, image)?;
-    run_sink::<FixedSink<8>, R>(rt, image)?;
-    run_sink::<FixedSink<9>, R>(rt, image)
+/// A sink under a board and under a session.
+fn run_sink<S: Fixed + Drop>(rt: &HostRuntime, image: &Image) -> Result<()> {
+    println!(rt; "== a sink for {} words", S::ROOM)?;
+    run_under_board::<S>(rt, image)?;
+    run_under_session::<S>(rt, image)
 }
 
-/// The text of that source, under its name.
-fn files_of(alloc: Global) -> Result<Files> {
+/// A sink of each size.
+fn run_sinks(rt: &HostRuntime, image: &Image) -> Result<()> {
+    run_sink::<FixedSink<0>>(rt, image)?;
+    run_sink::<FixedSink<1>>(rt, image)?;
+    run_sink::<FixedSink<2>>(rt, image)?;
+    run_sink::<FixedSink<3>>(rt, image)?;
+    run_sink::<FixedSink<4>>(rt, image)?;
+    run_sink::<FixedSink<5>>(rt, image)?;
+    run_sink::<FixedSink<6>>(rt, image)?;
+    run_sink::<FixedSink<7>>(rt, image)?;
+    run_sink::<FixedSink<8>>(rt, image)?;
+    run_sink::<FixedSink<9>>(rt, image)
+}
+
+/// The program of that source.
+fn program_of(alloc: Global) -> Result<Built> {
     let mut files = Files::new(alloc);
     files.add("puts.asm", SOURCE)?;
-    Ok(files)
-}
-
-/// The name of that source.
-fn sources_of(alloc: Global) -> Result<Vec<String>> {
-    let mut sources = Vec::new(alloc);
-    sources.push(String::from_str(alloc, "puts.asm")?)?;
-    Ok(sources)
+    let sources = words_of(alloc, "puts.asm")?;
+    Ok(build(alloc, &files, &sources, "")?)
 }
 
 /// All of these sinks.
-pub(crate) fn run_all<R: Print + AllocGlobal>(rt: &R) -> Result<()> {
-    let files = files_of(rt.alloc())?;
-    let sources = sources_of(rt.alloc())?;
-    match build(rt.alloc(), &files, &sources, "") {
-        Ok(built) => run_sinks(rt, &built.linked.image),
-        Err(_) => bail!("the source is refused"),
-    }
+pub(crate) fn run_all(rt: &HostRuntime) -> Result<()> {
+    let built = program_of(rt.alloc())?;
+    run_sinks(rt, &built.linked.image)
 }
