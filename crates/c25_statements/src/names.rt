@@ -15,90 +15,65 @@ fn is_dotted(word: &str) -> bool
     byte_at(word.as_bytes(), 0) == b'.'
 }
 
+/// The directives that the assembler takes, but those without effect.
+static DIRECTIVES: [(&str, Directive); 17] = [
+    (".text", Directive::Text),
+    (".data", Directive::Data),
+    (".sect", Directive::Sect),
+    (".bss", Directive::Bss),
+    (".usect", Directive::Usect),
+    (".word", Directive::Word),
+    (".int", Directive::Word),
+    (".byte", Directive::Byte),
+    (".string", Directive::Characters),
+    (".space", Directive::Space),
+    (".set", Directive::Set),
+    (".equ", Directive::Set),
+    (".global", Directive::Global),
+    (".ref", Directive::Global),
+    (".def", Directive::Def),
+    (".label", Directive::Label),
+    (".mmregs", Directive::Registers),
+];
+
+/// The directives of listings alone, which have no effect.
+static IGNORED: [&str; 13] = [
+    ".title",
+    ".list",
+    ".nolist",
+    ".page",
+    ".width",
+    ".length",
+    ".option",
+    ".mlist",
+    ".mnolist",
+    ".fclist",
+    ".fcnolist",
+    ".sslist",
+    ".ssnolist",
+];
+
 /// Whether a word is a directive without effect, in either case.
-#[tactic(auto, unfolding(c25_meaning_assembly::specs::AssemblyLine::is_ignored))]
 fn is_ignored(word: &str) -> bool
     ensures { result ≡ is_ignored word.now }
 {
-    if word.eq_ignore_ascii_case(".title") {
-        true
-    } else if word.eq_ignore_ascii_case(".list") {
-        true
-    } else if word.eq_ignore_ascii_case(".nolist") {
-        true
-    } else if word.eq_ignore_ascii_case(".page") {
-        true
-    } else if word.eq_ignore_ascii_case(".width") {
-        true
-    } else if word.eq_ignore_ascii_case(".length") {
-        true
-    } else if word.eq_ignore_ascii_case(".option") {
-        true
-    } else if word.eq_ignore_ascii_case(".mlist") {
-        true
-    } else if word.eq_ignore_ascii_case(".mnolist") {
-        true
-    } else if word.eq_ignore_ascii_case(".fclist") {
-        true
-    } else if word.eq_ignore_ascii_case(".fcnolist") {
-        true
-    } else if word.eq_ignore_ascii_case(".sslist") {
-        true
-    } else if word.eq_ignore_ascii_case(".ssnolist") {
-        true
-    } else {
-        false
-    }
+    IGNORED.iter().any(|name| word.eq_ignore_ascii_case(name))
 }
 
 /// The directive that a word is, if it is one that the assembler takes, in either case.
-#[tactic(auto, unfolding(c25_meaning_assembly::specs::AssemblyLine::directive_of))]
 fn find_directive(word: &str) -> Option<Directive>
     ensures { result ≡ directive_of word.now }
 {
-    if word.eq_ignore_ascii_case(".text") {
-        Some(Directive::Text)
-    } else if word.eq_ignore_ascii_case(".data") {
-        Some(Directive::Data)
-    } else if word.eq_ignore_ascii_case(".sect") {
-        Some(Directive::Sect)
-    } else if word.eq_ignore_ascii_case(".bss") {
-        Some(Directive::Bss)
-    } else if word.eq_ignore_ascii_case(".usect") {
-        Some(Directive::Usect)
-    } else if word.eq_ignore_ascii_case(".word") {
-        Some(Directive::Word)
-    } else if word.eq_ignore_ascii_case(".int") {
-        Some(Directive::Word)
-    } else if word.eq_ignore_ascii_case(".byte") {
-        Some(Directive::Byte)
-    } else if word.eq_ignore_ascii_case(".string") {
-        Some(Directive::Characters)
-    } else if word.eq_ignore_ascii_case(".space") {
-        Some(Directive::Space)
-    } else if word.eq_ignore_ascii_case(".set") {
-        Some(Directive::Set)
-    } else if word.eq_ignore_ascii_case(".equ") {
-        Some(Directive::Set)
-    } else if word.eq_ignore_ascii_case(".global") {
-        Some(Directive::Global)
-    } else if word.eq_ignore_ascii_case(".ref") {
-        Some(Directive::Global)
-    } else if word.eq_ignore_ascii_case(".def") {
-        Some(Directive::Def)
-    } else if word.eq_ignore_ascii_case(".label") {
-        Some(Directive::Label)
-    } else if word.eq_ignore_ascii_case(".mmregs") {
-        Some(Directive::Registers)
-    } else if is_ignored(word) {
-        Some(Directive::Ignored)
-    } else {
-        None
+    match DIRECTIVES
+        .iter()
+        .find(|(name, _)| word.eq_ignore_ascii_case(name))
+    {
+        Some((_, directive)) => Some(*directive),
+        None => is_ignored(word).then_some(Directive::Ignored),
     }
 }
 
 /// The same, where most words are mnemonics.
-#[tactic(auto, unfolding(c25_meaning_assembly::specs::AssemblyLine::directive_of, c25_meaning_assembly::specs::AssemblyLine::is_ignored))]
 fn directive_of(word: &str) -> Option<Directive>
     ensures { result ≡ directive_of word.now }
 {

@@ -79,7 +79,6 @@ fn addr_written(operand: Option<Written>) -> Result<AddrForm, FaultKind>
 
 /// How the memory word is addressed that the operand of that index names, among so many operands, of which the others
 /// are expressions; else 51, then 52.
-#[tactic(auto, unfolding(c25_meaning_language::specs::Forms::memory))]
 fn memory(
     index: usize,
     low: usize,
@@ -134,7 +133,6 @@ fn jump_change(name: JumpName) -> Change
 }
 
 /// The operands of a jump: where to, and perhaps an indirect form with the next auxiliary register; else 51, then 52.
-#[tactic(auto, unfolding(c25_meaning_language::specs::Forms::jumping))]
 fn jumping(name: JumpName, operands: &[Written]) -> Result<Change, FaultKind>
     ensures { result ≡ forms.jumping name operands.now }
 {
