@@ -2,7 +2,7 @@
 
 use crate::readers::Pieces;
 use c25_disk::{CannotRead, read_text};
-use c25_files::files::Files;
+use c25_files::files::{FileTwice, Files};
 use c25_meaning_common::failure::Failure;
 use std::io;
 use std::io::Read;
@@ -80,5 +80,18 @@ fn a_text_joins_the_files(rt: HostRuntime) -> Result<(), Fail> {
     add_two(&mut files)?;
     has(&rt, &files, "a", Some("a\u{e9}\r"));
     has(&rt, &files, "b", Some("2"));
+    Ok(())
+}
+
+#[test]
+fn files_keep_the_first_text_of_a_name(rt: HostRuntime) -> Result<(), Fail> {
+    let mut files = Files::new(rt.alloc());
+    files.add("a", "1")?;
+    files.add("b", "2")?;
+    let again = files.add("a", "3");
+    assert_eq!(rt; again, Err(Failure::Fault(FileTwice)));
+    has(&rt, &files, "a", Some("1"));
+    has(&rt, &files, "b", Some("2"));
+    has(&rt, &files, "A", None);
     Ok(())
 }
