@@ -1,7 +1,7 @@
 """Random programs for runs.py: a state by instructions, then what is tried, then a branch to itself.
 
 Each program stays where both simulators have memory: its data in 60h to 7Fh and 200h to 3FFh, its code and tables from 0 on. ARP
-is never 0, AR1 to AR7 stay near 300h, AR0 is 0 to 2, and block B0 is program memory only around a MAC that looks there.
+is never 0, AR1 to AR7 stay near 300h, AR0 is 0 to 2, and block B0 is program memory only around a MAC or a TBLW that goes there.
 """
 
 PAGES = {0: (0x60, 0x7E), 4: (0, 0x7E), 5: (0, 0x7E), 6: (0, 0x7E), 7: (0, 0x7D)}
@@ -11,10 +11,10 @@ EDGES = [0, 1, 2, 0x10, 0xFF, 0x4000, 0x7FFF, 0x8000, 0x8001, 0xC000, 0xFF00, 0x
 MEMORY = """ADDC ADDH ADDS ADDT AND DMOV LACT LPH LT LTA LTD LTP LTS MPY MPYA MPYS MPYU OR POPD PSHD SPH SPL SQRA SQRS SUBB SUBC SUBH SUBS
 SUBT XOR ZALH ZALR ZALS BITT""".split()
 SHIFTED = ["ADD", "SUB", "LAC", "SACL", "SACH"]
-PLAIN = """ABS APAC CMPL DINT NEG PAC POP PUSH RC RFSM RHM ROL ROR ROVM RSXM RTC RTXM RXF SC SFL SFR SFSM SHM SOVM SPAC SSXM STC STXM
+PLAIN = """ABS APAC CMPL DINT EINT NEG PAC POP PUSH RC RFSM RHM ROL ROR ROVM RSXM RTC RTXM RXF SC SFL SFR SFSM SHM SOVM SPAC SSXM STC STXM
 SXF""".split()
 LONG = ["LALK", "ADLK", "SBLK", "ANDK", "ORK", "XORK"]
-BRANCHES = "B BANZ BBNZ BBZ BC BGEZ BGZ BLEZ BLZ BNC BNV BNZ BV BZ".split()
+BRANCHES = "B BANZ BBNZ BBZ BC BIOZ BGEZ BGZ BLEZ BLZ BNC BNV BNZ BV BZ".split()
 REPEATED = """ADD *+|ADDC *+|APAC|BLKD 230h,*+|BLKP 150h,*-|DMOV *-|LTA *+|LTD *-|MAC 148h,*+|MACD 150h,*-|MAR *0+|MPYA *+|MPYS *-|NORM *+|
 NORM *-|POP|PUSH|ROL|ROR|SFL|SFR|SPAC|SQRA *-|SQRS *+|SUB *-,3|SUBB *-|SUBC *|TBLR *+""".replace("\n", "").split("|")
 
@@ -32,11 +32,16 @@ class Program:
     def __init__(self, rng, most, alone):
         self.rng, self.alone, self.page, self.labels, self.tried = rng, alone, 0, 0, []
         self.lines, self.behind, self.data = [], [], {address: self.word() for address in DATA}
+        self.table = [self.word() for _ in range(0x80)]
         self.begin()
         self.lines.append("BODY NOP")
         for _ in range(1 if alone else rng.randint(1, most)):
             self.instruction()
-        self.lines += [" LDPK 0", "STOP B STOP"]
+        self.lines.append(" LDPK 0")
+        if rng.random() < 0.05:
+            self.tried.insert(0, "IDLE")
+            self.say("IDLE")
+        self.lines.append("STOP B STOP")
 
     def word(self):
         return self.rng.choice([self.rng.randrange(65536), self.rng.randrange(65536), self.rng.choice(EDGES)])
@@ -77,8 +82,8 @@ class Program:
         return self.rng.choice([it for it in names if self.alone or it.split()[0] not in KNOWN])
 
     def instruction(self):
-        kinds = [(34, self.memory_form), (18, self.shifted), (4, self.bit), (10, self.short), (8, self.long), (17, self.plain),
-                 (4, self.stored), (4, self.branch), (4, self.subroutine), (6, self.loaded), (4, self.repeat), (2, self.block_b0)]
+        kinds = [(34, self.memory_form), (18, self.shifted), (4, self.bit), (2, self.port), (10, self.short), (8, self.long),
+                 (17, self.plain), (4, self.stored), (4, self.branch), (4, self.subroutine), (6, self.loaded), (4, self.repeat), (2, self.block_b0)]
         kind = self.rng.choices([it for _, it in kinds], [weight for weight, _ in kinds])[0]
         kind()
 
@@ -98,6 +103,12 @@ class Program:
         operand, behind = self.memory()
         self.tried.append("BIT")
         self.say("BIT %s,%d%s" % (operand, self.rng.randrange(16), behind))
+
+    def port(self):
+        name = self.choice(["IN", "OUT"])
+        operand, behind = self.memory()
+        self.tried.append(name)
+        self.say("%s %s,PA%d%s" % (name, operand, self.rng.randrange(16), behind))
 
     def short(self):
         name = self.choice("ADDK SUBK LACK ADRK SBRK MPYK LDPK LARK SPM FORT CMPR LARP".split())
@@ -139,8 +150,11 @@ class Program:
         self.lines.append(label + " NOP")
 
     def subroutine(self):
-        name, label = self.choice(["CALL", "CALA"]), self.label()
+        name, label = self.choice(["CALL", "CALA", "TRAP"]), self.label()
         self.tried += [name, "RET"]
+        if name == "TRAP":
+            self.say("TRAP")
+            return
         if name == "CALA":
             self.say("LALK " + label, "CALA")
         else:
@@ -175,14 +189,18 @@ class Program:
             self.page = 0
 
     def block_b0(self):
-        register = self.rng.randrange(1, 8)
-        self.tried += ["CNFP", "CNFD", "MAC in B0"]
-        self.say("LRLK AR%d,%s" % (register, number(self.rng.randrange(0x320, 0x360))), "LARP %d" % register, "CNFP",
-                 "RPTK %d" % self.rng.randrange(12), "MAC %s,*+" % number(self.rng.randrange(0xFF00, 0xFFE0)), "CNFD")
+        """MAC that reads block B0 as program memory, or TBLW that writes it there."""
+        register, place = self.rng.randrange(1, 8), number(self.rng.randrange(0xFF00, 0xFFE0))
+        name = self.rng.choice(["MAC", "TBLW"])
+        self.tried += [name + " in B0", "CNFP", "CNFD"]
+        self.say("LRLK AR%d,%s" % (register, number(self.rng.randrange(0x320, 0x360))), "LARP %d" % register)
+        if name == "TBLW":
+            self.say("ZAC", "ADLK %s,0" % place)
+        self.say("CNFP", "RPTK %d" % self.rng.randrange(12), "TBLW *+" if name == "TBLW" else "MAC %s,*+" % place, "CNFD")
 
     def source(self):
-        lines = [" .def BODY"] + self.lines + self.behind
-        words = [(' .sect "table"', [self.word() for _ in range(0x80)]), (' .sect "low"', [self.data[it] for it in range(0x60, 0x80)]),
+        lines = [" .def BODY", " B GO", ' .sect "trap"', " SBRK 1", " RET", ' .sect "code"', "GO NOP"] + self.lines + self.behind
+        words = [(' .sect "table"', self.table), (' .sect "low"', [self.data[it] for it in range(0x60, 0x80)]),
                  (' .sect "high"', [self.data[it] for it in range(0x200, 0x400)])]
         for section, found in words:
             lines.append(section)
@@ -191,5 +209,8 @@ class Program:
 
 
 COMMAND = """MEMORY { PAGE 0: P: o = 0, l = 1F00h PAGE 1: D: o = 60h, l = 3A0h }
-SECTIONS { .text : load = 0 table : load = 140h low : load = 60h PAGE 1 high : load = 200h PAGE 1 }
+SECTIONS { .text : load = 0 trap : load = 1Eh code : load = 30h table : load = 140h low : load = 60h PAGE 1 high : load = 200h PAGE 1 }
 """
+# The machine's ports have no devices, and BIO is low.
+SAMPLES = "".join("%d %04X\n" % (port, 0) for port in range(16)) * 40
+SCHEDULE = "0 BIO0\n"

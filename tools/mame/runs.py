@@ -6,8 +6,9 @@ usage: python3 tools/mame/runs.py PROGRAM [--seed S] [--alone N] [--programs N] 
 PROGRAM is crates/c25/out/c25. It wants `mame` (Debian's package of that name) in the path or in /usr/games; files of zeros stand for
 the ROMs of the machine whose processor runs the programs. N programs have one instruction, or one repeated, behind a random state
 (--alone, 2000), N others up to K of them (--programs, 2000; --most, 6); programs.py makes them. Compared are ACC, P, T,
-the auxiliary registers, both status words, RPTC, the stack, and 544 words of data memory, when a program has come to its end. No
-program has IN, OUT, BIOZ, EINT, IDLE, TRAP or TBLW, for which that machine has other devices, vectors and memories.
+the auxiliary registers, both status words, RPTC, the stack, and 544 words of data memory, when a program has come to its end.
+All 130 mnemonics are tried: IN reads 0 and BIO is low, since that machine's ports and line have no devices, TBLW writes to block B0,
+since the rest of its program memory cannot be written, IDLE is never waked, and EINT lets no interrupt through, since none comes.
 
 MAME is known to do otherwise, and each such difference is counted by its kind:
 
@@ -31,7 +32,7 @@ import tempfile
 from concurrent.futures import ThreadPoolExecutor
 
 from machine import Mame
-from programs import COMMAND, Program
+from programs import COMMAND, SAMPLES, SCHEDULE, Program
 
 ST0 = {"ARP": (13, 7), "OV": (12, 1), "OVM": (11, 1), "INTM": (9, 1), "DP": (0, 511)}
 ST1 = {"ARB": (13, 7), "CNF": (12, 1), "TC": (11, 1), "SXM": (10, 1), "C": (9, 1), "HM": (6, 1), "FSM": (5, 1), "XF": (4, 1),
@@ -80,13 +81,15 @@ class Case:
         self.folder, self.made = folder, made
         os.makedirs(folder)
         self.write("a.asm", made.source())
-        self.write("board.cmd", COMMAND)
+        for name, text in (("board.cmd", COMMAND), ("samples", SAMPLES), ("schedule", SCHEDULE)):
+            self.write(name, text)
         self.call(program, "build", "a.asm", "--command", "board.cmd", "--out", "a")
         with open(os.path.join(folder, "a.map"), encoding="ascii") as text:
             body = re.search(r"^SYMBOL 0000(\w{4}) BODY$", text.read(), re.M)[1]
         tell = "regs\nstack\ndata 60 32\ndata 200 512\n"
         self.write("script", "break %s\nrun 2000\n%sclear %s\nrun 2000\n%s" % (body, tell, body, tell))
-        self.before, self.end = told_by(self.call(program, "debug", "a.asm", "--command", "board.cmd", "--script", "script"))
+        self.before, self.end = told_by(self.call(program, "debug", "a.asm", "--command", "board.cmd", "--samples", "samples",
+                                                  "--schedule", "schedule", "--script", "script"))
         self.pages = [hex_words(os.path.join(folder, "a.p%d.hex" % page)) for page in (0, 1)]
 
     def write(self, name, text):
@@ -145,7 +148,9 @@ def alone_kind(case, theirs, parts):
         return "NEG"
     if name in ("ADDH", "SUBH") and parts <= {"ACC", "C"} and is_saturated_half(before, ours, theirs):
         return "ADDH, SUBH"
-    if name == "SUBC" and parts <= {"ACC", "C"} and (tried.startswith("RPT") or is_other_half(before, ours, theirs)):
+    if name == "SUBC" and tried.startswith("RPT") and parts <= {"ACC", "C", "OV"}:
+        return "SUBC"
+    if name == "SUBC" and parts <= {"ACC", "C"} and is_other_half(before, ours, theirs):
         return "SUBC"
     return None
 
@@ -184,7 +189,8 @@ def compare(cases, ends, keep):
 
 
 def main():
-    words = argparse.ArgumentParser(usage=__doc__.partition("usage: ")[2].partition("\n")[0], add_help=False)
+    usage, _, about = __doc__.partition("usage: ")[2].partition("\n")
+    words = argparse.ArgumentParser(usage=usage, description=about, formatter_class=argparse.RawDescriptionHelpFormatter)
     words.add_argument("program")
     words.add_argument("--keep")
     for name, value in (("seed", 1), ("alone", 2000), ("programs", 2000), ("most", 6), ("jobs", os.cpu_count())):
@@ -198,8 +204,7 @@ def main():
         ends = list(ends_by_mame(folder, cases))
         if len(ends) != len(cases):
             raise SystemExit("mame told %d ends of %d programs" % (len(ends), len(cases)))
-        tried = collections.Counter(name.replace("RPT ", "").split()[0] for case in cases for name in case.made.tried)
-        print("%d programs, %d mnemonics tried" % (len(cases), len(tried)))
+        print("%d programs" % len(cases))
         return 1 if compare(cases, ends, given.keep) else 0
 
 
