@@ -1,4 +1,7 @@
 pub mod Coming
 pub mod Listed
 pub mod Told
+pub mod Traces
+pub mod Trails
 pub mod View
+pub mod Walks

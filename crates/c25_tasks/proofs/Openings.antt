@@ -3,13 +3,13 @@ use Rattle.std.proofs.Common.{◌≡◌, ℕ, ◌+◌, ◌<◌, ◌≤◌, List,
 use Rattle.std.proofs.lemmas.List.{at_drop_all, at_drop_more, drop_more}
 use Rattle.std.specs.Prelude.{Result, Ok, Err, Vec}
 use Rattle.std.specs.declared.alloc.Global.{Global}
+use Rattle.c25_asm.specs.Trails.{IsTrail, IsWhole}
+use Rattle.c25_asm.specs.declared.tracing.Refused.{Refused}
 use Rattle.c25_macro.specs.Tracers.{fault_in}
 use Rattle.c25_meaning_common.specs.declared.failure.Failure.{Failure}
 use Rattle.c25_meaning_files.specs.Files.{Files}
 use Rattle.c25_meaning_files.specs.declared.place.SourcePlace.{SourcePlace}
 use Rattle.c25_meaning_language.specs.ExpansionFault.{ExpansionFault}
-use Rattle.c25_trail.specs.Trails.{IsTrail, IsWhole}
-use Rattle.c25_trail.specs.declared.tracing.Refused.{Refused}
 use Rattle.c25_words.specs.Task.{texts_of}
 use Rattle.c25_tasks.specs.Trails.{IsFirstTrail, opening_text, openings_text}
 use Rattle.c25_tasks.specs.declared.trails.NoTrail.{NoTrail}

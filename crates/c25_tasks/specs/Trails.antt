@@ -2,6 +2,7 @@
 use Rattle.std.specs.Prelude.{◌≡◌, ◌⊎◌, ℕ, List, [], ◌∷◌, ◌++◌, codes, Option, Some, None, option_and_then, unwrap_or, Ok, String}
 use Rattle.std.specs.String.{string_bytes}
 use Rattle.std.specs.declared.alloc.Global.{Global}
+use Rattle.c25_asm.specs.Trails.{IsTrail, IsWhole}
 use Rattle.c25_chain.specs.declared.fault.Refusal.{Refusal}
 use Rattle.c25_chain.specs.declared.fault.Refusal.TheVariants.{Source, NoFile, Object, Command, Link, Hex, Schedule, Samples, Script, File}
 use Rattle.c25_disk.specs.Copies.{HasCopied}
@@ -11,7 +12,6 @@ use Rattle.c25_meaning_common.specs.Faults.{placed_text}
 use Rattle.c25_meaning_files.specs.Files.{Files, file_name, text_named}
 use Rattle.c25_meaning_files.specs.declared.place.SourcePlace.{SourcePlace}
 use Rattle.c25_meaning_language.specs.ExpansionFault.{ExpansionFault, Faulty}
-use Rattle.c25_trail.specs.Trails.{IsTrail, IsWhole}
 use Rattle.c25_tasks.specs.declared.trails.NoTrail.{NoTrail}
 use Rattle.c25_tasks.specs.declared.trails.NoTrail.TheVariants.{Missing, Other}
 

@@ -7,6 +7,7 @@ ghost use Rattle.c25_meaning_language.specs.ExpansionFault.{Faulty};
 ghost use Rattle.c25_words.specs.Task.{texts_of};
 ghost use Rattle.c25_tasks.specs.Trails.{IsFirstTrail, ShowsTrailOver, openings_text, opening_text, text_at, wanted_by};
 
+use c25_asm::{Refused, Traced, trace};
 use c25_disk::disk::Disk;
 use c25_disk::work::Work;
 use c25_disk::{read_sources, with_copies};
@@ -18,7 +19,6 @@ use c25_meaning_common::no_memory::NoMemory;
 use c25_meaning_common::placed::{FileLine, Placed};
 use c25_meaning_files::place::SourcePlace;
 use c25_meaning_language::statement::FaultKind;
-use c25_trail::{Refused, Traced, trace};
 use std::alloc::Global;
 
 /// A line of a source that is refused.

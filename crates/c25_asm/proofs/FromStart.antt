@@ -1,0 +1,76 @@
+-- A walk from the first line on, and the item that is wrong.
+use Rattle.std.proofs.Common.{◌≡◌, ℕ, ◌<◌, ◌≤◌, false, nat_lt, List, Option, Some, None, arith, inl, inr, length, refl, ap, sym, ◌∙◌, subst}
+use Rattle.std.specs.Prelude.{Box}
+use Rattle.std.specs.declared.alloc.Global.{Global}
+use Rattle.std.proofs.lemmas.Bool.Decides.{nat_tests}
+use Rattle.c25_macro.specs.Tracers.{BeginsAt, Trace, fault_in}
+use Rattle.c25_macro.specs.declared.tracer.StepFault.{StepFault}
+use Rattle.c25_meaning_assembly.specs.Sections.{Progress, start}
+use Rattle.c25_meaning_expansion.specs.ExpansionRuns.{start_of}
+use Rattle.c25_meaning_files.specs.Files.{Files}
+use Rattle.c25_meaning_files.specs.declared.place.SourcePlace.{SourcePlace}
+use Rattle.c25_meaning_language.specs.ExpansionFault.{Faulty}
+use Rattle.c25_phases.specs.View.{progress_of}
+use Rattle.c25_phases.specs.Wrong.{Wrong, first_wrong}
+use Rattle.c25_phases.specs.declared.progress.Progress as code
+use Rattle.c25_asm.specs.Traces.{HasWrongItem}
+use Rattle.c25_asm.specs.Trails.{begins, ComesWith, IsTrail, IsWhole}
+use Rattle.c25_asm.specs.Walks.{Ends, EndsWalk, HasFewNames, has_come}
+use Rattle.c25_asm.specs.declared.walk.End.{End}
+use Rattle.c25_asm.specs.declared.walk.End.TheVariants as end
+use Rattle.c25_asm.proofs.Refusals.{is_there, made_once, none_refused, wrong_within}
+
+-- ---- before the first line
+
+pub has_few : (p : Progress) → p ≡ start → HasFewNames p
+has_few p none = subst (λ (x : Progress). HasFewNames x) (sym none) (omega arith)
+
+pub none_come : (sought : Option ℕ) (p : Progress) → p ≡ start → has_come sought p.items ≡ false
+none_come None p none = refl
+none_come (Some number) p none = subst (λ (x : Progress). nat_lt number (length x.items) ≡ false) (sym none) (grind (arith, nat_tests))
+
+-- a walk that begins there
+pub from_start : (files : Files) (name : List ℕ) (t new : Trace) (p : Progress) (sought : Option ℕ) (e : End) → BeginsAt files (start_of files name) t → p ≡ start
+    → EndsWalk t p sought new e → Ends files name sought new.trail e
+from_start files name t new p sought e h none ends =
+    subst (λ (f : Files). Ends f name sought new.trail e) h.2 (ends name (begins (ap (λ (f : Files). start_of f name) h.2 ∙ h.0) none h.1))
+
+-- ---- its end
+
+-- a line is refused
+pub refused : (files : Files) (name : List ℕ) (sought : Option ℕ) (trail shown : List SourcePlace) (f : StepFault) → shown ≡ trail → Ends files name sought trail (end.Refused f)
+    → IsTrail files name (fault_in f) shown
+refused files name sought trail shown f same (inl h) = subst (λ (t : List SourcePlace). IsTrail files name (fault_in f) t) (sym same) (inl h)
+refused files name sought trail shown f same (inr h) = subst (λ (t : List SourcePlace). IsTrail files name (fault_in f) t) (sym same) (inr (inl h))
+
+-- all lines pass, and no item is wrong
+pub whole : (files : Files) (name : List ℕ) (sought : Option ℕ) (trail : List SourcePlace) (p : Box code.Progress Global) → Ends files name sought trail (end.Passed p)
+    → None ≡ first_wrong (progress_of p.value) → IsWhole files name
+whole files name sought trail p h none = (progress_of p.value, h.0, sym none)
+
+-- all lines pass, and an item is wrong
+pub wrong : (files : Files) (name : List ℕ) (sought : Option ℕ) (trail : List SourcePlace) (p : Box code.Progress Global) (w : Wrong) → Ends files name sought trail (end.Passed p)
+    → Some w ≡ first_wrong (progress_of p.value) → HasWrongItem files name w
+wrong files name sought trail p w h is = record { made = progress_of p.value; passes = h.0; refused = sym is }
+
+-- ---- the lines once more, up to that item
+
+module _ (files : Files) (name : List ℕ) (w : Wrong) (has : HasWrongItem files name w) where
+  pub item : (trail shown : List SourcePlace) → shown ≡ trail → ComesWith files name w.number trail
+      → IsTrail files name (Faulty w.origin.file w.origin.line w.kind) shown
+  item trail shown same came = subst (λ (t : List SourcePlace). IsTrail files name (Faulty w.origin.file w.origin.line w.kind) t) (sym same)
+      (inr (inr (record { made = has.made; passes = has.passes; wrong = w; refused = has.refused; told = refl; line = came })))
+
+  pub absent : start_of files name ≡ None → ⊥
+  absent nothing = is_there files name has.passes.at has.made has.passes.trail has.passes.reaches nothing
+
+  pub not_refused : (trail : List SourcePlace) (f : StepFault) → Ends files name (Some w.number) trail (end.Refused f) → ⊥
+  not_refused trail f h = none_refused files name has.made (fault_in f) trail has.passes h
+
+  pub not_passed : (trail : List SourcePlace) (p : Box code.Progress Global) → Ends files name (Some w.number) trail (end.Passed p) → ⊥
+  not_passed trail p h =
+      let number = wrong_within has.made w has.refused in
+      let same : has.made ≡ progress_of p.value = made_once files name has.made (progress_of p.value) has.passes h.0 in
+      let beyond : length (progress_of p.value).items ≤ w.number = grind (arith, nat_tests, h.2) in
+      let within : w.number < length (progress_of p.value).items = subst (λ (x : Progress). w.number < length x.items) same number in
+      absurd (omega (arith, beyond, within))

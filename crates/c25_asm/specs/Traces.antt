@@ -1,0 +1,28 @@
+-- What becomes of a source.
+use Rattle.std.specs.Prelude.{◌≡◌, ℕ, List, Some, None}
+use Rattle.c25_macro.specs.Tracers.{fault_in}
+use Rattle.c25_meaning_assembly.specs.Sections.{Progress}
+use Rattle.c25_meaning_expansion.specs.ExpansionRuns.{start_of}
+use Rattle.c25_meaning_files.specs.Files.{Files}
+use Rattle.c25_phases.specs.Wrong.{Wrong, first_wrong}
+use Rattle.c25_asm.specs.Trails.{PassesAll, IsTrail, IsWhole}
+use Rattle.c25_asm.specs.declared.tracing.Traced.{Traced}
+use Rattle.c25_asm.specs.declared.tracing.Traced.TheVariants.{Absent, Whole}
+use Rattle.c25_asm.specs.declared.tracing.Traced.TheVariants as traced
+use Rattle.c25_asm.specs.declared.tracing.Refused.{Refused}
+
+-- the source of a name is refused so
+abbrev pub IsRefused : Files → (name : List ℕ) → Refused → Type 0
+IsRefused files name r = IsTrail files name (fault_in r.fault) r.trail.items
+
+-- what becomes of the source of a name
+abbrev pub IsTraced : Files → (name : List ℕ) → Traced → Type 0
+IsTraced files name Absent = start_of files name ≡ None
+IsTraced files name Whole = IsWhole files name
+IsTraced files name (traced.Refused r) = IsRefused files name r
+
+-- all lines of the source of a name pass, and this item is the first that is wrong
+pub record HasWrongItem (files : Files) (name : List ℕ) (wrong : Wrong) : Type 0 where
+  pub made : Progress
+  pub passes : PassesAll files name made
+  pub refused : first_wrong made ≡ Some wrong

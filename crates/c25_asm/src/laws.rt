@@ -1,0 +1,14 @@
+//! A law of trails, the contract of a function that does nothing.
+
+ghost use Rattle.std.specs.Prelude.{◌≡◌, ℕ, List, Err};
+ghost use Rattle.c25_meaning_files.specs.Files.{Files};
+ghost use Rattle.c25_meaning_files.specs.declared.place.SourcePlace.{SourcePlace};
+ghost use Rattle.c25_meaning_language.specs.ExpansionFault.{ExpansionFault};
+ghost use Rattle.c25_meaning_sources.specs.ModuleOfSource.{assembled};
+ghost use Rattle.c25_asm.specs.Trails.{IsTrail};
+
+/// The fault of a source's trail is the one with which the source is refused.
+pub fn trails_are_of_the_fault_that_is_told()
+    ensures { (files : Files) (name : List ℕ) (fault : ExpansionFault) (trail : List SourcePlace) → IsTrail files name fault trail
+        → assembled files name ≡ Err fault }
+{}

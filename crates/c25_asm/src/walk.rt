@@ -1,0 +1,112 @@
+//! The lines of a source, passed one after another.
+
+ghost use Rattle.std.specs.Prelude.{◌≡◌, IfOk, false};
+ghost use Rattle.c25_meaning_expansion.specs.ExpansionBounds.{IsBounded};
+ghost use Rattle.c25_macro.specs.Tracers.{trace_of};
+ghost use Rattle.c25_phases.specs.View.{progress_of};
+ghost use Rattle.c25_asm.specs.Walks.{Advances, EndsWalk, HasFewNames, Passes, has_come};
+
+use c25_macro::answer::ExpLine;
+use c25_macro::tracer::{Step, StepFault, Tracer};
+use c25_meaning_common::failure::Failure;
+use c25_meaning_common::no_memory::NoMemory;
+use c25_meaning_common::placed::{FileLine, Placed};
+use c25_phases::{Origin, Progress, read_and_pass};
+
+/// Where a walk through the lines of a source ends.
+#[derive(Drop)]
+pub(crate) enum End<'a> {
+    /// All lines have passed.
+    Passed(Box<Progress<'a>>),
+    /// The item that was sought came with the last line.
+    Reached,
+    /// A line is refused.
+    Refused(StepFault<'a>),
+}
+
+/// What one rewriting leads to.
+#[derive(Drop)]
+pub(crate) enum Turn<'a> {
+    /// The lines have made this.
+    On(Box<Progress<'a>>),
+    Ended(End<'a>),
+}
+
+/// Whether the item of the number that is sought, if one is, has come.
+fn has_come(progress: &Progress<'_>, sought: Option<usize>) -> bool
+    ensures { result ≡ has_come sought (progress_of progress.now).items }
+{
+    match sought {
+        Some(number) => number < progress.item_count(),
+        None => false,
+    }
+}
+
+/// One line more.
+fn pass<'a>(
+    progress: Box<Progress<'a>>,
+    line: ExpLine<'a>,
+    sought: Option<usize>,
+) -> Result<Turn<'a>, NoMemory>
+    ensures { IfOk result (Passes line.entry (progress_of progress.entry.value) sought) }
+{
+    let ExpLine { file, line, text } = line;
+    let origin = Origin { file, line };
+    match read_and_pass(progress, origin, text.as_str()) {
+        Ok(progress) => {
+            if has_come(&progress, sought) {
+                Ok(Turn::Ended(End::Reached))
+            } else {
+                Ok(Turn::On(progress))
+            }
+        }
+        Err(Failure::NoMemory(error)) => Err(error),
+        Err(Failure::Fault(kind)) => {
+            let place = FileLine { file, line };
+            let fault = Placed { place, fault: kind };
+            Ok(Turn::Ended(End::Refused(StepFault::Faulty(fault))))
+        }
+    }
+}
+
+/// One rewriting more.
+fn advance<'a>(
+    tracer: &mut Tracer<'a>,
+    progress: Box<Progress<'a>>,
+    sought: Option<usize>,
+) -> Result<Turn<'a>, NoMemory>
+    requires bounded { IsBounded (trace_of tracer.old).at }
+    requires few { HasFewNames (progress_of progress.value) }
+    requires before { has_come sought (progress_of progress.value).items ≡ false }
+    ensures { IfOk result (Advances (trace_of tracer.old) (progress_of progress.entry.value) sought (trace_of tracer.new)) }
+{
+    let mut progress = progress;
+    progress.move_here();
+    match tracer.step(progress.symbols()) {
+        Ok(Step::Went) => Ok(Turn::On(progress)),
+        Ok(Step::Given(line)) => pass(progress, line, sought),
+        Ok(Step::Finished) => Ok(Turn::Ended(End::Passed(progress))),
+        Err(Failure::NoMemory(error)) => Err(error),
+        Err(Failure::Fault(fault)) => Ok(Turn::Ended(End::Refused(fault))),
+    }
+}
+
+/// The lines from here on, up to the one with which the item of the number that is sought comes, if one is.
+pub(crate) fn walk<'a>(
+    tracer: &mut Tracer<'a>,
+    progress: Box<Progress<'a>>,
+    sought: Option<usize>,
+) -> Result<End<'a>, NoMemory>
+    requires bounded { IsBounded (trace_of tracer.old).at }
+    requires few { HasFewNames (progress_of progress.value) }
+    requires before { has_come sought (progress_of progress.value).items ≡ false }
+    ensures { IfOk result (EndsWalk (trace_of tracer.old) (progress_of progress.entry.value) sought (trace_of tracer.new)) }
+{
+    let mut progress = progress;
+    loop {
+        match advance(tracer, progress, sought)? {
+            Turn::On(passed) => progress = passed,
+            Turn::Ended(end) => return Ok(end),
+        }
+    }
+}

@@ -1,3 +1,0 @@
-pub mod FromStart
-pub mod Refusals
-pub mod Walking

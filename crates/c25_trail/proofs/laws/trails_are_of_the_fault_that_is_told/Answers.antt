@@ -1,5 +1,0 @@
-use Rattle.c25_trail.proofs.Refusals.{refused}
-use Rattle.c25_trail.proofs.laws.trails_are_of_the_fault_that_is_told.Goals as goal
-
-pub returns : goal.returns
-returns c = refused
