@@ -1,4 +1,5 @@
 use Rattle.std.proofs.Common.{arith}
+use Rattle.std.proofs.lemmas.Grind.{common_steps}
 use Rattle.c25_disk.proofs.Copied.{copied_room}
 use Rattle.c25_disk.proofs.copies.with_named.Goals as goal
 
@@ -9,3 +10,6 @@ loop-preserved g c = (
       (omega (arith, c.if-len-most.false, c.len-in-Lacks.ensures, c.loop.invariant.1)) c.in_ok-add_copy-in-Lacks.ensures),
   c.loop.invariant.1,
 )
+
+pub loop-init : goal.loop-init
+loop-init c = grind (arith, common_steps)

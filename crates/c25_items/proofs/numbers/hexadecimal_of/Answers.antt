@@ -1,4 +1,4 @@
-use Rattle.std.proofs.Common.{◌≡◌, ◌∙◌, sym, ◌^◌, ◌<◌, arith, length, nat_lt}
+use Rattle.std.proofs.Common.{◌≡◌, ◌∙◌, sym, ◌^◌, ◌<◌, arith, length, nat_lt, rules}
 use Rattle.std.specs.List.{list_all}
 use Rattle.std.proofs.lemmas.Bool.{and_parts}
 use Rattle.std.proofs.lemmas.Grind.{common_steps}
@@ -25,3 +25,7 @@ returns-then-word-le-MOST_DIGITS c =
     let low = c.if-least-word.true in
     let high = c.if-word-le-MOST_DIGITS.true in
     grind (arith, common_steps, e, digits, low, high)
+
+pub returns-else-are_digits : goal.returns-else-are_digits
+unfolding hexadecimal_of
+returns-else-are_digits c = search rules

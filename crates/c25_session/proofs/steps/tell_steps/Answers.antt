@@ -7,3 +7,6 @@ pub returns-clause-told : goal.returns-clause-told
 returns-clause-told g c =
     told_of (signals c.args.board.now) c.args.breakpoints.now c.args.count (steps c.args.board.now) _ _ _ _ _ _ _ _ c.run_to-halted.result _ c.tell_halted.result
     (search rules) c.run_to-halted.ensures.run c.in_ok-text.ensures.bytes c.steps-2.ensures c.pc.ensures c.tell_halted.ensures.text c.tell_halted.ensures.refused
+
+pub returns-in_err-text-clause-kept : goal.returns-in_err-text-clause-kept
+returns-in_err-text-clause-kept c = search rules

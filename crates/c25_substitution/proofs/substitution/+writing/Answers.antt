@@ -1,4 +1,5 @@
 use Rattle.std.proofs.Common.{rules, ◌≡◌, ◌<◌, ℕ, List, length, get_or, drop, refl, subst, ap, ◌∙◌, arith}
+use Rattle.std.proofs.lemmas.Grind.{common_steps}
 use Rattle.std.proofs.lemmas.Bool.Decides.{nat_tests}
 use Rattle.std.proofs.lemmas.Result.{err_from_is_err_and}
 use Rattle.c25_meaning_language.specs.Fragments.{without, front}
@@ -52,3 +53,6 @@ write-returns-clause-out t c =
     let i = c.loop-rest.invariant in
     let none : length c.loop-rest.rest.now ≡ 0 = grind (arith, nat_tests) in
     (ends (names_of c.args.names.now) c.args.number (length c.args.aside.now) c.args.aside.now c.loop-rest.quoting c.loop-rest.rest.now (written_so_far c.loop-rest.out) _ none i.so_far, i.within)
+
+pub write_fragment-push-requires-in-Replaced : goal.write_fragment-push-requires-in-Replaced
+write_fragment-push-requires-in-Replaced c = grind (arith, common_steps)

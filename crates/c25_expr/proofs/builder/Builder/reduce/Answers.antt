@@ -1,4 +1,5 @@
 use Rattle.std.proofs.Common.{sym, ap, ◌∙◌, ◌-◌, List, length, reverse, Some, slice_get, arith}
+use Rattle.std.proofs.lemmas.Grind.{common_steps}
 use Rattle.c25_expr.specs.Postfix.{item_of}
 use Rattle.c25_expr.specs.declared.builder.Frame.{Frame}
 use Rattle.c25_expr.proofs.Frames.{reduced_more}
@@ -16,3 +17,6 @@ loop-operator-preserved c =
           ∙ c.loop-operator.invariant.0,
       c.loop-operator.invariant.1,
     )
+
+pub returns-then-level_of-level-clause-ok : goal.returns-then-level_of-level-clause-ok
+returns-then-level_of-level-clause-ok c = grind (arith, common_steps)

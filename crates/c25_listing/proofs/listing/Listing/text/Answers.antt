@@ -1,4 +1,5 @@
-use Rattle.std.proofs.Common.{◌++◌, ap, ◌∙◌}
+use Rattle.std.proofs.Common.{◌++◌, ap, ◌∙◌, arith}
+use Rattle.std.proofs.lemmas.Grind.{common_steps}
 use Rattle.std.specs.String.{string_bytes}
 use Rattle.c25_meaning_assembly.specs.Listing.{entry_text}
 use Rattle.c25_meaning_objects.specs.Module.{Contents}
@@ -19,3 +20,6 @@ loop-entry-preserved c =
       empty = h.1;
       words = c.loop-entry.invariant.words;
     }
+
+pub returns : goal.returns
+returns c = grind (arith, common_steps)
