@@ -89,11 +89,12 @@ abbrev pub is_second : Contents → ℕ → ℕ → Bool
 is_second m section zero = false
 is_second m section (suc place) = is_long (mark_at m section place)
 
--- the second word of the line at a place, if it has one
+-- the word behind a place, where it is the second of a line
 abbrev pub second_by : Bool → List ℕ → ℕ → Option ℕ
 second_by true words place = slice_get words (place + 1)
 second_by false words place = None
 
+-- the second word of the line at a place of the section of a number, if it has one
 abbrev pub second_at : Contents → ℕ → ℕ → Option ℕ
 second_at m section place = second_by (is_long (mark_at m section place)) (words_at m.sections section) place
 
@@ -147,11 +148,12 @@ pub record IsSection (m : Contents) (section : ℕ) (s : SectionData) (text : Li
   pub each : AreTexts (IsPlace m section) (body_size s.body + 1) places
   pub text_is : text ≡ heading s ++ places
 
--- the same of the section of a number
+-- the same of a section that may be none, which has no text
 abbrev pub IsSectionBy : Contents → ℕ → Option SectionData → List ℕ → Type 0
 IsSectionBy m section None text = text ≡ []
 IsSectionBy m section (Some s) text = IsSection m section s text
 
+-- a text is that of the section of a number
 abbrev pub IsSectionAt : Contents → ℕ → List ℕ → Type 0
 IsSectionAt m section text = IsSectionBy m section (slice_get m.sections section) text
 

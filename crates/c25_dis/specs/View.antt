@@ -15,13 +15,15 @@ abbrev pub offset_place : ℤ → Option ℕ
 offset_place (pos n) = Some n
 offset_place (negsuc n) = None
 
--- where they stand in the section of a number, if they do
+-- where a symbol stands in the section of a number, if it does
 abbrev pub symbol_place : Symbol → ℕ → Option ℕ
 symbol_place y section = if counts_from section y.kind then offset_place y.value else None
 
+-- the same of an instruction
 abbrev pub mark_place : ModuleMark → ℕ → Option ℕ
 mark_place x section = if x.section == section then Some x.offset else None
 
+-- the same of a relocated field
 abbrev pub relocation_place : Relocation → ℕ → Option ℕ
 relocation_place r section = if r.section == section then Some r.offset else None
 

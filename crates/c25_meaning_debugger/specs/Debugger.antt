@@ -35,10 +35,11 @@ pub record Steps (step : Stepping) (signals : Signals) (breaks : List ℕ) (n : 
 
 -- ---- commands
 
--- a word of data memory, or of program memory, as the processor reads it
+-- a word of data memory, as the processor reads it
 abbrev pub data_word : State → ℕ → ℕ
 data_word s address = data_at s.registers.cnf s.world address
 
+-- a word of program memory, as the processor reads it
 abbrev pub program_word : State → ℕ → ℕ
 program_word s address = program_at s.registers.cnf s.world address
 
