@@ -45,7 +45,7 @@ PAGES = ["README.md", "docs/MANUAL.md"] + ["docs/manual/%s.md" % name for name i
 FAULTS = "docs/FAULTS.md"
 # Programs whose samples are made of another file, and the words with which examples/tools/signals.py makes them.
 RECORDED = {"mulaw": ["samples.wav"], "fir": ["samples.csv", "--column", "2", "--fractions"]}
-# Calls of libraries that no word of the program makes (crates/c25_examples/src/library.rt).
+# Calls of libraries that no word of the program makes, or not of every text (crates/c25_examples/src/library.rt).
 LIBRARY = ("read_hex", "read_map", "run_chain", "line_of", "list", "values")
 # Commands that show something and are none of the program's: what they show is not looked at.
 OTHERS = ("ls", "od ", "cmp ")

@@ -6,9 +6,8 @@ mod division;
 mod multiplication;
 mod shifts;
 
-pub(crate) use addition::{add, negate, subtract, take_absolute_value};
-pub(crate) use division::subc;
-pub(crate) use multiplication::{product, shifted_product};
-pub(crate) use shifts::{
-    norm, rotate_left, rotate_right, scaled, shift_left, shift_left_once, shift_right_once,
-};
+pub use addition::{add, negate, subtract, take_absolute_value};
+pub use division::subc;
+pub use multiplication::{product, shifted_product};
+pub use shifts::{norm, rotate_left, rotate_right, shift_left, shift_left_once, shift_right_once};
+pub(crate) use shifts::{moved_left, scaled};

@@ -3,7 +3,7 @@
 
 mod accumulator;
 mod advance;
-mod alu;
+pub mod alu;
 mod ar_mem;
 mod awake;
 mod bit;

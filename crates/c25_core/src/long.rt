@@ -5,7 +5,7 @@ ghost use Rattle.c25_meaning_processor.specs.Effect.{long_effect};
 ghost use Rattle.c25_meaning_instructions.specs.Table.{high_limit};
 
 use crate::accumulator::{become_scaled, minus_scaled, plus_scaled};
-use crate::alu::shift_left;
+use crate::alu::moved_left;
 use c25_meaning_instructions::mnemonic::LongName;
 use c25_meaning_processor::registers::Registers;
 
@@ -14,7 +14,7 @@ pub fn long(registers: &mut Registers, name: LongName, number: u16, high: u16)
     requires { high < high_limit name }
     ensures { registers.new ≡ long_effect name number high registers.old }
 {
-    let mask = shift_left(u32::from(number), high);
+    let mask = moved_left(u32::from(number), high);
     match name {
         LongName::Lrlk => registers.ar[usize::from(high)] = number,
         LongName::Lalk => become_scaled(registers, number, high),

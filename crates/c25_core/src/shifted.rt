@@ -7,7 +7,7 @@ ghost use Rattle.c25_meaning_processor.specs.State.{data_at};
 ghost use Rattle.c25_meaning_instructions.specs.Table.{AddrInRange, shift_limit};
 
 use crate::accumulator::{become_scaled, high_half, low_half, minus_scaled, plus_scaled};
-use crate::alu::shift_left;
+use crate::alu::moved_left;
 use crate::bus::Bus;
 use crate::memory::{read_data, write_data};
 use crate::operand::{address_of, settle};
@@ -38,8 +38,8 @@ fn act<B: Bus>(
         ShiftedName::Add => plus_scaled(registers, word, shift),
         ShiftedName::Sub => minus_scaled(registers, word, shift),
         ShiftedName::Lac => become_scaled(registers, word, shift),
-        ShiftedName::Sacl => write_data(bus, cnf, address, low_half(shift_left(value, shift))),
-        ShiftedName::Sach => write_data(bus, cnf, address, high_half(shift_left(value, shift))),
+        ShiftedName::Sacl => write_data(bus, cnf, address, low_half(moved_left(value, shift))),
+        ShiftedName::Sach => write_data(bus, cnf, address, high_half(moved_left(value, shift))),
     }
 }
 

@@ -13,9 +13,9 @@ pub(crate) fn cannot_write() -> Explanation
         number: 7,
         name: "CannotWrite",
         meaning: r#"A file cannot be written. The files before it in this order stay written: the object, the listing
-(asm); B.p0.hex, B.p1.hex, B.map, listings (build, link). stdout: 7 CannotWrite is standard output,
-of a run or of a debugger's answers, that cannot be written: a full disk behind `>`, a reader that
-has gone.
+(asm); B.p0.hex, B.p1.hex, B.map (link, build), listings, the file of --symbols (build). stdout: 7
+CannotWrite is standard output, of a run or of a debugger's answers, that cannot be written: a full
+disk behind `>`, a reader that has gone.
 "#,
         example: Some(
             r#"Given:

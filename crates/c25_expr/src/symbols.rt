@@ -107,7 +107,9 @@ impl Symbols {
         self.here = here;
     }
 
-    /// Defines a name that stands for nothing yet. It comes last in the order of definition.
+    /// Defines a name that stands for nothing yet. It comes last in the order of definition. `Defined`
+    /// (26) where the name stands for something, AR and PA names among them; where memory is refused
+    /// nothing is defined.
     pub fn define(&mut self, name: &str, value: Value) -> Result<(), Failure<Defined>>
         ensures defined { IsErrOf result (Failure.Fault (record {}))
             ↔ IsSome (value_named self.old name.now) }

@@ -40,7 +40,7 @@ struct PageLists {
 /// The relocations of a module by the sections and offsets of their words.
 type ByWord = HashMap<(u16, u16), Relocation>;
 
-/// Those of a module. No two are of one word.
+/// Those of a module: of a word the first, and no module has two.
 fn by_word(alloc: Global, owner: &Parts) -> Result<ByWord, AllocError>
     ensures { IfOk result (λ m. KnowsRelocations m (contents owner.now)) }
 {

@@ -34,7 +34,7 @@ impl<'a> Expander<'a> {
     ///
     /// In one line the first of these is told: 34 (it is the 200,001st that is read), 38 (it is longer
     /// than 1,024 bytes, or takes more than 1,024 replacements), and where expansion consumes it 10 to
-    /// 13, 51, 52, 20, 21, then 22 to 25, then 30 to 36. The label of a consumed line is given as a line
+    /// 13, 51, 52, 20, 21, then 22 to 25, then 30 to 33, 35, 36. The label of a consumed line is given as a line
     /// of its own behind 21, so that the caller can define it first.
     pub fn next_line(
         &mut self,

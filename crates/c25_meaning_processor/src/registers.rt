@@ -115,10 +115,15 @@ pub struct Registers {
     pub sxm: bool,
     /// TC: the result of a test.
     pub tc: bool,
+    /// HM: a hold stops the processor. It is kept alone, since nothing here holds it.
     pub hm: bool,
+    /// FSM: the serial port goes by frame pulses. Kept alone.
     pub fsm: bool,
+    /// XF: the level of the pin XF. Kept alone.
     pub xf: bool,
+    /// FO: the serial port has words of 8 bits. Kept alone.
     pub fo: bool,
+    /// TXM: the serial port makes the frame pulses itself. Kept alone.
     pub txm: bool,
     /// The interrupt lines that wait.
     pub latched: Lines,

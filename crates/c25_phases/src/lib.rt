@@ -6,7 +6,7 @@
 //!
 //! Both phases: `line_reader`, `item`, `targets`, `sheet`, `names`, `section`, `source_lines`, `file_runs`,
 //! `sections`, `fault`, `refusal`.
-//! The first: `progress`, `first_phase`, `acts`, `counts`, `lines`. The second: `laid`, `emission`,
+//! The first: `progress`, `first_phase`, `acts`, `counts`. The second: `laid`, `emission`, `lines`,
 //! `making`, which ends it, and `wrong`.
 #![tactic(auto)]
 

@@ -1,5 +1,5 @@
 //! What the lines so far have made. Methods of `Progress`: `first_phase.rt` has what one line needs of
-//! names, counts and sections, `acts.rt` what it does.
+//! names, counts and sections, `acts.rt` what it does; `wrong.rt` counts its items.
 
 ghost use Rattle.std.specs.Prelude.{◌≡◌, length};
 ghost use Rattle.c25_meaning_assembly.specs.Sections.{imports};

@@ -96,8 +96,8 @@ fn missing_on<'a>(ranges: &[Range<'_>], page: u8) -> Option<MissingRange<'a>>
     unless(has_page(ranges, page), MissingRange::OnPage(page))
 }
 
-/// One of the page of a section that may be initialised or not, where this is whether the pages have
-/// ranges.
+/// The page that has no range, if one has none, where `program` and `store` tell whether pages 0 and 1
+/// have any.
 fn missing_page<'a>(program: bool, store: bool) -> Option<MissingRange<'a>>
     ensures { option_map missing_data result ≡ missing_page program store }
 {

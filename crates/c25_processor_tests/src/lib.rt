@@ -1,5 +1,5 @@
 //! Tests of the processor through public calls: fields of words (`c25_bits`), the instruction set (`c25_isa`, `c25_mnemonics`),
-//! single steps (`c25_core`), and the board and its samples (`c25_board`); the bus that tests are made with.
+//! the data path and single steps (`c25_core`), and the board and its samples (`c25_board`); the bus that tests are made with.
 #![tactic(auto)]
 
 pub mod bench;
@@ -7,6 +7,8 @@ pub mod bench;
 mod bits;
 #[cfg(test)]
 mod board;
+#[cfg(test)]
+mod data_path;
 #[cfg(test)]
 mod names;
 #[cfg(test)]

@@ -4,7 +4,7 @@ use c25_expr::tree::Expr;
 use c25_meaning_assembly::assembly::Target;
 use c25_meaning_language::statement::{FaultKind, Form};
 
-/// The expressions of a line's operands. Most lines have one, which takes no memory of its own.
+/// The expressions of a line's operands. Most lines have one, which is kept without a list.
 #[derive(Drop)]
 pub enum Exprs {
     One(Expr),

@@ -11,10 +11,8 @@ use c25_core::SinkFailed;
 /// So many steps are run at a time.
 pub const STEPS: u32 = 4096;
 
-/// So many outputs has a batch room for: one of each step.
-pub const ROOM: usize = 4096;
-
-/// A list of the outputs of some steps, which takes no memory. It refuses a word where there is no room.
+/// A list of the outputs of so many steps, one of each at most, which takes no memory. It refuses a word
+/// where there is no room.
 #[derive(Drop)]
 pub struct Batch {
     outputs: ArrayVec<(u16, u16), 4096>,

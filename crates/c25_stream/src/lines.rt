@@ -4,12 +4,11 @@ ghost use Rattle.std.specs.Prelude.{◌≡◌, ◌+◌, ◌*◌, ◌≤◌, ◌+
 ghost use Rattle.arrayvec.specs.ArrayString.{array_string_len};
 ghost use Rattle.arrayvec.specs.ArrayVec.{array_vec_len};
 ghost use Rattle.c25_chain.specs.OutcomeText.{outcome_text};
-ghost use Rattle.c25_meaning_processor.specs.RunText.{output_line, outputs_text, stop_name};
+ghost use Rattle.c25_meaning_processor.specs.RunText.{output_line, outputs_text};
 
 use arrayvec::{ArrayString, ArrayVec};
 use c25_board::board::Outcome;
 use c25_digits::four_bytes;
-use c25_meaning_processor::stop::Stop;
 use itoa::Buffer;
 
 /// The lines of a batch of outputs, of up to 11 bytes each.
@@ -61,19 +60,6 @@ pub(crate) fn put_outputs(lines: &mut Lines, outputs: &[(u16, u16)])
     }
 }
 
-/// The name of a stop.
-fn name_of(stop: Stop) -> &'static str
-    ensures name { result.now ≡ stop_name stop }
-    ensures short { length result.now ≤ 9 }
-{
-    match stop {
-        Stop::OutOfCode => "OutOfCode",
-        Stop::CodeWrite => "CodeWrite",
-        Stop::BadRepeat => "BadRepeat",
-        Stop::PortDry => "PortDry",
-    }
-}
-
 /// A word with its blank, and a number.
 fn put_count(line: &mut OutcomeLine, word: &str, steps: u32)
     requires { length word.now ≤ 5 }
@@ -98,7 +84,7 @@ pub(crate) fn put_outcome(line: &mut OutcomeLine, outcome: Outcome, steps: u32)
         Outcome::Left(_, stop) => {
             put_count(line, "left ", steps);
             line.push_str(" ");
-            line.push_str(name_of(stop));
+            line.push_str(stop.name());
             line.push_str("\n");
         }
         Outcome::SinkFault(_) => {

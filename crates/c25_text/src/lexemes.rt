@@ -105,7 +105,8 @@ fn character_of(c: u8, d: u8, e: u8) -> Lexeme
     }
 }
 
-/// How many bytes a string goes on behind its first quote.
+/// How many bytes a string goes on behind its first quote, the closing one with them; None where no
+/// quote closes it.
 pub fn quoted_len(rest: &[u8]) -> Option<usize>
     ensures value { result ≡ quoted_len true rest.now }
     ensures bound { IfSome result (λ n. n ≤ length rest.now) }

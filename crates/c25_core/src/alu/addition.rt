@@ -101,7 +101,7 @@ fn keep(acc: &mut Acc, total: Total, carry: bool, ovm: bool)
 /// range that was left.
 #[tactic(auto, unfolding(c25_meaning_arithmetic::specs::Arithmetic::sum))]
 #[inline(always)]
-pub(crate) fn add(acc: &mut Acc, addend: u32, ovm: bool)
+pub fn add(acc: &mut Acc, addend: u32, ovm: bool)
     ensures { acc.new ≡ sum acc.old (signed addend 32) ovm }
 {
     let total = total_sum(acc.value, addend);
@@ -113,7 +113,7 @@ pub(crate) fn add(acc: &mut Acc, addend: u32, ovm: bool)
 /// and saturation are as for [`add`].
 #[tactic(auto, unfolding(c25_meaning_arithmetic::specs::Arithmetic::difference))]
 #[inline(always)]
-pub(crate) fn subtract(acc: &mut Acc, amount: u32, ovm: bool)
+pub fn subtract(acc: &mut Acc, amount: u32, ovm: bool)
     ensures { acc.new ≡ difference acc.old (signed amount 32) ovm }
 {
     let total = total_difference(acc.value, amount);
@@ -124,7 +124,7 @@ pub(crate) fn subtract(acc: &mut Acc, amount: u32, ovm: bool)
 /// `ABS`: the accumulator's absolute value, and C 0. 80000000h has none in 32 signed bits, so there OV is
 /// set, and with `ovm` the value is 7FFFFFFFh.
 #[tactic(auto, unfolding(c25_meaning_arithmetic::specs::Arithmetic::absolute_value))]
-pub(crate) fn take_absolute_value(acc: &mut Acc, ovm: bool)
+pub fn take_absolute_value(acc: &mut Acc, ovm: bool)
     ensures { acc.new ≡ absolute_value acc.old ovm }
 {
     let total = total_absolute(acc.value);
@@ -134,7 +134,7 @@ pub(crate) fn take_absolute_value(acc: &mut Acc, ovm: bool)
 /// `NEG`: the accumulator's negative, and C 1 at 0 alone. At 80000000h OV is set, and with `ovm` the value
 /// is 7FFFFFFFh.
 #[tactic(auto, unfolding(c25_meaning_arithmetic::specs::Arithmetic::negated))]
-pub(crate) fn negate(acc: &mut Acc, ovm: bool)
+pub fn negate(acc: &mut Acc, ovm: bool)
     ensures { acc.new ≡ negated acc.old ovm }
 {
     let total = total_difference(0, acc.value);

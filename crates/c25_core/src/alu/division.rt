@@ -11,7 +11,7 @@ use c25_meaning_arithmetic::accumulator::Acc;
 /// divisor times 2^15. Sixteen steps leave the quotient in the low half and the rest in the high one.
 /// Nothing saturates.
 #[tactic(auto, using(crate::proofs::Numbers::twice, crate::proofs::Numbers::twice_and_one, crate::proofs::Numbers::cut_signed), unfolding(c25_meaning_arithmetic::specs::Arithmetic::conditional_difference))]
-pub(crate) fn subc(acc: Acc, divisor: u32) -> Acc
+pub fn subc(acc: Acc, divisor: u32) -> Acc
     ensures { result ≡ conditional_difference acc (signed divisor 32) }
 {
     let rest = total_difference(acc.value, divisor);

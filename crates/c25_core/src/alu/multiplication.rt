@@ -7,14 +7,14 @@ use c25_meaning_arithmetic::accumulator::ProductShift;
 
 /// The product of two signed words, in 32 bits.
 #[tactic(auto, unfolding(c25_meaning_arithmetic::specs::Arithmetic::product))]
-pub(crate) fn product(first: i16, second: i16) -> u32
+pub fn product(first: i16, second: i16) -> u32
     ensures { result ≡ product first second }
 {
     let product = i32::from(first) * i32::from(second);
     product.cast_unsigned()
 }
 
-/// The product as PM hands it on, cut to 32 bits. The shift to the right keeps the sign.
+/// The product as PM hands it on, by any PM.
 #[inline(never)]
 #[tactic(auto, unfolding(c25_meaning_arithmetic::specs::Arithmetic::shifted_product))]
 fn shifted_by(p: u32, shift: ProductShift) -> u32
@@ -28,10 +28,11 @@ fn shifted_by(p: u32, shift: ProductShift) -> u32
     }
 }
 
-/// The same. The PM that shifts nothing, which most programs have, is asked for first.
+/// The product as PM hands it on, cut to 32 bits. The shift to the right keeps the sign. The PM that
+/// shifts nothing, which most programs have, is asked for first.
 #[inline(always)]
 #[tactic(auto, unfolding(c25_meaning_arithmetic::specs::Arithmetic::shifted_product))]
-pub(crate) fn shifted_product(p: u32, shift: ProductShift) -> u32
+pub fn shifted_product(p: u32, shift: ProductShift) -> u32
     ensures { result ≡ shifted_product p shift }
 {
     if let ProductShift::None = shift {

@@ -10,9 +10,21 @@ use c25_meaning_arithmetic::accumulator::Acc;
 /// Bit 31.
 const SIGN: u32 = 0x8000_0000;
 
-/// A value times 2^`shift`, cut to 32 bits.
+/// A value times 2^`shift`, cut to 32 bits: from a shift of 32 on nothing is left.
+#[tactic(auto, using(crate::proofs::Powers::all_out))]
+pub fn shift_left(value: u32, shift: u16) -> u32
+    ensures { result ≡ shifted_left value shift }
+{
+    if shift < 32 {
+        moved_left(value, shift)
+    } else {
+        0
+    }
+}
+
+/// The same for shifts below 32, as every instruction has them, so that none is asked for.
 #[inline(always)]
-pub(crate) fn shift_left(value: u32, shift: u16) -> u32
+pub(crate) fn moved_left(value: u32, shift: u16) -> u32
     requires { shift < 32 }
     ensures { result ≡ shifted_left value shift }
 {
@@ -33,7 +45,7 @@ pub(crate) fn scaled(sxm: bool, word: u16, shift: u16) -> u32
 /// The value shifted once to the left by `NORM`, or None where it is 0 or already has its sign in
 /// bit 31 alone.
 #[tactic(auto, unfolding(c25_meaning_arithmetic::specs::Arithmetic::normalized))]
-pub(crate) fn norm(value: u32) -> Option<u32>
+pub fn norm(value: u32) -> Option<u32>
     ensures { result ≡ normalized value }
 {
     let sign = value / 0x8000_0000 % 2;
@@ -46,7 +58,7 @@ pub(crate) fn norm(value: u32) -> Option<u32>
 
 /// The accumulator after `SFL`: bit 31 goes to C.
 #[tactic(auto, unfolding(c25_meaning_arithmetic::specs::Arithmetic::left_once))]
-pub(crate) fn shift_left_once(acc: Acc) -> Acc
+pub fn shift_left_once(acc: Acc) -> Acc
     ensures { result ≡ left_once acc }
 {
     Acc {
@@ -58,7 +70,7 @@ pub(crate) fn shift_left_once(acc: Acc) -> Acc
 
 /// The accumulator after `SFR`: bit 0 goes to C, and with `sxm` the sign stays.
 #[tactic(auto, unfolding(c25_meaning_arithmetic::specs::Arithmetic::right_once))]
-pub(crate) fn shift_right_once(acc: Acc, sxm: bool) -> Acc
+pub fn shift_right_once(acc: Acc, sxm: bool) -> Acc
     ensures { result ≡ right_once acc sxm }
 {
     let sign = if sxm && acc.value >= SIGN { SIGN } else { 0 };
@@ -71,7 +83,7 @@ pub(crate) fn shift_right_once(acc: Acc, sxm: bool) -> Acc
 
 /// The accumulator after `ROL`: C goes to bit 0, and bit 31 to C.
 #[tactic(auto, unfolding(c25_meaning_arithmetic::specs::Arithmetic::rotated_left))]
-pub(crate) fn rotate_left(acc: Acc) -> Acc
+pub fn rotate_left(acc: Acc) -> Acc
     ensures { result ≡ rotated_left acc }
 {
     Acc {
@@ -83,7 +95,7 @@ pub(crate) fn rotate_left(acc: Acc) -> Acc
 
 /// The accumulator after `ROR`: C goes to bit 31, and bit 0 to C.
 #[tactic(auto, unfolding(c25_meaning_arithmetic::specs::Arithmetic::rotated_right))]
-pub(crate) fn rotate_right(acc: Acc) -> Acc
+pub fn rotate_right(acc: Acc) -> Acc
     ensures { result ≡ rotated_right acc }
 {
     let high = if acc.c { SIGN } else { 0 };
