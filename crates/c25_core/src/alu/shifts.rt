@@ -22,7 +22,7 @@ pub fn shift_left(value: u32, shift: u16) -> u32
     }
 }
 
-/// The same for shifts below 32, as every instruction has them, so that none is asked for.
+/// The same for shifts below 32, as every instruction has them: no step asks whether it is.
 #[inline(always)]
 pub(crate) fn moved_left(value: u32, shift: u16) -> u32
     requires { shift < 32 }
