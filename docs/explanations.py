@@ -29,11 +29,11 @@ COLUMNS, INDENT = 100, "    "
 GROUPS = {
     "A line of a source": ("source_lines", "Source", "c25_meaning_language", "statement.FaultKind"),
     "Macros, conditional lines, loops, copied files": ("expansion", "Source", "c25_meaning_language", "statement.FaultKind"),
-    "Command file": ("command_file", "Command", "c25_meaning_commands", "command_fault.CommandFault"),
-    "Linking": ("linking", "Link", "c25_meaning_placing", "link_fault.LinkFault"),
+    "Command file": ("command_file", "Command", "c25_meaning_linking", "command_fault.CommandFault"),
+    "Linking": ("linking", "Link", "c25_meaning_linking", "link_fault.LinkFault"),
     "Samples, schedule, script": ("run_files", None, None, None),
     "Objects": ("objects", "Object", "c25_meaning_objects", "object.ObjectFault"),
-    "Maps and hex texts": ("written_texts", "Hex", "c25_meaning_intel_hex", "hex_fault.HexFault"),
+    "Maps and hex texts": ("written_texts", "Hex", "c25_hex", "hex_fault.HexFault"),
     "Files and memory": ("files", "File", "c25_disk", "fault.FileFault"),
 }
 # The faults that are variants of `AnyFault` themselves.

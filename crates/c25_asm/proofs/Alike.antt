@@ -6,7 +6,7 @@ use Rattle.c25_meaning_common.specs.declared.failure.Failure.{Failure}
 use Rattle.c25_meaning_common.specs.declared.failure.Failure.TheVariants.{NoMemory, Fault}
 use Rattle.c25_meaning_expansion.specs.ExpansionAnswers.{ExpandedLine}
 use Rattle.c25_meaning_language.specs.ExpansionFault.{ExpansionFault}
-use Rattle.c25_meaning_sources.specs.ModuleOfSource.{Passed, entry_of, pass_line, read_and_pass}
+use Rattle.c25_meaning_assembly.specs.ModuleOfSource.{Passed, entry_of, pass_line, read_and_pass}
 use Rattle.c25_phases.specs.View.{fault_of}
 use Rattle.c25_phases.specs.declared.fault.AsmFault.{AsmFault}
 use Rattle.c25_asm.specs.Listed.{AreAlike}

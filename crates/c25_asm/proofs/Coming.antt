@@ -8,10 +8,10 @@ use Rattle.c25_meaning_expansion.specs.Expansion.{Config, Rewriting, Gives, Goes
 use Rattle.c25_meaning_expansion.specs.ExpansionAnswers.{ExpandedLine, given_by, fault_by}
 use Rattle.c25_meaning_language.specs.ExpansionFault.{ExpansionFault, Faulty, Missing}
 use Rattle.c25_meaning_expansion.specs.ExpansionRuns.{first, start, start_of}
-use Rattle.c25_meaning_files.specs.Files.{Files, text_named}
-use Rattle.c25_meaning_sources.specs.ModuleOfSource.{Passed, no_lines, pass_line, passed_by, passed, passed_from}
+use Rattle.c25_meaning_expansion.specs.Files.{Files, text_named}
+use Rattle.c25_meaning_assembly.specs.ModuleOfSource.{Passed, no_lines, pass_line, passed_by, passed, passed_from}
 use Rattle.c25_meaning_common.specs.Results.{◌>>=◌, FailsBy}
-use Rattle.c25_meaning_files.specs.Rows.{file_number}
+use Rattle.c25_meaning_expansion.specs.Rows.{file_number}
 use Rattle.c25_meaning_assembly.specs.Listing.{Entry}
 use Rattle.c25_meaning_assembly.specs.Sections.{Progress, table}
 use Rattle.c25_meaning_language.specs.Value.{Table}

@@ -7,8 +7,8 @@ use Rattle.c25_macro.specs.Tracers.{BeginsAt, Trace, fault_in}
 use Rattle.c25_macro.specs.declared.tracer.StepFault.{StepFault}
 use Rattle.c25_meaning_assembly.specs.Sections.{Progress, start}
 use Rattle.c25_meaning_expansion.specs.ExpansionRuns.{start_of}
-use Rattle.c25_meaning_files.specs.Files.{Files}
-use Rattle.c25_meaning_files.specs.declared.place.SourcePlace.{SourcePlace}
+use Rattle.c25_meaning_expansion.specs.Files.{Files}
+use Rattle.c25_meaning_expansion.specs.declared.place.SourcePlace.{SourcePlace}
 use Rattle.c25_meaning_language.specs.ExpansionFault.{Faulty}
 use Rattle.c25_phases.specs.View.{progress_of}
 use Rattle.c25_phases.specs.Wrong.{Wrong, first_wrong}

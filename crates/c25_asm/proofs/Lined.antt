@@ -3,7 +3,7 @@ use Rattle.std.proofs.Common.{◌≡◌, ℕ, ◌-◌, Bool, true, false, List, 
 use Rattle.c25_meaning_assembly.specs.Emission.{at_origin}
 use Rattle.c25_meaning_expansion.specs.ExpansionAnswers.{ExpandedLine}
 use Rattle.c25_meaning_assembly.specs.Listing.{Entry}
-use Rattle.c25_meaning_sources.specs.ModuleOfSource.{Passed, origin_of, entry_of, pass_line}
+use Rattle.c25_meaning_assembly.specs.ModuleOfSource.{Passed, origin_of, entry_of, pass_line}
 use Rattle.c25_meaning_common.specs.Results.{◌>>=◌, IsNoMemory}
 use Rattle.c25_meaning_common.specs.declared.failure.Failure.{Failure}
 use Rattle.c25_meaning_common.specs.declared.failure.Failure.TheVariants.{NoMemory, Fault}

@@ -8,16 +8,16 @@ use Rattle.c25_meaning_expansion.specs.ExpansionAnswers.{ExpandedLine, given_by,
 use Rattle.c25_meaning_expansion.specs.ExpansionBounds.{IsLast}
 use Rattle.c25_meaning_expansion.specs.ExpansionRuns as runs
 use Rattle.c25_meaning_expansion.specs.ExpansionRuns.{first, rewrite, start_of}
-use Rattle.c25_meaning_files.specs.Files.{Files, text_named}
-use Rattle.c25_meaning_files.specs.Rows.{file_number}
-use Rattle.c25_meaning_files.specs.declared.place.SourcePlace.{SourcePlace}
+use Rattle.c25_meaning_expansion.specs.Files.{Files, text_named}
+use Rattle.c25_meaning_expansion.specs.Rows.{file_number}
+use Rattle.c25_meaning_expansion.specs.declared.place.SourcePlace.{SourcePlace}
 use Rattle.c25_meaning_expansion.proofs.ExpansionFalls.{falls_going, given_was_read}
 use Rattle.c25_meaning_expansion.proofs.ExpansionFirst.{comes_to_first, first_going}
 use Rattle.c25_meaning_language.specs.ExpansionFault.{ExpansionFault, Faulty}
 use Rattle.c25_meaning_language.specs.Value.{Table}
 use Rattle.c25_meaning_language.specs.declared.statement.FaultKind.{FaultKind}
 use Rattle.c25_meaning_objects.specs.Module.{Contents}
-use Rattle.c25_meaning_sources.specs.ModuleOfSource.{Passed, assembled, completed, entry_of, no_lines, pass_line, passed, passed_by, passed_from, read_and_pass}
+use Rattle.c25_meaning_assembly.specs.ModuleOfSource.{Passed, assembled, completed, entry_of, no_lines, pass_line, passed, passed_by, passed_from, read_and_pass}
 use Rattle.c25_phases.specs.Wrong.{Wrong, first_wrong, wrong_from}
 use Rattle.c25_asm.specs.Trails.{Reaches, begins, goes, passes, IsTrail, IsUnexpanded, IsWrongItem, IsWrongLine, PassesAll}
 

@@ -11,7 +11,7 @@ use Rattle.c25_meaning_expansion.specs.ExpansionAnswers.{given_by}
 use Rattle.c25_meaning_expansion.specs.ExpansionRuns.{rewrite}
 use Rattle.c25_meaning_language.specs.ExpansionFault.{ExpansionFault}
 use Rattle.c25_meaning_language.specs.Value.{Table}
-use Rattle.c25_meaning_sources.specs.ModuleOfSource.{read_and_pass}
+use Rattle.c25_meaning_assembly.specs.ModuleOfSource.{read_and_pass}
 use Rattle.c25_phases.specs.View.{progress_of}
 use Rattle.c25_asm.specs.Trails.{Reaches, goes, passes, Gives, IsWrongLine}
 use Rattle.c25_asm.specs.Walks.{Advances, ComesSought, HasFewNames, LeadsOn, Passes, has_come}

@@ -2,8 +2,8 @@
 use Rattle.std.specs.Prelude.{◌≡◌, ◌<◌, ℕ, Bool, List, Result, Err}
 use Rattle.c25_macro.specs.Expander.{Expansion, Stage, Stands, Absent, Failed}
 use Rattle.c25_meaning_language.specs.ExpansionFault.{ExpansionFault, Missing}
-use Rattle.c25_meaning_files.specs.Files.{Files}
-use Rattle.c25_meaning_sources.specs.ModuleOfSource as source
+use Rattle.c25_meaning_expansion.specs.Files.{Files}
+use Rattle.c25_meaning_assembly.specs.ModuleOfSource as source
 use Rattle.c25_meaning_common.specs.declared.failure.Failure.{Failure}
 use Rattle.c25_phases.specs.declared.fault.AsmFault.{AsmFault}
 use Rattle.c25_asm.specs.Listed.{AreAlike, Passes}

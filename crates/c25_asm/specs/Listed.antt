@@ -3,10 +3,10 @@ use Rattle.std.specs.Prelude.{◌≡◌, Bool, true, false, ℕ, List, Result, O
 use Rattle.c25_listing.specs.declared.listing.Listing.{Listing}
 use Rattle.c25_meaning_common.specs.Results.{◌>>=◌, FailsBy}
 use Rattle.c25_meaning_common.specs.declared.failure.Failure.{Failure}
-use Rattle.c25_meaning_files.specs.Files.{Files}
+use Rattle.c25_meaning_expansion.specs.Files.{Files}
 use Rattle.c25_meaning_language.specs.ExpansionFault.{ExpansionFault}
 use Rattle.c25_meaning_objects.specs.Module.{Contents}
-use Rattle.c25_meaning_sources.specs.ModuleOfSource as source
+use Rattle.c25_meaning_assembly.specs.ModuleOfSource as source
 use Rattle.c25_phases.specs.View.{fault_of}
 use Rattle.c25_phases.specs.declared.fault.AsmFault.{AsmFault}
 use Rattle.c25_asm.specs.View.{assembled_of, passed_of}

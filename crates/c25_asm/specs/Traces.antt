@@ -3,7 +3,7 @@ use Rattle.std.specs.Prelude.{◌≡◌, ℕ, List, Some, None}
 use Rattle.c25_macro.specs.Tracers.{fault_in}
 use Rattle.c25_meaning_assembly.specs.Sections.{Progress}
 use Rattle.c25_meaning_expansion.specs.ExpansionRuns.{start_of}
-use Rattle.c25_meaning_files.specs.Files.{Files}
+use Rattle.c25_meaning_expansion.specs.Files.{Files}
 use Rattle.c25_phases.specs.Wrong.{Wrong, first_wrong}
 use Rattle.c25_asm.specs.Trails.{PassesAll, IsTrail, IsWhole}
 use Rattle.c25_asm.specs.declared.tracing.Traced.{Traced}

@@ -4,11 +4,11 @@ use Rattle.c25_meaning_assembly.specs.Sections.{Progress, start, table}
 use Rattle.c25_meaning_expansion.specs.Expansion.{Config, Goes, Finishes}
 use Rattle.c25_meaning_expansion.specs.ExpansionAnswers.{ExpandedLine, given_by, fault_by}
 use Rattle.c25_meaning_expansion.specs.ExpansionRuns.{rewrite, start_of}
-use Rattle.c25_meaning_files.specs.Files.{Files}
-use Rattle.c25_meaning_files.specs.declared.place.SourcePlace.{SourcePlace}
+use Rattle.c25_meaning_expansion.specs.Files.{Files}
+use Rattle.c25_meaning_expansion.specs.declared.place.SourcePlace.{SourcePlace}
 use Rattle.c25_meaning_language.specs.ExpansionFault.{ExpansionFault, Faulty}
-use Rattle.c25_meaning_sources.specs.ModuleOfSource.{read_and_pass}
-use Rattle.c25_meaning_trail.specs.Trail.{trail_after}
+use Rattle.c25_meaning_assembly.specs.ModuleOfSource.{read_and_pass}
+use Rattle.c25_meaning_expansion.specs.Trail.{trail_after}
 use Rattle.c25_phases.specs.Wrong.{Wrong, first_wrong}
 
 -- rewritings from the first line of the module of a name on, and the lines that they give passed one after another, lead to this

@@ -1,5 +1,5 @@
 -- What the assembler's types stand for.
-use Rattle.c25_meaning_sources.specs.ModuleOfSource as source
+use Rattle.c25_meaning_assembly.specs.ModuleOfSource as source
 use Rattle.c25_listing.specs.View.{entries_of}
 use Rattle.c25_listing.specs.declared.listing.Listing.{Listing}
 use Rattle.c25_phases.specs.View.{progress_of}

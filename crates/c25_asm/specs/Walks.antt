@@ -4,9 +4,9 @@ use Rattle.c25_macro.specs.Expander.{shown}
 use Rattle.c25_macro.specs.Tracers.{Moved, Trace, fault_in}
 use Rattle.c25_macro.specs.declared.answer.ExpLine.{ExpLine}
 use Rattle.c25_meaning_assembly.specs.Sections.{LaidContent, Progress, name_count}
-use Rattle.c25_meaning_files.specs.Files.{Files}
-use Rattle.c25_meaning_files.specs.declared.place.SourcePlace.{SourcePlace}
-use Rattle.c25_meaning_sources.specs.ModuleOfSource.{read_and_pass}
+use Rattle.c25_meaning_expansion.specs.Files.{Files}
+use Rattle.c25_meaning_expansion.specs.declared.place.SourcePlace.{SourcePlace}
+use Rattle.c25_meaning_assembly.specs.ModuleOfSource.{read_and_pass}
 use Rattle.c25_phases.specs.View.{progress_of}
 use Rattle.c25_asm.specs.Trails.{Reaches, PassesAll, IsUnexpanded, IsWrongLine, ComesWith}
 use Rattle.c25_asm.specs.declared.walk.End.{End}

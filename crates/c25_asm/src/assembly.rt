@@ -1,6 +1,6 @@
 //! Both phases.
 
-ghost use Rattle.c25_meaning_sources.specs.ModuleOfSource as source;
+ghost use Rattle.c25_meaning_assembly.specs.ModuleOfSource as source;
 ghost use Rattle.c25_meaning_common.specs.Results.{MeetsBy};
 ghost use Rattle.c25_meaning_expansion.specs.ExpansionRuns.{start_of};
 ghost use Rattle.c25_macro.specs.Expanders.{expansion_of};

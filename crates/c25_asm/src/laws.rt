@@ -1,10 +1,10 @@
 //! A law of trails, the contract of a function that does nothing.
 
 ghost use Rattle.std.specs.Prelude.{◌≡◌, ℕ, List, Err};
-ghost use Rattle.c25_meaning_files.specs.Files.{Files};
-ghost use Rattle.c25_meaning_files.specs.declared.place.SourcePlace.{SourcePlace};
+ghost use Rattle.c25_meaning_expansion.specs.Files.{Files};
+ghost use Rattle.c25_meaning_expansion.specs.declared.place.SourcePlace.{SourcePlace};
 ghost use Rattle.c25_meaning_language.specs.ExpansionFault.{ExpansionFault};
-ghost use Rattle.c25_meaning_sources.specs.ModuleOfSource.{assembled};
+ghost use Rattle.c25_meaning_assembly.specs.ModuleOfSource.{assembled};
 ghost use Rattle.c25_asm.specs.Trails.{IsTrail};
 
 /// The fault of a source's trail is the one with which the source is refused.

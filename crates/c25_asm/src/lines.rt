@@ -3,7 +3,7 @@
 ghost use Rattle.std.specs.Prelude.{◌≡◌, ◌++◌, ◌∷◌, [], IfOk, IsTrue, OnOk};
 ghost use Rattle.c25_listing.specs.View.{entries_of, entry_of};
 ghost use Rattle.c25_macro.specs.Expander.{shown};
-ghost use Rattle.c25_meaning_sources.specs.ModuleOfSource as source;
+ghost use Rattle.c25_meaning_assembly.specs.ModuleOfSource as source;
 ghost use Rattle.c25_asm.specs.Listed.{Passes};
 ghost use Rattle.c25_asm.specs.View.{passed_of};
 
@@ -42,7 +42,7 @@ fn add_entry<'a>(
 }
 
 /// One line more, with its entry where a listing is wanted.
-#[tactic(auto, unfolding(c25_meaning_sources::specs::ModuleOfSource::pass_line))]
+#[tactic(auto, unfolding(c25_meaning_assembly::specs::ModuleOfSource::pass_line))]
 pub(crate) fn pass_line<'a>(
     passed: Passed<'a>,
     line: ExpLine<'a>,

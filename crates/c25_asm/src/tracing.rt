@@ -13,7 +13,7 @@ use c25_macro::files::Files;
 use c25_macro::tracer::{StepFault, Tracer};
 use c25_meaning_common::no_memory::NoMemory;
 use c25_meaning_common::placed::{FileLine, Placed};
-use c25_meaning_files::place::SourcePlace;
+use c25_meaning_expansion::place::SourcePlace;
 use c25_phases::{Progress, WrongItem, first_wrong};
 use std::alloc::Global;
 

@@ -1,3 +1,5 @@
+pub mod Cleared
+pub mod OneBit
 pub mod Begins
 pub mod Entries
 pub mod Behind

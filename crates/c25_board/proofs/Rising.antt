@@ -3,10 +3,10 @@ use Rattle.std.proofs.Common.{◌≡◌, ◌∙◌, ap, refl, ℕ, suc, ◌-◌,
 use Rattle.std.specs.Prelude.{slice_get}
 use Rattle.std.specs.Str.Lines.{lines}
 use Rattle.std.proofs.lemmas.Bool.{ltb-false}
-use Rattle.c25_meaning_stimulus.specs.declared.schedule.Entry.{Entry}
-use Rattle.c25_meaning_stimulus.specs.declared.schedule.Event.{Event}
+use Rattle.c25_meaning_processor.specs.declared.schedule.Entry.{Entry}
+use Rattle.c25_meaning_processor.specs.declared.schedule.Event.{Event}
 use Rattle.c25_meaning_common.specs.Digits.{decimal_of}
-use Rattle.c25_meaning_stimulus.specs.Schedule.{event_of, last_step, timed, entry_of, schedule_of}
+use Rattle.c25_meaning_processor.specs.Schedule.{event_of, last_step, timed, entry_of, schedule_of}
 use Rattle.c25_meaning_common.proofs.ItemsHold.{items_hold}
 use Rattle.c25_board.specs.ScheduleRises.{RisesFrom}
 

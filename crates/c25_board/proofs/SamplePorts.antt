@@ -2,9 +2,9 @@
 use Rattle.std.proofs.Common.{◌≡◌, ℕ, ◌<◌, ◌≤◌, ◌&&◌, arith, Bool, true, false, List, [], ◌∷◌, ◌++◌, Option, Some, None, Ok, refl, sym, ap, nat_le, option_map, option_and_then, if◌then◌else◌}
 use Rattle.std.specs.Str.Lines.{lines}
 use Rattle.std.proofs.lemmas.Bool.{and_parts, leb-true}
-use Rattle.c25_meaning_stimulus.specs.declared.sample.Sample.{Sample}
+use Rattle.c25_meaning_processor.specs.declared.sample.Sample.{Sample}
 use Rattle.c25_meaning_common.specs.Digits.{are_digits, value_in, decimal_of, hexadecimal_of}
-use Rattle.c25_meaning_stimulus.specs.Samples.{sample_of, samples_of}
+use Rattle.c25_meaning_processor.specs.Samples.{sample_of, samples_of}
 use Rattle.c25_meaning_common.proofs.ItemsHold.{items_hold}
 use Rattle.c25_board.specs.SamplesLeft.{HavePorts}
 

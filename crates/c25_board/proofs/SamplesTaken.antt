@@ -6,8 +6,8 @@ use Rattle.std.proofs.lemmas.Bool.Decides.{eqb_tells}
 use Rattle.std.proofs.Math.Seq.{drop-nil}
 use mathlib.Core.Path.{fun_ext}
 use Rattle.c25_meaning_processor.specs.State.{taken}
-use Rattle.c25_meaning_stimulus.specs.declared.sample.Sample.{Sample}
-use Rattle.c25_meaning_stimulus.specs.Samples.{samples_at}
+use Rattle.c25_meaning_processor.specs.declared.sample.Sample.{Sample}
+use Rattle.c25_meaning_processor.specs.Samples.{samples_at}
 use Rattle.c25_board.specs.SamplesLeft.{left_from, HavePorts}
 
 -- before the first is taken all are left

@@ -1,3 +1,4 @@
+pub mod Bits
 pub mod Outputs
 pub mod Places
 pub mod Prepared

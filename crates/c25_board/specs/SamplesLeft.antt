@@ -1,7 +1,7 @@
 -- The samples that are left of a list.
 use Rattle.std.specs.Prelude.{ℕ, ◌+◌, ◌<◌, List, [], ◌∷◌, slice_index, nat_le, if◌then◌else◌}
 use Rattle.std.specs.List.{AllByRecursion}
-use Rattle.c25_meaning_stimulus.specs.declared.sample.Sample.{Sample}
+use Rattle.c25_meaning_processor.specs.declared.sample.Sample.{Sample}
 
 -- each sample's port is one of the sixteen
 abbrev pub HavePorts : List Sample → Type 0

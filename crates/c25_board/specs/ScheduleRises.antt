@@ -1,6 +1,6 @@
 -- Schedules whose steps do not fall.
 use Rattle.std.specs.Prelude.{ℕ, ◌≤◌, List, [], ◌∷◌}
-use Rattle.c25_meaning_stimulus.specs.declared.schedule.Entry.{Entry}
+use Rattle.c25_meaning_processor.specs.declared.schedule.Entry.{Entry}
 
 -- no entry's step is less than the one before it, nor the first one's than this
 abbrev pub RisesFrom : ℕ → List Entry → Type 0

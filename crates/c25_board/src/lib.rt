@@ -1,7 +1,9 @@
-//! The board: memories and ports around the processor, and runs of many steps.
+//! The board: memories, ports, runs under a schedule, broken off at breakpoints or not; samples and schedules read.
 #![tactic(auto)]
 
+mod bits;
 pub mod board;
+pub mod breakpoints;
 mod clock;
 mod copies;
 mod devices;

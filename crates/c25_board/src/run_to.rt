@@ -1,11 +1,11 @@
 //! Runs that are broken off at a breakpoint.
 
 ghost use Rattle.std.specs.Prelude.{◌≡◌, ◌+◌, ◌<◌, ◌^◌};
-ghost use Rattle.c25_meaning_breakpoints.specs.Goes.{is_met};
+ghost use Rattle.c25_meaning_processor.specs.Goes.{is_met};
 
 use crate::board::Board;
 use crate::ports::{Feed, Sink};
-use c25_breaks::breakpoints::Breakpoints;
+use crate::breakpoints::Breakpoints;
 use c25_core::Halt;
 use c25_meaning_processor::stop::Stop;
 

@@ -1,14 +1,14 @@
 //! Texts of samples: a port and a word a line.
 
 ghost use Rattle.std.specs.Prelude.{◌≡◌, ◌+◌, ◌<◌, [], ◌∷◌, length, drop, IfSome, IfNone};
-ghost use Rattle.c25_meaning_stimulus.specs.Samples.{samples_at, samples_of};
+ghost use Rattle.c25_meaning_processor.specs.Samples.{samples_at, samples_of};
 ghost use Rattle.c25_meaning_common.specs.Results.{MeetsBy};
 
 use crate::ports::Feed;
-use c25_items::{LineFormat, decimal_of, hexadecimal_of, read_items};
+use c25_texts::{LineFormat, decimal_of, hexadecimal_of, read_items};
 use c25_meaning_common::failure::Failure;
 use c25_meaning_common::placed::Placed;
-use c25_meaning_stimulus::sample::{BadSamples, Sample};
+use c25_meaning_processor::sample::{BadSamples, Sample};
 use std::alloc::Global;
 use std::marker::Model;
 
@@ -25,7 +25,7 @@ pub struct Samples {
 
 impl Model for Samples {
     ghost use Rattle.std.specs.Prelude.{List};
-    ghost use Rattle.c25_meaning_stimulus.specs.declared.sample.Sample.{Sample};
+    ghost use Rattle.c25_meaning_processor.specs.declared.sample.Sample.{Sample};
     ghost use Rattle.c25_board.specs.SamplesLeft.{left_from, HavePorts};
 
     ghost Value = { List Sample };
@@ -65,7 +65,7 @@ fn find(samples: &[Sample], from: usize, port: u16) -> Option<(usize, u16)>
 }
 
 impl Feed for Samples {
-    ghost use Rattle.c25_meaning_stimulus.specs.Samples.{samples_at};
+    ghost use Rattle.c25_meaning_processor.specs.Samples.{samples_at};
 
     ghost left = { samples_at };
 
@@ -85,7 +85,7 @@ impl Feed for Samples {
 struct SampleLines;
 
 impl LineFormat for SampleLines {
-    ghost use Rattle.c25_meaning_stimulus.specs.Samples.{sample_of};
+    ghost use Rattle.c25_meaning_processor.specs.Samples.{sample_of};
 
     type Item = Sample;
 

@@ -1,14 +1,14 @@
 //! Schedules: a step and an event a line.
 
 ghost use Rattle.std.specs.Prelude.{◌≡◌};
-ghost use Rattle.c25_meaning_stimulus.specs.Schedule.{event_of, last_step, schedule_of};
+ghost use Rattle.c25_meaning_processor.specs.Schedule.{event_of, last_step, schedule_of};
 ghost use Rattle.c25_meaning_common.specs.Results.{MeetsBy};
 
-use c25_items::{LineFormat, decimal_of, is_word, read_items};
+use c25_texts::{LineFormat, decimal_of, is_word, read_items};
 use c25_meaning_common::failure::Failure;
 use c25_meaning_common::placed::Placed;
 use c25_meaning_processor::lines::Lines;
-use c25_meaning_stimulus::schedule::{BadSchedule, Entry, Event};
+use c25_meaning_processor::schedule::{BadSchedule, Entry, Event};
 use std::alloc::Global;
 use std::marker::Model;
 
@@ -20,7 +20,7 @@ pub struct Schedule {
 
 impl Model for Schedule {
     ghost use Rattle.std.specs.Prelude.{List};
-    ghost use Rattle.c25_meaning_stimulus.specs.declared.schedule.Entry.{Entry};
+    ghost use Rattle.c25_meaning_processor.specs.declared.schedule.Entry.{Entry};
     ghost use Rattle.c25_board.specs.ScheduleRises.{RisesFrom};
 
     ghost Value = { List Entry };
@@ -44,7 +44,7 @@ impl Schedule {
 }
 
 /// The event that a word names.
-#[tactic(auto, unfolding(c25_meaning_stimulus::specs::Schedule::event_of))]
+#[tactic(auto, unfolding(c25_meaning_processor::specs::Schedule::event_of))]
 fn event_of(word: &[u8]) -> Option<Event>
     ensures { result ≡ event_of word.now }
 {
@@ -74,7 +74,7 @@ fn last_step(before: &[Entry]) -> u32
 struct EntryLines;
 
 impl LineFormat for EntryLines {
-    ghost use Rattle.c25_meaning_stimulus.specs.Schedule.{entry_of};
+    ghost use Rattle.c25_meaning_processor.specs.Schedule.{entry_of};
 
     type Item = Entry;
 

@@ -5,13 +5,13 @@ use Rattle.std.specs.Ordering.{nat_cmp}
 use Rattle.std.specs.Result.{IsErrAnd}
 use Rattle.std.specs.declared.alloc.Global.{Global}
 use Rattle.std.specs.declared.vec.Vec.{Vec}
-use Rattle.c25_meaning_files.specs.Files.{Files}
+use Rattle.c25_meaning_expansion.specs.Files.{Files}
 use Rattle.c25_meaning_common.specs.Results.{FailsBy, IsNoMemory, MeetsBy, ◌>>=◌, told}
-use Rattle.c25_meaning_stimulus.specs.Samples.{samples_of}
-use Rattle.c25_meaning_stimulus.specs.Schedule.{schedule_of}
+use Rattle.c25_meaning_processor.specs.Samples.{samples_of}
+use Rattle.c25_meaning_processor.specs.Schedule.{schedule_of}
 use Rattle.c25_meaning_common.specs.declared.failure.Failure.TheVariants as failure
-use Rattle.c25_meaning_stimulus.specs.declared.sample.Sample.{Sample}
-use Rattle.c25_meaning_stimulus.specs.declared.schedule.Entry.{Entry}
+use Rattle.c25_meaning_processor.specs.declared.sample.Sample.{Sample}
+use Rattle.c25_meaning_processor.specs.declared.schedule.Entry.{Entry}
 use Rattle.c25_chain.specs.Built.{IsBuilt, IsBuiltAs}
 use Rattle.c25_chain.specs.Chain.{Answers, Given, Inputs, IsAnswer, inputs_in, inputs_of, inputs_view, run_of, texts_of}
 use Rattle.c25_chain.specs.Linked as linked

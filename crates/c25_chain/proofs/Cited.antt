@@ -4,12 +4,12 @@ use Rattle.std.specs.FinMap as finite
 use Rattle.std.specs.Ordering.{nat_cmp}
 use Rattle.c25_laws.specs.ProgramStatements.{AreMarksOf, AreModulesOf, ReadsAs, lines_in, lines_of, page_statements, program_statements}
 use Rattle.c25_laws.specs.SourceWords.{HasSourceWords}
-use Rattle.c25_meaning_commands.specs.Command.{CommandData, IsCommand}
-use Rattle.c25_meaning_commands.specs.CommandText.{command_of}
-use Rattle.c25_meaning_files.specs.Files.{Files}
+use Rattle.c25_meaning_linking.specs.Command.{CommandData, IsCommand}
+use Rattle.c25_meaning_linking.specs.CommandText.{command_of}
+use Rattle.c25_meaning_expansion.specs.Files.{Files}
 use Rattle.c25_meaning_image.specs.WordMap.{IsWordMap}
-use Rattle.c25_meaning_intel_hex.specs.Hex.{SpellsWords}
-use Rattle.c25_meaning_intel_hex.specs.HexText.{written}
+use Rattle.c25_hex.specs.Hex.{SpellsWords}
+use Rattle.c25_hex.specs.HexText.{written}
 use Rattle.c25_meaning_linking.specs.Linking.{ImageData, IsProgram}
 use Rattle.c25_meaning_objects.specs.Module.{Contents, IsModule}
 use Rattle.c25_meaning_processor.specs.FirstState.{first_of_pages}
@@ -17,7 +17,7 @@ use Rattle.c25_meaning_processor.specs.Run.{Reaches, Signals}
 use Rattle.c25_meaning_processor.specs.State.{State}
 use Rattle.c25_meaning_processor.specs.Statements.{IsImageOf, RunsAsStatements, loaded_statements}
 use Rattle.c25_meaning_processor.specs.WordStep.{WordStep}
-use Rattle.c25_meaning_sources.specs.ModuleOfSource.{Assembled, assembled}
+use Rattle.c25_meaning_assembly.specs.ModuleOfSource.{Assembled, assembled}
 use Rattle.c25_run_laws.specs.KeptCode.{KeepsCode}
 use Rattle.c25_chain.specs.Linked.{places_of}
 

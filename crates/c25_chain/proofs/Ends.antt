@@ -12,14 +12,14 @@ use Rattle.c25_meaning_processor.specs.FirstState.{first_of_pages, memory_of_map
 use Rattle.c25_meaning_processor.specs.FirstState.{loaded}
 use Rattle.c25_meaning_processor.specs.Reset.{reset}
 use Rattle.c25_meaning_processor.specs.Run.{Ran, Left, Runs, Signals}
-use Rattle.c25_meaning_stimulus.specs.Samples.{samples_at}
-use Rattle.c25_meaning_stimulus.specs.Signals.{signals_of}
+use Rattle.c25_meaning_processor.specs.Samples.{samples_at}
+use Rattle.c25_meaning_processor.specs.Signals.{signals_of}
 use Rattle.c25_meaning_processor.specs.State.{State, state_of}
 use Rattle.c25_meaning_processor.specs.WordStep.{WordStep}
 use Rattle.c25_meaning_image.specs.declared.mark.Mark.{Mark}
 use Rattle.c25_meaning_image.specs.declared.mark.RunMark.{RunMark}
-use Rattle.c25_meaning_stimulus.specs.declared.sample.Sample.{Sample}
-use Rattle.c25_meaning_stimulus.specs.declared.schedule.Entry.{Entry}
+use Rattle.c25_meaning_processor.specs.declared.sample.Sample.{Sample}
+use Rattle.c25_meaning_processor.specs.declared.schedule.Entry.{Entry}
 use Rattle.c25_chain.specs.Run.{HasRun, HasRunFrom, Shows, run_data}
 use Rattle.c25_chain.specs.declared.run.Done.{Done}
 

@@ -4,17 +4,17 @@ use Rattle.std.specs.List.{All}
 use Rattle.std.specs.String.{string_bytes}
 use Rattle.c25_laws.specs.ProgramStatements.{AreMarksOf, AreModulesOf, PlacedStatement, ReadsAs, all_statements, on_page, program_statements, split_by_run}
 use Rattle.c25_laws.specs.SourceWords as items
-use Rattle.c25_meaning_files.specs.Files.{Files}
+use Rattle.c25_meaning_expansion.specs.Files.{Files}
 use Rattle.c25_meaning_image.specs.WordMap.{IsWordMap}
-use Rattle.c25_meaning_intel_hex.specs.Hex.{SpellsWords}
+use Rattle.c25_hex.specs.Hex.{SpellsWords}
 use Rattle.c25_meaning_linking.specs.Linking.{ImageData}
-use Rattle.c25_meaning_placing.specs.Place.{Place}
+use Rattle.c25_meaning_linking.specs.Place.{Place}
 use Rattle.c25_meaning_objects.specs.Module.{Contents}
 use Rattle.c25_meaning_processor.specs.Run.{Ending, Ran}
 use Rattle.c25_meaning_processor.specs.Statements.{IsImageOf, RunsAsStatements, Statements, loaded_statements}
-use Rattle.c25_meaning_stimulus.specs.Samples.{samples_at}
-use Rattle.c25_meaning_stimulus.specs.Signals.{signals_of}
-use Rattle.c25_meaning_stimulus.specs.declared.sample.Sample.{Sample}
+use Rattle.c25_meaning_processor.specs.Samples.{samples_at}
+use Rattle.c25_meaning_processor.specs.Signals.{signals_of}
+use Rattle.c25_meaning_processor.specs.declared.sample.Sample.{Sample}
 use Rattle.c25_chain.proofs.Cited.{Laws}
 use Rattle.c25_chain.proofs.Sourced.{are_modules, have_statements, modules_are}
 use Rattle.c25_chain.specs.Built.{IsBuilt}

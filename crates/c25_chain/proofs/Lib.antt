@@ -8,3 +8,7 @@ pub mod OutputLines
 pub mod ReadyRuns
 pub mod Sourced
 pub mod Texts
+pub mod Agreed
+pub mod Debugged
+pub mod Scripted
+pub mod Standing

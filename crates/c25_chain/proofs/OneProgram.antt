@@ -1,7 +1,7 @@
 -- Sources and a command come to one program at most.
 use Rattle.std.proofs.Common.{◌≡◌, ℕ, List, subst}
-use Rattle.c25_meaning_commands.specs.Command.{CommandData}
-use Rattle.c25_meaning_files.specs.Files.{Files}
+use Rattle.c25_meaning_linking.specs.Command.{CommandData}
+use Rattle.c25_meaning_expansion.specs.Files.{Files}
 use Rattle.c25_meaning_linking.specs.Linking.{ImageData, IsProgram}
 use Rattle.c25_meaning_objects.specs.Module.{Contents}
 use Rattle.c25_chain.specs.Built.{IsBuilt}

@@ -2,15 +2,15 @@
 use Rattle.std.proofs.Common.{◌≡◌, ◌↔◌, ◌++◌, ◌∙◌, ℕ, List, ap, map, string_bytes, subst, sym}
 use Rattle.c25_board.specs.declared.board.Outcome.{Outcome}
 use Rattle.c25_board.specs.declared.board.Outcome.TheVariants as outcome
-use Rattle.c25_meaning_files.specs.Files.{Files}
+use Rattle.c25_meaning_expansion.specs.Files.{Files}
 use Rattle.c25_meaning_linking.specs.Linking.{ImageData}
 use Rattle.c25_meaning_processor.specs.Run.{Ending, Left, Ran, Runs, Signals}
 use Rattle.c25_meaning_processor.specs.RunText.{outputs_text}
 use Rattle.c25_meaning_processor.specs.State.{State}
 use Rattle.c25_meaning_processor.specs.Statements.{IsImageOf, RunsAsStatements, Statements}
 use Rattle.c25_meaning_processor.specs.WordStep.{WordStep}
-use Rattle.c25_meaning_stimulus.specs.Signals.{signals_of}
-use Rattle.c25_meaning_stimulus.specs.declared.sample.Sample.{Sample}
+use Rattle.c25_meaning_processor.specs.Signals.{signals_of}
+use Rattle.c25_meaning_processor.specs.declared.sample.Sample.{Sample}
 use Rattle.c25_chain.proofs.Answered.{is_built}
 use Rattle.c25_chain.specs.Built.{IsBuilt}
 use Rattle.c25_chain.specs.Chain.{Given, Inputs, IsAnswer, run_of, texts_of}

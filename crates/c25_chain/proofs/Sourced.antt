@@ -5,10 +5,10 @@ use Rattle.std.proofs.lemmas.List.{append-nil, append_assoc}
 use Rattle.std.proofs.lemmas.List.Elements.{All-from_recursion}
 use Rattle.c25_laws.specs.ProgramStatements.{AreModulesOf}
 use Rattle.c25_meaning_common.specs.Results.{◌>>=◌, fold_ok, told}
-use Rattle.c25_meaning_files.specs.Files.{Files}
+use Rattle.c25_meaning_expansion.specs.Files.{Files}
 use Rattle.c25_meaning_language.specs.ExpansionFault.{ExpansionFault}
 use Rattle.c25_meaning_objects.specs.Module.{Contents, IsModule}
-use Rattle.c25_meaning_sources.specs.ModuleOfSource.{Assembled, assembled}
+use Rattle.c25_meaning_assembly.specs.ModuleOfSource.{Assembled, assembled}
 use Rattle.c25_chain.specs.Headline.{HasStatements}
 use Rattle.c25_chain.specs.Modules.{Modules, asm_refusal, modules_of, no_modules, with_module, with_source}
 use Rattle.c25_chain.proofs.Cited.{Laws}

@@ -1,17 +1,17 @@
 -- The texts of a program say where its sections stand.
 use Rattle.std.proofs.Common.{◌≡◌, ℕ, List, Ok, Err, Result, ap, subst, sym, ◌∙◌, inr}
-use Rattle.c25_meaning_commands.specs.Command.{CommandData}
-use Rattle.c25_meaning_commands.specs.CommandText.{command_of}
-use Rattle.c25_meaning_placing.specs.GoodMap.{IsGoodMap}
+use Rattle.c25_meaning_linking.specs.Command.{CommandData}
+use Rattle.c25_meaning_linking.specs.CommandText.{command_of}
+use Rattle.c25_meaning_linking.specs.GoodMap.{IsGoodMap}
 use Rattle.c25_meaning_linking.specs.Linking.{ImageData, IsProgram, HasWords, HasMarks, HasRunMarks}
-use Rattle.c25_meaning_intel_hex.specs.HexText.{written}
-use Rattle.c25_meaning_placing.specs.MapText.{IsMapOf}
+use Rattle.c25_hex.specs.HexText.{written}
+use Rattle.c25_meaning_linking.specs.MapText.{IsMapOf}
 use Rattle.c25_meaning_objects.specs.Module.{Contents}
-use Rattle.c25_meaning_placing.specs.Place.{Place}
+use Rattle.c25_meaning_linking.specs.Place.{Place}
 use Rattle.c25_meaning_common.specs.Results.{told}
 use Rattle.c25_meaning_common.specs.declared.failure.Failure.TheVariants as failure
 use Rattle.c25_meaning_common.specs.declared.placed.Placed.{Placed}
-use Rattle.c25_meaning_commands.specs.declared.command_fault.CommandFault.{CommandFault}
+use Rattle.c25_meaning_linking.specs.declared.command_fault.CommandFault.{CommandFault}
 use Rattle.c25_chain.specs.Linked.{AreTexts, HasTextsOf, IsLinked, LinkedTexts, Links, LinksText, places_of, texts_of}
 use Rattle.c25_chain.specs.Refusal.{Fault}
 use Rattle.c25_chain.specs.declared.fault.Refusal.{Refusal}

@@ -1,14 +1,14 @@
 -- What the chain answers: a program of its sources and its command, and a run of it, or the first refusal.
 use Rattle.std.specs.Prelude.{◌≡◌, ◌⊎◌, ℕ, List, map, Result, Ok, Err}
 use Rattle.std.specs.String.{string_bytes}
-use Rattle.c25_meaning_files.specs.Files.{Files}
+use Rattle.c25_meaning_expansion.specs.Files.{Files}
 use Rattle.c25_meaning_linking.specs.Linking.{ImageData}
 use Rattle.c25_meaning_common.specs.Results.{◌>>=◌, told}
-use Rattle.c25_meaning_stimulus.specs.Samples.{samples_of}
-use Rattle.c25_meaning_stimulus.specs.Schedule.{schedule_of}
+use Rattle.c25_meaning_processor.specs.Samples.{samples_of}
+use Rattle.c25_meaning_processor.specs.Schedule.{schedule_of}
 use Rattle.c25_meaning_common.specs.declared.failure.Failure.TheVariants as failure
-use Rattle.c25_meaning_stimulus.specs.declared.sample.Sample.{Sample}
-use Rattle.c25_meaning_stimulus.specs.declared.schedule.Entry.{Entry}
+use Rattle.c25_meaning_processor.specs.declared.sample.Sample.{Sample}
+use Rattle.c25_meaning_processor.specs.declared.schedule.Entry.{Entry}
 use Rattle.c25_chain.specs.Built.{IsBuilt, IsUnbuilt}
 use Rattle.c25_chain.specs.Linked.{LinkedTexts}
 use Rattle.c25_chain.specs.Refusal.{Fault, refusal_of}

@@ -1,14 +1,14 @@
 -- The line that tells a fault: where it is, its number and its name.
 use Rattle.std.specs.Prelude.{ℕ, List, ◌++◌, codes}
-use Rattle.c25_meaning_commands.specs.Faults.{command_text}
+use Rattle.c25_meaning_linking.specs.CommandFaults.{command_text}
 use Rattle.c25_meaning_common.specs.Faults.{numbered, placed_text}
-use Rattle.c25_meaning_intel_hex.specs.Faults.{hex_text}
+use Rattle.c25_hex.specs.Faults.{hex_text}
 use Rattle.c25_meaning_language.specs.Faults.{numbered_name}
 use Rattle.c25_meaning_objects.specs.Faults.{object_text}
-use Rattle.c25_meaning_placing.specs.Faults.{link_text}
+use Rattle.c25_meaning_linking.specs.LinkFaults.{link_text}
 use Rattle.c25_meaning_common.specs.declared.failure.Failure.TheVariants as failure
 use Rattle.c25_meaning_language.specs.declared.statement.FaultKind.TheVariants as kind
-use Rattle.c25_meaning_placing.specs.declared.link_fault.LinkFault.{LinkFault}
+use Rattle.c25_meaning_linking.specs.declared.link_fault.LinkFault.{LinkFault}
 use Rattle.c25_disk.specs.FaultNames.{file_fault_text}
 use Rattle.c25_disk.specs.declared.fault.FileFault.{FileFault}
 use Rattle.c25_chain.specs.Refusal.{Fault, refusal_of}

@@ -6,22 +6,22 @@ use Rattle.std.specs.Ordering.{nat_cmp}
 use Rattle.std.specs.String.{string_bytes}
 use Rattle.c25_laws.specs.ProgramStatements.{AreMarksOf, ReadsAs, lines_in, lines_of, page_statements, program_statements}
 use Rattle.c25_laws.specs.SourceWords as sources
-use Rattle.c25_meaning_files.specs.Files.{Files}
+use Rattle.c25_meaning_expansion.specs.Files.{Files}
 use Rattle.c25_meaning_processor.specs.FirstState.{first_of_pages, memory_of_map}
-use Rattle.c25_meaning_intel_hex.specs.Hex.{SpellsWords}
-use Rattle.c25_meaning_intel_hex.specs.HexText.{written}
+use Rattle.c25_hex.specs.Hex.{SpellsWords}
+use Rattle.c25_hex.specs.HexText.{written}
 use Rattle.c25_meaning_linking.specs.Linking.{ImageData}
-use Rattle.c25_meaning_placing.specs.MapText.{IsMapOf, MapData}
+use Rattle.c25_meaning_linking.specs.MapText.{IsMapOf, MapData}
 use Rattle.c25_meaning_objects.specs.Module.{Contents}
 use Rattle.c25_meaning_processor.specs.Run as runs
 use Rattle.c25_meaning_processor.specs.Run.{Ending, Ran}
-use Rattle.c25_meaning_stimulus.specs.Samples.{samples_at}
-use Rattle.c25_meaning_stimulus.specs.Signals.{signals_of}
+use Rattle.c25_meaning_processor.specs.Samples.{samples_at}
+use Rattle.c25_meaning_processor.specs.Signals.{signals_of}
 use Rattle.c25_meaning_processor.specs.State.{State}
 use Rattle.c25_meaning_image.specs.Marks.{is_code}
 use Rattle.c25_meaning_processor.specs.Statements.{Statement, Statements, loaded_statements, marks_of, statement_step}
-use Rattle.c25_meaning_stimulus.specs.declared.sample.Sample.{Sample}
-use Rattle.c25_meaning_stimulus.specs.declared.schedule.Entry.{Entry}
+use Rattle.c25_meaning_processor.specs.declared.sample.Sample.{Sample}
+use Rattle.c25_meaning_processor.specs.declared.schedule.Entry.{Entry}
 use Rattle.c25_chain.specs.Built.{IsBuilt}
 use Rattle.c25_chain.specs.Chain.{Given, Inputs, inputs_in, run_of, texts_of}
 use Rattle.c25_chain.specs.Linked.{places_of}

@@ -10,3 +10,5 @@ pub mod Ready
 pub mod OutcomeText
 pub mod View
 pub mod Headline
+pub mod Debug
+pub mod Inspection

@@ -1,10 +1,10 @@
 -- The modules of several sources, or the first refusal among them.
 use Rattle.std.specs.Prelude.{ℕ, List, [], ◌∷◌, ◌++◌, Result, Ok}
 use Rattle.c25_meaning_language.specs.ExpansionFault.{ExpansionFault, Faulty, Missing}
-use Rattle.c25_meaning_files.specs.Files.{Files}
+use Rattle.c25_meaning_expansion.specs.Files.{Files}
 use Rattle.c25_meaning_assembly.specs.Listing.{listing_text}
 use Rattle.c25_meaning_objects.specs.Module.{Contents}
-use Rattle.c25_meaning_sources.specs.ModuleOfSource.{Assembled, assembled}
+use Rattle.c25_meaning_assembly.specs.ModuleOfSource.{Assembled, assembled}
 use Rattle.c25_meaning_common.specs.Results.{◌>>=◌, fold_ok, told}
 use Rattle.c25_chain.specs.declared.fault.Refusal.{Refusal}
 use Rattle.c25_chain.specs.declared.fault.Refusal.TheVariants.{Source, NoFile}

@@ -6,16 +6,16 @@ use Rattle.c25_board.specs.declared.board.Outcome.{Outcome}
 use Rattle.c25_board.specs.declared.board.Outcome.TheVariants as outcome
 use Rattle.c25_meaning_processor.specs.FirstState.{first_of_pages}
 use Rattle.c25_meaning_processor.specs.Run.{Ending, Ran, Left, Runs, Signals}
-use Rattle.c25_meaning_stimulus.specs.Samples.{samples_at}
-use Rattle.c25_meaning_stimulus.specs.Signals.{signals_of}
+use Rattle.c25_meaning_processor.specs.Samples.{samples_at}
+use Rattle.c25_meaning_processor.specs.Signals.{signals_of}
 use Rattle.c25_meaning_processor.specs.State.{State}
 use Rattle.c25_meaning_processor.specs.Status.{regs_of}
 use Rattle.c25_meaning_processor.specs.WordStep.{WordStep}
 use Rattle.c25_meaning_image.specs.declared.mark.Mark.{Mark}
 use Rattle.c25_meaning_image.specs.declared.mark.RunMark.{RunMark}
 use Rattle.c25_meaning_processor.specs.declared.registers.Regs.{Regs}
-use Rattle.c25_meaning_stimulus.specs.declared.sample.Sample.{Sample}
-use Rattle.c25_meaning_stimulus.specs.declared.schedule.Entry.{Entry}
+use Rattle.c25_meaning_processor.specs.declared.sample.Sample.{Sample}
+use Rattle.c25_meaning_processor.specs.declared.schedule.Entry.{Entry}
 use Rattle.c25_chain.specs.declared.run.Done.{Done}
 
 -- what a run did and left: its outputs in order, registers, data memory, how it ended, and how many steps were done

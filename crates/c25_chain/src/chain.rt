@@ -2,8 +2,8 @@
 
 ghost use Rattle.std.specs.Prelude.{◌≡◌, IfOk, map, string_bytes};
 ghost use Rattle.c25_meaning_common.specs.Results.{MeetsBy, told};
-ghost use Rattle.c25_meaning_stimulus.specs.Samples.{samples_of};
-ghost use Rattle.c25_meaning_stimulus.specs.Schedule.{schedule_of};
+ghost use Rattle.c25_meaning_processor.specs.Samples.{samples_of};
+ghost use Rattle.c25_meaning_processor.specs.Schedule.{schedule_of};
 ghost use Rattle.c25_chain.specs.Refusal.{refusal_of};
 ghost use Rattle.c25_chain.specs.Chain.{Answers, given_of, inputs_of, inputs_view, run_of, texts_of};
 ghost use Rattle.c25_chain.specs.Headline.{CodeStays, HoldsSourceWords, MarksStatements, OfProgram, RunsAsSources, TellsStatementsRun};

@@ -1,16 +1,16 @@
 //! Why the chain refuses.
 
 use c25_disk::fault::FileFault;
-use c25_meaning_commands::command_fault::CommandFault;
+use c25_meaning_linking::command_fault::CommandFault;
 use c25_meaning_common::failure::Failure;
 use c25_meaning_common::placed::{FileLine, Placed};
-use c25_meaning_intel_hex::hex_fault::HexFault;
+use c25_hex::hex_fault::HexFault;
 use c25_meaning_language::statement::FaultKind;
 use c25_meaning_objects::object::ObjectFault;
-use c25_meaning_placing::link_fault::LinkFault;
-use c25_meaning_stimulus::sample::BadSamples;
-use c25_meaning_stimulus::schedule::BadSchedule;
-use c25_meaning_stimulus::script::BadCommand;
+use c25_meaning_linking::link_fault::LinkFault;
+use c25_meaning_processor::sample::BadSamples;
+use c25_meaning_processor::schedule::BadSchedule;
+use c25_meaning_processor::script::BadCommand;
 use std::fmt;
 use thiserror::Error;
 

@@ -2,8 +2,8 @@
 
 ghost use Rattle.std.specs.Prelude.{◌≡◌, ◌++◌, IfOk, codes, string_bytes};
 ghost use Rattle.c25_meaning_common.specs.Faults.{numbered, placed_text};
-ghost use Rattle.c25_meaning_commands.specs.Faults.{command_text};
-ghost use Rattle.c25_meaning_intel_hex.specs.Faults.{hex_text};
+ghost use Rattle.c25_meaning_linking.specs.CommandFaults.{command_text};
+ghost use Rattle.c25_hex.specs.Faults.{hex_text};
 ghost use Rattle.c25_meaning_language.specs.Faults.{numbered_name};
 ghost use Rattle.c25_meaning_objects.specs.Faults.{object_text};
 ghost use Rattle.c25_chain.specs.FaultText.{at_file, fault_text, link_line, refusal_text};
@@ -11,17 +11,17 @@ ghost use Rattle.c25_chain.specs.Refusal.{refusal_of};
 
 use crate::fault::{Fault, Refusal};
 use c25_disk::fault::FileFault;
-use c25_meaning_commands::command_fault::CommandFault;
+use c25_meaning_linking::command_fault::CommandFault;
 use c25_meaning_common::failure::Failure;
 use c25_meaning_common::no_memory::NoMemory;
 use c25_meaning_common::placed::Placed;
-use c25_meaning_intel_hex::hex_fault::HexFault;
+use c25_hex::hex_fault::HexFault;
 use c25_meaning_language::statement::FaultKind;
 use c25_meaning_objects::object::ObjectFault;
-use c25_meaning_placing::link_fault::LinkFault;
-use c25_meaning_stimulus::sample::BadSamples;
-use c25_meaning_stimulus::schedule::BadSchedule;
-use c25_meaning_stimulus::script::BadCommand;
+use c25_meaning_linking::link_fault::LinkFault;
+use c25_meaning_processor::sample::BadSamples;
+use c25_meaning_processor::schedule::BadSchedule;
+use c25_meaning_processor::script::BadCommand;
 use std::alloc::Global;
 
 /// What is wrong with a line of a text of this name.

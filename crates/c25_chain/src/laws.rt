@@ -2,11 +2,11 @@
 //! rests and does nothing else.
 
 ghost use Rattle.std.specs.Prelude.{◌≡◌, ◌↔◌, List, ℕ};
-ghost use Rattle.c25_meaning_files.specs.Files.{Files};
+ghost use Rattle.c25_meaning_expansion.specs.Files.{Files};
 ghost use Rattle.c25_meaning_linking.specs.Linking.{ImageData};
 ghost use Rattle.c25_meaning_processor.specs.Run.{Ending};
 ghost use Rattle.c25_meaning_processor.specs.Statements.{IsImageOf};
-ghost use Rattle.c25_meaning_stimulus.specs.declared.sample.Sample.{Sample};
+ghost use Rattle.c25_meaning_processor.specs.declared.sample.Sample.{Sample};
 ghost use Rattle.c25_chain.specs.Built.{IsBuilt};
 ghost use Rattle.c25_chain.specs.Chain.{Given, IsAnswer};
 ghost use Rattle.c25_chain.specs.Headline.{CodeStays, HoldsSourceWords, MarksStatements, OfProgram, RunsAsSources, TellsStatementsRun, first_state, source_statements};
@@ -21,11 +21,11 @@ use c25_laws::program_laws::{
     linked_images_run_as_statements, program_marks_are_statements, program_words_are_the_sources,
     program_words_read_as_statements,
 };
-use c25_linking_laws::laws::{
+use c25_linking_laws::linking::{
     modules_have_one_program, program_maps_have_their_form, program_words_have_16_bits,
 };
 use c25_module_laws::assembly_laws::sources_make_modules;
-use c25_run_laws::laws::{image_runs_as_statements, steps_keep_the_words_of_code, words_end_once};
+use c25_run_laws::runs::{image_runs_as_statements, steps_keep_the_words_of_code, words_end_once};
 
 /// Sources and the text of a command come to one program at most: its words, its marks and its map
 /// are theirs alone, whatever the samples, the schedule and the number of steps are.

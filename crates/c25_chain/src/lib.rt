@@ -1,10 +1,13 @@
-//! The tool chain from sources to a run: assembling, linking, hex texts, and the board.
+//! The tool chain from the texts of sources to a run, or to the answers of a debugger's script.
 #![tactic(auto)]
 
+mod answers;
 pub mod built;
 pub mod chain;
+mod debugging;
 pub mod fault;
 mod fault_text;
+mod inspection;
 pub mod laws;
 pub mod linked;
 pub mod modules;
@@ -12,11 +15,14 @@ mod output;
 pub mod page;
 pub mod ready;
 mod run;
+mod script;
 pub mod sources;
 
 pub use built::build;
 pub use chain::{chain_of, make_ready, run_chain};
+pub use debugging::debug_chain;
 pub use fault_text::write_fault;
+pub use inspection::where_it_stands;
 pub use linked::link_modules;
 pub use modules::assemble_all;
 pub use output::write_run;

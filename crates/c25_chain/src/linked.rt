@@ -2,8 +2,8 @@
 
 ghost use Rattle.std.specs.Prelude.{IfOk};
 ghost use Rattle.c25_cmd.specs.View.{command_data};
-ghost use Rattle.c25_meaning_commands.specs.Command.{IsCommand};
-ghost use Rattle.c25_meaning_commands.specs.CommandText.{command_of};
+ghost use Rattle.c25_meaning_linking.specs.Command.{IsCommand};
+ghost use Rattle.c25_meaning_linking.specs.CommandText.{command_of};
 ghost use Rattle.c25_meaning_common.specs.Results.{MeetsBy, told};
 ghost use Rattle.c25_chain.specs.Linked.{AreTextsOf, HasTextsOf, Links, LinksText, LinksUnder};
 ghost use Rattle.c25_chain.specs.Refusal.{refusal_of};
@@ -13,7 +13,7 @@ use crate::fault::{Fault, Refusal};
 use crate::page::{Page, page_of};
 use c25_cmd::{Command, read_command};
 use c25_link::{Image, link};
-use c25_linking_laws::laws::program_maps_have_their_form;
+use c25_linking_laws::linking::program_maps_have_their_form;
 use c25_meaning_common::failure::Failure;
 use c25_meaning_common::no_memory::NoMemory;
 use c25_obj::Module;

@@ -6,7 +6,7 @@ ghost use Rattle.c25_chain.specs.OutcomeText.{outcome_text, run_text};
 
 use crate::chain::Chain;
 use c25_board::board::Outcome;
-use c25_digits::four;
+use c25_texts::digits::four;
 use c25_meaning_common::no_memory::NoMemory;
 use itoa::Buffer;
 use std::alloc::Global;

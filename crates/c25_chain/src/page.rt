@@ -1,7 +1,7 @@
 //! A page of a program: its words and their hex text.
 
 ghost use Rattle.std.specs.Prelude.{◌≡◌, IfOk, string_bytes};
-ghost use Rattle.c25_meaning_intel_hex.specs.HexText.{written};
+ghost use Rattle.c25_hex.specs.HexText.{written};
 
 use c25_hex::laws::one_text_spells_one_map;
 use c25_hex::{read_hex, write_hex};

@@ -4,7 +4,7 @@ ghost use Rattle.std.specs.Prelude.{◌≡◌, IfOk, true};
 ghost use Rattle.c25_board.specs.Board.{entries, signals, state, steps};
 ghost use Rattle.c25_meaning_image.specs.Marks.{fit_from, run_fit};
 ghost use Rattle.c25_meaning_processor.specs.FirstState.{first_of_pages};
-ghost use Rattle.c25_meaning_stimulus.specs.Samples.{samples_at};
+ghost use Rattle.c25_meaning_processor.specs.Samples.{samples_at};
 ghost use Rattle.c25_chain.specs.Run.{HasRun, HasRunFrom};
 
 use crate::linked::Linked;

@@ -3,20 +3,20 @@ use Rattle.std.proofs.Common.{◌≡◌, ℕ, zero, suc, ◌+◌, ◌<◌, ◌�
 use Rattle.std.specs.Prelude.{IfOk, codes, ok_or}
 use Rattle.std.specs.List.{list_any}
 use Rattle.std.specs.Str.{bytes_eq}
-use Rattle.c25_meaning_commands.specs.declared.command_token.Sign.TheVariants as sign
-use Rattle.c25_meaning_commands.specs.declared.command_token.Keyword.{Keyword}
-use Rattle.c25_meaning_commands.specs.declared.command_token.Keyword.TheVariants as keyword
-use Rattle.c25_meaning_commands.specs.declared.command_token.Want.{Want}
-use Rattle.c25_meaning_commands.specs.declared.command_token.Want.TheVariants as want
-use Rattle.c25_meaning_commands.specs.declared.command_fault.CommandFault.TheVariants.{Syntax, Twice, RangeSize, RangeOverlap}
+use Rattle.c25_meaning_linking.specs.declared.command_token.Sign.TheVariants as sign
+use Rattle.c25_meaning_linking.specs.declared.command_token.Keyword.{Keyword}
+use Rattle.c25_meaning_linking.specs.declared.command_token.Keyword.TheVariants as keyword
+use Rattle.c25_meaning_linking.specs.declared.command_token.Want.{Want}
+use Rattle.c25_meaning_linking.specs.declared.command_token.Want.TheVariants as want
+use Rattle.c25_meaning_linking.specs.declared.command_fault.CommandFault.TheVariants.{Syntax, Twice, RangeSize, RangeOverlap}
 use Rattle.c25_meaning_common.specs.declared.placed.Placed.{Placed}
-use Rattle.c25_meaning_commands.specs.declared.command_fault.CommandFault.{CommandFault}
-use Rattle.c25_meaning_commands.specs.Command.{RangeData, PlacingData, CommandData}
-use Rattle.c25_meaning_commands.specs.CommandTokens.{Token}
-use Rattle.c25_meaning_commands.specs.CommandGrammar.{Reading, fault_at, fault_if, passes, begins, wanted, past, repeated, up_to, CountIsEnough, number_of_kind, number_at, page_number_at, setting_at}
-use Rattle.c25_meaning_commands.specs.CommandMemory.{page_at, attributes_at, is_range, overlaps, extent_at, range_at, Ranges, more_ranges, memory_at}
-use Rattle.c25_meaning_commands.specs.CommandSections.{input_at, contents_at, place_at, target_at, section_page_at, run_at, placing_at, is_placing, more_placings, sections_at}
-use Rattle.c25_meaning_commands.specs.CommandText.{entry_in, memory_in, sections_in, part_in}
+use Rattle.c25_meaning_linking.specs.declared.command_fault.CommandFault.{CommandFault}
+use Rattle.c25_meaning_linking.specs.Command.{RangeData, PlacingData, CommandData}
+use Rattle.c25_meaning_linking.specs.CommandTokens.{Token}
+use Rattle.c25_meaning_linking.specs.CommandGrammar.{Reading, fault_at, fault_if, passes, begins, wanted, past, repeated, up_to, CountIsEnough, number_of_kind, number_at, page_number_at, setting_at}
+use Rattle.c25_meaning_linking.specs.CommandMemory.{page_at, attributes_at, is_range, overlaps, extent_at, range_at, Ranges, more_ranges, memory_at}
+use Rattle.c25_meaning_linking.specs.CommandSections.{input_at, contents_at, place_at, target_at, section_page_at, run_at, placing_at, is_placing, more_placings, sections_at}
+use Rattle.c25_meaning_linking.specs.CommandText.{entry_in, memory_in, sections_in, part_in}
 use Rattle.c25_meaning_common.specs.Results.{◌>>=◌}
 use Rattle.c25_cmd.proofs.Steps.{bound, after, chosen, wider}
 

@@ -6,19 +6,19 @@ use Rattle.std.specs.Str.{bytes_eq}
 use Rattle.std.proofs.lemmas.Bool.Decides.{nat_tests}
 use Rattle.std.proofs.lemmas.List.Elements.{All-nil, All-cons, All-head, All-tail, All-push}
 use Rattle.std.proofs.lemmas.Slice.Eq.{bytes_eq-Decides}
-use Rattle.c25_meaning_commands.specs.declared.command_token.Sign.TheVariants as sign
-use Rattle.c25_meaning_commands.specs.declared.command_token.Keyword.TheVariants as keyword
-use Rattle.c25_meaning_commands.specs.declared.command_token.Want.{Want}
-use Rattle.c25_meaning_commands.specs.declared.command_token.Want.TheVariants as want
-use Rattle.c25_meaning_commands.specs.declared.command_fault.CommandFault.{CommandFault}
-use Rattle.c25_meaning_commands.specs.declared.command_fault.CommandFault.TheVariants.{Syntax, Twice, RangeSize, RangeOverlap}
+use Rattle.c25_meaning_linking.specs.declared.command_token.Sign.TheVariants as sign
+use Rattle.c25_meaning_linking.specs.declared.command_token.Keyword.TheVariants as keyword
+use Rattle.c25_meaning_linking.specs.declared.command_token.Want.{Want}
+use Rattle.c25_meaning_linking.specs.declared.command_token.Want.TheVariants as want
+use Rattle.c25_meaning_linking.specs.declared.command_fault.CommandFault.{CommandFault}
+use Rattle.c25_meaning_linking.specs.declared.command_fault.CommandFault.TheVariants.{Syntax, Twice, RangeSize, RangeOverlap}
 use Rattle.c25_meaning_common.specs.declared.placed.Placed.{Placed}
-use Rattle.c25_meaning_commands.specs.Command.{RangeData, IsRange, PlacingData, CommandData, HasWord, AreApart, AreOthers, Pairwise, IsCommand, nothing}
-use Rattle.c25_meaning_commands.specs.CommandTokens.{Token, tokens}
-use Rattle.c25_meaning_commands.specs.CommandGrammar.{Reading, fault_if, begins, wanted, past, repeated, up_to, number_at, page_number_at, setting_at}
-use Rattle.c25_meaning_commands.specs.CommandMemory.{page_at, attributes_at, is_range, overlaps, extent_at, range_at, Ranges, more_ranges, memory_at}
-use Rattle.c25_meaning_commands.specs.CommandSections.{contents_at, target_at, section_page_at, run_at, placing_at, is_placing, more_placings, sections_at}
-use Rattle.c25_meaning_commands.specs.CommandText.{entry_in, memory_in, sections_in, part_in, command_at, command_of}
+use Rattle.c25_meaning_linking.specs.Command.{RangeData, IsRange, PlacingData, CommandData, HasWord, AreApart, AreOthers, Pairwise, IsCommand, nothing}
+use Rattle.c25_meaning_linking.specs.CommandTokens.{Token, tokens}
+use Rattle.c25_meaning_linking.specs.CommandGrammar.{Reading, fault_if, begins, wanted, past, repeated, up_to, number_at, page_number_at, setting_at}
+use Rattle.c25_meaning_linking.specs.CommandMemory.{page_at, attributes_at, is_range, overlaps, extent_at, range_at, Ranges, more_ranges, memory_at}
+use Rattle.c25_meaning_linking.specs.CommandSections.{contents_at, target_at, section_page_at, run_at, placing_at, is_placing, more_placings, sections_at}
+use Rattle.c25_meaning_linking.specs.CommandText.{entry_in, memory_in, sections_in, part_in, command_at, command_of}
 use Rattle.c25_meaning_common.specs.Results.{told}
 use Rattle.c25_cmd.proofs.Steps.{bound, after, chosen}
 

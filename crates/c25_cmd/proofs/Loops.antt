@@ -1,11 +1,11 @@
 -- Reading one thing after another, as a loop does.
 use Rattle.std.proofs.Common.{◌≡◌, ℕ, zero, suc, ◌-◌, ◌+◌, ◌≤◌, ◌<◌, true, false, List, Ok, Err, refl, sym, ◌∙◌, arith}
-use Rattle.c25_meaning_commands.specs.declared.command_token.Want.{Want}
-use Rattle.c25_meaning_commands.specs.CommandTokens.{Token}
-use Rattle.c25_meaning_commands.specs.CommandGrammar.{Reading, repeated, begins}
+use Rattle.c25_meaning_linking.specs.declared.command_token.Want.{Want}
+use Rattle.c25_meaning_linking.specs.CommandTokens.{Token}
+use Rattle.c25_meaning_linking.specs.CommandGrammar.{Reading, repeated, begins}
 use Rattle.c25_meaning_common.specs.Results.{Fails}
 use Rattle.c25_meaning_common.specs.declared.placed.Placed.{Placed}
-use Rattle.c25_meaning_commands.specs.declared.command_fault.CommandFault.{CommandFault}
+use Rattle.c25_meaning_linking.specs.declared.command_fault.CommandFault.{CommandFault}
 use Rattle.c25_meaning_common.specs.declared.failure.Failure.{Failure}
 use Rattle.c25_meaning_common.specs.declared.failure.Failure.TheVariants.{NoMemory, Fault}
 

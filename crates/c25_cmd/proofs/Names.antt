@@ -10,9 +10,9 @@ use Rattle.std.specs.declared.cmp.Ordering.TheVariants.{Less, Equal, Greater}
 use Rattle.std.proofs.lemmas.Bool.Decides.{nat_tests}
 use Rattle.std.proofs.lemmas.List.Folds.{list_any-append}
 use Rattle.std.proofs.lemmas.Map.Text.{is_eq-slice_cmp}
-use Rattle.c25_meaning_commands.specs.Command.{RangeData, PlacingData}
-use Rattle.c25_meaning_commands.specs.CommandMemory.{is_range}
-use Rattle.c25_meaning_commands.specs.CommandSections.{is_placing}
+use Rattle.c25_meaning_linking.specs.Command.{RangeData, PlacingData}
+use Rattle.c25_meaning_linking.specs.CommandMemory.{is_range}
+use Rattle.c25_meaning_linking.specs.CommandSections.{is_placing}
 use Rattle.c25_cmd.specs.Known.{HasNames, HasRangeNames}
 
 joined : (b h : Bool) → cond b true h ≡ (h || (b || false))

@@ -1,8 +1,8 @@
 -- The steps of a scan.
 use Rattle.std.proofs.Common.{◌≡◌, ℕ, zero, suc, ◌+◌, ◌-◌, ◌<◌, ◌≤◌, List, [], ◌∷◌, length, drop, ◌++◌, refl, sym, ap, ◌∙◌, append_assoc, arith}
 use Rattle.std.proofs.lemmas.List.{drop-drop, length-drop, drop_all}
-use Rattle.c25_meaning_commands.specs.CommandTokens.{Token, scan, before, covered, lexeme, end_at}
-use Rattle.c25_meaning_commands.specs.declared.command_token.Lexeme.{Lexeme}
+use Rattle.c25_meaning_linking.specs.CommandTokens.{Token, scan, before, covered, lexeme, end_at}
+use Rattle.c25_meaning_linking.specs.declared.command_token.Lexeme.{Lexeme}
 
 -- a lexeme that runs on is passed over
 passed : (k at : ℕ) (t : List ℕ) → k ≤ length t → scan k at t ≡ scan 0 (at + k) (drop k t)

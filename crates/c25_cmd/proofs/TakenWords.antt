@@ -6,8 +6,8 @@ use Rattle.std.proofs.lemmas.Bool.Decides.{nat_tests}
 use Rattle.std.proofs.lemmas.List.{get_or-replicate, get_or_past, length-replicate}
 use Rattle.std.proofs.lemmas.List.Elements.{All-nil, All-head, All-tail, All-push}
 use Rattle.std.proofs.lemmas.List.Folds.{list_any-append}
-use Rattle.c25_meaning_commands.specs.Command.{RangeData, IsRange}
-use Rattle.c25_meaning_commands.specs.CommandMemory.{overlaps}
+use Rattle.c25_meaning_linking.specs.Command.{RangeData, IsRange}
+use Rattle.c25_meaning_linking.specs.CommandMemory.{overlaps}
 use Rattle.c25_cmd.specs.Known.{covers, KnowsWords}
 
 -- ---- words that two ranges share

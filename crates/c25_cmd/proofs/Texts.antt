@@ -7,9 +7,9 @@ use Rattle.std.proofs.lemmas.Str.{IsUtf8-from_ascii}
 use Rattle.std.proofs.lemmas.Str.Ascii.{IsAscii-nil, IsAscii-cons}
 use Rattle.std.proofs.lemmas.Bool.Decides.{nat_tests}
 use Rattle.c25_meaning_common.specs.Bytes.{is_space}
-use Rattle.c25_meaning_commands.specs.CommandTokens.{is_word, sign_of, lexeme, comment_len}
-use Rattle.c25_meaning_commands.specs.declared.command_token.Sign.{Sign}
-use Rattle.c25_meaning_commands.specs.declared.command_token.Lexeme.TheVariants as piece
+use Rattle.c25_meaning_linking.specs.CommandTokens.{is_word, sign_of, lexeme, comment_len}
+use Rattle.c25_meaning_linking.specs.declared.command_token.Sign.{Sign}
+use Rattle.c25_meaning_linking.specs.declared.command_token.Lexeme.TheVariants as piece
 
 byte_small : (b : ℕ) → is_word b ≡ true → b < 128
 byte_small b e = grind (arith, nat_tests)

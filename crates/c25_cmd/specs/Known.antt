@@ -4,9 +4,9 @@ use Rattle.std.specs.List.{list_any}
 use Rattle.std.specs.Ordering.{nat_cmp, ordering_then}
 use Rattle.std.specs.Cmp.Lexicographic.{slice_cmp}
 use Rattle.std.specs.BTreeSet.{BTreeSet, contains}
-use Rattle.c25_meaning_commands.specs.Command.{RangeData, IsRange, PlacingData}
-use Rattle.c25_meaning_commands.specs.CommandMemory.{is_range}
-use Rattle.c25_meaning_commands.specs.CommandSections.{is_placing}
+use Rattle.c25_meaning_linking.specs.Command.{RangeData, IsRange, PlacingData}
+use Rattle.c25_meaning_linking.specs.CommandMemory.{is_range}
+use Rattle.c25_meaning_linking.specs.CommandSections.{is_placing}
 
 -- the set has the names of these sections, where a key is seen by its text
 abbrev pub HasNames : {K : Type 0} → (K → List ℕ) → BTreeSet K → List PlacingData → Type 0

@@ -1,12 +1,12 @@
 -- What stands where the command of a text is refused.
 use Rattle.std.specs.Prelude.{ℕ, ◌+◌, ◌==◌, ◌&&◌, List, [], ◌∷◌, take, drop, Option, Some, None, Result, Ok, Err, nat_lt, nat_le, if◌then◌else◌}
 use Rattle.std.specs.List.{fold}
-use Rattle.c25_meaning_commands.specs.Command.{CommandData}
-use Rattle.c25_meaning_commands.specs.CommandText.{command_at}
-use Rattle.c25_meaning_commands.specs.CommandTokens.{lexeme, tokens}
-use Rattle.c25_meaning_commands.specs.declared.command_fault.CommandFault.{CommandFault}
-use Rattle.c25_meaning_commands.specs.declared.command_token.Lexeme.{Lexeme}
-use Rattle.c25_meaning_commands.specs.declared.command_token.Lexeme.TheVariants as piece
+use Rattle.c25_meaning_linking.specs.Command.{CommandData}
+use Rattle.c25_meaning_linking.specs.CommandText.{command_at}
+use Rattle.c25_meaning_linking.specs.CommandTokens.{lexeme, tokens}
+use Rattle.c25_meaning_linking.specs.declared.command_fault.CommandFault.{CommandFault}
+use Rattle.c25_meaning_linking.specs.declared.command_token.Lexeme.{Lexeme}
+use Rattle.c25_meaning_linking.specs.declared.command_token.Lexeme.TheVariants as piece
 use Rattle.c25_meaning_common.specs.declared.placed.Placed.{Placed}
 use Rattle.c25_cmd.specs.declared.refused.Standing.{Standing}
 use Rattle.c25_cmd.specs.declared.refused.Standing.TheVariants as standing

@@ -1,7 +1,7 @@
 -- How the code's types stand for the definitions' data.
 use Rattle.std.specs.Prelude.{List, [], ◌∷◌, map, string_bytes, Option, Some, None, option_map}
-use Rattle.c25_meaning_commands.specs.CommandTokens as lexed
-use Rattle.c25_meaning_commands.specs.Command as meant
+use Rattle.c25_meaning_linking.specs.CommandTokens as lexed
+use Rattle.c25_meaning_linking.specs.Command as meant
 use Rattle.c25_meaning_common.specs.Digits as meaning
 use Rattle.c25_cmd.specs.declared.token.Token.{Token}
 use Rattle.c25_cmd.specs.declared.words.Numeral.{Numeral}

@@ -4,9 +4,9 @@ ghost use Rattle.std.specs.Prelude.{◌≡◌, ◌≤◌, ◌<◌, ◌-◌, ◌+
 ghost use Rattle.std.specs.List.{prefix_len};
 ghost use Rattle.std.specs.Option.{option_map_or};
 ghost use Rattle.c25_meaning_common.specs.Bytes.{is_space};
-ghost use Rattle.c25_meaning_commands.specs.CommandTokens.{sign_of, is_word, comment_len, lexeme, covered};
+ghost use Rattle.c25_meaning_linking.specs.CommandTokens.{sign_of, is_word, comment_len, lexeme, covered};
 
-use c25_meaning_commands::command_token::{Lexeme, Sign};
+use c25_meaning_linking::command_token::{Lexeme, Sign};
 use c25_meaning_common::bytes::{byte_at, is_blank};
 
 /// Whether a byte is a blank, a tab, or a character of a line's end, LF or CR.
@@ -101,7 +101,7 @@ fn sign_piece(sign: Option<Sign>) -> Lexeme
 }
 
 /// What stands at the front of a text that is not empty.
-#[tactic(auto, unfolding(c25_meaning_commands::specs::CommandTokens::lexeme))]
+#[tactic(auto, unfolding(c25_meaning_linking::specs::CommandTokens::lexeme))]
 pub(crate) fn lexeme(text: &[u8]) -> Lexeme
     requires { 0 < length text.now }
     ensures value { result ≡ lexeme text.now }

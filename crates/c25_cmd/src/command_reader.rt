@@ -2,9 +2,9 @@
 
 ghost use Rattle.std.specs.Prelude.{◌≡◌, ◌==◌, ◌≤◌, length, count_by, IfOk};
 ghost use Rattle.std.specs.Str.Lines.{lines};
-ghost use Rattle.c25_meaning_commands.specs.Command.{IsCommand};
-ghost use Rattle.c25_meaning_commands.specs.CommandText.{command_of};
-ghost use Rattle.c25_meaning_commands.specs.CommandTokens.{line_at};
+ghost use Rattle.c25_meaning_linking.specs.Command.{IsCommand};
+ghost use Rattle.c25_meaning_linking.specs.CommandText.{command_of};
+ghost use Rattle.c25_meaning_linking.specs.CommandTokens.{line_at};
 ghost use Rattle.c25_meaning_common.specs.Results.{Meets};
 ghost use Rattle.c25_cmd.specs.View.{command_data};
 
@@ -12,7 +12,7 @@ use crate::bytes::front;
 use crate::command::Command;
 use crate::lexer::tokens;
 use crate::parts::command_at;
-use c25_meaning_commands::command_fault::CommandFault;
+use c25_meaning_linking::command_fault::CommandFault;
 use c25_meaning_common::failure::Failure;
 use c25_meaning_common::placed::Placed;
 use std::alloc::Global;

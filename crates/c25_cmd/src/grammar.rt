@@ -1,15 +1,15 @@
 //! Single tokens.
 
 ghost use Rattle.std.specs.Prelude.{◌≡◌, ◌≤◌, IfOk};
-ghost use Rattle.c25_meaning_commands.specs.CommandGrammar.{passes, begins, wanted, past, fault_at, number_at, number_of_kind, page_number_at, setting_at};
+ghost use Rattle.c25_meaning_linking.specs.CommandGrammar.{passes, begins, wanted, past, fault_at, number_at, number_of_kind, page_number_at, setting_at};
 ghost use Rattle.c25_meaning_common.specs.declared.failure.Failure.TheVariants.{Fault};
 ghost use Rattle.c25_meaning_common.specs.Results.{Meets};
 ghost use Rattle.c25_cmd.specs.After.{after};
 ghost use Rattle.c25_cmd.specs.View.{token_of, tokens_of};
 
 use crate::token::Token;
-use c25_meaning_commands::command_fault::CommandFault;
-use c25_meaning_commands::command_token::{Keyword, Kind, Sign, Want};
+use c25_meaning_linking::command_fault::CommandFault;
+use c25_meaning_linking::command_token::{Keyword, Kind, Sign, Want};
 use c25_meaning_common::failure::Failure;
 use c25_meaning_common::placed::Placed;
 
@@ -59,7 +59,7 @@ pub(crate) fn begins(want: Want, tokens: &[Token]) -> bool
 }
 
 /// A token that must stand here, and those behind it.
-#[tactic(auto, unfolding(c25_meaning_commands::specs::CommandGrammar::wanted))]
+#[tactic(auto, unfolding(c25_meaning_linking::specs::CommandGrammar::wanted))]
 pub(crate) fn wanted(want: Want, tokens: &[Token]) -> Result<(&Token, &[Token]), Refused>
     ensures { Meets (λ x. (token_of x.0.now, tokens_of x.1.now)) (wanted want (tokens_of tokens.now)) result }
 {
@@ -70,7 +70,7 @@ pub(crate) fn wanted(want: Want, tokens: &[Token]) -> Result<(&Token, &[Token]),
 }
 
 /// The tokens behind one that must stand here.
-#[tactic(auto, unfolding(c25_meaning_commands::specs::CommandGrammar::wanted))]
+#[tactic(auto, unfolding(c25_meaning_linking::specs::CommandGrammar::wanted))]
 pub(crate) fn after(want: Want, tokens: &[Token]) -> Result<&[Token], Refused>
     ensures { Meets (λ x. tokens_of x.now) (after want (tokens_of tokens.now)) result }
 {
@@ -100,7 +100,7 @@ fn number_of_kind(kind: Kind) -> Option<u32>
 }
 
 /// A number that must stand here, and the tokens behind it.
-#[tactic(auto, unfolding(c25_meaning_commands::specs::CommandGrammar::number_at))]
+#[tactic(auto, unfolding(c25_meaning_linking::specs::CommandGrammar::number_at))]
 pub(crate) fn number_at(tokens: &[Token]) -> Result<(u32, &[Token]), Refused>
     ensures { Meets (λ x. (x.0, tokens_of x.1.now)) (number_at (tokens_of tokens.now)) result }
 {
@@ -114,7 +114,7 @@ pub(crate) fn number_at(tokens: &[Token]) -> Result<(u32, &[Token]), Refused>
 }
 
 /// The number of a page: 0 or 1.
-#[tactic(auto, unfolding(c25_meaning_commands::specs::CommandGrammar::page_number_at))]
+#[tactic(auto, unfolding(c25_meaning_linking::specs::CommandGrammar::page_number_at))]
 pub(crate) fn page_number_at(tokens: &[Token]) -> Result<(u8, &[Token]), Refused>
     ensures given { Meets (λ x. (x.0, tokens_of x.1.now)) (page_number_at (tokens_of tokens.now)) result }
     ensures low { IfOk result (λ x. x.0 ≤ 1) }
@@ -127,7 +127,7 @@ pub(crate) fn page_number_at(tokens: &[Token]) -> Result<(u8, &[Token]), Refused
 }
 
 /// `keyword =`: the tokens behind it.
-#[tactic(auto, unfolding(c25_meaning_commands::specs::CommandGrammar::setting_at))]
+#[tactic(auto, unfolding(c25_meaning_linking::specs::CommandGrammar::setting_at))]
 pub(crate) fn setting_at(keyword: Keyword, tokens: &[Token]) -> Result<&[Token], Refused>
     ensures { Meets (λ x. tokens_of x.now) (setting_at keyword (tokens_of tokens.now)) result }
 {

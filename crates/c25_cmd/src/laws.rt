@@ -1,13 +1,13 @@
 //! Laws of the definition of command files, each the contract of a function that does nothing.
 
 ghost use Rattle.std.specs.Prelude.{◌≡◌, List, ℕ, Ok};
-ghost use Rattle.c25_meaning_commands.specs.Command.{CommandData, IsCommand};
-ghost use Rattle.c25_meaning_commands.specs.CommandGrammar.{CountIsEnough};
-ghost use Rattle.c25_meaning_commands.specs.CommandMemory.{more_ranges};
-ghost use Rattle.c25_meaning_commands.specs.CommandSections.{more_placings};
-ghost use Rattle.c25_meaning_commands.specs.CommandText.{command_of, part_in};
-ghost use Rattle.c25_meaning_commands.specs.declared.command_token.Want.TheVariants as want;
-ghost use Rattle.c25_meaning_commands.specs.declared.command_token.Sign.TheVariants as sign;
+ghost use Rattle.c25_meaning_linking.specs.Command.{CommandData, IsCommand};
+ghost use Rattle.c25_meaning_linking.specs.CommandGrammar.{CountIsEnough};
+ghost use Rattle.c25_meaning_linking.specs.CommandMemory.{more_ranges};
+ghost use Rattle.c25_meaning_linking.specs.CommandSections.{more_placings};
+ghost use Rattle.c25_meaning_linking.specs.CommandText.{command_of, part_in};
+ghost use Rattle.c25_meaning_linking.specs.declared.command_token.Want.TheVariants as want;
+ghost use Rattle.c25_meaning_linking.specs.declared.command_token.Sign.TheVariants as sign;
 
 /// In the command that a text spells every range lies on page 0 or 1, has words and ends within its
 /// page, no two ranges of one page share a word or a name, and no section comes twice.

@@ -2,13 +2,13 @@
 
 ghost use Rattle.std.specs.Prelude.{◌≡◌, [], ◌++◌, ◌+◌, ◌^◌, ◌<◌, length, IfOk, OnOk, List};
 ghost use Rattle.std.specs.Str.{IsUtf8};
-ghost use Rattle.c25_meaning_commands.specs.CommandTokens as lexed;
+ghost use Rattle.c25_meaning_linking.specs.CommandTokens as lexed;
 ghost use Rattle.c25_cmd.specs.View.{token_of, tokens_of, option_tokens};
 
 use crate::bytes::{behind, front, lexeme};
 use crate::token::Token;
 use crate::words::word_kind;
-use c25_meaning_commands::command_token::{Kind, Lexeme};
+use c25_meaning_linking::command_token::{Kind, Lexeme};
 use std::alloc::{AllocError, Global};
 
 /// Bytes that are a text.

@@ -1,10 +1,10 @@
 //! `MEMORY`: the ranges of the pages.
 
 ghost use Rattle.std.specs.Prelude.{◌≡◌, ◌≤◌, ◌<◌, ◌+◌, length, [], ◌∷◌, ◌++◌, IfOk, OnOk};
-ghost use Rattle.c25_meaning_commands.specs.CommandGrammar.{repeated};
-ghost use Rattle.c25_meaning_commands.specs.CommandMemory.{page_at, attributes_at, extent_at, range_at, more_ranges, memory_at};
-ghost use Rattle.c25_meaning_commands.specs.declared.command_token.Want.TheVariants as want;
-ghost use Rattle.c25_meaning_commands.specs.declared.command_token.Sign.TheVariants as sign;
+ghost use Rattle.c25_meaning_linking.specs.CommandGrammar.{repeated};
+ghost use Rattle.c25_meaning_linking.specs.CommandMemory.{page_at, attributes_at, extent_at, range_at, more_ranges, memory_at};
+ghost use Rattle.c25_meaning_linking.specs.declared.command_token.Want.TheVariants as want;
+ghost use Rattle.c25_meaning_linking.specs.declared.command_token.Sign.TheVariants as sign;
 ghost use Rattle.c25_cmd.specs.Known.{HasRangeNames, KnowsWords};
 ghost use Rattle.c25_meaning_common.specs.Results.{Meets};
 ghost use Rattle.c25_cmd.specs.View.{tokens_of, range_of, ranges_of};
@@ -15,12 +15,12 @@ use crate::grammar::{
 };
 use crate::ranges::{PAGE_WORDS, Ranges, no_ranges, shares_word, take_name, take_range};
 use crate::token::Token;
-use c25_meaning_commands::command_fault::CommandFault;
-use c25_meaning_commands::command_token::{Keyword, Sign, Want};
+use c25_meaning_linking::command_fault::CommandFault;
+use c25_meaning_linking::command_token::{Keyword, Sign, Want};
 use std::alloc::Global;
 
 /// The page of the ranges from here on.
-#[tactic(auto, unfolding(c25_meaning_commands::specs::CommandMemory::page_at))]
+#[tactic(auto, unfolding(c25_meaning_linking::specs::CommandMemory::page_at))]
 fn page_at(page: u8, tokens: &[Token]) -> Result<(u8, &[Token]), Refused>
     requires { page ≤ 1 }
     ensures given { Meets (λ x. (x.0, tokens_of x.1.now)) (page_at page (tokens_of tokens.now)) result }
@@ -35,7 +35,7 @@ fn page_at(page: u8, tokens: &[Token]) -> Result<(u8, &[Token]), Refused>
 }
 
 /// One word in parentheses, if they are there, which counts for nothing.
-#[tactic(auto, unfolding(c25_meaning_commands::specs::CommandMemory::attributes_at))]
+#[tactic(auto, unfolding(c25_meaning_linking::specs::CommandMemory::attributes_at))]
 fn attributes_at(tokens: &[Token]) -> Result<&[Token], Refused>
     ensures { Meets (λ x. tokens_of x.now) (attributes_at (tokens_of tokens.now)) result }
 {
@@ -48,7 +48,7 @@ fn attributes_at(tokens: &[Token]) -> Result<&[Token], Refused>
 }
 
 /// The origin and the length of a range of that page.
-#[tactic(auto, unfolding(c25_meaning_commands::specs::CommandMemory::extent_at))]
+#[tactic(auto, unfolding(c25_meaning_linking::specs::CommandMemory::extent_at))]
 fn extent_at<'t>(
     page: u8,
     ranges: &Ranges<'_>,
@@ -74,7 +74,7 @@ fn extent_at<'t>(
 }
 
 /// A range of that page, behind those that were read; its name joins theirs.
-#[tactic(auto, unfolding(c25_meaning_commands::specs::CommandMemory::range_at))]
+#[tactic(auto, unfolding(c25_meaning_linking::specs::CommandMemory::range_at))]
 fn range_at<'a>(
     alloc: Global,
     page: u8,
@@ -111,7 +111,7 @@ fn range_at<'a>(
 }
 
 /// Reads a range more, and answers its page.
-#[tactic(auto, unfolding(c25_meaning_commands::specs::CommandMemory::more_ranges))]
+#[tactic(auto, unfolding(c25_meaning_linking::specs::CommandMemory::more_ranges))]
 fn add_range<'a>(
     alloc: Global,
     page: u8,
@@ -154,7 +154,7 @@ fn ranges_at(alloc: Global, tokens: &[Token]) -> Result<((u8, Vec<MemoryRange>),
 }
 
 /// What stands behind the word `MEMORY`.
-#[tactic(auto, unfolding(c25_meaning_commands::specs::CommandMemory::memory_at))]
+#[tactic(auto, unfolding(c25_meaning_linking::specs::CommandMemory::memory_at))]
 pub(crate) fn memory_at(
     alloc: Global,
     tokens: &[Token],

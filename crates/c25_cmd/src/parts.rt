@@ -1,11 +1,11 @@
 //! The parts of a command file.
 
 ghost use Rattle.std.specs.Prelude.{◌≡◌, length, true};
-ghost use Rattle.c25_meaning_commands.specs.Command.{nothing};
-ghost use Rattle.c25_meaning_commands.specs.CommandGrammar.{begins, repeated};
-ghost use Rattle.c25_meaning_commands.specs.CommandText.{entry_in, memory_in, sections_in, part_in, command_at};
-ghost use Rattle.c25_meaning_commands.specs.declared.command_token.Want.TheVariants as want;
-ghost use Rattle.c25_meaning_commands.specs.declared.command_token.Keyword.TheVariants as keyword;
+ghost use Rattle.c25_meaning_linking.specs.Command.{nothing};
+ghost use Rattle.c25_meaning_linking.specs.CommandGrammar.{begins, repeated};
+ghost use Rattle.c25_meaning_linking.specs.CommandText.{entry_in, memory_in, sections_in, part_in, command_at};
+ghost use Rattle.c25_meaning_linking.specs.declared.command_token.Want.TheVariants as want;
+ghost use Rattle.c25_meaning_linking.specs.declared.command_token.Keyword.TheVariants as keyword;
 ghost use Rattle.c25_meaning_common.specs.Results.{Meets};
 ghost use Rattle.c25_cmd.specs.View.{tokens_of, command_data};
 
@@ -14,12 +14,12 @@ use crate::grammar::{Refused, begins, past, refusal, wanted};
 use crate::memory::memory_at;
 use crate::sections::sections_at;
 use crate::token::Token;
-use c25_meaning_commands::command_fault::CommandFault;
-use c25_meaning_commands::command_token::{Keyword, Want};
+use c25_meaning_linking::command_fault::CommandFault;
+use c25_meaning_linking::command_token::{Keyword, Want};
 use std::alloc::Global;
 
 /// `-e name`.
-#[tactic(auto, unfolding(c25_meaning_commands::specs::CommandText::entry_in))]
+#[tactic(auto, unfolding(c25_meaning_linking::specs::CommandText::entry_in))]
 fn entry_in<'a>(
     alloc: Global,
     command: &mut Command,
@@ -40,7 +40,7 @@ fn entry_in<'a>(
 }
 
 /// `MEMORY` and its ranges.
-#[tactic(auto, unfolding(c25_meaning_commands::specs::CommandText::memory_in))]
+#[tactic(auto, unfolding(c25_meaning_linking::specs::CommandText::memory_in))]
 fn memory_in<'a>(
     alloc: Global,
     command: &mut Command,
@@ -58,7 +58,7 @@ fn memory_in<'a>(
 }
 
 /// `SECTIONS` and its sections.
-#[tactic(auto, unfolding(c25_meaning_commands::specs::CommandText::sections_in))]
+#[tactic(auto, unfolding(c25_meaning_linking::specs::CommandText::sections_in))]
 fn sections_in<'a>(
     alloc: Global,
     command: &mut Command,
@@ -76,7 +76,7 @@ fn sections_in<'a>(
 }
 
 /// One of the three parts.
-#[tactic(auto, unfolding(c25_meaning_commands::specs::CommandText::part_in))]
+#[tactic(auto, unfolding(c25_meaning_linking::specs::CommandText::part_in))]
 fn part_in<'a>(
     alloc: Global,
     command: &mut Command,
@@ -114,7 +114,7 @@ fn parts_at(alloc: Global, tokens: &[Token]) -> Result<(Command, &[Token]), Refu
 }
 
 /// The command that the tokens spell.
-#[tactic(auto, unfolding(c25_meaning_commands::specs::CommandText::command_at))]
+#[tactic(auto, unfolding(c25_meaning_linking::specs::CommandText::command_at))]
 pub(crate) fn command_at(alloc: Global, tokens: &[Token]) -> Result<Command, Refused>
     ensures { Meets command_data (command_at (tokens_of tokens.now)) result }
 {

@@ -3,8 +3,8 @@
 
 ghost use Rattle.std.specs.Prelude.{◌≡◌, ◌+◌, ◌*◌, ◌<◌, ◌≤◌, [], ◌∷◌, ◌++◌, true, not, IfOk};
 ghost use Rattle.std.specs.List.{list_any};
-ghost use Rattle.c25_meaning_commands.specs.Command.{RangeData};
-ghost use Rattle.c25_meaning_commands.specs.CommandMemory.{is_range, overlaps};
+ghost use Rattle.c25_meaning_linking.specs.Command.{RangeData};
+ghost use Rattle.c25_meaning_linking.specs.CommandMemory.{is_range, overlaps};
 ghost use Rattle.c25_cmd.specs.Known.{HasRangeNames, KnowsWords};
 ghost use Rattle.c25_cmd.specs.View.{ranges_of};
 

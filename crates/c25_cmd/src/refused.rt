@@ -1,8 +1,8 @@
 //! Where the command of a text is refused.
 
 ghost use Rattle.std.specs.Prelude.{◌≡◌, ◌≤◌, ◌<◌, ◌+◌, ◌-◌, ◌^◌, IfOk, Result, option_map, ℕ};
-ghost use Rattle.c25_meaning_commands.specs.Command.{CommandData};
-ghost use Rattle.c25_meaning_commands.specs.declared.command_fault.CommandFault.{CommandFault};
+ghost use Rattle.c25_meaning_linking.specs.Command.{CommandData};
+ghost use Rattle.c25_meaning_linking.specs.declared.command_fault.CommandFault.{CommandFault};
 ghost use Rattle.c25_meaning_common.specs.Results.{Meets};
 ghost use Rattle.c25_meaning_common.specs.declared.placed.Placed.{Placed};
 ghost use Rattle.c25_cmd.specs.Refused.{column_at, column_behind, refused_at, standing_at, standing_data, standing_of};
@@ -13,7 +13,7 @@ use crate::command::Command;
 use crate::grammar::Refused;
 use crate::lexer::{text_of, tokens};
 use crate::parts::command_at;
-use c25_meaning_commands::command_token::Lexeme;
+use c25_meaning_linking::command_token::Lexeme;
 use c25_meaning_common::failure::Failure;
 use c25_meaning_common::no_memory::NoMemory;
 use std::alloc::Global;

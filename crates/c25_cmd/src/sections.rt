@@ -2,11 +2,11 @@
 
 ghost use Rattle.std.specs.Prelude.{◌≡◌, length, [], ◌∷◌, ◌++◌, true, not, IfOk, OnOk, string_bytes};
 ghost use Rattle.std.specs.List.{list_any};
-ghost use Rattle.c25_meaning_commands.specs.Command.{PlacingData};
-ghost use Rattle.c25_meaning_commands.specs.CommandGrammar.{repeated};
-ghost use Rattle.c25_meaning_commands.specs.CommandSections.{input_at, contents_at, place_at, target_at, section_page_at, run_at, is_placing, placing_at, more_placings, sections_at};
-ghost use Rattle.c25_meaning_commands.specs.declared.command_token.Want.TheVariants as want;
-ghost use Rattle.c25_meaning_commands.specs.declared.command_token.Sign.TheVariants as sign;
+ghost use Rattle.c25_meaning_linking.specs.Command.{PlacingData};
+ghost use Rattle.c25_meaning_linking.specs.CommandGrammar.{repeated};
+ghost use Rattle.c25_meaning_linking.specs.CommandSections.{input_at, contents_at, place_at, target_at, section_page_at, run_at, is_placing, placing_at, more_placings, sections_at};
+ghost use Rattle.c25_meaning_linking.specs.declared.command_token.Want.TheVariants as want;
+ghost use Rattle.c25_meaning_linking.specs.declared.command_token.Sign.TheVariants as sign;
 ghost use Rattle.c25_cmd.specs.Known.{HasNames};
 ghost use Rattle.c25_meaning_common.specs.Results.{Meets};
 ghost use Rattle.c25_cmd.specs.View.{tokens_of, target_of, placing_of, placings_of};
@@ -14,13 +14,13 @@ ghost use Rattle.c25_cmd.specs.View.{tokens_of, target_of, placing_of, placings_
 use crate::command::{Placing, Target};
 use crate::grammar::{Refused, after, begins, number_at, page_number_at, past, refusal, wanted};
 use crate::token::Token;
-use c25_meaning_commands::command_fault::CommandFault;
-use c25_meaning_commands::command_token::{Keyword, Sign, Want};
+use c25_meaning_linking::command_fault::CommandFault;
+use c25_meaning_linking::command_token::{Keyword, Sign, Want};
 use std::alloc::{AllocError, Global};
 use std::collections::BTreeSet;
 
 /// `*(name)` or nothing.
-#[tactic(auto, unfolding(c25_meaning_commands::specs::CommandSections::input_at))]
+#[tactic(auto, unfolding(c25_meaning_linking::specs::CommandSections::input_at))]
 fn input_at<'a>(name: &str, tokens: &'a [Token]) -> Result<&'a [Token], Refused>
     ensures { Meets (λ x. tokens_of x.now) (input_at name.now (tokens_of tokens.now)) result }
 {
@@ -37,7 +37,7 @@ fn input_at<'a>(name: &str, tokens: &'a [Token]) -> Result<&'a [Token], Refused>
 }
 
 /// The braces and what stands in them, if they are there.
-#[tactic(auto, unfolding(c25_meaning_commands::specs::CommandSections::contents_at))]
+#[tactic(auto, unfolding(c25_meaning_linking::specs::CommandSections::contents_at))]
 fn contents_at<'a>(name: &str, tokens: &'a [Token]) -> Result<&'a [Token], Refused>
     ensures { Meets (λ x. tokens_of x.now) (contents_at name.now (tokens_of tokens.now)) result }
 {
@@ -49,7 +49,7 @@ fn contents_at<'a>(name: &str, tokens: &'a [Token]) -> Result<&'a [Token], Refus
 }
 
 /// A range's name or an address.
-#[tactic(auto, unfolding(c25_meaning_commands::specs::CommandSections::place_at))]
+#[tactic(auto, unfolding(c25_meaning_linking::specs::CommandSections::place_at))]
 fn place_at(alloc: Global, tokens: &[Token]) -> Result<(Target, &[Token]), Refused>
     ensures { Meets (λ x. (target_of x.0, tokens_of x.1.now)) (place_at (tokens_of tokens.now)) result }
 {
@@ -65,7 +65,7 @@ fn place_at(alloc: Global, tokens: &[Token]) -> Result<(Target, &[Token]), Refus
 }
 
 /// `> T`, `load = T`, `load > T` or nothing.
-#[tactic(auto, unfolding(c25_meaning_commands::specs::CommandSections::target_at))]
+#[tactic(auto, unfolding(c25_meaning_linking::specs::CommandSections::target_at))]
 fn target_at(alloc: Global, tokens: &[Token]) -> Result<(Target, &[Token]), Refused>
     ensures { Meets (λ x. (target_of x.0, tokens_of x.1.now)) (target_at (tokens_of tokens.now)) result }
 {
@@ -81,7 +81,7 @@ fn target_at(alloc: Global, tokens: &[Token]) -> Result<(Target, &[Token]), Refu
 }
 
 /// `PAGE n` or nothing.
-#[tactic(auto, unfolding(c25_meaning_commands::specs::CommandSections::section_page_at))]
+#[tactic(auto, unfolding(c25_meaning_linking::specs::CommandSections::section_page_at))]
 fn page_at(tokens: &[Token]) -> Result<(Option<u8>, &[Token]), Refused>
     ensures { Meets (λ x. (x.0, tokens_of x.1.now)) (section_page_at (tokens_of tokens.now)) result }
 {
@@ -93,7 +93,7 @@ fn page_at(tokens: &[Token]) -> Result<(Option<u8>, &[Token]), Refused>
 }
 
 /// `run = number` and a comma that may be left out, or nothing.
-#[tactic(auto, unfolding(c25_meaning_commands::specs::CommandSections::run_at))]
+#[tactic(auto, unfolding(c25_meaning_linking::specs::CommandSections::run_at))]
 fn run_at(tokens: &[Token]) -> Result<(Option<u32>, &[Token]), Refused>
     ensures { Meets (λ x. (x.0, tokens_of x.1.now)) (run_at (tokens_of tokens.now)) result }
 {
@@ -107,7 +107,7 @@ fn run_at(tokens: &[Token]) -> Result<(Option<u32>, &[Token]), Refused>
 }
 
 /// What stands behind the colon of a section.
-#[tactic(auto, unfolding(c25_meaning_commands::specs::CommandSections::placing_at))]
+#[tactic(auto, unfolding(c25_meaning_linking::specs::CommandSections::placing_at))]
 fn placing_at<'a>(
     alloc: Global,
     name: &str,
@@ -150,7 +150,7 @@ fn take_name<'a>(sections: &mut Sections<'a>, name: &'a str) -> Result<bool, All
 }
 
 /// Reads a section more.
-#[tactic(auto, unfolding(c25_meaning_commands::specs::CommandSections::more_placings, c25_meaning_commands::specs::CommandSections::placing_at))]
+#[tactic(auto, unfolding(c25_meaning_linking::specs::CommandSections::more_placings, c25_meaning_linking::specs::CommandSections::placing_at))]
 fn add_placing<'a>(
     alloc: Global,
     sections: &mut Sections<'a>,
@@ -193,7 +193,7 @@ fn placings_at(alloc: Global, tokens: &[Token]) -> Result<(Vec<Placing>, &[Token
 }
 
 /// What stands behind the word `SECTIONS`.
-#[tactic(auto, unfolding(c25_meaning_commands::specs::CommandSections::sections_at))]
+#[tactic(auto, unfolding(c25_meaning_linking::specs::CommandSections::sections_at))]
 pub(crate) fn sections_at(
     alloc: Global,
     tokens: &[Token],

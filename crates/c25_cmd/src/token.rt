@@ -1,6 +1,6 @@
 //! Tokens.
 
-use c25_meaning_commands::command_token::Kind;
+use c25_meaning_linking::command_token::Kind;
 
 /// A token of a text.
 #[derive(Drop)]

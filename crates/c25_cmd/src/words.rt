@@ -2,11 +2,11 @@
 
 ghost use Rattle.std.specs.Prelude.{◌≡◌, IfOk};
 ghost use Rattle.std.specs.Option.{option_map_or};
-ghost use Rattle.c25_meaning_commands.specs.CommandTokens.{word_numeral, is_numeral, keyword_of, number_kind, word_kind};
+ghost use Rattle.c25_meaning_linking.specs.CommandTokens.{word_numeral, is_numeral, keyword_of, number_kind, word_kind};
 ghost use Rattle.c25_cmd.specs.View.{numeral_of};
 
 use crate::bytes::{behind, front};
-use c25_meaning_commands::command_token::{Keyword, Kind};
+use c25_meaning_linking::command_token::{Keyword, Kind};
 use c25_meaning_common::bytes::byte_at;
 use c25_meaning_common::digits::{are_digits, digit, value_in};
 use std::alloc::{AllocError, Global};
@@ -89,7 +89,7 @@ fn name_kind(keyword: Option<Keyword>) -> Kind
 }
 
 /// What a word is.
-#[tactic(auto, unfolding(c25_meaning_commands::specs::CommandTokens::word_kind))]
+#[tactic(auto, unfolding(c25_meaning_linking::specs::CommandTokens::word_kind))]
 pub(crate) fn word_kind(alloc: Global, text: &str) -> Result<Kind, AllocError>
     ensures { IfOk result (λ kind. kind ≡ word_kind text.now) }
 {

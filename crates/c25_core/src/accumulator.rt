@@ -2,7 +2,7 @@
 
 ghost use Rattle.std.specs.Prelude.{◌≡◌, ◌<◌, ◌^◌, ◌/◌, ◌-◌, ◌%◌, ◌==◌, pos};
 ghost use Rattle.c25_bits.specs.Cut.{cut, signed};
-ghost use Rattle.c25_meaning_arithmetic.specs.Arithmetic.{scaled};
+ghost use Rattle.c25_meaning_processor.specs.Arithmetic.{scaled};
 ghost use Rattle.c25_meaning_processor.specs.Effect.{become, minus, minus_high, minus_product, plus, plus_high, plus_product, product_word, word_product};
 
 use crate::alu::{add, product, scaled, shifted_product, subtract};

@@ -1,7 +1,7 @@
 //! The instructions with one word and an operand in memory. Those that are run most often come first.
 
 ghost use Rattle.std.specs.Prelude.{◌≡◌, ◌%◌, ◌^◌, ◌+◌, ◌-◌, ℕ, pos};
-ghost use Rattle.c25_meaning_arithmetic.specs.Arithmetic.{bit};
+ghost use Rattle.c25_meaning_processor.specs.Arithmetic.{bit};
 ghost use Rattle.c25_meaning_processor.specs.Effect.{become, mem_address, mem_effect, mem_operand, minus, minus_product, operand_word, plus_product, product_word, repeat, settle, to, word_product};
 ghost use Rattle.c25_meaning_processor.specs.Operand.{address_of};
 ghost use Rattle.c25_meaning_processor.specs.State.{World, data_at};

@@ -2,7 +2,7 @@
 
 ghost use Rattle.std.specs.Prelude.{◌≡◌, true, false, slice_index};
 ghost use Rattle.c25_meaning_processor.specs.Effect.{compares, norm_effect, operand_change, operand_number, plain_effect};
-ghost use Rattle.c25_meaning_arithmetic.specs.Arithmetic.{normalized};
+ghost use Rattle.c25_meaning_processor.specs.Arithmetic.{normalized};
 
 use crate::accumulator::{low_half, minus_product, plus_product, product_word};
 use crate::alu::{

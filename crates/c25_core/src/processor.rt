@@ -15,7 +15,7 @@ use crate::memory::{read_data, read_program};
 use crate::status::regs_of;
 use crate::step::turn;
 use bitflags::Flags;
-use c25_meaning_arithmetic::accumulator::{Acc, ProductShift};
+use c25_meaning_processor::accumulator::{Acc, ProductShift};
 use c25_meaning_image::mark::RunMark;
 use c25_meaning_instructions::insn::Insn;
 use c25_meaning_processor::lines::Lines;

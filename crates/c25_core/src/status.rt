@@ -1,10 +1,10 @@
 //! The status words (SPRU014, "Status Registers").
 
 ghost use Rattle.std.specs.Prelude.{◌≡◌, ◌*◌, ◌/◌, ◌%◌, ◌==◌, ◌<◌, ◌≤◌};
-ghost use Rattle.c25_meaning_arithmetic.specs.Arithmetic.{bit, shift_number, shift_of_number};
+ghost use Rattle.c25_meaning_processor.specs.Arithmetic.{bit, shift_number, shift_of_number};
 ghost use Rattle.c25_meaning_processor.specs.Status.{is_set, regs_of, st0, st1, with_st0, with_st1};
 
-use c25_meaning_arithmetic::accumulator::ProductShift;
+use c25_meaning_processor::accumulator::ProductShift;
 use c25_meaning_processor::registers::{ArNumber, DataPage, Registers, Regs};
 
 /// PM as a number of two bits.

@@ -4,10 +4,10 @@ use Rattle.std.specs.Prelude.{IfSome, codes}
 use Rattle.std.specs.Str.{str_eq_ignore_ascii_case}
 use Rattle.std.specs.Str.Lines.{lines}
 use Rattle.std.proofs.lemmas.Bool.{leb-true}
-use Rattle.c25_meaning_stimulus.specs.declared.script.Cmd.{Cmd}
-use Rattle.c25_meaning_stimulus.specs.declared.script.Cmd.TheVariants as cmd
+use Rattle.c25_meaning_processor.specs.declared.script.Cmd.{Cmd}
+use Rattle.c25_meaning_processor.specs.declared.script.Cmd.TheVariants as cmd
 use Rattle.c25_meaning_common.specs.Digits.{decimal_of, hexadecimal_of}
-use Rattle.c25_meaning_stimulus.specs.Script.{words_in_memory, plain_command, command_with_one, command_with_two, script_command_of, script_of}
+use Rattle.c25_meaning_processor.specs.Script.{words_in_memory, plain_command, command_with_one, command_with_two, script_command_of, script_of}
 use Rattle.c25_meaning_common.proofs.ItemsHold.{items_hold}
 use Rattle.c25_debug.specs.WithinMemory.{IsWithin, AreWithin}
 

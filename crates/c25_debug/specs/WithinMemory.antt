@@ -1,8 +1,8 @@
 -- Commands that show only words that there are.
 use Rattle.std.specs.Prelude.{◌+◌, ◌≤◌, List}
 use Rattle.std.specs.List.{AllByRecursion}
-use Rattle.c25_meaning_stimulus.specs.declared.script.Cmd.{Cmd}
-use Rattle.c25_meaning_stimulus.specs.declared.script.Cmd.TheVariants as cmd
+use Rattle.c25_meaning_processor.specs.declared.script.Cmd.{Cmd}
+use Rattle.c25_meaning_processor.specs.declared.script.Cmd.TheVariants as cmd
 
 -- the words that a command shows end within the 65,536 of their memory
 abbrev pub IsWithin : Cmd → Type 0

@@ -1,13 +1,13 @@
 //! Scripts: commands of the debugger, one a line.
 
 ghost use Rattle.std.specs.Prelude.{◌≡◌};
-ghost use Rattle.c25_meaning_stimulus.specs.Script.{words_in_memory, plain_command, command_with_one, command_with_two, script_of};
+ghost use Rattle.c25_meaning_processor.specs.Script.{words_in_memory, plain_command, command_with_one, command_with_two, script_of};
 ghost use Rattle.c25_meaning_common.specs.Results.{MeetsBy};
 
-use c25_items::{LineFormat, decimal_of, hexadecimal_of, is_word, read_items};
+use c25_texts::{LineFormat, decimal_of, hexadecimal_of, is_word, read_items};
 use c25_meaning_common::failure::Failure;
 use c25_meaning_common::placed::Placed;
-use c25_meaning_stimulus::script::{BadCommand, Cmd};
+use c25_meaning_processor::script::{BadCommand, Cmd};
 use std::alloc::Global;
 use std::marker::Model;
 
@@ -20,7 +20,7 @@ pub struct Script {
 
 impl Model for Script {
     ghost use Rattle.std.specs.Prelude.{List};
-    ghost use Rattle.c25_meaning_stimulus.specs.declared.script.Cmd.{Cmd};
+    ghost use Rattle.c25_meaning_processor.specs.declared.script.Cmd.{Cmd};
     ghost use Rattle.c25_debug.specs.WithinMemory.{AreWithin};
 
     ghost Value = { List Cmd };
@@ -44,7 +44,7 @@ impl Script {
 }
 
 /// The command that is one word.
-#[tactic(auto, unfolding(c25_meaning_stimulus::specs::Script::plain_command))]
+#[tactic(auto, unfolding(c25_meaning_processor::specs::Script::plain_command))]
 fn plain_command(word: &[u8]) -> Option<Cmd>
     ensures { result ≡ plain_command word.now }
 {
@@ -62,7 +62,7 @@ fn plain_command(word: &[u8]) -> Option<Cmd>
 }
 
 /// The command that is a word and a count or an address.
-#[tactic(auto, unfolding(c25_meaning_stimulus::specs::Script::command_with_one))]
+#[tactic(auto, unfolding(c25_meaning_processor::specs::Script::command_with_one))]
 fn command_with_one(word: &[u8], number: &[u8]) -> Option<Cmd>
     ensures { result ≡ command_with_one word.now number.now }
 {
@@ -82,7 +82,7 @@ fn command_with_one(word: &[u8], number: &[u8]) -> Option<Cmd>
 }
 
 /// An address and a count of words from there on, which all lie in the memory.
-#[tactic(auto, unfolding(c25_meaning_stimulus::specs::Script::words_in_memory))]
+#[tactic(auto, unfolding(c25_meaning_processor::specs::Script::words_in_memory))]
 fn words_in_memory(address: &[u8], count: &[u8]) -> Option<(u16, u32)>
     ensures { result ≡ words_in_memory address.now count.now }
 {
@@ -96,7 +96,7 @@ fn words_in_memory(address: &[u8], count: &[u8]) -> Option<(u16, u32)>
 }
 
 /// The command that is a word, an address and a count.
-#[tactic(auto, unfolding(c25_meaning_stimulus::specs::Script::command_with_two))]
+#[tactic(auto, unfolding(c25_meaning_processor::specs::Script::command_with_two))]
 fn command_with_two(word: &[u8], address: &[u8], count: &[u8]) -> Option<Cmd>
     ensures { result ≡ command_with_two word.now address.now count.now }
 {
@@ -115,7 +115,7 @@ fn command_with_two(word: &[u8], address: &[u8], count: &[u8]) -> Option<Cmd>
 struct CommandLines;
 
 impl LineFormat for CommandLines {
-    ghost use Rattle.c25_meaning_stimulus.specs.Script.{script_command_of};
+    ghost use Rattle.c25_meaning_processor.specs.Script.{script_command_of};
 
     type Item = Cmd;
 

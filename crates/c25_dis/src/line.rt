@@ -6,7 +6,7 @@ ghost use Rattle.c25_meaning_common.specs.Digits.{four_digits};
 ghost use Rattle.c25_meaning_instructions.specs.Show.{long_text};
 ghost use Rattle.c25_dis.specs.Lines.{columns, data_text, code_text, further_text, line_text};
 
-use c25_digits::four;
+use c25_texts::digits::four;
 use c25_isa::show;
 use c25_meaning_common::no_memory::NoMemory;
 use c25_meaning_instructions::insn::Insn;

@@ -1,7 +1,7 @@
 //! Files that texts name plainly, read before the work asks for them.
 
 ghost use Rattle.std.specs.Prelude.{◌≤◌, ◌<◌, ◌+◌, length};
-ghost use Rattle.c25_meaning_files.specs.Files.{Files};
+ghost use Rattle.c25_meaning_expansion.specs.Files.{Files};
 ghost use Rattle.c25_disk.specs.Copies.{HasCopied};
 
 use crate::disk::Disk;

@@ -8,7 +8,7 @@ use crate::disk::{Disk, Refused};
 use crate::fault::{FileFault, unread};
 use c25_meaning_common::failure::Failure;
 use c25_meaning_common::placed::Placed;
-use c25_reading::{CannotRead, read_bytes};
+use c25_files::{CannotRead, read_bytes};
 use std::alloc::Global;
 
 /// The bytes of a file, or why there are none.

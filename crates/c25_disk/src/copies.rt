@@ -1,7 +1,7 @@
 //! Files that the work asks for.
 
 ghost use Rattle.std.specs.Prelude.{◌≡◌, OnOk, false, is_some};
-ghost use Rattle.c25_meaning_files.specs.Files.{text_named};
+ghost use Rattle.c25_meaning_expansion.specs.Files.{text_named};
 ghost use Rattle.c25_disk.specs.Copies.{AddsCopy, EndsAhead, EndsOver, HasCopied, IsEnd, IsFileFault};
 
 use crate::ahead::read_ahead;

@@ -7,7 +7,7 @@ ghost use Rattle.c25_disk.specs.declared.fault.FileFault.TheVariants as file;
 use c25_meaning_common::failure::Failure;
 use c25_meaning_common::no_memory::NoMemory;
 use c25_meaning_common::placed::Placed;
-use c25_reading::CannotRead;
+use c25_files::CannotRead;
 use std::alloc::Global;
 use thiserror::Error;
 

@@ -15,7 +15,7 @@ pub mod work;
 mod writing;
 
 pub use binary::read_binary;
-pub use c25_reading::{CannotRead, read_text};
+pub use c25_files::{CannotRead, read_text};
 pub use copies::with_copies;
 pub use sources::{read_file, read_sources};
 pub use writing::{Output, write_outputs};

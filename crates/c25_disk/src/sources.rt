@@ -1,7 +1,7 @@
 //! Sources, read from a disk.
 
 ghost use Rattle.std.specs.Prelude.{◌≡◌, [], IfErr, IfOk, OnErr, OnOk, false, is_some, map, string_bytes};
-ghost use Rattle.c25_meaning_files.specs.Files.{text_named};
+ghost use Rattle.c25_meaning_expansion.specs.Files.{text_named};
 ghost use Rattle.c25_files.specs.Added.{AddsAll};
 ghost use Rattle.c25_disk.specs.declared.fault.FileFault.TheVariants as kind;
 ghost use Rattle.c25_disk.specs.Held.{AddsSource, IsAllOf, IsOfFile, ReadsSources};
@@ -11,7 +11,7 @@ use crate::fault::{FileFault, fault_of_file, unread};
 use c25_files::files::{AddFault, Files};
 use c25_meaning_common::failure::Failure;
 use c25_meaning_common::placed::Placed;
-use c25_reading::{CannotRead, read_text};
+use c25_files::{CannotRead, read_text};
 use std::alloc::Global;
 
 /// The text of a file, or why there is none.

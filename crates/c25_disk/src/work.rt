@@ -15,7 +15,7 @@ use thiserror::Error;
 pub trait Work {
     ghost use Rattle.std.specs.Prelude.{ℕ, List, Option, Result};
     ghost use Rattle.c25_meaning_common.specs.declared.failure.Failure.{Failure};
-    ghost use Rattle.c25_meaning_files.specs.Files.{Files};
+    ghost use Rattle.c25_meaning_expansion.specs.Files.{Files};
 
     type Answer: Drop;
 

@@ -2,12 +2,12 @@
 use Rattle.std.specs.Prelude.{◌≡◌, ℕ, List, ◌++◌, Option, Some, None, codes}
 use Rattle.std.specs.Borrow.{Bor}
 use Rattle.c25_disk.specs.FaultNames.{file_fault_name, file_fault_number}
-use Rattle.c25_meaning_commands.specs.Faults.{command_name, command_number}
+use Rattle.c25_meaning_linking.specs.CommandFaults.{command_name, command_number}
 use Rattle.c25_meaning_common.specs.Faults.{numbered}
-use Rattle.c25_meaning_intel_hex.specs.Faults.{hex_name, hex_number}
+use Rattle.c25_hex.specs.Faults.{hex_name, hex_number}
 use Rattle.c25_meaning_language.specs.Faults.{fault_name, fault_number}
 use Rattle.c25_meaning_objects.specs.Faults.{object_name, object_number}
-use Rattle.c25_meaning_placing.specs.Faults.{link_name, link_number}
+use Rattle.c25_meaning_linking.specs.LinkFaults.{link_name, link_number}
 use Rattle.c25_explain.specs.declared.fault.AnyFault.{AnyFault}
 use Rattle.c25_explain.specs.declared.fault.AnyFault.TheVariants.{Memory, Source, Object, Command, Link, Map, Hex, Schedule, Samples, Script, File}
 use Rattle.c25_explain.specs.declared.parts.Explanation.{Explanation}

@@ -3,7 +3,7 @@ use Rattle.std.specs.Prelude.{◌≡◌, ℕ, ◌==◌, List, [], ◌++◌, Opti
 use Rattle.std.specs.Fmt.{decimal}
 use Rattle.std.specs.List.{find}
 use Rattle.c25_meaning_common.specs.Faults.{placed_text}
-use Rattle.c25_meaning_files.specs.Rows.{rows_of}
+use Rattle.c25_meaning_expansion.specs.Rows.{rows_of}
 use Rattle.c25_explain.specs.Explanation.{IsExplanationOf}
 use Rattle.c25_explain.specs.declared.fault.AnyFault.{AnyFault}
 use Rattle.c25_explain.specs.declared.note.Shown.{Shown}

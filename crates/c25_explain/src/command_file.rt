@@ -2,7 +2,7 @@
 
 ghost use Rattle.c25_explain.specs.Explanation.{IsExplanationOf};
 ghost use Rattle.c25_explain.specs.declared.fault.AnyFault.TheVariants.{Command};
-ghost use Rattle.c25_meaning_commands.specs.declared.command_fault.CommandFault.TheVariants as fault;
+ghost use Rattle.c25_meaning_linking.specs.declared.command_fault.CommandFault.TheVariants as fault;
 
 use crate::parts::Explanation;
 

@@ -1,11 +1,11 @@
 //! Faults without where they are told.
 
 use c25_disk::fault::FileFault;
-use c25_meaning_commands::command_fault::CommandFault;
-use c25_meaning_intel_hex::hex_fault::HexFault;
+use c25_meaning_linking::command_fault::CommandFault;
+use c25_hex::hex_fault::HexFault;
 use c25_meaning_language::statement::FaultKind;
 use c25_meaning_objects::object::ObjectFault;
-use c25_meaning_placing::link_fault::LinkFault;
+use c25_meaning_linking::link_fault::LinkFault;
 
 /// A fault, whatever it is told of.
 #[derive(Clone, Copy)]

@@ -2,7 +2,7 @@
 
 ghost use Rattle.c25_explain.specs.Explanation.{IsExplanationOf};
 ghost use Rattle.c25_explain.specs.declared.fault.AnyFault.TheVariants.{Link};
-ghost use Rattle.c25_meaning_placing.specs.declared.link_fault.LinkFault.TheVariants as fault;
+ghost use Rattle.c25_meaning_linking.specs.declared.link_fault.LinkFault.TheVariants as fault;
 
 use crate::parts::Explanation;
 

@@ -8,7 +8,7 @@ ghost use Rattle.c25_explain.specs.Note.{IsNoteOf, example_line, lesson, line_of
 use crate::fault::AnyFault;
 use crate::parts::Explanation;
 use crate::texts::explanation_of;
-use c25_lines::{Rows, count_lines};
+use c25_files::{Rows, count_lines};
 use c25_meaning_common::no_memory::NoMemory;
 use std::alloc::Global;
 

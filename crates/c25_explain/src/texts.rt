@@ -9,11 +9,11 @@ use crate::{
     command_file, expansion, files, linking, objects, run_files, source_lines, written_texts,
 };
 use c25_disk::fault::FileFault;
-use c25_meaning_commands::command_fault::CommandFault;
-use c25_meaning_intel_hex::hex_fault::HexFault;
+use c25_meaning_linking::command_fault::CommandFault;
+use c25_hex::hex_fault::HexFault;
 use c25_meaning_language::statement::FaultKind;
 use c25_meaning_objects::object::ObjectFault;
-use c25_meaning_placing::link_fault::LinkFault;
+use c25_meaning_linking::link_fault::LinkFault;
 
 /// That of a fault of a line of a source.
 fn source_explanation(kind: FaultKind) -> Explanation

@@ -2,7 +2,7 @@
 
 ghost use Rattle.c25_explain.specs.Explanation.{IsExplanationOf};
 ghost use Rattle.c25_explain.specs.declared.fault.AnyFault.TheVariants.{Hex, Map};
-ghost use Rattle.c25_meaning_intel_hex.specs.declared.hex_fault.HexFault.TheVariants as fault;
+ghost use Rattle.c25_hex.specs.declared.hex_fault.HexFault.TheVariants as fault;
 
 use crate::parts::Explanation;
 

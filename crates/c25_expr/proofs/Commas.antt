@@ -1,7 +1,7 @@
 -- Tokens that are cut at commas are the operands of the line.
 use Rattle.std.proofs.Common.{◌≡◌, ◌==◌, Bool, true, false, cond, List, [], ◌∷◌, length, map, refl, ◌∙◌, ap}
 use Rattle.std.specs.List.{slice_split, onto_first}
-use Rattle.c25_meaning_lines.specs.Line.{Piece}
+use Rattle.c25_meaning_language.specs.Line.{Piece}
 use Rattle.c25_meaning_language.specs.Operands.{is_comma, operands_of}
 use Rattle.c25_text.specs.View.{piece_of}
 use Rattle.c25_text.specs.declared.tokens.Token.{Token}

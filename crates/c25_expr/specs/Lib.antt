@@ -5,3 +5,4 @@ pub mod Stack
 pub mod Steps
 pub mod Symbols
 pub mod View
+pub mod OperandTexts

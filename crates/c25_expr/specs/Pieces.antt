@@ -1,7 +1,7 @@
 -- What tokens and operands stand for.
 use Rattle.std.specs.Prelude.{List, map}
 use denote.Ref.{Bor}
-use Rattle.c25_meaning_lines.specs.Line.{Piece}
+use Rattle.c25_meaning_language.specs.Line.{Piece}
 use Rattle.c25_text.specs.View.{piece_of}
 use Rattle.c25_text.specs.declared.tokens.Token.{Token}
 

@@ -16,7 +16,7 @@ use crate::tree::{Expr, PostfixItem, Steps};
 use c25_meaning_common::failure::Failure;
 use c25_meaning_common::no_memory::NoMemory;
 use c25_meaning_language::expression::{BinaryOperator, ExpressionFault, UnaryOperator};
-use c25_meaning_lines::line::{Sign, TokenKind};
+use c25_meaning_language::line::{Sign, TokenKind};
 use c25_text::constant_value;
 use c25_text::tokens::Token;
 use std::alloc::Global;

@@ -8,7 +8,7 @@ ghost use Rattle.c25_expr.specs.Completes.{behind, behind_open, behind_follow, c
 ghost use Rattle.c25_expr.specs.View.{marks_of};
 
 use crate::signs::{binary_of, unary_of};
-use c25_meaning_lines::line::{Sign, TokenKind};
+use c25_meaning_language::line::{Sign, TokenKind};
 use c25_text::tokens::Token;
 
 /// Whether an operand has to come, and how many parentheses are open, behind one more token.

@@ -1,8 +1,9 @@
-//! Expressions: their trees, the symbols of a module, and values.
+//! Expressions: their trees, the symbols of a module, values; operands of directives.
 #![tactic(auto)]
 
 mod builder;
 mod completes;
+pub mod directive_operands;
 pub mod expression_reader;
 pub mod failure;
 pub mod laws;

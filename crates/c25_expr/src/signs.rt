@@ -5,7 +5,7 @@ ghost use Rattle.c25_meaning_language.specs.Tree.{level_of};
 ghost use Rattle.c25_meaning_language.specs.Reading.{unary_of, binary_of};
 
 use c25_meaning_language::expression::{BinaryOperator, UnaryOperator};
-use c25_meaning_lines::line::Sign;
+use c25_meaning_language::line::Sign;
 
 /// The loosest level of operators.
 pub(crate) const LOOSEST: u8 = 8;

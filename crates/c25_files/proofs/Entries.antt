@@ -9,7 +9,7 @@ use Rattle.indexmap.specs.IndexMap.{insert_entry}
 use Rattle.std.specs.List.{position, position_or_len}
 use Rattle.std.specs.Map.{keys_of}
 use Rattle.std.proofs.lemmas.List.Recursion.{is_position_or_len}
-use Rattle.c25_meaning_files.specs.Rows.{file_number}
+use Rattle.c25_meaning_expansion.specs.Rows.{file_number}
 
 -- entries by the bytes of their names
 abbrev pub views : {V A : Type 0} → (V → A) → List (String Global × V) → List (List ℕ × A)

@@ -1,3 +1,5 @@
+pub mod Whole
+pub mod Passages
 pub mod Added
 pub mod Counted
 pub mod Entries

@@ -3,15 +3,15 @@
 ghost use Rattle.std.specs.Prelude.{◌≡◌, ◌↔◌, [], ◌∷◌, ◌++◌, IsSome, IfSome, IsErrOf, OnOk, OnErr, is_some, false, length, take, string_bytes};
 ghost use Rattle.std.specs.Option.{option_map};
 ghost use Rattle.std.specs.Io.KnownBytes.{IsAtEnd};
-ghost use Rattle.c25_meaning_files.specs.Files.{text_named, file_name};
-ghost use Rattle.c25_meaning_files.specs.Rows.{file_number};
+ghost use Rattle.c25_meaning_expansion.specs.Files.{text_named, file_name};
+ghost use Rattle.c25_meaning_expansion.specs.Rows.{file_number};
 ghost use Rattle.c25_files.specs.Added.{AddsAll};
 ghost use Rattle.c25_files.specs.declared.files.AddFault.TheVariants as fault;
 
 use crate::text::Text;
 use c25_meaning_common::failure::Failure;
 use c25_meaning_common::no_memory::NoMemory;
-use c25_reading::{CannotRead, read_text};
+use crate::{CannotRead, read_text};
 use indexmap::IndexMap;
 use std::alloc::Global;
 use std::io::Read;

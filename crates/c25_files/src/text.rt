@@ -1,9 +1,9 @@
 //! Texts whose lines are counted.
 
 ghost use Rattle.std.specs.Prelude.{◌≡◌, string_bytes};
-ghost use Rattle.c25_meaning_files.specs.Rows.{rows_of};
+ghost use Rattle.c25_meaning_expansion.specs.Rows.{rows_of};
 
-use c25_lines::{Rows, count_lines};
+use crate::{Rows, count_lines};
 use std::marker::Model;
 
 /// A text, and how many lines it has.

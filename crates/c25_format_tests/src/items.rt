@@ -1,7 +1,7 @@
 //! Words, numbers and items.
 
 use crate::values::equal;
-use c25_items::{LineFormat, decimal_of, hexadecimal_of, is_word, read_items};
+use c25_texts::{LineFormat, decimal_of, hexadecimal_of, is_word, read_items};
 use c25_meaning_common::failure::Failure;
 use c25_meaning_common::placed::Placed;
 use std::alloc::Global;

@@ -1,13 +1,13 @@
 //! Refusals of a line as they are printed.
 
 use crate::values::equal;
-use c25_meaning_commands::command_fault::CommandFault;
+use c25_meaning_linking::command_fault::CommandFault;
 use c25_meaning_common::failure::Failure;
 use c25_meaning_common::placed::Placed;
-use c25_meaning_intel_hex::hex_fault::HexFault;
-use c25_meaning_stimulus::sample::BadSamples;
-use c25_meaning_stimulus::schedule::BadSchedule;
-use c25_meaning_stimulus::script::BadCommand;
+use c25_hex::hex_fault::HexFault;
+use c25_meaning_processor::sample::BadSamples;
+use c25_meaning_processor::schedule::BadSchedule;
+use c25_meaning_processor::script::BadCommand;
 use std::alloc::Global;
 use std::fmt::Display;
 

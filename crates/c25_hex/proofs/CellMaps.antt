@@ -9,7 +9,7 @@ use Rattle.std.specs.FinMap.Entries.{find}
 use Rattle.std.proofs.lemmas.Bool.{ne_eqb, eq-eqb, eqb-true, eqb-false, cases_lt, cases_Bool, cond-true, cond-false, not-true, not-false, or_parts, or_cases}
 use Rattle.std.proofs.lemmas.Bool.Decides.{eqb_tells}
 use Rattle.std.proofs.lemmas.List.{get_or-set_same, get_or-set_other, get_or-replicate, get_or_past, length-replicate, drop_more}
-use Rattle.c25_meaning_intel_hex.specs.Hex.{put_bytes, gives_again, has_odd_word, other_byte}
+use Rattle.c25_hex.specs.Hex.{put_bytes, gives_again, has_odd_word, other_byte}
 use Rattle.c25_hex.proofs.Entries.{any_entry, no_entry}
 use Rattle.c25_hex.specs.Cells.{entries_from, cells_map, same_given, has_odd_pair}
 

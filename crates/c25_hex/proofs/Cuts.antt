@@ -6,9 +6,9 @@ use Rattle.std.specs.FinMap as map
 use Rattle.std.specs.Str.Lines.{lines}
 use Rattle.std.proofs.lemmas.List.{append-nil, length-append, nil_from_length}
 use Rattle.std.proofs.lemmas.List.Elements.{All-nil, All-cons, All-head, All-tail}
-use Rattle.c25_meaning_intel_hex.specs.declared.hex_fault.HexFault.{HexFault}
-use Rattle.c25_meaning_intel_hex.specs.Hex.{HexState, after_line, after_lines}
-use Rattle.c25_meaning_intel_hex.specs.HexText.{hex_line, text_of}
+use Rattle.c25_hex.specs.declared.hex_fault.HexFault.{HexFault}
+use Rattle.c25_hex.specs.Hex.{HexState, after_line, after_lines}
+use Rattle.c25_hex.specs.HexText.{hex_line, text_of}
 use Rattle.c25_hex.proofs.Lines.{cut_refused}
 use Rattle.c25_hex.proofs.Stretches.{Goes, IsWritten}
 use Rattle.c25_hex.proofs.Texts.{IsPrint, line_prints, line_first, line_last, text_more, one_line}

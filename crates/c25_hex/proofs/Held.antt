@@ -8,8 +8,8 @@ use Rattle.std.specs.FinMap.{get-insert, get-empty}
 use Rattle.std.specs.FinMap.Entries.{find, find-append}
 use Rattle.std.proofs.lemmas.Bool.{ne_eqb, eq-eqb, eqb-true, eqb-false, cases_lt, cases_Bool, cond-true, cond-false}
 use Rattle.std.proofs.lemmas.Bool.Decides.{eqb_tells}
-use Rattle.c25_meaning_intel_hex.specs.Hex.{put_bytes, gives_again, has_odd_word, other_byte, word_of}
-use Rattle.c25_meaning_intel_hex.specs.HexText.{word_bytes}
+use Rattle.c25_hex.specs.Hex.{put_bytes, gives_again, has_odd_word, other_byte, word_of}
+use Rattle.c25_hex.specs.HexText.{word_bytes}
 use Rattle.c25_hex.proofs.Entries.{no_entry}
 
 -- the bytes of a word that may be there

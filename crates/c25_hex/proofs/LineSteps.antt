@@ -3,14 +3,14 @@ use Rattle.std.proofs.Common.{◌≡◌, ℕ, zero, ◌++◌, suc, ◌+◌, ◌<
 use Rattle.std.specs.Ordering.{nat_cmp}
 use Rattle.std.specs.FinMap as map
 use Rattle.std.proofs.lemmas.List.{nil_from_length, length-drop, length-replicate}
-use Rattle.c25_meaning_intel_hex.specs.declared.hex_fault.HexFault.{HexFault}
-use Rattle.c25_meaning_intel_hex.specs.declared.hex_fault.HexFault.TheVariants.{NoEnd}
+use Rattle.c25_hex.specs.declared.hex_fault.HexFault.{HexFault}
+use Rattle.c25_hex.specs.declared.hex_fault.HexFault.TheVariants.{NoEnd}
 use Rattle.c25_meaning_common.specs.declared.placed.Placed.{Placed}
 use Rattle.c25_meaning_common.specs.declared.failure.Failure.{Failure}
 use Rattle.c25_meaning_common.specs.declared.failure.Failure.TheVariants.{NoMemory, Fault}
 use Rattle.c25_meaning_common.specs.Results.{◌>>=◌, Fails}
 use Rattle.c25_hex.specs.View.{at_line}
-use Rattle.c25_meaning_intel_hex.specs.Hex.{HexState, after_line, after_lines, numbered}
+use Rattle.c25_hex.specs.Hex.{HexState, after_line, after_lines, numbered}
 
 plus_one : (n : ℕ) → n + 1 ≡ suc n
 plus_one n = omega arith

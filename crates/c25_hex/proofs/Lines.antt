@@ -6,11 +6,11 @@ use Rattle.std.proofs.lemmas.List.{length-append, append-nil, append_cancel_left
 use Rattle.std.proofs.lemmas.List.Sums.{sum_by_push}
 use Rattle.hex.specs.Hex.{IsBytes, decode_of, is_hex_digit, encode_with, encode_upper, upper_digits}
 use Rattle.hex.proofs.HexLemmas.{IsDigits-upper_digits, decode_of-encode_upper}
-use Rattle.c25_meaning_intel_hex.specs.declared.hex_fault.HexFault.{HexFault}
-use Rattle.c25_meaning_intel_hex.specs.declared.hex_fault.HexFault.TheVariants.{AfterEnd, BadDigit, BadCount}
-use Rattle.c25_meaning_intel_hex.specs.Hex.{HexState, bytes_of, checked_line, count_fits, after_bytes, after_line}
+use Rattle.c25_hex.specs.declared.hex_fault.HexFault.{HexFault}
+use Rattle.c25_hex.specs.declared.hex_fault.HexFault.TheVariants.{AfterEnd, BadDigit, BadCount}
+use Rattle.c25_hex.specs.Hex.{HexState, bytes_of, checked_line, count_fits, after_bytes, after_line}
 use Rattle.c25_meaning_common.specs.Results.{◌>>=◌, told}
-use Rattle.c25_meaning_intel_hex.specs.HexText.{line_body, with_sum, hex_line}
+use Rattle.c25_hex.specs.HexText.{line_body, with_sum, hex_line}
 
 -- ---- digits
 

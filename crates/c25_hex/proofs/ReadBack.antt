@@ -4,8 +4,8 @@ use Rattle.std.specs.Ordering.{nat_cmp}
 use Rattle.std.specs.FinMap as map
 use Rattle.std.specs.Cmp.{nat_cmp_total}
 use Rattle.std.specs.FinMap.{same_map, nat_cmp-IsAntisymmetric}
-use Rattle.c25_meaning_intel_hex.specs.Hex.{start, after_lines, word_of, SpellsWords}
-use Rattle.c25_meaning_intel_hex.specs.HexText.{stretches, lines_on, written}
+use Rattle.c25_hex.specs.Hex.{start, after_lines, word_of, SpellsWords}
+use Rattle.c25_hex.specs.HexText.{stretches, lines_on, written}
 use Rattle.c25_meaning_image.specs.WordMap.{IsWordMap}
 use Rattle.c25_hex.proofs.Ascending.{word_map_ascends}
 use Rattle.c25_hex.proofs.Cuts.{cut_text, lines_without_last, nothing_behind}

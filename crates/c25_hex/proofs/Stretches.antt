@@ -5,8 +5,8 @@ use Rattle.std.specs.Ordering.{nat_cmp}
 use Rattle.std.proofs.lemmas.Bool.{le-leb, le-ltb, cases_Bool, cond-true, cond-false, and_parts, leb-true, leb-false, ltb-true, eqb-true, eqb-false, not-true}
 use Rattle.std.proofs.lemmas.List.{length-append, append-nil, take_at}
 use Rattle.hex.specs.Hex.{IsBytes}
-use Rattle.c25_meaning_intel_hex.specs.Hex.{HexState, start, after_bytes, with_bytes, after_line, put_bytes, gives_again, has_odd_word}
-use Rattle.c25_meaning_intel_hex.specs.HexText.{Stretch, alone, goes_on, stretches, stretches_on, word_bytes, data_line, base_line, end_line, needs_base, lines_on, line_body, with_sum, hex_line}
+use Rattle.c25_hex.specs.Hex.{HexState, start, after_bytes, with_bytes, after_line, put_bytes, gives_again, has_odd_word}
+use Rattle.c25_hex.specs.HexText.{Stretch, alone, goes_on, stretches, stretches_on, word_bytes, data_line, base_line, end_line, needs_base, lines_on, line_body, with_sum, hex_line}
 use Rattle.c25_hex.proofs.Held.{Holds, AllBelow, entries_from, holds_words, below_words, below_more, none_again, no_odd_word, nothing_held}
 use Rattle.c25_hex.proofs.Lines.{IsLine, line_taken}
 

@@ -8,8 +8,8 @@ use Rattle.std.proofs.lemmas.List.{get_or_past}
 use Rattle.std.proofs.lemmas.List.Elements.{All-nil, All-cons, All-head, All-tail}
 use Rattle.std.proofs.lemmas.List.Splits.{slice_split_at, slice_split_none, length-slice_split}
 use Rattle.hex.specs.Hex.{is_hex_digit, encode_upper}
-use Rattle.c25_meaning_intel_hex.specs.Hex.{HexState, after_line, after_lines}
-use Rattle.c25_meaning_intel_hex.specs.HexText.{hex_line, text_of, line_body, with_sum}
+use Rattle.c25_hex.specs.Hex.{HexState, after_line, after_lines}
+use Rattle.c25_hex.specs.HexText.{hex_line, text_of, line_body, with_sum}
 use Rattle.c25_hex.proofs.Lines.{digits_of_line}
 use Rattle.c25_hex.proofs.Stretches.{Goes, IsWritten}
 

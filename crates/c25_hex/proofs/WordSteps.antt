@@ -7,7 +7,7 @@ use Rattle.std.specs.FinMap.{get-insert, get-empty}
 use Rattle.std.proofs.lemmas.Bool.{cases_lt, lt-ltb, le-ltb, eqb-false}
 use Rattle.std.proofs.lemmas.Bool.Decides.{eqb_tells}
 use Rattle.std.proofs.lemmas.List.{get_or_past}
-use Rattle.c25_meaning_intel_hex.specs.Hex.{word_of, HasWordsOf}
+use Rattle.c25_hex.specs.Hex.{word_of, HasWordsOf}
 use Rattle.c25_hex.specs.Cells.{cells_map}
 use Rattle.c25_hex.proofs.CellMaps.{get-cells}
 use Rattle.c25_hex.specs.Words.{HasWordsBelow}

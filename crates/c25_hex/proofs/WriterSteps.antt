@@ -4,7 +4,7 @@ use Rattle.std.specs.Ordering.{nat_cmp}
 use Rattle.std.specs.FinMap as map
 use Rattle.std.proofs.lemmas.Bool.{cond-true, cond-false}
 use Rattle.std.proofs.lemmas.List.Concat.{flat_map-append}
-use Rattle.c25_meaning_intel_hex.specs.HexText.{Stretch, alone, goes_on, stretches, stretches_on, written, needs_base, base_line, data_line, end_line, lines_on, text_of}
+use Rattle.c25_hex.specs.HexText.{Stretch, alone, goes_on, stretches, stretches_on, written, needs_base, base_line, data_line, end_line, lines_on, text_of}
 use Rattle.c25_hex.specs.View.{stretch_text}
 
 -- the lines of the first words, and those of the others

@@ -2,15 +2,15 @@
 use Rattle.std.specs.Prelude.{ℕ, Bool, if◌then◌else◌, List, [], ◌∷◌, ◌++◌}
 use Rattle.c25_meaning_common.specs.declared.failure.Failure.{Failure}
 use Rattle.c25_meaning_common.specs.declared.failure.Failure.TheVariants.{NoMemory, Fault}
-use Rattle.c25_meaning_intel_hex.specs.declared.hex_fault.HexFault.{HexFault}
+use Rattle.c25_hex.specs.declared.hex_fault.HexFault.{HexFault}
 use Rattle.c25_meaning_common.specs.declared.placed.Placed.{Placed}
-use Rattle.c25_meaning_intel_hex.specs.Hex.{HexState}
+use Rattle.c25_hex.specs.Hex.{HexState}
 use Rattle.c25_hex.specs.Cells.{cells_map}
 use Rattle.c25_hex.specs.declared.kind.Kind.{Kind}
 use Rattle.c25_hex.specs.declared.kind.Kind.TheVariants as kinds
 use Rattle.c25_hex.specs.declared.state.Reader.{Reader}
 use Rattle.c25_hex.specs.declared.stretch.Stretch.{Stretch}
-use Rattle.c25_meaning_intel_hex.specs.HexText as text
+use Rattle.c25_hex.specs.HexText as text
 
 -- the byte of a kind
 abbrev pub code_of : Kind → ℕ

@@ -2,7 +2,7 @@
 
 ghost use Rattle.std.specs.Prelude.{◌≡◌, IfOk, IfErr, vec_len};
 ghost use Rattle.std.specs.FinMap as map;
-ghost use Rattle.c25_meaning_intel_hex.specs.Hex as spec;
+ghost use Rattle.c25_hex.specs.Hex as spec;
 ghost use Rattle.c25_hex.specs.Cells.{cells_map};
 ghost use Rattle.c25_meaning_common.specs.Results.{Meets, Fails};
 ghost use Rattle.c25_hex.specs.View.{at_line, hex_state};
@@ -13,7 +13,7 @@ use c25_meaning_common::failure::Failure;
 use c25_meaning_common::no_memory::NoMemory;
 use c25_meaning_common::placed::Placed;
 use c25_meaning_image::word_map::WordMap;
-use c25_meaning_intel_hex::hex_fault::HexFault;
+use crate::hex_fault::HexFault;
 use std::alloc::Global;
 
 fn none_given(alloc: Global) -> Result<Vec<Option<u8>>, NoMemory>

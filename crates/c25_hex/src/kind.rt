@@ -1,7 +1,7 @@
 //! The kinds of lines.
 
 ghost use Rattle.std.specs.Prelude.{◌≡◌, ◌<◌, MatchOption};
-ghost use Rattle.c25_meaning_intel_hex.specs.Hex as spec;
+ghost use Rattle.c25_hex.specs.Hex as spec;
 
 /// What a line gives, by its fourth byte.
 #[derive(Clone, Copy)]

@@ -3,8 +3,8 @@
 ghost use Rattle.std.specs.Prelude.{◌≡◌, ◌≢◌, ℕ, List, [], ◌∷◌, ◌++◌};
 ghost use Rattle.std.specs.Ordering.{nat_cmp};
 ghost use Rattle.std.specs.FinMap as map;
-ghost use Rattle.c25_meaning_intel_hex.specs.Hex.{SpellsWords};
-ghost use Rattle.c25_meaning_intel_hex.specs.HexText.{written};
+ghost use Rattle.c25_hex.specs.Hex.{SpellsWords};
+ghost use Rattle.c25_hex.specs.HexText.{written};
 ghost use Rattle.c25_meaning_image.specs.WordMap.{IsWordMap};
 
 /// What is written for words is read back as these words.

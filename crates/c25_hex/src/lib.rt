@@ -1,6 +1,7 @@
-//! Intel hex texts of words, read and written.
+//! Intel hex texts: what they are, and how they are written and read.
 #![tactic(auto)]
 
+pub mod hex_fault;
 mod hex_reader;
 mod kind;
 pub mod laws;

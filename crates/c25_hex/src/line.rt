@@ -3,13 +3,13 @@
 ghost use Rattle.std.specs.Prelude.{◌≡◌, ◌≤◌, ◌+◌, length, sum, slice_index, IsTrue, OnOk, IfOk, MatchResult, Ok, Err};
 ghost use Rattle.std.specs.List.{list_all};
 ghost use Rattle.hex.specs.Hex.{is_hex_digit};
-ghost use Rattle.c25_meaning_intel_hex.specs.Hex as spec;
+ghost use Rattle.c25_hex.specs.Hex as spec;
 ghost use Rattle.c25_meaning_common.specs.Results.{Meets};
 ghost use Rattle.c25_hex.specs.View.{code_of};
 
 use crate::kind::Kind;
 use c25_meaning_common::failure::Failure;
-use c25_meaning_intel_hex::hex_fault::HexFault;
+use crate::hex_fault::HexFault;
 use std::alloc::Global;
 
 fn is_hex_digit(byte: u8) -> bool
@@ -27,7 +27,7 @@ fn all_digits(digits: &[u8]) -> bool
 }
 
 /// The bytes of a line: pairs of digits behind `:`.
-#[tactic(auto, unfolding(c25_meaning_intel_hex::specs::Hex::bytes_of))]
+#[tactic(auto, unfolding(crate::specs::Hex::bytes_of))]
 pub(crate) fn bytes_of(alloc: Global, line: &[u8]) -> Result<Vec<u8>, Failure<HexFault>>
     ensures { Meets (λ bytes. bytes.items) (spec.bytes_of line.now) result }
 {
@@ -58,7 +58,7 @@ pub(crate) fn sum_of(bytes: &[u8]) -> u32
 }
 
 /// The kind of a line, once its count and its sum are right.
-#[tactic(auto, unfolding(c25_meaning_intel_hex::specs::Hex::checked_line))]
+#[tactic(auto, unfolding(crate::specs::Hex::checked_line))]
 pub(crate) fn kind_of(bytes: &[u8]) -> Result<Kind, HexFault>
     ensures checked { MatchResult result (λ _. spec.checked_line bytes.now ≡ Ok bytes.now) (λ f. spec.checked_line bytes.now ≡ Err f) }
     ensures kind { IfOk result (λ kind. code_of kind ≡ slice_index bytes.now 3) }

@@ -2,7 +2,7 @@
 
 ghost use Rattle.std.specs.Prelude.{◌≡◌, ◌≤◌, ◌<◌, ◌+◌, ◌^◌, length, slice_index, is_some, IsTrue, OnOk, MatchResult, Ok, Err, vec_len};
 ghost use Rattle.std.specs.List.{list_all, list_any};
-ghost use Rattle.c25_meaning_intel_hex.specs.Hex as spec;
+ghost use Rattle.c25_hex.specs.Hex as spec;
 ghost use Rattle.c25_hex.specs.Cells.{cells_map, has_odd_pair, same_given};
 ghost use Rattle.c25_meaning_common.specs.Bytes.{is_blank};
 ghost use Rattle.c25_meaning_common.specs.Results.{Meets};
@@ -13,7 +13,7 @@ use crate::line::{bytes_of, kind_of};
 use crate::state::Reader;
 use c25_meaning_common::bytes::is_blank;
 use c25_meaning_common::failure::Failure;
-use c25_meaning_intel_hex::hex_fault::HexFault;
+use crate::hex_fault::HexFault;
 use std::alloc::Global;
 
 /// Whether a line has nothing but blanks and tabs.
@@ -85,7 +85,7 @@ fn pair_at(bytes: &[u8], at: usize) -> usize
 
 impl Reader {
     /// Takes the bytes of a line of data.
-    #[tactic(auto, unfolding(c25_meaning_intel_hex::specs::Hex::with_bytes))]
+    #[tactic(auto, unfolding(crate::specs::Hex::with_bytes))]
     fn take_bytes(&mut self, address: usize, bytes: &[u8]) -> Result<(), HexFault>
         requires address_in { address < 2 ^ 16 }
         requires short { length bytes.now < 2 ^ 8 }
@@ -109,7 +109,7 @@ impl Reader {
     }
 
     /// Takes a line whose form is right.
-    #[tactic(auto, unfolding(c25_meaning_intel_hex::specs::Hex::after_bytes))]
+    #[tactic(auto, unfolding(crate::specs::Hex::after_bytes))]
     fn take_checked_line(&mut self, kind: Kind, bytes: &[u8]) -> Result<(), HexFault>
         requires long { 5 ≤ length bytes.now }
         requires counted { length bytes.now ≡ slice_index bytes.now 0 + 5 }
@@ -142,7 +142,7 @@ impl Reader {
     }
 
     /// Reads one line more.
-    #[tactic(auto, unfolding(c25_meaning_intel_hex::specs::Hex::after_line))]
+    #[tactic(auto, unfolding(crate::specs::Hex::after_line))]
     pub(crate) fn take_line(&mut self, alloc: Global, line: &[u8]) -> Result<(), Failure<HexFault>>
         ensures { Meets (λ _. hex_state self.new) (spec.after_line (hex_state self.old) line.now) result }
     {

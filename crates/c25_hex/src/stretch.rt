@@ -2,7 +2,7 @@
 
 ghost use Rattle.std.specs.Prelude.{◌≡◌, ◌<◌, ◌++◌, [], ◌∷◌, length};
 ghost use Rattle.std.specs.List.{flat_map};
-ghost use Rattle.c25_meaning_intel_hex.specs.HexText as spec;
+ghost use Rattle.c25_hex.specs.HexText as spec;
 ghost use Rattle.c25_hex.specs.View.{stretch_of};
 
 use arrayvec::ArrayVec;

@@ -1,7 +1,7 @@
 //! The words of the bytes that a text gives.
 
 ghost use Rattle.std.specs.Prelude.{◌≡◌, ◌+◌, ◌<◌, ◌^◌, length, IfOk, slice_index_or, None};
-ghost use Rattle.c25_meaning_intel_hex.specs.Hex as spec;
+ghost use Rattle.c25_hex.specs.Hex as spec;
 ghost use Rattle.c25_hex.specs.Cells.{cells_map};
 
 use c25_meaning_common::no_memory::NoMemory;

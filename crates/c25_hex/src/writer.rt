@@ -1,7 +1,7 @@
 //! A hex text as far as it has been written.
 
 ghost use Rattle.std.specs.Prelude.{◌≡◌, ◌≤◌, ◌++◌, ◌||◌, [], ◌∷◌, length, OnOk, string_bytes};
-ghost use Rattle.c25_meaning_intel_hex.specs.HexText as spec;
+ghost use Rattle.c25_hex.specs.HexText as spec;
 ghost use Rattle.c25_hex.specs.View.{code_of, stretch_of, stretch_text};
 
 use crate::kind::Kind;
@@ -43,7 +43,7 @@ fn line_body(address: u16, kind: Kind, bytes: &[u8]) -> ArrayVec<u8, 21>
 
 impl Writer {
     /// Writes one line.
-    #[tactic(auto, unfolding(c25_meaning_intel_hex::specs::HexText::hex_line))]
+    #[tactic(auto, unfolding(crate::specs::HexText::hex_line))]
     fn put_line(
         &mut self,
         alloc: Global,

@@ -1,8 +1,8 @@
 //! The hex text of words.
 
 ghost use Rattle.std.specs.Prelude.{◌≡◌, IfOk, string_bytes};
-ghost use Rattle.c25_meaning_intel_hex.specs.Hex.{SpellsWords};
-ghost use Rattle.c25_meaning_intel_hex.specs.HexText.{written};
+ghost use Rattle.c25_hex.specs.Hex.{SpellsWords};
+ghost use Rattle.c25_hex.specs.HexText.{written};
 
 use crate::stretch::alone;
 use crate::writer::Writer;

@@ -1,21 +1,16 @@
-//! The instruction set of the TMS320C25 (SPRU014, "Assembly Language Instructions"): the words of
-//! an instruction, the instruction of words, and printed texts.
-//!
-//! Each family of instructions has a module. Its macro holds the family's rows of the opcode table,
-//! each once.
+//! The instruction set of the TMS320C25 (SPRU014, "Instruction Set Summary"): which spelling a text is, encoding,
+//! decoding, printed instructions.
 #![tactic(auto)]
-
-ghost use Rattle.std.specs.Prelude.{◌≡◌, Some, IfSome};
-ghost use Rattle.c25_meaning_instructions.specs.Table.{opcode_word, second_word, words, size, InRange, Reads};
-ghost use Rattle.c25_meaning_instructions.specs.declared.insn.Insn.{Insn};
 
 mod addr;
 mod ar_mem;
 mod bit;
+mod in_order;
 mod jump;
 mod long;
 mod long_mem;
 mod mem;
+mod names;
 mod plain;
 mod port;
 mod rows;
@@ -26,7 +21,14 @@ mod text;
 use arrayvec::ArrayVec;
 use c25_meaning_instructions::insn::Insn;
 use c25_meaning_instructions::mnemonic::Mnemonic;
+pub use names::mnemonic;
 pub use text::show;
+
+ghost use Rattle.std.specs.Prelude.{◌≡◌, Some, IfSome};
+ghost use Rattle.c25_meaning_instructions.specs.Table.{opcode_word, second_word, words, size, InRange, Reads};
+ghost use Rattle.c25_meaning_instructions.specs.declared.insn.Insn.{Insn};
+
+
 
 /// The one or two words of an instruction, in the order of their addresses.
 pub type Code = ArrayVec<u16, 2>;

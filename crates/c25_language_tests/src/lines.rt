@@ -4,7 +4,7 @@ use crate::values::equal;
 use c25_meaning_common::bytes::{begins_name, byte_at, is_blank, is_digit};
 use c25_meaning_common::digits::{are_digits, digit, value_in};
 use c25_meaning_common::runs::{all_go_on_name, constant_run, name_run};
-use c25_meaning_lines::line::{Sign, TokenKind};
+use c25_meaning_language::line::{Sign, TokenKind};
 use c25_text::line::{Word, first_word, split_line};
 use c25_text::tokens::Tokens;
 use c25_text::{constant_value, past_blanks, past_field, quoted_len};

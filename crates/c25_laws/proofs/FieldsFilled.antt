@@ -3,7 +3,7 @@ use Rattle.std.proofs.Common.{◌≡◌, ℕ, zero, suc, ◌+◌, ◌%◌, ◌�
 use Rattle.std.specs.List.{Contains, fold}
 use Rattle.std.proofs.lemmas.Bool.{eq-eqb, ne_eqb}
 use Rattle.std.proofs.lemmas.List.{get_or-set_other, length-set}
-use Rattle.c25_instruction_laws.proofs.RelocatedFields.{filled_zero, low_reads, page_reads, word_reads}
+use Rattle.c25_meaning_instructions.proofs.RelocatedFields.{filled_zero, low_reads, page_reads, word_reads}
 use Rattle.c25_meaning_assembly.specs.OperandFields.{word_of}
 use Rattle.c25_meaning_common.specs.Fields.{filled}
 use Rattle.c25_meaning_common.specs.Fields.{field_values}

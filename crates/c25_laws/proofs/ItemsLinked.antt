@@ -6,14 +6,14 @@ use Rattle.std.specs.Option.{option_to_list}
 use Rattle.std.proofs.lemmas.Bool.{eq-eqb, eqb-true}
 use Rattle.std.proofs.lemmas.List.{get_or-set_other, get_or-set_same, length-set}
 use Rattle.std.proofs.lemmas.List.Elements.{All-contains, Contains-append_left, Contains-append_right}
-use Rattle.c25_instruction_laws.proofs.RelocatedFields.{filled_zero}
+use Rattle.c25_meaning_instructions.proofs.RelocatedFields.{filled_zero}
 use Rattle.c25_meaning_assembly.specs.Addresses.{Sheet, relocation_at, relocations_of, sheet_of, words_of}
 use Rattle.c25_meaning_assembly.specs.Emission.{all_names, is_here, module_with, table_at}
 use Rattle.c25_meaning_common.specs.Fields.{field_number, filled}
 use Rattle.c25_meaning_assembly.specs.InstructionStatements.{Instruction}
 use Rattle.c25_meaning_objects.specs.Module.{Contents}
 use Rattle.c25_meaning_common.specs.Fields.{field_values}
-use Rattle.c25_meaning_placing.specs.Place.{Place}
+use Rattle.c25_meaning_linking.specs.Place.{Place}
 use Rattle.c25_meaning_assembly.specs.Sections.{Content, Definitions, Exported, LaidContent, Operands, Progress, Words, Zeros, place}
 use Rattle.c25_meaning_language.specs.Statement.{form_row, insn_of}
 use Rattle.c25_meaning_instructions.specs.Table.{Reads, opcode_word, second_word, size, words}

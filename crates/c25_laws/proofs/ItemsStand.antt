@@ -7,7 +7,7 @@ use Rattle.std.proofs.lemmas.List.{append_assoc, length-append, get_or_append_le
 use Rattle.std.proofs.lemmas.List.Elements.{Contains-append_cases, Contains-append_left, Contains-append_right}
 use Rattle.c25_meaning_assembly.specs.Emission.{section_of}
 use Rattle.c25_meaning_objects.specs.Module.{SectionData}
-use Rattle.c25_meaning_placing.specs.Place.{Covers}
+use Rattle.c25_meaning_linking.specs.Place.{Covers}
 use Rattle.c25_meaning_assembly.specs.Sections.{Definitions, LaidContent, Section}
 use Rattle.c25_meaning_objects.specs.declared.object.Relocation.{Relocation}
 use Rattle.c25_meaning_language.specs.declared.value.Base.{Base}

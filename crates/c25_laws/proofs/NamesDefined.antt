@@ -3,7 +3,7 @@
 use Rattle.std.proofs.Common.{◌≡◌, ℕ, ◌+◌, List, [], ◌∷◌, ◌++◌, Some, Ok, ℤ, pos, ◌+ℤ◌, refl, sym, ap, ◌∙◌}
 use Rattle.std.proofs.Math.IntN.{+ℤ_idl}
 use Rattle.c25_meaning_objects.specs.Module.{Contents}
-use Rattle.c25_meaning_placing.specs.Place.{Place}
+use Rattle.c25_meaning_linking.specs.Place.{Place}
 use Rattle.c25_meaning_common.specs.Results.{◌>>=◌}
 use Rattle.c25_meaning_assembly.specs.Sections.{Progress, define, equate, here, label, loaded_here, name_loaded, size_at, stands, table}
 use Rattle.c25_meaning_language.specs.Statement.{valued}

@@ -8,7 +8,7 @@ use Rattle.std.proofs.lemmas.List.{append_assoc, length-append}
 use Rattle.std.proofs.lemmas.Slice.Eq.{bytes_eq-Decides}
 use Rattle.c25_meaning_assembly.specs.Emission.{names_with, numbered, symbol_of}
 use Rattle.c25_meaning_objects.specs.Module.{Contents, SymbolData}
-use Rattle.c25_meaning_placing.specs.Place.{Place}
+use Rattle.c25_meaning_linking.specs.Place.{Place}
 use Rattle.c25_meaning_assembly.specs.Sections.{Definitions, imports}
 use Rattle.c25_meaning_language.specs.Value.{defined, named_by, predefined}
 use Rattle.c25_meaning_linking.specs.Words.{base_value, name_value, symbol_name}

@@ -5,13 +5,13 @@ use Rattle.std.proofs.lemmas.List.{map-append}
 use Rattle.std.proofs.lemmas.List.Elements.{filter-append}
 use Rattle.std.proofs.lemmas.List.Sorted.{IsPermutation-append_left, IsPermutation-append_right, IsPermutation-map, IsPermutation-refl, IsPermutation-sym, IsPermutation-trans}
 use Rattle.std.proofs.lemmas.Simd.{map-map}
-use Rattle.c25_meaning_commands.specs.Command.{CommandData}
-use Rattle.c25_meaning_files.specs.Files.{Files}
+use Rattle.c25_meaning_linking.specs.Command.{CommandData}
+use Rattle.c25_meaning_expansion.specs.Files.{Files}
 use Rattle.c25_meaning_assembly.specs.InstructionStatements.{Instruction}
 use Rattle.c25_meaning_language.proofs.Numbers.{size_of_form}
 use Rattle.c25_meaning_linking.specs.Linking.{ImageData, IsProgram}
 use Rattle.c25_meaning_objects.specs.Module.{Contents}
-use Rattle.c25_meaning_placing.specs.Place.{Place, by_modules}
+use Rattle.c25_meaning_linking.specs.Place.{Place, by_modules}
 use Rattle.c25_meaning_processor.specs.Statements.{marks_of, run_mark_of}
 use Rattle.c25_meaning_processor.specs.Statements as statements
 use Rattle.c25_meaning_linking.specs.Words.{is_copied, is_run_in_place, placed_mark, placed_run_mark, program_marks, program_run_marks, section_base, section_run}

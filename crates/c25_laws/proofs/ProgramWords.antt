@@ -11,16 +11,16 @@ use Rattle.std.proofs.lemmas.List.Elements.{All-contains, All-from_recursion}
 use Rattle.std.proofs.lemmas.Option.{slice_get-get_or}
 use Rattle.std.proofs.lemmas.Simd.{map-map}
 use Rattle.c25_run_laws.proofs.Sizes.{some_word}
-use Rattle.c25_instruction_laws.proofs.RelocatedFields.{number_below}
+use Rattle.c25_meaning_instructions.proofs.RelocatedFields.{number_below}
 use Rattle.c25_meaning_assembly.specs.Addresses.{ends_first, in_order, relocation_at}
-use Rattle.c25_meaning_commands.specs.Command.{CommandData}
+use Rattle.c25_meaning_linking.specs.Command.{CommandData}
 use Rattle.c25_meaning_common.specs.Fields.{field_number}
-use Rattle.c25_meaning_files.specs.Files.{Files}
+use Rattle.c25_meaning_expansion.specs.Files.{Files}
 use Rattle.c25_meaning_assembly.specs.InstructionStatements.{Instruction, insn_with_zeros}
 use Rattle.c25_meaning_linking.specs.Linking.{ImageData, IsProgram, HasWords}
 use Rattle.c25_meaning_objects.specs.Module.{Contents, IsModule, SectionData, body_words, each_fits, has_sections, last_of, lists_fit, mark_after, mark_fits, section_fits}
 use Rattle.c25_meaning_objects.specs.Module as contents
-use Rattle.c25_meaning_placing.specs.Place.{Place, page_of, part_base}
+use Rattle.c25_meaning_linking.specs.Place.{Place, page_of, part_base}
 use Rattle.c25_meaning_language.specs.Statement.{insn_of}
 use Rattle.c25_meaning_instructions.specs.Table.{Reads}
 use Rattle.c25_meaning_processor.specs.Statements.{Statement, loaded_statement, loaded_statements}

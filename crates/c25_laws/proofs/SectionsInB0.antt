@@ -9,17 +9,17 @@ use Rattle.std.proofs.lemmas.Bool.{eq-eqb}
 use Rattle.std.proofs.lemmas.List.Elements.{All-contains, Contains-append_left}
 use Rattle.c25_run_laws.proofs.InB0.{held_runs}
 use Rattle.c25_meaning_instructions.proofs.Readings.{one_reading}
-use Rattle.c25_meaning_placing.proofs.Parts.{part_in_place}
+use Rattle.c25_meaning_linking.proofs.Parts.{part_in_place}
 use Rattle.c25_linking_laws.proofs.Members.{found_in, in_filter, in_front, in_map, in_reversed, nothing_in}
 use Rattle.c25_meaning_assembly.specs.InstructionStatements.{Instruction}
-use Rattle.c25_meaning_commands.specs.Command.{CommandData, RangeData}
-use Rattle.c25_meaning_files.specs.Files.{Files}
+use Rattle.c25_meaning_linking.specs.Command.{CommandData, RangeData}
+use Rattle.c25_meaning_expansion.specs.Files.{Files}
 use Rattle.c25_meaning_instructions.specs.Table.{Reads, size_of, words}
 use Rattle.c25_meaning_language.proofs.Numbers.{size_of_form}
 use Rattle.c25_meaning_linking.specs.Linking.{ImageData, IsProgram}
 use Rattle.c25_meaning_objects.specs.Module.{Contents, Initialised, SectionBody, SectionData, Uninitialised, body_size, body_words}
-use Rattle.c25_meaning_placing.specs.GoodMap.{Request, RunsAt, Stand, Stands, placings_for, ranges_for}
-use Rattle.c25_meaning_placing.specs.Place.{IsPart, Place, page_of, part_base, part_run, place_named, run_base, runs_elsewhere, size_of_parts}
+use Rattle.c25_meaning_linking.specs.GoodMap.{Request, RunsAt, Stand, Stands, placings_for, ranges_for}
+use Rattle.c25_meaning_linking.specs.Place.{IsPart, Place, page_of, part_base, part_run, place_named, run_base, runs_elsewhere, size_of_parts}
 use Rattle.c25_meaning_processor.specs.State.{World, holds, program_at}
 use Rattle.c25_meaning_processor.specs.Statements.{Copied, IsImageOf, loaded_statement, loaded_statements, run_mark_of, standing}
 use Rattle.c25_meaning_instructions.specs.declared.insn.Insn.{Insn}

@@ -10,7 +10,7 @@ use Rattle.c25_meaning_assembly.specs.Addresses as sheets
 use Rattle.c25_meaning_assembly.specs.Emission.{table_at}
 use Rattle.c25_meaning_common.specs.Fields.{field_number}
 use Rattle.c25_meaning_objects.specs.Module.{Contents}
-use Rattle.c25_meaning_placing.specs.Place.{Place}
+use Rattle.c25_meaning_linking.specs.Place.{Place}
 use Rattle.c25_meaning_common.specs.Results.{fold_ok}
 use Rattle.c25_meaning_assembly.specs.Sections.{Definitions}
 use Rattle.c25_meaning_language.specs.Statement.{number_in, relocation_of, valued}

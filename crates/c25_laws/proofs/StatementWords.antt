@@ -10,7 +10,7 @@ use Rattle.c25_meaning_assembly.specs.Addresses.{Sheet, relocation_at, relocatio
 use Rattle.c25_meaning_assembly.specs.OperandFields.{field_of}
 use Rattle.c25_meaning_assembly.specs.Emission.{is_here, table_at}
 use Rattle.c25_meaning_assembly.specs.InstructionStatements.{Instruction, insn_with_zeros}
-use Rattle.c25_meaning_placing.specs.Place.{Covers}
+use Rattle.c25_meaning_linking.specs.Place.{Covers}
 use Rattle.c25_meaning_common.specs.Results.{◌>>=◌}
 use Rattle.c25_meaning_assembly.specs.Sections.{Content, Definitions, Exported, LaidContent, Operands, Words, Zeros, place}
 use Rattle.c25_meaning_language.specs.Statement.{relocation_of}

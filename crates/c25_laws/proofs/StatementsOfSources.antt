@@ -5,11 +5,11 @@ use Rattle.std.proofs.lemmas.List.Elements.{All-contains_itself, All-from_recurs
 use Rattle.c25_meaning_assembly.specs.Emission.{all_names, finished, module_with}
 use Rattle.c25_meaning_language.specs.ExpansionFault.{ExpansionFault}
 use Rattle.c25_meaning_expansion.specs.ExpansionRuns.{start_of}
-use Rattle.c25_meaning_files.specs.Files.{Files}
+use Rattle.c25_meaning_expansion.specs.Files.{Files}
 use Rattle.c25_meaning_assembly.specs.InstructionStatements.{Instruction, insn_with_zeros, instructions_of}
 use Rattle.c25_meaning_objects.specs.Module as modules
 use Rattle.c25_meaning_objects.specs.Module.{Contents}
-use Rattle.c25_meaning_sources.specs.ModuleOfSource.{Assembled, Passed, assembled, completed, passed_from}
+use Rattle.c25_meaning_assembly.specs.ModuleOfSource.{Assembled, Passed, assembled, completed, passed_from}
 use Rattle.c25_meaning_common.specs.Results.{◌>>=◌}
 use Rattle.c25_meaning_assembly.specs.Sections.{Definitions, LaidContent, Progress, Section}
 use Rattle.c25_meaning_instructions.specs.Table.{Reads}

@@ -6,11 +6,11 @@ use Rattle.c25_meaning_assembly.specs.Addresses.{Sheet, relocations_of, sheet_of
 use Rattle.c25_meaning_assembly.specs.Emission.{all_names, finished, module_with, names_with, symbol_of, table_at}
 use Rattle.c25_meaning_language.specs.ExpansionFault.{ExpansionFault}
 use Rattle.c25_meaning_expansion.specs.ExpansionRuns.{start_of}
-use Rattle.c25_meaning_files.specs.Files.{Files}
+use Rattle.c25_meaning_expansion.specs.Files.{Files}
 use Rattle.c25_meaning_assembly.specs.InstructionStatements.{instructions_of}
 use Rattle.c25_meaning_objects.specs.Module.{Contents}
-use Rattle.c25_meaning_sources.specs.ModuleOfSource.{Assembled, Passed, assembled, completed, passed_from}
-use Rattle.c25_meaning_placing.specs.Place.{Place}
+use Rattle.c25_meaning_assembly.specs.ModuleOfSource.{Assembled, Passed, assembled, completed, passed_from}
+use Rattle.c25_meaning_linking.specs.Place.{Place}
 use Rattle.c25_meaning_common.specs.Results.{◌>>=◌}
 use Rattle.c25_meaning_assembly.specs.Sections.{Content, Definitions, Exported, LaidContent, Operands, Progress, Words, Zeros}
 use Rattle.c25_meaning_language.specs.Statement.{insn_of}

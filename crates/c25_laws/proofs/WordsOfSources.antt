@@ -7,12 +7,12 @@ use Rattle.std.specs.Option.{option_map_or}
 use Rattle.std.specs.Ordering.{nat_cmp}
 use Rattle.std.proofs.lemmas.Option.{get_or_from_slice_get, slice_get-get_or, slice_get_within}
 use Rattle.c25_meaning_assembly.specs.Emission.{all_names, module_with}
-use Rattle.c25_meaning_files.specs.Files.{Files}
+use Rattle.c25_meaning_expansion.specs.Files.{Files}
 use Rattle.c25_meaning_linking.specs.Linking.{HasWords}
 use Rattle.c25_meaning_objects.specs.Module as modules
 use Rattle.c25_meaning_objects.specs.Module.{Contents, SectionData, body_words}
-use Rattle.c25_meaning_sources.specs.ModuleOfSource.{Assembled, assembled}
-use Rattle.c25_meaning_placing.specs.Place.{Place, page_of, part_base}
+use Rattle.c25_meaning_assembly.specs.ModuleOfSource.{Assembled, assembled}
+use Rattle.c25_meaning_linking.specs.Place.{Place, page_of, part_base}
 use Rattle.c25_meaning_assembly.specs.Sections.{LaidContent, Progress}
 use Rattle.c25_meaning_linking.specs.Words.{HasWord, linked_word, section_base, section_page}
 use Rattle.c25_module_laws.proofs.Emitted.{Give, Made, filled_from, words_at}

@@ -5,12 +5,12 @@ use Rattle.std.specs.List.{All, Contains}
 use Rattle.c25_meaning_assembly.specs.Addresses.{relocations_of}
 use Rattle.c25_meaning_language.specs.ExpansionFault.{ExpansionFault}
 use Rattle.c25_meaning_expansion.specs.ExpansionRuns.{start_of}
-use Rattle.c25_meaning_files.specs.Files.{Files}
+use Rattle.c25_meaning_expansion.specs.Files.{Files}
 use Rattle.c25_meaning_assembly.specs.InstructionStatements.{Instruction, insn_with_zeros, instructions_of}
 use Rattle.c25_meaning_objects.specs.Module.{Contents, words_at}
 use Rattle.c25_meaning_common.specs.Fields.{field_values}
-use Rattle.c25_meaning_sources.specs.ModuleOfSource.{passed_from}
-use Rattle.c25_meaning_placing.specs.Place.{Covers}
+use Rattle.c25_meaning_assembly.specs.ModuleOfSource.{passed_from}
+use Rattle.c25_meaning_linking.specs.Place.{Covers}
 use Rattle.c25_meaning_instructions.specs.RelocatedInsn.{HasField, with_field}
 use Rattle.c25_meaning_common.specs.Results.{◌>>=◌}
 use Rattle.c25_meaning_language.specs.Statement.{form_row, insn_of}

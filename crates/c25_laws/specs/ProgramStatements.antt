@@ -8,11 +8,11 @@ use Rattle.std.specs.Ordering.{nat_cmp}
 use Rattle.c25_meaning_assembly.specs.OperandFields.{field_of}
 use Rattle.c25_meaning_language.specs.ExpansionFault.{ExpansionFault}
 use Rattle.c25_meaning_expansion.specs.ExpansionRuns.{start_of}
-use Rattle.c25_meaning_files.specs.Files.{Files}
+use Rattle.c25_meaning_expansion.specs.Files.{Files}
 use Rattle.c25_meaning_image.specs.Marks.{fit_from, run_fit}
 use Rattle.c25_meaning_objects.specs.Module.{Contents}
-use Rattle.c25_meaning_sources.specs.ModuleOfSource.{Assembled, assembled, passed_from}
-use Rattle.c25_meaning_placing.specs.Place.{Place}
+use Rattle.c25_meaning_assembly.specs.ModuleOfSource.{Assembled, assembled, passed_from}
+use Rattle.c25_meaning_linking.specs.Place.{Place}
 use Rattle.c25_meaning_common.specs.Results.{◌>>=◌}
 use Rattle.c25_meaning_assembly.specs.Sections.{Content, Definitions, LaidContent, Operands, Progress, start}
 use Rattle.c25_meaning_language.specs.Statement.{insn_of}

@@ -7,7 +7,7 @@ use Rattle.std.specs.Int.{w32, int_bit_and, int_bit_or, int_bit_xor, int_shr}
 use Rattle.std.specs.Int.RustNames.{int_div, int_rem}
 use Rattle.c25_bits.specs.Cut.{cut}
 use Rattle.c25_meaning_objects.specs.Module.{Contents}
-use Rattle.c25_meaning_placing.specs.Place.{Place}
+use Rattle.c25_meaning_linking.specs.Place.{Place}
 use Rattle.c25_meaning_assembly.specs.Sections.{Definitions}
 use Rattle.c25_meaning_language.specs.Tree.{Leaf, Constant, Name, Here, Tree, Single, Group, Unary, Binary}
 use Rattle.c25_meaning_language.specs.Value.{is_zero, truth, value_named, start_of_text}

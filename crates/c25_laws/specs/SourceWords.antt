@@ -4,9 +4,9 @@ use Rattle.std.specs.Prelude.{◌≡◌, ℕ, ◌+◌, ◌↔◌, List, [], repl
 use Rattle.std.specs.FinMap as finite
 use Rattle.std.specs.List.{Contains, slice_get}
 use Rattle.std.specs.Ordering.{nat_cmp}
-use Rattle.c25_meaning_files.specs.Files.{Files}
+use Rattle.c25_meaning_expansion.specs.Files.{Files}
 use Rattle.c25_meaning_objects.specs.Module.{Contents}
-use Rattle.c25_meaning_placing.specs.Place.{Place}
+use Rattle.c25_meaning_linking.specs.Place.{Place}
 use Rattle.c25_meaning_assembly.specs.Sections.{Content, Definitions, Exported, LaidContent, Operands, Words, Zeros}
 use Rattle.c25_meaning_language.specs.Statement.{insn_of}
 use Rattle.c25_meaning_instructions.specs.Table.{words}

@@ -1,11 +1,11 @@
 //! Laws of the definitions of assembling, each the contract of a function that does nothing.
 
 ghost use Rattle.std.specs.Prelude.{◌≡◌, List, ◌∷◌, ◌++◌, length, ℕ, Ok};
-ghost use Rattle.c25_meaning_files.specs.Files.{Files};
+ghost use Rattle.c25_meaning_expansion.specs.Files.{Files};
 ghost use Rattle.c25_meaning_assembly.specs.InstructionStatements.{Instruction};
 ghost use Rattle.c25_meaning_objects.specs.Module.{Contents};
-ghost use Rattle.c25_meaning_sources.specs.ModuleOfSource.{Assembled, assembled};
-ghost use Rattle.c25_meaning_placing.specs.Place.{Place};
+ghost use Rattle.c25_meaning_assembly.specs.ModuleOfSource.{Assembled, assembled};
+ghost use Rattle.c25_meaning_linking.specs.Place.{Place};
 ghost use Rattle.c25_meaning_assembly.specs.Sections.{Definitions, LaidContent};
 ghost use Rattle.c25_meaning_assembly.specs.ItemPlaces.{total, words_in};
 ghost use Rattle.c25_laws.specs.ModuleStatements.{instructions_in, AreStatements};

@@ -2,13 +2,13 @@
 
 ghost use Rattle.std.specs.Prelude.{◌≡◌, ◌↔◌, ◌+◌, ◌++◌, ◌∷◌, [], List, ℕ, Ok, Some, pos, true};
 ghost use Rattle.std.specs.List.{All, Contains};
-ghost use Rattle.c25_meaning_commands.specs.Command.{CommandData};
-ghost use Rattle.c25_meaning_files.specs.Files.{Files};
+ghost use Rattle.c25_meaning_linking.specs.Command.{CommandData};
+ghost use Rattle.c25_meaning_expansion.specs.Files.{Files};
 ghost use Rattle.c25_meaning_processor.specs.FirstState.{first_of_pages};
 ghost use Rattle.c25_meaning_linking.specs.Linking.{ImageData, IsProgram};
 ghost use Rattle.c25_meaning_objects.specs.Module.{Contents};
-ghost use Rattle.c25_meaning_sources.specs.ModuleOfSource.{Assembled, assembled};
-ghost use Rattle.c25_meaning_placing.specs.Place.{Place, place_named};
+ghost use Rattle.c25_meaning_assembly.specs.ModuleOfSource.{Assembled, assembled};
+ghost use Rattle.c25_meaning_linking.specs.Place.{Place, place_named};
 ghost use Rattle.c25_meaning_assembly.specs.Sections.{Progress, equate, label, name_loaded, size_at};
 ghost use Rattle.c25_meaning_processor.specs.State.{World};
 ghost use Rattle.c25_meaning_processor.specs.Statements.{IsImageOf, KeepsStatements, RunsAsStatements, loaded_statements, standing};

@@ -1,7 +1,7 @@
 -- The first name that stands among those before it.
 use Rattle.std.proofs.Common.{◌≡◌, ℕ, Bool, true, false, ◌||◌, cond, List, [], ◌∷◌, ◌++◌, Option, Some, None, refl, sym, ap, ◌∙◌}
 use Rattle.std.specs.Str.{bytes_eq}
-use Rattle.c25_meaning_placing.specs.GoodMap.{is_among}
+use Rattle.c25_meaning_linking.specs.GoodMap.{is_among}
 use Rattle.c25_meaning_linking.specs.Linking.{first_again}
 
 moved : (t a b : Bool) → ((t || a) || b) ≡ (a || (t || b))

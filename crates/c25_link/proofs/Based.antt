@@ -7,8 +7,8 @@ use Rattle.std.specs.Str.{bytes_eq}
 use Rattle.std.proofs.lemmas.List.Folds.{find-append}
 use Rattle.std.proofs.lemmas.List.Sums.{sum_by-append, sum_by-cons, sum_by_push}
 use Rattle.c25_meaning_objects.specs.Module.{SectionData, Contents, body_size}
-use Rattle.c25_meaning_placing.specs.Place.{Place, place_named, base_of, page_of, size_for, all_sections}
-use Rattle.c25_meaning_placing.proofs.PlaceNames.{same_name, is_same}
+use Rattle.c25_meaning_linking.specs.Place.{Place, place_named, base_of, page_of, size_for, all_sections}
+use Rattle.c25_meaning_linking.proofs.PlaceNames.{same_name, is_same}
 use Rattle.c25_link.specs.Bases.{part_of, next_part, run_of, HasRoomFor, HasPlaceFor}
 use Rattle.c25_place.specs.Outputs.{size_of_sections}
 use Rattle.c25_link.specs.declared.bases.PartBase.{PartBase}

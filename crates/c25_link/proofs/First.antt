@@ -3,9 +3,9 @@ use Rattle.std.proofs.Common.{◌≡◌, ℕ, ◌+◌, ◌<◌, true, false, con
 use Rattle.std.specs.Borrow.{Bor}
 use Rattle.std.specs.Option.{option_map, option_copied}
 use Rattle.std.specs.Str.{bytes_eq}
-use Rattle.c25_meaning_placing.specs.Place.{place_named}
-use Rattle.c25_meaning_placing.specs.Place as place
-use Rattle.c25_meaning_placing.proofs.PlaceNames.{same_name}
+use Rattle.c25_meaning_linking.specs.Place.{place_named}
+use Rattle.c25_meaning_linking.specs.Place as place
+use Rattle.c25_meaning_linking.proofs.PlaceNames.{same_name}
 use Rattle.c25_place.specs.View.{place_view, places_view}
 use Rattle.c25_place.specs.declared.placement.Place.{Place}
 use Rattle.c25_place.proofs.Listed.{mapped_more}

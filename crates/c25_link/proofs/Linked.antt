@@ -6,16 +6,16 @@ use Rattle.std.specs.declared.alloc.Global.{Global}
 use Rattle.std.proofs.lemmas.List.{reverse-reverse, reverse-append}
 use Rattle.std.proofs.lemmas.List.Elements.{All-nil, All-cons, All-head, All-tail, All-push, All-same, All-map}
 use Rattle.std.proofs.lemmas.Option.{slice_get-get_or}
-use Rattle.c25_meaning_commands.specs.Command.{CommandData, RangeData}
-use Rattle.c25_meaning_placing.specs.GoodMap.{IsGoodMap, Request, RunsAt, Stand, ranges_for, placings_for, requests}
+use Rattle.c25_meaning_linking.specs.Command.{CommandData, RangeData}
+use Rattle.c25_meaning_linking.specs.GoodMap.{IsGoodMap, Request, RunsAt, Stand, ranges_for, placings_for, requests}
 use Rattle.c25_meaning_linking.specs.Linking.{ImageData, names_checked}
 use Rattle.c25_meaning_objects.specs.Module.{Contents, IsModule, body_size}
-use Rattle.c25_meaning_placing.specs.Place.{Place, size_of_parts}
+use Rattle.c25_meaning_linking.specs.Place.{Place, size_of_parts}
 use Rattle.c25_meaning_common.specs.declared.failure.Failure.{Failure}
 use Rattle.c25_meaning_common.specs.declared.failure.Failure.TheVariants.{NoMemory, Fault}
 use Rattle.c25_meaning_common.specs.declared.placed.Placed.{Placed}
-use Rattle.c25_meaning_placing.specs.declared.link_fault.LinkFault.{LinkFault}
-use Rattle.c25_meaning_placing.proofs.Parts.{part_in_place, one_part}
+use Rattle.c25_meaning_linking.specs.declared.link_fault.LinkFault.{LinkFault}
+use Rattle.c25_meaning_linking.proofs.Parts.{part_in_place, one_part}
 use Rattle.c25_place.specs.Placement.{IsWithin}
 use Rattle.c25_place.specs.View.{place_view, places_view}
 use Rattle.c25_place.specs.declared.placement.Place as code

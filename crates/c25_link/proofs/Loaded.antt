@@ -13,7 +13,7 @@ use Rattle.std.proofs.lemmas.List.{take_more}
 use Rattle.std.proofs.lemmas.List.Folds.{find-append}
 use Rattle.std.proofs.lemmas.Option.{slice_get_within, slice_get-get_or, get_or_from_slice_get}
 use Rattle.c25_meaning_objects.specs.Module.{SectionBody, Uninitialised, Initialised, SectionData, Contents, body_words, body_size}
-use Rattle.c25_meaning_placing.specs.Place.{Place, IsPart, LiesIn, page_of, part_base}
+use Rattle.c25_meaning_linking.specs.Place.{Place, IsPart, LiesIn, page_of, part_base}
 use Rattle.c25_meaning_linking.specs.Words.{HasWord, linked_word, section_base, section_page, is_relocation_at}
 use Rattle.c25_meaning_objects.specs.declared.object.Relocation.{Relocation}
 use Rattle.c25_meaning_linking.specs.Linking.{HasWords}

@@ -13,11 +13,11 @@ use Rattle.std.proofs.lemmas.List.Edits.{Swapped, swapped_from_swap, length-swap
 use Rattle.std.proofs.lemmas.List.Elements.{All-nil, All-cons, All-head, All-tail, All-append, All-filter, All-weaker, filter-append}
 use Rattle.std.proofs.lemmas.List.Sorted.{IsPermutation-keeps, All-permutation}
 use Rattle.std.proofs.lemmas.Option.{slice_get-get_or}
-use Rattle.c25_meaning_commands.specs.Command.{Pairwise}
+use Rattle.c25_meaning_linking.specs.Command.{Pairwise}
 use Rattle.c25_meaning_linking.specs.Linking.{HasMarks}
 use Rattle.c25_meaning_image.specs.Marks.{fit_from, fits_behind}
 use Rattle.c25_meaning_objects.specs.Module.{SectionBody, Uninitialised, Initialised, SectionData, Contents, is_module, body_size, body_words, words_at, mark_fits, mark_after, is_from, last_of, each_fits, lists_fit, has_sections}
-use Rattle.c25_meaning_placing.specs.Place.{Place, IsPart, LiesIn, base_of, page_of, part_base, part_run, run_base, run_base_of, size_of_parts, by_modules}
+use Rattle.c25_meaning_linking.specs.Place.{Place, IsPart, LiesIn, base_of, page_of, part_base, part_run, run_base, run_base_of, size_of_parts, by_modules}
 use Rattle.c25_meaning_linking.specs.Words.{section_base, section_page, section_run, section_runs_elsewhere, placed_mark, placed_run_mark, is_copied, is_on_program, is_run_in_place, module_marks, program_marks}
 use Rattle.c25_meaning_image.specs.declared.mark.Mark.{Mark}
 use Rattle.c25_meaning_image.specs.declared.mark.RunMark.{RunMark}

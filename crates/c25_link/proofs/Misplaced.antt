@@ -9,7 +9,7 @@ use Rattle.c25_meaning_objects.specs.declared.object.LineMark.{LineMark}
 use Rattle.c25_meaning_objects.specs.declared.object.ModuleMark.{ModuleMark}
 use Rattle.c25_meaning_objects.specs.declared.object.Relocation.{Relocation}
 use Rattle.c25_meaning_objects.specs.declared.object.Version.{Version}
-use Rattle.c25_meaning_placing.specs.Place.{Place, part_base}
+use Rattle.c25_meaning_linking.specs.Place.{Place, part_base}
 use Rattle.c25_link.specs.Bases.{HasRoom}
 use Rattle.c25_link.specs.Layout.{AreModules}
 use Rattle.c25_link.proofs.Told.{pairs_ended}

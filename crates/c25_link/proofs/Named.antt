@@ -8,14 +8,14 @@ use Rattle.std.proofs.Math.Seq.{drop-cons}
 use Rattle.std.proofs.lemmas.List.{map-append, append-nil, take-append-drop}
 use Rattle.std.proofs.lemmas.List.Elements.{filter-append, All-map}
 use Rattle.std.proofs.lemmas.List.Folds.{find-append}
-use Rattle.c25_meaning_placing.specs.GoodMap.{is_among}
+use Rattle.c25_meaning_linking.specs.GoodMap.{is_among}
 use Rattle.c25_meaning_linking.specs.Linking.{first_again, section_part}
-use Rattle.c25_meaning_placing.specs.MapText.{PartData}
+use Rattle.c25_meaning_linking.specs.MapText.{PartData}
 use Rattle.c25_meaning_objects.specs.Module.{SectionData, Contents, body_size}
-use Rattle.c25_meaning_placing.specs.Place.{Place, is_section_named, part_base}
+use Rattle.c25_meaning_linking.specs.Place.{Place, is_section_named, part_base}
 use Rattle.c25_meaning_linking.specs.Words.{section_base, is_definition, definition, module_definitions, definitions, definition_of}
 use Rattle.c25_meaning_linking.specs.Words as words
-use Rattle.c25_meaning_placing.proofs.PlaceNames.{same_name}
+use Rattle.c25_meaning_linking.proofs.PlaceNames.{same_name}
 use Rattle.c25_place.proofs.Listed.{unmapped}
 use Rattle.c25_place.proofs.Sized.{turned}
 use Rattle.c25_obj.specs.View.{section_data, sections_data}

@@ -12,10 +12,10 @@ use Rattle.std.proofs.lemmas.Bool.{cases_lt}
 use Rattle.std.proofs.lemmas.List.{take_more, take_all, get_or-take, length-append, length-take-le, flat_map_more, take-map}
 use Rattle.std.proofs.lemmas.Option.{slice_get-get_or, slice_get_within, slice_get_past, get_or_from_slice_get, slice_get_read, slice_get-map}
 use Rattle.c25_meaning_objects.specs.Module.{SectionData, Contents, IsModule, body_size, each_fits, section_fits}
-use Rattle.c25_meaning_placing.specs.Place.{Place, all_sections, part_base, part_run, page_of, place_named, run_base, runs_elsewhere, size_of_parts}
+use Rattle.c25_meaning_linking.specs.Place.{Place, all_sections, part_base, part_run, page_of, place_named, run_base, runs_elsewhere, size_of_parts}
 use Rattle.c25_meaning_linking.specs.Words.{section_base, section_page, section_run, section_runs_elsewhere}
-use Rattle.c25_meaning_placing.proofs.Parts.{same_index, sections_of_module}
-use Rattle.c25_meaning_placing.proofs.PlaceNames.{same_name}
+use Rattle.c25_meaning_linking.proofs.Parts.{same_index, sections_of_module}
+use Rattle.c25_meaning_linking.proofs.PlaceNames.{same_name}
 use Rattle.c25_obj.specs.View.{contents, body_data, section_data, sections_data}
 use Rattle.c25_obj.specs.declared.parts.Parts.{Parts}
 use Rattle.c25_obj.specs.declared.parts.Section.{Section}

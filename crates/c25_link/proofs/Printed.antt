@@ -1,7 +1,7 @@
 -- A map whose lines have their form is written as its text.
 use Rattle.std.proofs.Common.{◌≡◌, ℕ, ◌≤◌, List, All}
 use Rattle.std.proofs.lemmas.List.Elements.{All-weaker}
-use Rattle.c25_meaning_placing.specs.MapText.{MapData, PartData, HasDigits, IsMapOf, IsPrinted, IsPrintedPart, IsPrintedSection, map_text}
+use Rattle.c25_meaning_linking.specs.MapText.{MapData, PartData, HasDigits, IsMapOf, IsPrinted, IsPrintedPart, IsPrintedSection, map_text}
 
 -- a map with lines of the form has its addresses' digits
 pub have_digits : (m : MapData) → IsPrinted m → All HasDigits m.sections

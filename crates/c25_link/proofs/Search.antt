@@ -7,8 +7,8 @@ use Rattle.std.proofs.lemmas.List.{take_more, take_all, map-append, take-append-
 use Rattle.std.proofs.lemmas.List.Elements.{All-nil, All-append}
 use Rattle.std.proofs.lemmas.List.Folds.{find-append}
 use Rattle.c25_meaning_objects.specs.Module.{Contents}
-use Rattle.c25_meaning_placing.specs.Place.{by_modules}
-use Rattle.c25_meaning_placing.proofs.ByModules.{by_modules-append, by_modules_all, by_modules_more}
+use Rattle.c25_meaning_linking.specs.Place.{by_modules}
+use Rattle.c25_meaning_linking.proofs.ByModules.{by_modules-append, by_modules_all, by_modules_more}
 
 -- ---- what modules give
 

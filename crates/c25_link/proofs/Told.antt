@@ -21,7 +21,7 @@ use Rattle.c25_meaning_linking.specs.Words.{LineData, file_name, placed_mark, pl
 use Rattle.c25_meaning_objects.specs.Module.{Contents, each_fits, mark_fits}
 use Rattle.c25_meaning_objects.specs.declared.object.LineMark.{LineMark}
 use Rattle.c25_meaning_objects.specs.declared.object.ModuleMark.{ModuleMark}
-use Rattle.c25_meaning_placing.specs.Place.{Place, by_modules}
+use Rattle.c25_meaning_linking.specs.Place.{Place, by_modules}
 use Rattle.c25_link.specs.Bases.{HasRoom}
 use Rattle.c25_link.specs.Layout.{AreModules, HasOnePart}
 use Rattle.c25_link.specs.Lines.{file_at, line_data, line_place, module_places, all_places}

@@ -4,7 +4,7 @@ use Rattle.std.specs.List.{slice_get}
 use Rattle.std.specs.declared.alloc.Global.{Global}
 use Rattle.std.specs.declared.vec.Vec.{Vec}
 use Rattle.c25_meaning_objects.specs.Module.{SectionData, Contents, body_size}
-use Rattle.c25_meaning_placing.specs.Place.{Place, place_named, page_of, part_base, size_of_parts, IsPart}
+use Rattle.c25_meaning_linking.specs.Place.{Place, place_named, page_of, part_base, size_of_parts, IsPart}
 use Rattle.c25_place.specs.View.{named}
 use Rattle.c25_place.specs.Outputs.{size_of_sections}
 use Rattle.c25_link.specs.declared.bases.PartBase.{PartBase}

@@ -6,7 +6,7 @@ use Rattle.std.specs.HashMap.{HashMap}
 use Rattle.std.specs.Option.{option_map_or}
 use Rattle.std.specs.declared.alloc.Global.{Global}
 use Rattle.std.specs.declared.vec.Vec.{Vec}
-use Rattle.c25_meaning_placing.specs.MapText.{PartData}
+use Rattle.c25_meaning_linking.specs.MapText.{PartData}
 use Rattle.c25_place.specs.View.{named}
 use Rattle.c25_link.specs.declared.described.PartPlace.{PartPlace}
 

@@ -6,7 +6,7 @@ use Rattle.c25_meaning_image.specs.declared.mark.Mark.{Mark}
 use Rattle.c25_meaning_image.specs.declared.mark.RunMark.{RunMark}
 use Rattle.c25_meaning_linking.specs.Linking.{HasMarks, HasRunMarks}
 use Rattle.c25_meaning_objects.specs.Module.{SectionData, Contents, IsModule}
-use Rattle.c25_meaning_placing.specs.Place.{Place, IsPart, LiesIn}
+use Rattle.c25_meaning_linking.specs.Place.{Place, IsPart, LiesIn}
 use Rattle.c25_meaning_linking.specs.Words as words
 use Rattle.c25_link.specs.Bases.{HasRoom, KnowsBases}
 use Rattle.c25_link.specs.View.{HasDefinitions}

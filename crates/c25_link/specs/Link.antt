@@ -1,15 +1,15 @@
 -- What linking answers.
 use Rattle.std.specs.Prelude.{◌≡◌, List, ℕ, Option, None, Result, Ok, Err, String}
 use Rattle.std.specs.declared.alloc.Global.{Global}
-use Rattle.c25_meaning_commands.specs.Command.{CommandData}
+use Rattle.c25_meaning_linking.specs.Command.{CommandData}
 use Rattle.c25_meaning_linking.specs.Linking.{ImageData, IsProgram, IsRefusal, HasWords, HasMarks, HasRunMarks, HasLines, first_spilled, refused_with, map_of}
 use Rattle.c25_meaning_objects.specs.Module.{Contents}
-use Rattle.c25_meaning_placing.specs.Place.{Place}
+use Rattle.c25_meaning_linking.specs.Place.{Place}
 use Rattle.c25_meaning_common.specs.declared.failure.Failure.{Failure}
 use Rattle.c25_meaning_common.specs.declared.failure.Failure.TheVariants.{NoMemory, Fault}
 use Rattle.c25_meaning_common.specs.declared.placed.Placed.{Placed}
-use Rattle.c25_meaning_placing.specs.declared.link_fault.LinkFault.{LinkFault}
-use Rattle.c25_meaning_placing.specs.declared.link_fault.LinkFault.TheVariants.{RelocRange}
+use Rattle.c25_meaning_linking.specs.declared.link_fault.LinkFault.{LinkFault}
+use Rattle.c25_meaning_linking.specs.declared.link_fault.LinkFault.TheVariants.{RelocRange}
 use Rattle.c25_place.specs.View.{refusal_of}
 
 -- the program, or the first refusal, unless memory ran out

@@ -4,7 +4,7 @@ use Rattle.std.specs.FinMap as finite
 use Rattle.std.specs.HashMap.{HashMap, get_by}
 use Rattle.std.specs.Ordering.{nat_cmp}
 use Rattle.c25_meaning_objects.specs.Module.{Contents}
-use Rattle.c25_meaning_placing.specs.Place.{Place}
+use Rattle.c25_meaning_linking.specs.Place.{Place}
 use Rattle.c25_meaning_linking.specs.Words.{HasWord, linked_word, relocation_at}
 use Rattle.c25_meaning_objects.specs.declared.object.Relocation.{Relocation}
 use Rattle.c25_meaning_image.specs.WordMap.{put_all}

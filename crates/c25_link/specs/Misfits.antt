@@ -3,7 +3,7 @@ use Rattle.std.specs.Prelude.{◌≡◌, ℕ, ◌+◌, ◌==◌, ◌&&◌, ℤ, 
 use Rattle.std.specs.List.{zip}
 use Rattle.std.specs.Option.{option_map}
 use Rattle.std.specs.declared.alloc.Global.{Global}
-use Rattle.c25_meaning_commands.specs.Command.{CommandData}
+use Rattle.c25_meaning_linking.specs.Command.{CommandData}
 use Rattle.c25_meaning_common.specs.declared.failure.Failure.{Failure}
 use Rattle.c25_meaning_common.specs.declared.failure.Failure.TheVariants.{NoMemory, Fault}
 use Rattle.c25_meaning_common.specs.declared.placed.Placed.{Placed}
@@ -14,9 +14,9 @@ use Rattle.c25_meaning_objects.specs.declared.object.LineMark.{LineMark}
 use Rattle.c25_meaning_objects.specs.declared.object.ModuleMark.{ModuleMark}
 use Rattle.c25_meaning_objects.specs.declared.object.Relocation.{Relocation}
 use Rattle.c25_meaning_objects.specs.declared.object.RelocationBase.{RelocationBase}
-use Rattle.c25_meaning_placing.specs.GoodMap.{IsGoodMap}
-use Rattle.c25_meaning_placing.specs.Place.{Place}
-use Rattle.c25_meaning_placing.specs.declared.link_fault.LinkFault.{LinkFault}
+use Rattle.c25_meaning_linking.specs.GoodMap.{IsGoodMap}
+use Rattle.c25_meaning_linking.specs.Place.{Place}
+use Rattle.c25_meaning_linking.specs.declared.link_fault.LinkFault.{LinkFault}
 use Rattle.c25_place.specs.View.{refusal_of}
 use Rattle.c25_link.specs.declared.misfits.Misfit.{Misfit}
 use Rattle.c25_link.specs.declared.misfits.SourceLine.{SourceLine}

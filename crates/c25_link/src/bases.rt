@@ -3,8 +3,8 @@
 ghost use Rattle.std.specs.Prelude.{◌≡◌, ◌≤◌, ◌+◌, ◌==◌, ◌&&◌, ◌++◌, ◌∷◌, [], ℕ, List, IfOk, IfSome, OnOk, Some, is_some, not, option_map, take, unwrap_or};
 ghost use Rattle.std.specs.List.{slice_get};
 ghost use Rattle.c25_meaning_objects.specs.Module.{SectionData, Contents, IsModule, body_size};
-ghost use Rattle.c25_meaning_placing.specs.Place as place;
-ghost use Rattle.c25_meaning_placing.specs.Place.{all_sections};
+ghost use Rattle.c25_meaning_linking.specs.Place as place;
+ghost use Rattle.c25_meaning_linking.specs.Place.{all_sections};
 ghost use Rattle.c25_meaning_linking.specs.Words.{section_base, section_page, section_run, section_runs_elsewhere};
 ghost use Rattle.c25_obj.specs.View.{contents, body_data, section_data};
 ghost use Rattle.c25_link.specs.Bases.{parts_of, next_part, KnowsBases, KnowsNext, HasRoom, HasPlaceFor};

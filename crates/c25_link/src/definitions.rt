@@ -6,14 +6,14 @@ ghost use Rattle.c25_meaning_linking.specs.Linking.{first_again, refused_with, d
 ghost use Rattle.c25_meaning_common.specs.Results.{MeetsBy};
 ghost use Rattle.c25_meaning_linking.specs.Words.{is_definition, module_definitions, definitions, definition_of};
 ghost use Rattle.c25_meaning_linking.specs.Words as words;
-ghost use Rattle.c25_meaning_placing.specs.declared.link_fault.LinkFault.TheVariants as fault;
+ghost use Rattle.c25_meaning_linking.specs.declared.link_fault.LinkFault.TheVariants as fault;
 ghost use Rattle.c25_obj.specs.View.{contents, symbol_data};
 ghost use Rattle.c25_link.specs.View.{definition_view, definitions_view, names_of, HasDefinitions};
 ghost use Rattle.c25_place.specs.View.{named, refusal_of};
 
 use c25_meaning_common::failure::Failure;
 use c25_meaning_objects::object::{Scope, SymbolKind};
-use c25_meaning_placing::link_fault::LinkFault;
+use c25_meaning_linking::link_fault::LinkFault;
 use c25_obj::{Module, Parts, Symbol};
 use c25_place::{Refused, refusal};
 use std::alloc::{AllocError, Global};
@@ -62,7 +62,7 @@ fn push_definitions<'a>(
 }
 
 /// The definitions of all modules.
-#[tactic(auto, using(c25_meaning_placing::proofs::ByModules::by_modules_more, c25_meaning_placing::proofs::ByModules::by_modules_all))]
+#[tactic(auto, using(c25_meaning_linking::proofs::ByModules::by_modules_more, c25_meaning_linking::proofs::ByModules::by_modules_all))]
 fn all_definitions<'a>(
     alloc: Global,
     modules: &'a [Module],

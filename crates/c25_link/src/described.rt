@@ -6,7 +6,7 @@ ghost use Rattle.std.specs.List.{flat_map};
 ghost use Rattle.std.specs.Str.{bytes_eq};
 ghost use Rattle.c25_map.specs.View.{map_data, section_data, symbol_data, part_data};
 ghost use Rattle.c25_meaning_linking.specs.Linking.{section_part, section_parts, section_place, named_value, symbol_value, entry_value, map_of};
-ghost use Rattle.c25_meaning_placing.specs.Place.{by_modules, is_section_named};
+ghost use Rattle.c25_meaning_linking.specs.Place.{by_modules, is_section_named};
 ghost use Rattle.c25_meaning_linking.specs.Words.{definitions};
 ghost use Rattle.c25_obj.specs.View.{contents};
 ghost use Rattle.c25_link.specs.Described.{parts_named, part_data_of};
@@ -70,7 +70,7 @@ fn add_parts<'a>(
 }
 
 /// The parts of all modules by the names of their sections.
-#[tactic(auto, using(c25_meaning_placing::proofs::ByModules::by_modules_more, c25_meaning_placing::proofs::ByModules::by_modules_all))]
+#[tactic(auto, using(c25_meaning_linking::proofs::ByModules::by_modules_more, c25_meaning_linking::proofs::ByModules::by_modules_all))]
 fn parts_by_name<'a>(
     alloc: Global,
     layout: &Layout<'a, '_>,

@@ -5,7 +5,7 @@ ghost use Rattle.std.specs.Option.{option_map};
 ghost use Rattle.c25_map.specs.View.{map_data, symbol_data};
 ghost use Rattle.c25_meaning_image.specs.Marks.{fit_from};
 ghost use Rattle.c25_meaning_linking.specs.Linking.{line_at};
-ghost use Rattle.c25_meaning_placing.specs.MapText.{IsMapOf, IsPrinted};
+ghost use Rattle.c25_meaning_linking.specs.MapText.{IsMapOf, IsPrinted};
 ghost use Rattle.c25_link.specs.Lines.{lines_view};
 
 use crate::lines::Lines;

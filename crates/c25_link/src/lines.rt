@@ -64,7 +64,7 @@ fn push_places(
 }
 
 /// Those of all modules, by modules and marks.
-#[tactic(auto, using(c25_meaning_placing::proofs::ByModules::by_modules_more, c25_meaning_placing::proofs::ByModules::by_modules_all))]
+#[tactic(auto, using(c25_meaning_linking::proofs::ByModules::by_modules_more, c25_meaning_linking::proofs::ByModules::by_modules_all))]
 fn all_places(alloc: Global, layout: &Layout<'_, '_>) -> Result<Vec<LinePlace>, AllocError>
     requires { IsLaidOut layout.now }
     ensures { IfOk result (λ v. v.items ≡ all_places layout.now.modules.now (places_in layout.now)) }

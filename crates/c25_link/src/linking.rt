@@ -2,9 +2,9 @@
 
 ghost use Rattle.std.specs.Prelude.{◌≡◌, IfOk, option_map};
 ghost use Rattle.c25_cmd.specs.View.{command_data};
-ghost use Rattle.c25_meaning_commands.specs.Command.{IsCommand};
+ghost use Rattle.c25_meaning_linking.specs.Command.{IsCommand};
 ghost use Rattle.c25_meaning_linking.specs.Linking.{map_of, names_checked};
-ghost use Rattle.c25_meaning_placing.specs.MapText.{IsPrinted};
+ghost use Rattle.c25_meaning_linking.specs.MapText.{IsPrinted};
 ghost use Rattle.c25_meaning_common.specs.Results.{MeetsBy};
 ghost use Rattle.c25_meaning_linking.specs.Words.{definitions};
 ghost use Rattle.c25_link.specs.Layout.{IsLaidOut, places_in};
@@ -22,9 +22,9 @@ use crate::loading::load;
 use crate::marks::{program_marks, program_run_marks};
 use crate::uses::{first_spilled, first_unresolved, is_missing};
 use c25_cmd::Command;
-use c25_linking_laws::laws::{instructions_run_apart, program_maps_have_their_form};
+use c25_linking_laws::linking::{instructions_run_apart, program_maps_have_their_form};
 use c25_meaning_common::failure::Failure;
-use c25_meaning_placing::link_fault::LinkFault;
+use c25_meaning_linking::link_fault::LinkFault;
 use c25_obj::Module;
 use c25_place::{Refused, good_places, refusal};
 use std::alloc::Global;

@@ -59,7 +59,7 @@ fn push_marks(
 }
 
 /// Those of all modules, by modules and marks.
-#[tactic(auto, using(c25_meaning_placing::proofs::ByModules::by_modules_more, c25_meaning_placing::proofs::ByModules::by_modules_all))]
+#[tactic(auto, using(c25_meaning_linking::proofs::ByModules::by_modules_more, c25_meaning_linking::proofs::ByModules::by_modules_all))]
 fn all_marks(alloc: Global, layout: &Layout<'_, '_>) -> Result<Vec<Mark>, AllocError>
     requires { IsLaidOut layout.now }
     ensures { IfOk result (λ v. v.items ≡ program_marks layout.now.modules.now (places_in layout.now)) }
@@ -111,7 +111,7 @@ fn push_run_marks(
 }
 
 /// Those of all modules, by modules and marks.
-#[tactic(auto, using(c25_meaning_placing::proofs::ByModules::by_modules_more, c25_meaning_placing::proofs::ByModules::by_modules_all))]
+#[tactic(auto, using(c25_meaning_linking::proofs::ByModules::by_modules_more, c25_meaning_linking::proofs::ByModules::by_modules_all))]
 fn all_run_marks(alloc: Global, layout: &Layout<'_, '_>) -> Result<Vec<RunMark>, AllocError>
     requires { IsLaidOut layout.now }
     ensures { IfOk result (λ v. v.items ≡ program_run_marks layout.now.modules.now (places_in layout.now)) }

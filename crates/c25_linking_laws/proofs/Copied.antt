@@ -6,16 +6,16 @@ use Rattle.std.specs.List.{Contains, slice_get}
 use Rattle.std.specs.Option.{option_map_or}
 use Rattle.std.specs.Str.{bytes_eq}
 use Rattle.std.proofs.lemmas.Bool.{and_parts}
-use Rattle.c25_meaning_commands.specs.Command.{CommandData, Pairwise}
+use Rattle.c25_meaning_linking.specs.Command.{CommandData, Pairwise}
 use Rattle.c25_meaning_image.specs.declared.mark.Mark.{Mark}
 use Rattle.c25_meaning_image.specs.declared.mark.RunMark.{RunMark}
 use Rattle.c25_meaning_linking.specs.Words.{is_copied, is_on_program, is_run_in_place, module_marks, module_run_marks, placed_mark, placed_run_mark, program_marks, program_run_marks, section_base, section_page, section_run, section_runs_elsewhere}
 use Rattle.c25_meaning_objects.specs.Module.{SectionData, Contents, IsModule}
 use Rattle.c25_meaning_objects.specs.declared.object.ModuleMark.{ModuleMark}
-use Rattle.c25_meaning_placing.specs.GoodMap.{IsGoodMap, placings_for, ranges_for}
-use Rattle.c25_meaning_placing.specs.Place.{Covers, IsPart, LiesIn, Place, page_of, part_base, part_run, place_named, run_base, runs_elsewhere, size_of_parts}
-use Rattle.c25_meaning_placing.proofs.Parts.{OnePart, one_part, part_in_place}
-use Rattle.c25_meaning_placing.proofs.PlaceNames.{is_same, same_name}
+use Rattle.c25_meaning_linking.specs.GoodMap.{IsGoodMap, placings_for, ranges_for}
+use Rattle.c25_meaning_linking.specs.Place.{Covers, IsPart, LiesIn, Place, page_of, part_base, part_run, place_named, run_base, runs_elsewhere, size_of_parts}
+use Rattle.c25_meaning_linking.proofs.Parts.{OnePart, one_part, part_in_place}
+use Rattle.c25_meaning_linking.proofs.PlaceNames.{is_same, same_name}
 use Rattle.c25_linking_laws.proofs.Members.{from_filter, from_map}
 use Rattle.c25_linking_laws.proofs.Named.{module_at}
 use Rattle.c25_linking_laws.proofs.Pairs.{chosen_pairs, from_modules, module_pairs}

@@ -11,3 +11,4 @@ pub mod Rising
 pub mod RunPlaces
 pub mod RunsFit
 pub mod WordsFit
+pub mod OneMap

@@ -7,17 +7,17 @@ use Rattle.std.proofs.lemmas.Bool.{and_parts, leb-true}
 use Rattle.std.proofs.lemmas.List.Concat.{flat_map-cons}
 use Rattle.std.proofs.lemmas.List.Elements.{All-nil, All-cons, All-head, All-tail, All-same, All-append, All-map, All-filter, All-weaker, filter_passes}
 use Rattle.std.proofs.lemmas.Option.{slice_get_within, get_or_from_slice_get}
-use Rattle.c25_meaning_placing.proofs.Parts.{sections_of_module}
-use Rattle.c25_meaning_placing.proofs.PlaceNames.{same_name}
-use Rattle.c25_meaning_commands.specs.Command.{PlacingData}
-use Rattle.c25_meaning_placing.specs.GoodMap.{Request, listed_request, unlisted_request, has_address, comes_first, comes_later, is_among, new_names, unlisted_names, requests}
+use Rattle.c25_meaning_linking.proofs.Parts.{sections_of_module}
+use Rattle.c25_meaning_linking.proofs.PlaceNames.{same_name}
+use Rattle.c25_meaning_linking.specs.Command.{PlacingData}
+use Rattle.c25_meaning_linking.specs.GoodMap.{Request, listed_request, unlisted_request, has_address, comes_first, comes_later, is_among, new_names, unlisted_names, requests}
 use Rattle.c25_meaning_linking.specs.Linking.{names_checked, first_again, defined_names, first_unresolved, missing_entry, refused_with}
 use Rattle.c25_meaning_objects.specs.Module.{SectionData, SymbolData, Contents, IsModule, is_module, lists_fit, has_sections, each_fits, section_fits, symbol_fits, symbol_stands, kind_allowed, place_fits, has_section, has_symbol, begins_sections, body_size, is_section_name, is_symbol_name}
 use Rattle.c25_meaning_objects.specs.declared.object.Version.{Version}
-use Rattle.c25_meaning_placing.specs.Place.{by_modules, all_sections, is_section_named, is_there}
+use Rattle.c25_meaning_linking.specs.Place.{by_modules, all_sections, is_section_named, is_there}
 use Rattle.c25_meaning_common.specs.Results.{◌>>=◌}
 use Rattle.c25_meaning_linking.specs.Words.{Definition, definition, definitions, definition_of, is_definition, module_definitions}
-use Rattle.c25_meaning_placing.specs.declared.link_fault.LinkFault.TheVariants.{Unresolved, DefinedTwice, NoEntry}
+use Rattle.c25_meaning_linking.specs.declared.link_fault.LinkFault.TheVariants.{Unresolved, DefinedTwice, NoEntry}
 
 -- ---- the lists of one module
 

@@ -7,7 +7,7 @@ use Rattle.std.proofs.lemmas.Bool.{and_from, or_right, not_from_false, ne_eqb, l
 use Rattle.std.proofs.lemmas.Fmt.{decimal_by_steps, decimal_digit, decimal_nonempty, first_decimal}
 use Rattle.std.proofs.lemmas.List.Folds.{list_all-append}
 use Rattle.c25_meaning_common.specs.Bytes.{is_digit}
-use Rattle.c25_meaning_placing.specs.MapText.{is_number}
+use Rattle.c25_meaning_linking.specs.MapText.{is_number}
 
 one_digit : (d : ℕ) → d < 10 → is_digit (48 + d) ≡ true
 one_digit d h = and_from _ _ (le-leb 48 (48 + d) (omega arith)) (le-leb (48 + d) 57 (omega arith))

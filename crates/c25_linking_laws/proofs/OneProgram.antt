@@ -9,13 +9,13 @@ use Rattle.std.specs.Ordering.{nat_cmp}
 use Rattle.std.proofs.lemmas.Bool.Decides.{nat_tests}
 use Rattle.std.proofs.lemmas.List.Sorted.{IsPermutation-sym}
 use Rattle.c25_linking_laws.proofs.Members.{behind_in, first_in, in_front, in_permuted, nothing_in}
-use Rattle.c25_placing_laws.proofs.OneMap.{placed_once}
-use Rattle.c25_meaning_commands.specs.Command.{CommandData}
-use Rattle.c25_meaning_placing.specs.GoodMap.{placings_for, ranges_for, requests}
+use Rattle.c25_linking_laws.proofs.OneMap.{placed_once}
+use Rattle.c25_meaning_linking.specs.Command.{CommandData}
+use Rattle.c25_meaning_linking.specs.GoodMap.{placings_for, ranges_for, requests}
 use Rattle.c25_meaning_linking.specs.Linking.{HasLines, HasMarks, HasRunMarks, HasWords, ImageData, IsProgram, map_of}
 use Rattle.c25_meaning_image.specs.Marks.{fit_from, fits_behind, load_is_free, run_fit_from, run_fits_behind, with_loads}
 use Rattle.c25_meaning_objects.specs.Module.{Contents}
-use Rattle.c25_meaning_placing.specs.Place.{Place}
+use Rattle.c25_meaning_linking.specs.Place.{Place}
 use Rattle.c25_meaning_linking.specs.Words.{LineData, program_lines, program_marks, program_run_marks}
 use Rattle.c25_meaning_image.specs.declared.mark.Mark.{Mark}
 use Rattle.c25_meaning_image.specs.declared.mark.RunMark.{RunMark}

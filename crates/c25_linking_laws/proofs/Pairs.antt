@@ -4,9 +4,9 @@ use Rattle.std.proofs.Common.{◌≡◌, ℕ, suc, ◌+◌, ◌<◌, Bool, true,
 use Rattle.std.specs.Prelude.{All}
 use Rattle.std.specs.List.{Contains, slice_get}
 use Rattle.std.proofs.lemmas.List.Elements.{All-append, All-contains, All-contains_itself, All-weaker, Contains-append_cases}
-use Rattle.c25_meaning_commands.specs.Command.{Pairwise}
+use Rattle.c25_meaning_linking.specs.Command.{Pairwise}
 use Rattle.c25_meaning_objects.specs.Module.{Contents}
-use Rattle.c25_meaning_placing.specs.Place.{by_modules}
+use Rattle.c25_meaning_linking.specs.Place.{by_modules}
 use Rattle.c25_linking_laws.proofs.Members.{behind_in, first_in, from_filter, from_map, nothing_in}
 
 -- what holds of each item that is there

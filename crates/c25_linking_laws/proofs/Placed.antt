@@ -6,10 +6,10 @@ use Rattle.std.specs.Str.{bytes_eq}
 use Rattle.std.proofs.lemmas.Bool.{and_parts, cases_lt, eqb-true, leb-true}
 use Rattle.std.proofs.lemmas.List.{reverse-reverse, reverse-append}
 use Rattle.std.proofs.lemmas.List.Elements.{All-nil, All-cons, All-head, All-tail, All-same, All-push, All-filter, filter_passes}
-use Rattle.c25_meaning_commands.specs.Command.{RangeData, TargetData, Anywhere, InRange, At, CommandData, IsCommand, IsRange}
-use Rattle.c25_meaning_placing.specs.GoodMap.{Request, ranges_for, placings_for, requests, page_for, is_usable, usable, is_inside, blocks_fit, IsBase, IsBaseIn, IsBaseAt, RunsAt, Stands, Stand, IsGoodMap}
+use Rattle.c25_meaning_linking.specs.Command.{RangeData, TargetData, Anywhere, InRange, At, CommandData, IsCommand, IsRange}
+use Rattle.c25_meaning_linking.specs.GoodMap.{Request, ranges_for, placings_for, requests, page_for, is_usable, usable, is_inside, blocks_fit, IsBase, IsBaseIn, IsBaseAt, RunsAt, Stands, Stand, IsGoodMap}
 use Rattle.c25_meaning_objects.specs.Module.{Contents, IsModule, is_section_name}
-use Rattle.c25_meaning_placing.specs.Place.{Place, BlockData}
+use Rattle.c25_meaning_linking.specs.Place.{Place, BlockData}
 use Rattle.c25_linking_laws.proofs.Ranges.{ranges_are}
 use Rattle.c25_linking_laws.proofs.Named.{IsNamedRequest, named_requests}
 

@@ -6,13 +6,13 @@ use Rattle.std.specs.Option.{option_map}
 use Rattle.std.specs.Str.{bytes_eq}
 use Rattle.std.proofs.lemmas.List.Elements.{All-map, All-filter, All-weaker}
 use Rattle.std.proofs.lemmas.Option.{slice_get-get_or, slice_get_within}
-use Rattle.c25_meaning_placing.proofs.Parts.{part_in_place}
-use Rattle.c25_meaning_commands.specs.Command.{CommandData, IsCommand}
-use Rattle.c25_meaning_placing.specs.GoodMap.{IsGoodMap, ranges_for, placings_for}
+use Rattle.c25_meaning_linking.proofs.Parts.{part_in_place}
+use Rattle.c25_meaning_linking.specs.Command.{CommandData, IsCommand}
+use Rattle.c25_meaning_linking.specs.GoodMap.{IsGoodMap, ranges_for, placings_for}
 use Rattle.c25_meaning_linking.specs.Linking.{ImageData, IsProgram, map_of, named_value, names_checked, section_part, section_parts, section_place, symbol_value, entry_value}
-use Rattle.c25_meaning_placing.specs.MapText.{MapData, IsPrinted, IsPrintedPart, IsPrintedSection, IsPrintedValue}
+use Rattle.c25_meaning_linking.specs.MapText.{MapData, IsPrinted, IsPrintedPart, IsPrintedSection, IsPrintedValue}
 use Rattle.c25_meaning_objects.specs.Module.{SectionData, Contents, IsModule, is_symbol_name}
-use Rattle.c25_meaning_placing.specs.Place.{Place, is_section_named}
+use Rattle.c25_meaning_linking.specs.Place.{Place, is_section_named}
 use Rattle.c25_meaning_linking.specs.Words.{Definition, definitions, definition_value, name_value}
 use Rattle.c25_linking_laws.proofs.Named.{IsNamedDefinition, all_by_modules, fine_sections, found_holds, module_at, named_definitions, named_entry}
 use Rattle.c25_linking_laws.proofs.Numerals.{is_decimal}

@@ -7,7 +7,7 @@ use Rattle.std.proofs.lemmas.Bool.Decides.{nat_tests}
 use Rattle.std.proofs.lemmas.List.{length-append}
 use Rattle.std.proofs.lemmas.List.Elements.{All-nil, All-cons, All-weaker}
 use Rattle.std.proofs.lemmas.Option.{slice_get-get_or}
-use Rattle.c25_meaning_commands.specs.Command.{Pairwise}
+use Rattle.c25_meaning_linking.specs.Command.{Pairwise}
 use Rattle.c25_meaning_objects.specs.Module.{SectionBody, Uninitialised, Initialised, SectionData, Contents, IsModule, body_size, body_words, each_fits, has_sections, is_from, last_of, lists_fit, mark_after, mark_fits, section_fits, words_at}
 use Rattle.c25_meaning_objects.specs.declared.object.ModuleMark.{ModuleMark}
 use Rattle.c25_linking_laws.proofs.Members.{fits_in}

@@ -7,10 +7,10 @@ use Rattle.std.proofs.lemmas.Bool.Decides.{nat_tests}
 use Rattle.std.proofs.lemmas.List.{reverse-reverse, reverse-append}
 use Rattle.std.proofs.lemmas.List.Elements.{All-nil, All-head, All-tail, All-push}
 use Rattle.std.proofs.lemmas.List.Folds.{list_any_at}
-use Rattle.c25_meaning_commands.specs.Command.{CommandData, Pairwise, RangeData}
-use Rattle.c25_meaning_placing.specs.GoodMap.{IsGoodMap, Request, RunsAt, Stand, Stands, is_run_at, placings_for, ranges_for, requests, runs_at}
-use Rattle.c25_meaning_placing.specs.Place.{Place, place_named}
-use Rattle.c25_meaning_placing.proofs.PlaceNames.{same_name}
+use Rattle.c25_meaning_linking.specs.Command.{CommandData, Pairwise, RangeData}
+use Rattle.c25_meaning_linking.specs.GoodMap.{IsGoodMap, Request, RunsAt, Stand, Stands, is_run_at, placings_for, ranges_for, requests, runs_at}
+use Rattle.c25_meaning_linking.specs.Place.{Place, place_named}
+use Rattle.c25_meaning_linking.proofs.PlaceNames.{same_name}
 use Rattle.c25_meaning_objects.specs.Module.{Contents}
 use Rattle.c25_linking_laws.proofs.Named.{found_holds}
 

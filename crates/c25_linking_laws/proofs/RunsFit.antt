@@ -10,15 +10,15 @@ use Rattle.std.proofs.lemmas.List.Elements.{All-contains, All-head, Contains-app
 use Rattle.std.proofs.lemmas.List.Folds.{list_any_none}
 use Rattle.std.proofs.lemmas.List.Sorted.{IsPermutation-sym, sum_by-IsPermutation}
 use Rattle.std.proofs.lemmas.List.Sums.{get_or-le-sum_by, sum_by-cons}
-use Rattle.c25_meaning_commands.specs.Command.{CommandData, IsCommand, Pairwise}
+use Rattle.c25_meaning_linking.specs.Command.{CommandData, IsCommand, Pairwise}
 use Rattle.c25_meaning_image.specs.Marks.{is_code, load_is_free, load_mark, run_fit_from, run_fits_behind, with_loads}
 use Rattle.c25_meaning_image.specs.declared.mark.Mark.{Mark}
 use Rattle.c25_meaning_image.specs.declared.mark.RunMark.{RunMark}
 use Rattle.c25_meaning_linking.specs.Linking.{HasMarks, HasRunMarks}
 use Rattle.c25_meaning_linking.specs.Words.{program_marks, program_run_marks}
 use Rattle.c25_meaning_objects.specs.Module.{Contents, IsModule}
-use Rattle.c25_meaning_placing.specs.GoodMap.{IsGoodMap}
-use Rattle.c25_meaning_placing.specs.Place.{Covers, Place}
+use Rattle.c25_meaning_linking.specs.GoodMap.{IsGoodMap}
+use Rattle.c25_meaning_linking.specs.Place.{Covers, Place}
 use Rattle.c25_linking_laws.proofs.Copied.{RunsApart, all_apart, copy_of, loads_apart, loads_free}
 use Rattle.c25_linking_laws.proofs.Members.{behind_in, first_in, from_map, in_permuted}
 use Rattle.c25_linking_laws.proofs.Named.{found_holds}

@@ -6,13 +6,13 @@ use Rattle.std.specs.Ordering.{nat_cmp}
 use Rattle.std.specs.Str.{bytes_eq}
 use Rattle.std.proofs.lemmas.List.Elements.{All-from_recursion}
 use Rattle.std.proofs.lemmas.Option.{get_or_from_slice_get, slice_get_within}
-use Rattle.c25_instruction_laws.proofs.RelocatedFields.{filled_below, number_below}
-use Rattle.c25_meaning_commands.specs.Command.{CommandData, IsCommand}
+use Rattle.c25_meaning_instructions.proofs.RelocatedFields.{filled_below, number_below}
+use Rattle.c25_meaning_linking.specs.Command.{CommandData, IsCommand}
 use Rattle.c25_meaning_image.specs.WordMap.{IsWordMap}
-use Rattle.c25_meaning_placing.proofs.Parts.{part_in_place}
-use Rattle.c25_meaning_placing.specs.GoodMap.{IsGoodMap, placings_for, ranges_for}
+use Rattle.c25_meaning_linking.proofs.Parts.{part_in_place}
+use Rattle.c25_meaning_linking.specs.GoodMap.{IsGoodMap, placings_for, ranges_for}
 use Rattle.c25_meaning_linking.specs.Linking.{HasWords, ImageData, IsProgram}
-use Rattle.c25_meaning_placing.specs.Place.{Place}
+use Rattle.c25_meaning_linking.specs.Place.{Place}
 use Rattle.c25_meaning_linking.specs.Words.{HasWord, relocated, relocated_value, relocation_at}
 use Rattle.c25_meaning_objects.specs.Module.{Contents, Initialised, IsModule, SectionBody, SectionData, Uninitialised, body_size, body_words}
 use Rattle.c25_meaning_objects.specs.declared.object.Relocation.{Relocation}

@@ -1,5 +1,5 @@
-//! Laws of linked programs, each the contract of a function that does nothing: one program at most,
-//! a map in its form, instructions that run apart, words and addresses of 16 bits.
+//! Laws of linked programs and of where their parts stand, each the contract of a function that does nothing.
 #![tactic(auto)]
 
-pub mod laws;
+pub mod linking;
+pub mod placing;

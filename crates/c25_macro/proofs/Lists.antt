@@ -6,7 +6,7 @@ use Rattle.c25_meaning_expansion.specs.Expansion.{Scope, Kind}
 use Rattle.c25_macro.specs.Scopes.{scopes, scope_of, kind_of}
 use Rattle.c25_macro.specs.declared.scope.Source.{Source}
 use Rattle.c25_meaning_expansion.specs.Expansion.{LineOrEnd, Read, Close, after_close}
-use Rattle.c25_meaning_files.specs.Rows.{Row}
+use Rattle.c25_meaning_expansion.specs.Rows.{Row}
 
 -- past the lines of a source and its end
 pub after_close-append : (lines : List Row) (items : List LineOrEnd) → after_close (map Read lines ++ Close ∷ items) ≡ items

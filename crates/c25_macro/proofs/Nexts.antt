@@ -1,7 +1,7 @@
 -- What the first rewriting that does not merely go on says of the next line.
 use Rattle.std.proofs.Common.{◌≡◌, ℕ, false, List, [], ◌∷◌, sym, subst}
 use Rattle.std.specs.String.{string_bytes}
-use Rattle.c25_meaning_files.specs.Files.{Files}
+use Rattle.c25_meaning_expansion.specs.Files.{Files}
 use Rattle.c25_meaning_language.specs.Value.{Table}
 use Rattle.c25_meaning_expansion.specs.Expansion.{Config, Finishes, Faults, Misses}
 use Rattle.c25_meaning_expansion.specs.ExpansionBounds.{IsBounded}

@@ -9,9 +9,9 @@ use Rattle.c25_meaning_expansion.specs.Expansion.{Goes, Gives}
 use Rattle.c25_meaning_expansion.specs.ExpansionAnswers.{given_by, fault_by}
 use Rattle.c25_meaning_expansion.specs.ExpansionBounds.{IsBounded}
 use Rattle.c25_meaning_expansion.specs.ExpansionRuns.{rewrite}
-use Rattle.c25_meaning_files.specs.Rows.{Row}
+use Rattle.c25_meaning_expansion.specs.Rows.{Row}
 use Rattle.c25_meaning_language.specs.Value.{Table}
-use Rattle.c25_meaning_trail.specs.Trail.{trail_after}
+use Rattle.c25_meaning_expansion.specs.Trail.{trail_after}
 use Rattle.c25_macro.specs.Config.{Follows, Refuses, refused_by}
 use Rattle.c25_macro.specs.Tracers.{IsToldAs, Moved, Shows, Steps, Trace, fault_in}
 use Rattle.c25_macro.specs.declared.refusal.Refusal.{Refusal}

@@ -2,10 +2,10 @@
 use Rattle.std.proofs.Common.{◌≡◌, ℕ, suc, ◌-◌, ◌<◌, ◌≤◌, nat_le, nat_lt, if◌then◌else◌, Bool, true, false, List, [], ◌∷◌, ◌++◌, length, take, drop, map, reverse, refl, ap, sym, ◌∙◌, arith, Option, Some, None, option_map, slice_get}
 use Rattle.std.proofs.lemmas.Bool.Decides.{nat_tests}
 use Rattle.std.proofs.lemmas.List.{drop_all, drop_at, length-drop, length-reverse, reverse-append, take-append-drop}
-use Rattle.c25_meaning_files.specs.Rows.{Row}
+use Rattle.c25_meaning_expansion.specs.Rows.{Row}
 use Rattle.c25_meaning_expansion.specs.Expansion.{Read}
-use Rattle.c25_meaning_files.specs.declared.place.SourcePlace.{SourcePlace}
-use Rattle.c25_meaning_trail.specs.Trail.{next_place}
+use Rattle.c25_meaning_expansion.specs.declared.place.SourcePlace.{SourcePlace}
+use Rattle.c25_meaning_expansion.specs.Trail.{next_place}
 use Rattle.c25_macro.specs.Scopes.{after, scopes}
 use Rattle.c25_macro.specs.declared.scope.Source.{Source}
 

@@ -1,7 +1,7 @@
 -- The configuration that an expander stands for, and what its rules say of their answers.
 use Rattle.std.specs.Prelude.{◌≡◌, ◌==◌, ◌-◌, List, [], ◌∷◌, ◌++◌, true, false, Option, Some, None, Result, Ok, Err, map}
 use Rattle.std.specs.String.{string_bytes}
-use Rattle.c25_meaning_files.specs.Rows.{Row}
+use Rattle.c25_meaning_expansion.specs.Rows.{Row}
 use Rattle.c25_meaning_expansion.specs.Expansion as exp
 use Rattle.c25_meaning_expansion.specs.Expansion.{Read, Config, Rewriting, Gives, Goes, Finishes, Faults, Misses}
 use Rattle.c25_meaning_language.specs.declared.statement.FaultKind.TheVariants as fault

@@ -6,7 +6,7 @@ use Rattle.c25_meaning_expansion.specs.ExpansionAnswers.{ExpandedLine, given_by,
 use Rattle.c25_meaning_language.specs.ExpansionFault.{ExpansionFault, Faulty, Missing}
 use Rattle.c25_meaning_expansion.specs.ExpansionBounds.{IsBounded}
 use Rattle.c25_meaning_expansion.specs.ExpansionRuns.{first, start_of}
-use Rattle.c25_meaning_files.specs.Files.{Files}
+use Rattle.c25_meaning_expansion.specs.Files.{Files}
 use Rattle.c25_meaning_language.specs.Value.{Table}
 use Rattle.std.specs.Borrow.{Bor}
 use Rattle.c25_meaning_common.specs.declared.failure.Failure.{Failure}

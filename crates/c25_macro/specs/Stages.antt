@@ -3,7 +3,7 @@ use Rattle.std.specs.Prelude.{◌≡◌, ℕ, List, Option, Result, Ok, Err}
 use Rattle.std.specs.String.{string_bytes}
 use Rattle.c25_meaning_language.specs.ExpansionFault.{ExpansionFault, Faulty, Missing}
 use Rattle.c25_meaning_expansion.specs.ExpansionRuns.{start_of}
-use Rattle.c25_meaning_files.specs.Files.{Files, file_name}
+use Rattle.c25_meaning_expansion.specs.Files.{Files, file_name}
 use Rattle.c25_meaning_common.specs.declared.failure.Failure.{Failure}
 use Rattle.c25_meaning_common.specs.declared.failure.Failure.TheVariants.{NoMemory, Fault}
 use Rattle.c25_macro.specs.Config.{config}

@@ -7,12 +7,12 @@ use Rattle.c25_meaning_expansion.specs.Expansion.{Config, Rewriting, Goes, Finis
 use Rattle.c25_meaning_expansion.specs.ExpansionAnswers.{expanded_line, given_by, fault_by}
 use Rattle.c25_meaning_expansion.specs.ExpansionBounds.{IsBounded}
 use Rattle.c25_meaning_expansion.specs.ExpansionRuns.{rewrite, start_of, weight}
-use Rattle.c25_meaning_files.specs.Files.{Files}
-use Rattle.c25_meaning_files.specs.declared.place.SourcePlace.{SourcePlace}
+use Rattle.c25_meaning_expansion.specs.Files.{Files}
+use Rattle.c25_meaning_expansion.specs.declared.place.SourcePlace.{SourcePlace}
 use Rattle.c25_meaning_language.specs.ExpansionFault as meant
 use Rattle.c25_meaning_language.specs.ExpansionFault.{ExpansionFault}
 use Rattle.c25_meaning_language.specs.Value.{Table}
-use Rattle.c25_meaning_trail.specs.Trail.{trail_after}
+use Rattle.c25_meaning_expansion.specs.Trail.{trail_after}
 use Rattle.c25_macro.specs.Config.{config, refused_by}
 use Rattle.c25_macro.specs.Expander.{shown}
 use Rattle.c25_macro.specs.declared.refusal.Refusal.{Refusal}

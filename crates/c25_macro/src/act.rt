@@ -1,7 +1,7 @@
 //! What a line asks of expansion.
 
 use c25_expr::tree::Expr;
-use c25_lines::Rows;
+use c25_files::Rows;
 use c25_substitution::parameters::Arguments;
 
 /// What a line asks for.

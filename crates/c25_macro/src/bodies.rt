@@ -4,7 +4,7 @@
 
 ghost use Rattle.std.specs.Prelude.{◌≡◌, ◌<◌, ◌^◌};
 ghost use Rattle.std.specs.String.{string_bytes};
-ghost use Rattle.c25_meaning_lines.specs.Line.{first_word};
+ghost use Rattle.c25_meaning_language.specs.Line.{first_word};
 ghost use Rattle.c25_meaning_expansion.specs.ExpansionRules as rule;
 ghost use Rattle.c25_macro.specs.Acts.{bytes_of_names};
 ghost use Rattle.c25_macro.specs.Config.{config, ForBody, GoesOn};
@@ -15,10 +15,10 @@ use crate::macros::Macro;
 use crate::refusal::Refusal;
 use crate::scope::Kind;
 use crate::state::{Mode, State};
-use c25_lines::{Row, Rows};
+use c25_files::{Row, Rows};
 use c25_meaning_common::failure::Failure;
 use c25_meaning_expansion::expansion::Directive;
-use c25_meaning_files::place::SourcePlace;
+use c25_meaning_expansion::place::SourcePlace;
 
 impl<'a> State<'a> {
     /// A line of a macro's body, or its end.

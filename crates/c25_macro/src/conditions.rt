@@ -15,7 +15,7 @@ use c25_expr::symbols::Symbols;
 use c25_expr::tree::Expr;
 use c25_meaning_common::failure::Failure;
 use c25_meaning_expansion::expansion::{Branch, Phase};
-use c25_meaning_files::place::SourcePlace;
+use c25_meaning_expansion::place::SourcePlace;
 use c25_meaning_language::statement::FaultKind;
 
 /// Whether the lines of an `.if` are taken.

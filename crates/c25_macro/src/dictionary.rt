@@ -3,7 +3,7 @@
 ghost use Rattle.std.specs.Prelude.{◌≡◌, ◌<◌, ◌^◌, ◌∷◌, [], is_some, OnOk};
 ghost use Rattle.std.specs.Option.{option_map};
 ghost use Rattle.std.specs.String.{string_bytes};
-ghost use Rattle.c25_meaning_lines.specs.Line.{first_word};
+ghost use Rattle.c25_meaning_language.specs.Line.{first_word};
 ghost use Rattle.c25_meaning_expansion.specs.Expansion as exp;
 ghost use Rattle.c25_meaning_expansion.specs.ExpansionRules as rule;
 ghost use Rattle.c25_meaning_language.specs.Texts.{with_name};

@@ -4,7 +4,7 @@ ghost use Rattle.std.specs.Prelude.{◌≡◌, ◌==◌, slice_index};
 ghost use Rattle.std.specs.Str.{str_eq_ignore_ascii_case};
 ghost use Rattle.c25_meaning_expansion.specs.Acts.{directive_of};
 ghost use Rattle.c25_meaning_expansion.specs.ExpansionRules.{directive_in};
-ghost use Rattle.c25_meaning_lines.specs.Line.{first_word};
+ghost use Rattle.c25_meaning_language.specs.Line.{first_word};
 
 use c25_meaning_common::bytes::byte_at;
 use c25_meaning_expansion::expansion::Directive;

@@ -3,7 +3,7 @@
 ghost use Rattle.std.specs.Prelude.{◌≡◌};
 ghost use Rattle.std.specs.Cow.{cow_str_bytes};
 
-use c25_meaning_files::place::SourcePlace;
+use c25_meaning_expansion::place::SourcePlace;
 use std::borrow::CowStr;
 use std::marker::Model;
 
@@ -17,7 +17,7 @@ pub(crate) struct Line<'a> {
 
 impl<'a> Model for Line<'a> {
     ghost use Rattle.std.specs.Cow.{cow_str_bytes};
-    ghost use Rattle.c25_meaning_files.specs.Rows.{Row};
+    ghost use Rattle.c25_meaning_expansion.specs.Rows.{Row};
 
     ghost Value = { Row };
 

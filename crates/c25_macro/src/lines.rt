@@ -4,7 +4,7 @@
 
 ghost use Rattle.std.specs.Prelude.{◌≡◌, ◌<◌, ◌^◌, Result};
 ghost use Rattle.std.specs.Cow.{cow_str_bytes};
-ghost use Rattle.c25_meaning_lines.specs.Line.{first_word};
+ghost use Rattle.c25_meaning_language.specs.Line.{first_word};
 ghost use Rattle.c25_meaning_expansion.specs.Acts as acts;
 ghost use Rattle.c25_meaning_expansion.specs.ExpansionBounds.{nesting};
 ghost use Rattle.c25_meaning_expansion.specs.ExpansionRules as rule;
@@ -26,10 +26,10 @@ use crate::scope::Block;
 use crate::state::{Mode, Progress, State, went};
 use c25_expr::symbols::Symbols;
 use c25_files::files::Files;
-use c25_lines::Row;
+use c25_files::Row;
 use c25_meaning_common::failure::Failure;
 use c25_meaning_expansion::expansion::{Branch, Directive, Phase};
-use c25_meaning_files::place::SourcePlace;
+use c25_meaning_expansion::place::SourcePlace;
 use c25_meaning_language::long_line::LongLine;
 use c25_meaning_language::statement::FaultKind;
 use c25_substitution::substitution::{substitute, substitute_before_comma, unsubstituted};

@@ -8,7 +8,7 @@ ghost use Rattle.std.specs.String.{string_bytes};
 ghost use Rattle.c25_meaning_language.specs.Texts.{with_name};
 ghost use Rattle.c25_macro.specs.Acts.{macro_of};
 
-use c25_lines::Rows;
+use c25_files::Rows;
 use c25_meaning_common::no_memory::NoMemory;
 use indexmap::IndexMap;
 use std::alloc::Global;

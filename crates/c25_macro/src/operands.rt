@@ -15,7 +15,7 @@ ghost use Rattle.c25_macro.specs.Acts.{bytes_of_names};
 use c25_expr::tree::Expr;
 use c25_meaning_common::failure::Failure;
 use c25_meaning_language::statement::FaultKind;
-use c25_operands::expression_in;
+use c25_expr::directive_operands::expression_in;
 use c25_text::tokens::Token;
 use std::alloc::Global;
 
@@ -23,7 +23,7 @@ use std::alloc::Global;
 pub(crate) fn name_in(alloc: Global, operand: &[Token<'_>]) -> Result<String, Failure<FaultKind>>
     ensures { Meets string_bytes (name_in (pieces_of operand.now)) result }
 {
-    match c25_operands::name_in(operand) {
+    match c25_expr::directive_operands::name_in(operand) {
         Ok(name) => Ok(String::from_str(alloc, name)?),
         Err(fault) => Err(Failure::Fault(fault)),
     }

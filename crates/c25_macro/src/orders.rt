@@ -21,7 +21,7 @@ use c25_meaning_common::failure::Failure;
 use c25_meaning_common::no_memory::NoMemory;
 use c25_meaning_expansion::expansion::Directive;
 use c25_meaning_language::statement::{FaultKind, Written};
-use c25_operands::{expression_in, string_in};
+use c25_expr::directive_operands::{expression_in, string_in};
 use c25_substitution::arguments::{arguments, assigned_text};
 use c25_text::line::{Line, split_line};
 use c25_text::tokens::Token;

@@ -4,7 +4,7 @@ ghost use Rattle.std.specs.Prelude.{◌≡◌};
 ghost use Rattle.c25_macro.specs.Refusals.{at_place};
 
 use c25_meaning_common::failure::Failure;
-use c25_meaning_files::place::SourcePlace;
+use c25_meaning_expansion::place::SourcePlace;
 use c25_meaning_language::statement::FaultKind;
 
 /// Why no line is given.

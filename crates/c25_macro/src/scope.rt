@@ -2,13 +2,13 @@
 
 ghost use Rattle.std.specs.Prelude.{MatchOption, ◌≡◌, ◌∷◌, ◌<◌, OnOk, option_to_list, IfNone, length, ◌++◌, [], false, min, sum_by, ◌+◌};
 ghost use Rattle.std.specs.List.{list_any};
-ghost use Rattle.c25_meaning_files.specs.Rows.{is_empty};
+ghost use Rattle.c25_meaning_expansion.specs.Rows.{is_empty};
 ghost use Rattle.c25_macro.specs.Scopes.{scopes, kind_of, test_of, other_branches};
 
-use c25_lines::{Passage, Rows};
+use c25_files::{Passage, Rows};
 use c25_meaning_common::no_memory::NoMemory;
 use c25_meaning_expansion::expansion::Branch;
-use c25_meaning_files::place::SourcePlace;
+use c25_meaning_expansion::place::SourcePlace;
 use std::alloc::Global;
 use std::marker::Model;
 

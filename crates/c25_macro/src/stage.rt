@@ -18,7 +18,7 @@ use c25_files::files::Files;
 use c25_meaning_common::failure::Failure;
 use c25_meaning_common::no_memory::NoMemory;
 use c25_meaning_common::placed::{FileLine, Placed};
-use c25_meaning_files::place::SourcePlace;
+use c25_meaning_expansion::place::SourcePlace;
 use c25_meaning_language::statement::FaultKind;
 use std::alloc::Global;
 

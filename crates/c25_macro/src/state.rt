@@ -15,9 +15,9 @@ use crate::line::Line;
 use crate::refusal::Refusal;
 use crate::scope::{Block, Branches, Kind, Scope, Source, Stack};
 use c25_files::text::Text;
-use c25_lines::Rows;
+use c25_files::Rows;
 use c25_meaning_common::failure::Failure;
-use c25_meaning_files::place::SourcePlace;
+use c25_meaning_expansion::place::SourcePlace;
 use std::alloc::Global;
 use std::mem;
 

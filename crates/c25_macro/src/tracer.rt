@@ -3,7 +3,7 @@
 use crate::answer::{ExpLine, ExpandFault};
 use crate::state::State;
 use c25_files::files::Files;
-use c25_meaning_files::place::SourcePlace;
+use c25_meaning_expansion::place::SourcePlace;
 
 /// The expansion of a module, one rewriting after another, and the lines that opened the files,
 /// expansions and turns that are open.

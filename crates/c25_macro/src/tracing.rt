@@ -3,7 +3,7 @@
 ghost use Rattle.std.specs.Prelude.{◌≡◌, ◌∷◌, ◌-◌, [], IfOk, OnErr, OnOk, Some, drop, length, nat_lt, reverse, if◌then◌else◌};
 ghost use Rattle.c25_meaning_expansion.specs.ExpansionAnswers.{fault_by};
 ghost use Rattle.c25_meaning_expansion.specs.ExpansionBounds.{IsBounded};
-ghost use Rattle.c25_meaning_trail.specs.Trail.{line_of, next_place};
+ghost use Rattle.c25_meaning_expansion.specs.Trail.{line_of, next_place};
 ghost use Rattle.c25_macro.specs.Config.{config, refused_by};
 ghost use Rattle.c25_macro.specs.Tracers.{Begins, IsToldAs, Shows, Steps, fault_in, trace_of};
 
@@ -16,7 +16,7 @@ use c25_files::files::Files;
 use c25_meaning_common::failure::Failure;
 use c25_meaning_common::no_memory::NoMemory;
 use c25_meaning_common::placed::{FileLine, Placed};
-use c25_meaning_files::place::SourcePlace;
+use c25_meaning_expansion::place::SourcePlace;
 use std::alloc::Global;
 
 impl State<'_> {

@@ -15,7 +15,7 @@ use Rattle.std.proofs.lemmas.Slice.Eq.{bytes_eq-Decides}
 use Rattle.c25_meaning_common.specs.Bytes.{is_digit}
 use Rattle.c25_meaning_common.specs.Digits.{digit, value_in, decimal_of, hexadecimal_of}
 use Rattle.c25_meaning_common.specs.Digits.{hex_digit, four_digits}
-use Rattle.c25_meaning_placing.specs.MapText.{address_text, decimal_digit, five_digits, eight_digits}
+use Rattle.c25_meaning_linking.specs.MapText.{address_text, decimal_digit, five_digits, eight_digits}
 use Rattle.c25_map.specs.Reading.{is_upper_digit, word_of, address_of, long_of, size_of, page_of}
 use Rattle.c25_map.specs.declared.map_fault.MapFault.TheVariants.{BadMap}
 use Rattle.c25_map.proofs.Steps.{tested, stepped, given, some_tested}

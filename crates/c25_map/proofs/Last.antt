@@ -2,7 +2,7 @@
 use Rattle.std.proofs.Common.{◌≡◌, ℕ, zero, suc, true, false, List, [], ◌∷◌, ◌++◌, length, get_or, set, map, Option, Some, None, sym, ap, ◌∙◌, arith, refl}
 use Rattle.std.specs.Option.{option_map}
 use Rattle.std.proofs.lemmas.List.{map-append}
-use Rattle.c25_meaning_placing.specs.MapText.{PartData, SectionPlace}
+use Rattle.c25_meaning_linking.specs.MapText.{PartData, SectionPlace}
 use Rattle.c25_map.specs.Reading.{is_settled, onto_last, run_of_last}
 use Rattle.c25_map.specs.View.{part_data}
 use Rattle.c25_map.specs.declared.map.Part.{Part}

@@ -8,9 +8,9 @@ use Rattle.std.specs.List.{flat_map, join_with_byte}
 use Rattle.std.proofs.lemmas.List.{append-nil}
 use Rattle.std.proofs.lemmas.List.Splits.{join_with_byte-slice_split, slice_split_at}
 use Rattle.std.proofs.lemmas.List.Elements.{All-nil, All-head, All-tail, All-weaker}
-use Rattle.c25_meaning_placing.specs.Place.{Place}
+use Rattle.c25_meaning_linking.specs.Place.{Place}
 use Rattle.c25_meaning_common.specs.Digits.{four_digits}
-use Rattle.c25_meaning_placing.specs.MapText.{PartData, SectionPlace, NamedValue, MapData, address_text, five_digits, eight_digits, part_text, place_text, run_lines, section_text, symbol_text, entry_text, entry_lines, map_text, map_line, IsPrintedPart, IsPrintedSection, IsPrintedValue, IsPrinted, IsMapOf, HasDigits}
+use Rattle.c25_meaning_linking.specs.MapText.{PartData, SectionPlace, NamedValue, MapData, address_text, five_digits, eight_digits, part_text, place_text, run_lines, section_text, symbol_text, entry_text, entry_lines, map_text, map_line, IsPrintedPart, IsPrintedSection, IsPrintedValue, IsPrinted, IsMapOf, HasDigits}
 use Rattle.c25_meaning_common.specs.Results.{◌>>=◌, Meets}
 use Rattle.c25_meaning_common.specs.declared.failure.Failure.{Failure}
 use Rattle.c25_meaning_common.specs.declared.failure.Failure.TheVariants.{NoMemory, Fault}

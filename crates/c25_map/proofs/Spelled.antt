@@ -8,9 +8,9 @@ use Rattle.std.proofs.lemmas.List.Elements.{All-nil, All-cons}
 use Rattle.std.proofs.lemmas.Fmt.{decimal_digit as decimal_digit_text}
 use Rattle.c25_meaning_common.specs.Bytes.{is_digit, is_letter, begins_name, goes_on_name}
 use Rattle.c25_meaning_objects.specs.Module.{is_section_byte, is_section_name, is_symbol_name}
-use Rattle.c25_meaning_placing.specs.Place.{Place}
+use Rattle.c25_meaning_linking.specs.Place.{Place}
 use Rattle.c25_meaning_common.specs.Digits.{four_digits}
-use Rattle.c25_meaning_placing.specs.MapText.{PartData, NamedValue, map_line, address_text, five_digits, eight_digits, part_text, place_text, value_text, symbol_text, entry_text, is_number, IsPrintedPart, IsPrintedValue}
+use Rattle.c25_meaning_linking.specs.MapText.{PartData, NamedValue, map_line, address_text, five_digits, eight_digits, part_text, place_text, value_text, symbol_text, entry_text, is_number, IsPrintedPart, IsPrintedValue}
 use Rattle.c25_meaning_common.specs.Results.{◌>>=◌}
 use Rattle.c25_map.specs.Reading.{is_upper_digit, word_of, address_of, long_of, size_of, page_of, part_of, place_of, value_of}
 use Rattle.c25_map.specs.declared.map_fault.MapFault.TheVariants.{BadMap}

@@ -8,9 +8,9 @@ use Rattle.std.proofs.lemmas.Bool.{and_parts, eqb-true}
 use Rattle.std.proofs.lemmas.List.{append-nil, nil_from_length}
 use Rattle.std.proofs.lemmas.Grind.{flat_map-append}
 use Rattle.std.proofs.lemmas.List.Elements.{All-nil, All-cons, All-head, All-tail, All-push}
-use Rattle.c25_meaning_placing.specs.Place.{Place}
+use Rattle.c25_meaning_linking.specs.Place.{Place}
 use Rattle.c25_meaning_common.specs.Digits.{four_digits}
-use Rattle.c25_meaning_placing.specs.MapText.{PartData, SectionPlace, NamedValue, MapData, map_line, part_text, place_text, run_lines, section_text, symbol_text, entry_text, entry_lines, IsPrintedPart, IsPrintedSection, IsPrintedValue, IsPrinted}
+use Rattle.c25_meaning_linking.specs.MapText.{PartData, SectionPlace, NamedValue, MapData, map_line, part_text, place_text, run_lines, section_text, symbol_text, entry_text, entry_lines, IsPrintedPart, IsPrintedSection, IsPrintedValue, IsPrinted}
 use Rattle.c25_meaning_common.specs.Results.{◌>>=◌}
 use Rattle.c25_map.specs.Reading.{is_open, with_section, onto_last, with_part, run_of_last, with_run, with_symbol, with_entry, with_fields, word_of, part_of, place_of, value_of}
 use Rattle.c25_map.specs.declared.map_fault.MapFault.TheVariants.{BadMap}

@@ -1,6 +1,6 @@
 -- What is said of a text that is not read as a map.
 use Rattle.std.specs.Prelude.{ℕ, List}
-use Rattle.c25_meaning_placing.specs.MapText.{MapData, IsMapOf}
+use Rattle.c25_meaning_linking.specs.MapText.{MapData, IsMapOf}
 use Rattle.c25_meaning_common.specs.declared.failure.Failure.{Failure}
 use Rattle.c25_meaning_common.specs.declared.failure.Failure.TheVariants.{NoMemory, Fault}
 use Rattle.c25_map.specs.declared.map_fault.MapFault.{MapFault}

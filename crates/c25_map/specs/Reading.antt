@@ -5,9 +5,9 @@ use Rattle.std.specs.List.{list_all, slice_split}
 use Rattle.std.specs.Str.{bytes_eq}
 use Rattle.c25_meaning_common.specs.Bytes.{is_digit}
 use Rattle.c25_meaning_common.specs.Digits.{decimal_of, hexadecimal_of}
-use Rattle.c25_meaning_placing.specs.MapText.{PartData, SectionPlace, NamedValue, MapData, is_number}
+use Rattle.c25_meaning_linking.specs.MapText.{PartData, SectionPlace, NamedValue, MapData, is_number}
 use Rattle.c25_meaning_objects.specs.Module.{is_section_name, is_symbol_name}
-use Rattle.c25_meaning_placing.specs.Place.{Place}
+use Rattle.c25_meaning_linking.specs.Place.{Place}
 use Rattle.c25_meaning_common.specs.Results.{◌>>=◌}
 use Rattle.c25_map.specs.declared.map_fault.MapFault.{MapFault}
 use Rattle.c25_map.specs.declared.map_fault.MapFault.TheVariants.{BadMap}

@@ -1,6 +1,6 @@
 -- How the code's maps stand for the definitions' data.
 use Rattle.std.specs.Prelude.{map, option_map, string_bytes}
-use Rattle.c25_meaning_placing.specs.MapText as meant
+use Rattle.c25_meaning_linking.specs.MapText as meant
 use Rattle.c25_map.specs.declared.map.Part.{Part}
 use Rattle.c25_map.specs.declared.map.OutputSection.{OutputSection}
 use Rattle.c25_map.specs.declared.map.GlobalSymbol.{GlobalSymbol}

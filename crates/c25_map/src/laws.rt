@@ -1,7 +1,7 @@
 //! Laws of maps' texts.
 
 ghost use Rattle.std.specs.Prelude.{◌≡◌, ℕ, List, [], ◌++◌};
-ghost use Rattle.c25_meaning_placing.specs.MapText.{MapData, IsMapOf};
+ghost use Rattle.c25_meaning_linking.specs.MapText.{MapData, IsMapOf};
 
 /// A text is that of one map at most.
 pub fn one_text_has_one_map()

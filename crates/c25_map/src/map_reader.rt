@@ -1,7 +1,7 @@
 //! The text of a map, read.
 
 ghost use Rattle.std.specs.Prelude.{◌≡◌, IfOk, IfErr, All, map};
-ghost use Rattle.c25_meaning_placing.specs.MapText.{IsMapOf, HasDigits};
+ghost use Rattle.c25_meaning_linking.specs.MapText.{IsMapOf, HasDigits};
 ghost use Rattle.c25_meaning_common.specs.Results.{Meets};
 ghost use Rattle.c25_map.specs.Answer.{IsRefused};
 ghost use Rattle.c25_map.specs.Reading as reading;

@@ -3,12 +3,12 @@
 ghost use Rattle.std.specs.Prelude.{◌≡◌};
 ghost use Rattle.std.specs.List.{list_all};
 ghost use Rattle.c25_meaning_common.specs.Bytes.{is_digit};
-ghost use Rattle.c25_meaning_placing.specs.MapText.{is_number};
+ghost use Rattle.c25_meaning_linking.specs.MapText.{is_number};
 ghost use Rattle.c25_meaning_common.specs.Results.{Meets};
 ghost use Rattle.c25_map.specs.Reading.{is_upper_digit, word_of, address_of, long_of, size_of, page_of};
 
 use crate::map_fault::MapFault;
-use c25_items::{decimal_of, hexadecimal_of};
+use c25_texts::{decimal_of, hexadecimal_of};
 use c25_meaning_common::bytes::is_digit;
 use c25_meaning_common::failure::Failure;
 

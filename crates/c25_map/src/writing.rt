@@ -3,12 +3,12 @@
 ghost use Rattle.std.specs.Prelude.{◌≡◌, ◌<◌, ◌≤◌, ◌++◌, OnOk, IfOk, IfSome, All, map, ◌∷◌, [], string_bytes};
 ghost use Rattle.std.specs.List.{flat_map};
 ghost use Rattle.std.specs.Option.{option_map};
-ghost use Rattle.c25_meaning_placing.specs.MapText.{address_text, decimal_digit, five_digits, eight_digits, part_text, place_text, run_lines, section_text, value_text, symbol_text, entry_text, entry_lines, map_text, HasDigits};
+ghost use Rattle.c25_meaning_linking.specs.MapText.{address_text, decimal_digit, five_digits, eight_digits, part_text, place_text, run_lines, section_text, value_text, symbol_text, entry_text, entry_lines, map_text, HasDigits};
 ghost use Rattle.c25_meaning_common.specs.Digits.{four_digits};
 ghost use Rattle.c25_map.specs.View.{part_data, section_data, symbol_data, map_data};
 
 use crate::map::{GlobalSymbol, Map, OutputSection, Part};
-use c25_digits::four;
+use c25_texts::digits::four;
 use c25_meaning_common::no_memory::NoMemory;
 use std::alloc::{AllocError, Global};
 
@@ -75,7 +75,7 @@ fn push_name(out: &mut String, name: &str) -> Result<(), AllocError>
 }
 
 /// Appends eight hexadecimal digits.
-#[tactic(auto, unfolding(c25_meaning_placing::specs::MapText::eight_digits))]
+#[tactic(auto, unfolding(c25_meaning_linking::specs::MapText::eight_digits))]
 fn push_eight(out: &mut String, number: u32) -> Result<(), AllocError>
     ensures { OnOk result (string_bytes out.new ≡ string_bytes out.old ++ eight_digits number) }
 {
@@ -84,7 +84,7 @@ fn push_eight(out: &mut String, number: u32) -> Result<(), AllocError>
 }
 
 /// Appends the line of a part.
-#[tactic(auto, unfolding(c25_meaning_placing::specs::MapText::part_text))]
+#[tactic(auto, unfolding(c25_meaning_linking::specs::MapText::part_text))]
 fn push_part(out: &mut String, part: &Part) -> Result<(), AllocError>
     requires { part.now.base ≤ 65536 }
     ensures { OnOk result (string_bytes out.new ≡ string_bytes out.old ++ part_text (part_data part.now)) }
@@ -98,7 +98,7 @@ fn push_part(out: &mut String, part: &Part) -> Result<(), AllocError>
 }
 
 /// Appends the line of a section.
-#[tactic(auto, unfolding(c25_meaning_placing::specs::MapText::place_text))]
+#[tactic(auto, unfolding(c25_meaning_linking::specs::MapText::place_text))]
 fn push_place(out: &mut String, section: &OutputSection) -> Result<(), AllocError>
     requires { section.now.base < 65536 }
     ensures { OnOk result (string_bytes out.new ≡ string_bytes out.old ++ place_text (section_data section.now).place) }
@@ -147,7 +147,7 @@ fn push_section(out: &mut String, section: &OutputSection) -> Result<(), AllocEr
 }
 
 /// Appends a value and its name.
-#[tactic(auto, unfolding(c25_meaning_placing::specs::MapText::value_text))]
+#[tactic(auto, unfolding(c25_meaning_linking::specs::MapText::value_text))]
 fn push_value(out: &mut String, symbol: &GlobalSymbol) -> Result<(), AllocError>
     ensures { OnOk result (string_bytes out.new ≡ string_bytes out.old ++ value_text (symbol_data symbol.now)) }
 {

@@ -10,7 +10,7 @@ pub use Rattle.c25_meaning_instructions.specs.Spellings
 pub use Rattle.c25_meaning_instructions.specs.Table
 pub use Rattle.c25_meaning_image.specs.Marks
 pub use Rattle.c25_meaning_image.specs.WordMap
-pub use Rattle.c25_meaning_arithmetic.specs.Arithmetic
+pub use Rattle.c25_meaning_processor.specs.Arithmetic
 pub use Rattle.c25_meaning_processor.specs.Effect
 pub use Rattle.c25_meaning_processor.specs.FirstState
 pub use Rattle.c25_meaning_processor.specs.Memory

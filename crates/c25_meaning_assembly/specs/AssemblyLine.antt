@@ -5,7 +5,7 @@ use Rattle.std.specs.List.{list_any}
 use Rattle.std.specs.Str.{str_eq_ignore_ascii_case}
 use Rattle.c25_meaning_language.specs.DirectiveOperands.{expression_in, name_in, names_in, string_in, parts_in}
 use Rattle.c25_meaning_common.specs.Bytes.{is_blank}
-use Rattle.c25_meaning_lines.specs.Line.{Piece, Part, Parts, first_word}
+use Rattle.c25_meaning_language.specs.Line.{Piece, Part, Parts, first_word}
 use Rattle.c25_meaning_objects.specs.Module.{is_section_name}
 use Rattle.c25_meaning_language.specs.Operands.{operands_of, written_of, is_string}
 use Rattle.c25_meaning_language.specs.Forms.{is_expression}

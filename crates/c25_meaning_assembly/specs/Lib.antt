@@ -7,3 +7,4 @@ pub mod Listing
 pub mod OperandFields
 pub mod Sections
 pub mod StatementLine
+pub mod ModuleOfSource

@@ -1,7 +1,7 @@
 -- An instruction statement (SPRU018, source statement format): a form with the trees of its operands.
 use Rattle.std.specs.Prelude.{ℕ, Bool, true, false, List, [], ◌∷◌, map, ◌++◌, Result, Ok, Err, if◌then◌else◌}
 use Rattle.std.specs.Option.{ok_or}
-use Rattle.c25_meaning_lines.specs.Line.{Piece}
+use Rattle.c25_meaning_language.specs.Line.{Piece}
 use Rattle.c25_meaning_language.specs.Tree.{Tree, mark_of}
 use Rattle.c25_meaning_language.specs.Reading.{tree_in}
 use Rattle.c25_meaning_instructions.specs.Spellings.{spelling_of}

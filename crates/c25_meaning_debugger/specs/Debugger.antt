@@ -8,10 +8,10 @@ use Rattle.c25_meaning_processor.specs.Status.{regs_of}
 use Rattle.c25_meaning_processor.specs.WordStep.{IsFetchedBy, mark_found}
 use Rattle.c25_meaning_instructions.specs.declared.insn.Insn.{Insn}
 use Rattle.c25_meaning_image.specs.declared.mark.RunMark.{RunMark}
-use Rattle.c25_meaning_stimulus.specs.declared.script.Cmd.{Cmd}
-use Rattle.c25_meaning_stimulus.specs.declared.script.Cmd.TheVariants as cmd
-use Rattle.c25_meaning_breakpoints.specs.Goes.{Goes, Halting, is_breakpoint}
-use Rattle.c25_meaning_breakpoints.specs.Set.{can_set, with_breakpoint, without_breakpoint}
+use Rattle.c25_meaning_processor.specs.declared.script.Cmd.{Cmd}
+use Rattle.c25_meaning_processor.specs.declared.script.Cmd.TheVariants as cmd
+use Rattle.c25_meaning_processor.specs.Goes.{Goes, Halting, is_breakpoint}
+use Rattle.c25_meaning_processor.specs.Set.{can_set, with_breakpoint, without_breakpoint}
 use Rattle.c25_meaning_debugger.specs.Texts.{AreLinesOf, IsWhere, SourceLine, cleared_text, halting_text, insn_line, marks_from, regs_text, set_text, stack_text, symbols_text, words_text}
 
 -- where a session stands: how many steps are done in all, the state, and the breakpoints in the order in which they were set

@@ -5,7 +5,7 @@ use Rattle.std.specs.Fmt.{decimal}
 use Rattle.std.specs.Ordering.{nat_cmp}
 use Rattle.std.specs.FinMap as map
 use Rattle.c25_meaning_processor.specs.FirstState.{memory_of_map}
-use Rattle.c25_meaning_placing.specs.MapText.{NamedValue, eight_digits, symbol_text}
+use Rattle.c25_meaning_linking.specs.MapText.{NamedValue, eight_digits, symbol_text}
 use Rattle.c25_meaning_processor.specs.RunText.{stop_name}
 use Rattle.c25_meaning_common.specs.Digits.{four_digits, two_digits}
 use Rattle.c25_meaning_instructions.specs.Show.{show}
@@ -13,7 +13,7 @@ use Rattle.c25_meaning_instructions.specs.Table.{Reads, size_of}
 use Rattle.c25_meaning_instructions.specs.declared.insn.Insn.{Insn}
 use Rattle.c25_meaning_image.specs.declared.mark.Mark.{Mark}
 use Rattle.c25_meaning_processor.specs.declared.registers.Regs.{Regs}
-use Rattle.c25_meaning_breakpoints.specs.Goes.{Halting, Ran, Met, Left}
+use Rattle.c25_meaning_processor.specs.Goes.{Halting, Ran, Met, Left}
 
 -- ---- steps
 

@@ -1,3 +1,4 @@
-//! What a debugger answers to the commands of a script, over the image of a program and the states of its
-//! run. Definitions alone, over any kind of step.
+//! What a debugger answers to the commands of a script; and the law that it answers alike over words and statements.
 #![tactic(auto)]
+
+pub mod laws;

@@ -7,14 +7,14 @@ use Rattle.c25_meaning_language.specs.Value.{Table, is_zero}
 use Rattle.c25_meaning_language.specs.Tree.{Tree}
 use Rattle.c25_meaning_language.specs.Statement.{valued}
 use Rattle.c25_meaning_instructions.specs.Spellings.{spelling_of}
-use Rattle.c25_meaning_files.specs.Files.{Files, text_named}
-use Rattle.c25_meaning_files.specs.Rows.{Row, file_number}
+use Rattle.c25_meaning_expansion.specs.Files.{Files, text_named}
+use Rattle.c25_meaning_expansion.specs.Rows.{Row, file_number}
 use Rattle.c25_meaning_language.specs.Texts.{SubstitutionTexts}
 use Rattle.c25_meaning_expansion.specs.Acts.{ExpansionAct, If, ElseIf, Else, EndIf, Define, Stray, Exit, Loop, Break, Assign, Evaluate, Copy, End, Call}
 use Rattle.c25_meaning_expansion.specs.Expansion.{LineOrEnd, Kind, Copied, Expanded, Turn, Scope, Expansion, Mode, Dictionary, Config, Rewriting, Gives, Goes, Faults, Misses, unless, depth, is_full, with_branches, left_through, after_close, without_ended, is_expansion, is_turn, stands_in, macro_named, assigned, assigned_by}
 use Rattle.c25_meaning_expansion.specs.ExpansionRules.{absolute_number, with_number, needed, phase_of, elseif_in, else_in, begins_if, enters, elseif_by, else_by, endif_by, begins_macro, begins_expansion, leaves, turns_of, collects, begins_loop, breaks_if, breaks, evaluates, copies_by, copies, ends_all, acts}
 use Rattle.c25_meaning_expansion.specs.ExpansionBounds.{nested_of, pending, collecting, nesting, deepest, skipping}
-use Rattle.c25_meaning_files.specs.declared.place.SourcePlace.{SourcePlace}
+use Rattle.c25_meaning_expansion.specs.declared.place.SourcePlace.{SourcePlace}
 use Rattle.c25_meaning_expansion.specs.declared.expansion.Branch.{Branch}
 use Rattle.c25_meaning_expansion.specs.declared.expansion.Phase.{Phase}
 use Rattle.c25_meaning_expansion.specs.declared.expansion.Phase.TheVariants.{Seeking, Taking, Passing, ElseTaking, ElsePassing}

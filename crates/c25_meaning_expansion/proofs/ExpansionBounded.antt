@@ -1,8 +1,8 @@
 -- Expansion stays in bounds from the first line of a file on, whatever the symbols are.
 use Rattle.std.proofs.Common.{◌≡◌, ℕ, ◌+◌, ◌≤◌, List, [], ◌∷◌, length, ap, arith, length-append}
 use Rattle.c25_meaning_language.specs.Value.{Table}
-use Rattle.c25_meaning_files.specs.Files.{Files}
-use Rattle.c25_meaning_files.specs.Rows.{Row}
+use Rattle.c25_meaning_expansion.specs.Files.{Files}
+use Rattle.c25_meaning_expansion.specs.Rows.{Row}
 use Rattle.c25_meaning_expansion.specs.Expansion.{Config, Gives, Goes, depth}
 use Rattle.c25_meaning_expansion.specs.ExpansionRuns.{rewrite, start}
 use Rattle.c25_meaning_expansion.specs.ExpansionBounds.{nesting, IsBounded, Gave, nothing, more, line}

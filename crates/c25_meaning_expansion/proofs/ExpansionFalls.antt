@@ -3,8 +3,8 @@
 use Rattle.std.proofs.Common.{◌≡◌, ℕ, ◌+◌, ◌*◌, ◌-◌, ◌==◌, ◌<◌, ◌≤◌, Bool, true, false, not, ◌&&◌, nat_lt, if◌then◌else◌, List, [], ◌∷◌, ◌++◌, map, length, refl, ap, subst, arith, sum_by}
 use Rattle.std.proofs.lemmas.Bool.Decides.{nat_tests}
 use Rattle.c25_meaning_language.specs.Value.{Table}
-use Rattle.c25_meaning_files.specs.Files.{Files}
-use Rattle.c25_meaning_files.specs.Rows.{Row, is_empty}
+use Rattle.c25_meaning_expansion.specs.Files.{Files}
+use Rattle.c25_meaning_expansion.specs.Rows.{Row, is_empty}
 use Rattle.c25_meaning_expansion.specs.Acts.{ExpansionAct}
 use Rattle.c25_meaning_expansion.specs.Expansion.{LineOrEnd, Read, Close, Kind, Copied, Expanded, Turn, Scope, Mode, Reading, Acting, InMacro, InLoop, Config, Rewriting, Gives, Goes, Finishes, Faults, Misses}
 use Rattle.c25_meaning_expansion.specs.ExpansionRules.{acts}
@@ -12,7 +12,7 @@ use Rattle.c25_meaning_expansion.specs.ExpansionRuns.{read_by, is_closed, back, 
 use Rattle.c25_meaning_expansion.specs.ExpansionBounds.{nested_of, pending, collecting, deepest, IsBounded}
 use Rattle.c25_meaning_expansion.proofs.ExpansionActs.{Comes, gives, goes, faults, misses, IsIdle, Acted, Never, acted, blocks_in, count_stays}
 use Rattle.c25_meaning_expansion.proofs.ExpansionLines.{Took, Takes, takes_read}
-use Rattle.c25_meaning_files.specs.declared.place.SourcePlace.{SourcePlace}
+use Rattle.c25_meaning_expansion.specs.declared.place.SourcePlace.{SourcePlace}
 
 -- less is left to rewrite, and what was in bounds is
 pub record Falls (c d : Config) : Type 0 where

@@ -1,8 +1,8 @@
 -- The first rewriting that does not merely go on: it is the only one, it can be computed, and it stays in bounds.
 use Rattle.std.proofs.Common.{◌≡◌, ℕ, zero, suc, ◌<◌, ◌≤◌, List, [], ◌∷◌, ◌++◌, refl, ap, sym, ◌∙◌, subst, arith}
 use Rattle.c25_meaning_language.specs.Value.{Table}
-use Rattle.c25_meaning_files.specs.Files.{Files}
-use Rattle.c25_meaning_files.specs.Rows.{Row}
+use Rattle.c25_meaning_expansion.specs.Files.{Files}
+use Rattle.c25_meaning_expansion.specs.Rows.{Row}
 use Rattle.c25_meaning_expansion.specs.Expansion.{Config, Rewriting, Gives, Goes, Finishes, Faults, Misses}
 use Rattle.c25_meaning_expansion.specs.ExpansionRuns.{rewrite, Leads, ComesTo, weight, go_on, last_within, first}
 use Rattle.c25_meaning_expansion.specs.ExpansionBounds.{IsLast, IsBounded, Gave, more, line}

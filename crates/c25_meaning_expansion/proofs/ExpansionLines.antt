@@ -1,16 +1,16 @@
 -- What is changed by a line that was read: it nests one deeper at most, and it is given, or acted on, or its label is given.
 use Rattle.std.proofs.Common.{◌≡◌, ℕ, ◌+◌, ◌*◌, ◌-◌, ◌==◌, ◌≤◌, List, [], ◌∷◌, length, refl, ap, arith, Option, Some, None, Result, Ok, Err}
-use Rattle.c25_meaning_lines.specs.Line.{first_word}
+use Rattle.c25_meaning_language.specs.Line.{first_word}
 use Rattle.c25_meaning_language.specs.Value.{Table}
-use Rattle.c25_meaning_files.specs.Files.{Files}
-use Rattle.c25_meaning_files.specs.Rows.{Row}
+use Rattle.c25_meaning_expansion.specs.Files.{Files}
+use Rattle.c25_meaning_expansion.specs.Rows.{Row}
 use Rattle.c25_meaning_expansion.specs.Acts.{ExpansionAct, Macro, Order, order_of, call_of}
 use Rattle.c25_meaning_expansion.specs.Expansion.{Mode, InMacro, InLoop, Config, Rewriting, depth, with_branches}
 use Rattle.c25_meaning_expansion.specs.ExpansionRules.{acts, labelled, consumed, macro_of, calls, uses, directive_in, substituted_as, unless_long, used, resumes, takes_lines, enters, reads_elseif, skips_outer, skips_nested, skips, takes, reads_by, in_macro, in_loop}
 use Rattle.c25_meaning_expansion.specs.ExpansionRuns.{read_by}
 use Rattle.c25_meaning_expansion.specs.ExpansionBounds.{nested_of, pending, collecting, nesting, skipping}
 use Rattle.c25_meaning_expansion.proofs.ExpansionActs.{Comes, gives, goes, faults, misses, comes_if, comes_elseif, comes_else, IsIdle, Acted, Never, acted, blocks_in}
-use Rattle.c25_meaning_files.specs.declared.place.SourcePlace.{SourcePlace}
+use Rattle.c25_meaning_expansion.specs.declared.place.SourcePlace.{SourcePlace}
 use Rattle.c25_meaning_expansion.specs.declared.expansion.Branch.{Branch}
 use Rattle.c25_meaning_language.specs.declared.long_line.LongLine.{LongLine}
 use Rattle.c25_meaning_expansion.specs.declared.expansion.Directive.{Directive}

@@ -5,14 +5,14 @@ use Rattle.std.specs.Map.{lookup}
 use Rattle.std.specs.Option.{ok_or}
 use Rattle.std.specs.Str.{str_eq_ignore_ascii_case}
 use Rattle.c25_meaning_common.specs.Bytes.{is_blank}
-use Rattle.c25_meaning_lines.specs.Line.{Piece, Parts}
+use Rattle.c25_meaning_language.specs.Line.{Piece, Parts}
 use Rattle.c25_meaning_language.specs.Operands.{operands_of, written_of}
 use Rattle.c25_meaning_language.specs.Tree.{Tree}
 use Rattle.c25_meaning_common.specs.Results.{◌>>=◌}
 use Rattle.c25_meaning_language.specs.Forms.{is_expression}
 use Rattle.c25_meaning_language.specs.Texts.{SubstitutionTexts}
 use Rattle.c25_meaning_language.specs.Arguments.{arguments, assigned_text}
-use Rattle.c25_meaning_files.specs.Rows.{Row}
+use Rattle.c25_meaning_expansion.specs.Rows.{Row}
 use Rattle.c25_meaning_expansion.specs.declared.expansion.Directive.{Directive}
 use Rattle.c25_meaning_expansion.specs.declared.expansion.Directive.TheVariants as directive
 use Rattle.c25_meaning_language.specs.declared.statement.FaultKind.{FaultKind}

@@ -5,10 +5,10 @@ use Rattle.std.specs.List.{list_any}
 use Rattle.std.specs.Map.{lookup}
 use Rattle.std.specs.Str.{bytes_eq}
 use Rattle.c25_meaning_expansion.specs.Acts.{ExpansionAct, Macro}
-use Rattle.c25_meaning_files.specs.Rows.{Row}
+use Rattle.c25_meaning_expansion.specs.Rows.{Row}
 use Rattle.c25_meaning_language.specs.Fragments.{visible}
 use Rattle.c25_meaning_language.specs.Texts.{Named, SubstitutionTexts, with_name}
-use Rattle.c25_meaning_files.specs.declared.place.SourcePlace.{SourcePlace}
+use Rattle.c25_meaning_expansion.specs.declared.place.SourcePlace.{SourcePlace}
 use Rattle.c25_meaning_expansion.specs.declared.expansion.Branch.{Branch}
 use Rattle.c25_meaning_language.specs.declared.statement.FaultKind.{FaultKind}
 

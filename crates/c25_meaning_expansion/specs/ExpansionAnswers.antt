@@ -1,7 +1,7 @@
 -- What expansion answers: the lines that it gives, and why it ends with none, each with the name of its file.
 use Rattle.std.specs.Prelude.{ℕ, List, Option, Some, None}
-use Rattle.c25_meaning_files.specs.Files.{Files, file_name}
-use Rattle.c25_meaning_files.specs.Rows.{Row}
+use Rattle.c25_meaning_expansion.specs.Files.{Files, file_name}
+use Rattle.c25_meaning_expansion.specs.Rows.{Row}
 use Rattle.c25_meaning_expansion.specs.Expansion.{Config, Rewriting, Gives, Goes, Finishes, Faults, Misses}
 use Rattle.c25_meaning_language.specs.ExpansionFault.{ExpansionFault, Faulty, Missing}
 

@@ -21,21 +21,21 @@
 -- 31, a block that is left open, is told at the end of the file or body in which it began (`closes` of ExpansionRuns).
 use Rattle.std.specs.Prelude.{ℕ, ◌+◌, ◌-◌, ◌==◌, List, [], ◌∷◌, ◌++◌, Bool, true, false, not, ◌||◌, Option, Some, None, option_and_then, Result, Ok, Err, ℤ, pos, negsuc, if◌then◌else◌, is_some}
 use Rattle.std.specs.Fmt.{signed_decimal}
-use Rattle.c25_meaning_lines.specs.Line.{first_word}
+use Rattle.c25_meaning_language.specs.Line.{first_word}
 use Rattle.c25_meaning_language.specs.Absolute.{number_by}
 use Rattle.c25_meaning_language.specs.Tree.{Tree}
 use Rattle.c25_meaning_language.specs.Value.{Table, is_zero}
 use Rattle.c25_meaning_common.specs.Results.{◌>>=◌}
 use Rattle.c25_meaning_language.specs.Statement.{valued}
 use Rattle.c25_meaning_instructions.specs.Spellings.{spelling_of}
-use Rattle.c25_meaning_files.specs.Files.{Files, text_named}
-use Rattle.c25_meaning_files.specs.Rows.{Row, rows_of, last_place, file_number}
+use Rattle.c25_meaning_expansion.specs.Files.{Files, text_named}
+use Rattle.c25_meaning_expansion.specs.Rows.{Row, rows_of, last_place, file_number}
 use Rattle.c25_meaning_language.specs.Substitution.{substituted, substituted_before_comma, unsubstituted}
 use Rattle.c25_meaning_language.specs.Texts.{SubstitutionTexts, with_name}
 use Rattle.c25_meaning_expansion.specs.Acts.{ExpansionAct, If, ElseIf, Else, EndIf, Define, Stray, Exit, Loop, Break, Assign, Evaluate, Copy, End, Call, Macro, Order, directive_of, order_of, call_of}
 use Rattle.c25_meaning_expansion.specs.Expansion.{Kind, Copied, Expanded, Turn, Reading, Acting, InMacro, InLoop, Dictionary, Config, Rewriting, Gives, Goes, Faults, Misses, unless, is_full, source_opened, with_branches, left_through, is_expansion, is_turn, stands_in, macro_named, seen, number_of, assigned, called}
 use Rattle.c25_meaning_language.specs.declared.value.Value.{Value}
-use Rattle.c25_meaning_files.specs.declared.place.SourcePlace.{SourcePlace}
+use Rattle.c25_meaning_expansion.specs.declared.place.SourcePlace.{SourcePlace}
 use Rattle.c25_meaning_expansion.specs.declared.expansion.Branch.{Branch}
 use Rattle.c25_meaning_expansion.specs.declared.expansion.Phase.{Phase}
 use Rattle.c25_meaning_expansion.specs.declared.expansion.Phase.TheVariants.{Seeking, Taking, Passing, ElseTaking, ElsePassing}

@@ -1,9 +1,9 @@
 -- Rewriting the lines still to come up to the next line that is given, the end, or the first fault.
 use Rattle.std.specs.Prelude.{◌≡◌, ℕ, zero, suc, ◌+◌, ◌*◌, ◌-◌, ◌==◌, List, [], ◌∷◌, ◌++◌, Bool, true, false, not, ◌&&◌, Option, option_map, nat_lt, if◌then◌else◌, length, map}
-use Rattle.c25_meaning_lines.specs.Line.{first_word}
+use Rattle.c25_meaning_language.specs.Line.{first_word}
 use Rattle.c25_meaning_language.specs.Value.{Table}
-use Rattle.c25_meaning_files.specs.Files.{Files, text_named}
-use Rattle.c25_meaning_files.specs.Rows.{Row, rows_of, last_place, file_number, is_empty}
+use Rattle.c25_meaning_expansion.specs.Files.{Files, text_named}
+use Rattle.c25_meaning_expansion.specs.Rows.{Row, rows_of, last_place, file_number, is_empty}
 use Rattle.c25_meaning_expansion.specs.Expansion.{LineOrEnd, Read, Close, Kind, Copied, Expanded, Turn, Scope, Mode, Reading, Acting, InMacro, InLoop, Config, Rewriting, Gives, Goes, Finishes, Faults, Misses, unless, without_ended}
 use Rattle.c25_meaning_expansion.specs.ExpansionRules.{acts, directive_in, reads_by, in_macro, in_loop}
 use Rattle.c25_meaning_language.specs.declared.statement.FaultKind.TheVariants as fault

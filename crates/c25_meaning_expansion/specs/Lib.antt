@@ -1,6 +1,9 @@
+pub mod Files
+pub mod Rows
 pub mod Acts
 pub mod Expansion
 pub mod ExpansionAnswers
 pub mod ExpansionBounds
 pub mod ExpansionRules
 pub mod ExpansionRuns
+pub mod Trail

@@ -5,3 +5,4 @@ pub mod Readings
 pub mod RowBases
 pub mod Spelled
 pub mod Spellings
+pub mod RelocatedFields

@@ -1,5 +1,6 @@
-//! The instruction set: mnemonics and instructions, the opcode table, spellings and printed texts.
+//! The instruction set: mnemonics and instructions, the opcode table, spellings and printed texts; and laws of it.
 #![tactic(auto)]
 
 pub mod insn;
+pub mod laws;
 pub mod mnemonic;

@@ -4,8 +4,8 @@ use Rattle.std.specs.Prelude.{ℕ, ◌+◌, ◌-◌, ◌==◌, Bool, true, false
 use Rattle.std.specs.List.{prefix_len, suffix_len}
 use Rattle.std.specs.Option.{option_map_or}
 use Rattle.c25_meaning_common.specs.Bytes.{is_blank}
-use Rattle.c25_meaning_lines.specs.Lexeme.{quoted_len}
-use Rattle.c25_meaning_lines.specs.Line.{word_end}
+use Rattle.c25_meaning_language.specs.Lexeme.{quoted_len}
+use Rattle.c25_meaning_language.specs.Line.{word_end}
 use Rattle.c25_meaning_language.specs.Quoting.{outer_len, last_comma_len}
 use Rattle.c25_meaning_language.specs.declared.quoting.Quoting.TheVariants.{Outside}
 

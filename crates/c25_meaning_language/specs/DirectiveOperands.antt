@@ -1,7 +1,7 @@
 -- The operands of directives, of expansion and of the assembler alike, or their first fault of 10 to 13, 52, 20, 21 (SPRU018, assembler
 -- directives).
 use Rattle.std.specs.Prelude.{ℕ, Bool, true, false, List, [], ◌∷◌, map, if◌then◌else◌, Result, Ok, Err}
-use Rattle.c25_meaning_lines.specs.Line.{Piece, Parts, line_of}
+use Rattle.c25_meaning_language.specs.Line.{Piece, Parts, line_of}
 use Rattle.c25_meaning_language.specs.Operands.{written_of, is_quoted, line_fault}
 use Rattle.c25_meaning_language.specs.Tree.{Tree, mark_of}
 use Rattle.c25_meaning_language.specs.Reading.{tree_in}
@@ -9,8 +9,8 @@ use Rattle.c25_meaning_common.specs.Results.{◌>>=◌, told}
 use Rattle.c25_meaning_language.specs.Statement.{expression_fault}
 use Rattle.c25_meaning_language.specs.Forms.{is_expression}
 use Rattle.c25_meaning_language.specs.Arguments.{string_text}
-use Rattle.c25_meaning_lines.specs.declared.line.TokenKind.{TokenKind}
-use Rattle.c25_meaning_lines.specs.declared.line.TokenKind.TheVariants as kind
+use Rattle.c25_meaning_language.specs.declared.line.TokenKind.{TokenKind}
+use Rattle.c25_meaning_language.specs.declared.line.TokenKind.TheVariants as kind
 use Rattle.c25_meaning_language.specs.declared.statement.FaultKind.{FaultKind}
 use Rattle.c25_meaning_language.specs.declared.statement.FaultKind.TheVariants as fault
 

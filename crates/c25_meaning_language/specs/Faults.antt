@@ -3,8 +3,8 @@ use Rattle.std.specs.Prelude.{ℕ, List, codes}
 use Rattle.c25_meaning_common.specs.Faults.{numbered}
 use Rattle.c25_meaning_language.specs.declared.statement.FaultKind.{FaultKind}
 use Rattle.c25_meaning_language.specs.declared.statement.FaultKind.TheVariants as fault
-use Rattle.c25_meaning_lines.specs.declared.line.LineFault.TheVariants as line
-use Rattle.c25_meaning_lines.specs.Faults.{line_fault_name}
+use Rattle.c25_meaning_language.specs.declared.line.LineFault.TheVariants as line
+use Rattle.c25_meaning_language.specs.LineFaults.{line_fault_name}
 
 -- the number of a source's fault
 abbrev pub fault_number : FaultKind → ℕ

@@ -1,3 +1,7 @@
+pub mod Constant
+pub mod LineFaults
+pub mod Lexeme
+pub mod Line
 pub mod Absolute
 pub mod Arguments
 pub mod DirectiveOperands

@@ -3,12 +3,12 @@
 use Rattle.std.specs.Prelude.{ℕ, Bool, true, false, List, [], ◌∷◌, codes, Option, Some, None, if◌then◌else◌}
 use Rattle.std.specs.List.{slice_split}
 use Rattle.std.specs.Str.{bytes_eq, str_eq_ignore_ascii_case}
-use Rattle.c25_meaning_lines.specs.Line.{Piece}
-use Rattle.c25_meaning_lines.specs.declared.line.LineFault.{LineFault}
-use Rattle.c25_meaning_lines.specs.declared.line.LineFault.TheVariants as line
-use Rattle.c25_meaning_lines.specs.declared.line.TokenKind.{TokenKind}
-use Rattle.c25_meaning_lines.specs.declared.line.TokenKind.TheVariants as kind
-use Rattle.c25_meaning_lines.specs.declared.line.Sign.TheVariants as sign
+use Rattle.c25_meaning_language.specs.Line.{Piece}
+use Rattle.c25_meaning_language.specs.declared.line.LineFault.{LineFault}
+use Rattle.c25_meaning_language.specs.declared.line.LineFault.TheVariants as line
+use Rattle.c25_meaning_language.specs.declared.line.TokenKind.{TokenKind}
+use Rattle.c25_meaning_language.specs.declared.line.TokenKind.TheVariants as kind
+use Rattle.c25_meaning_language.specs.declared.line.Sign.TheVariants as sign
 use Rattle.c25_meaning_instructions.specs.declared.insn.Change.{Change}
 use Rattle.c25_meaning_instructions.specs.declared.insn.Change.TheVariants as change
 use Rattle.c25_meaning_language.specs.declared.statement.FaultKind.{FaultKind}

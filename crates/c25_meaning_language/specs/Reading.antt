@@ -2,8 +2,8 @@
 -- SPRU018, assembler description, expressions). That it gives the trees of `Tree.IsTreeOf` and no others is a law of the crate that reads
 -- expressions.
 use Rattle.std.specs.Prelude.{ℕ, Bool, true, false, nat_le, if◌then◌else◌, List, [], ◌∷◌, Option, Some, None, option_and_then, Result, Ok, Err}
-use Rattle.c25_meaning_lines.specs.declared.line.Sign.{Sign}
-use Rattle.c25_meaning_lines.specs.declared.line.Sign.TheVariants as sign
+use Rattle.c25_meaning_language.specs.declared.line.Sign.{Sign}
+use Rattle.c25_meaning_language.specs.declared.line.Sign.TheVariants as sign
 use Rattle.c25_meaning_language.specs.declared.expression.UnaryOperator.{UnaryOperator}
 use Rattle.c25_meaning_language.specs.declared.expression.UnaryOperator.TheVariants as unary
 use Rattle.c25_meaning_language.specs.declared.expression.BinaryOperator.{BinaryOperator}

@@ -2,7 +2,7 @@
 -- recursive substitution; that the number of the expansion follows `name_`, and the limits, are this project's own).
 use Rattle.std.specs.Prelude.{ℕ, zero, suc, ◌+◌, max, nat_le, if◌then◌else◌, List, [], ◌∷◌, ◌++◌, length, take, drop, Result, Ok, Err}
 use Rattle.std.specs.Fmt.{decimal}
-use Rattle.c25_meaning_lines.specs.Line.{is_comment_line}
+use Rattle.c25_meaning_language.specs.Line.{is_comment_line}
 use Rattle.c25_meaning_language.specs.Fragments.{Replacements, without, Fragment, Kept, Numbered, Replaced, fragments}
 use Rattle.c25_meaning_language.specs.Quoting.{last_comma_len}
 use Rattle.c25_meaning_language.specs.declared.long_line.LongLine.{LongLine}

@@ -1,12 +1,12 @@
 -- The tree of an expression, by levels (own: C's order; SPRU018, assembler description, expressions, has the
 -- operators).
 use Rattle.std.specs.Prelude.{◌≡◌, ℕ, ◌+◌, ◌^◌, ◌<◌, ◌≤◌, min, max, List, [], ◌∷◌, ◌++◌, slice_index}
-use Rattle.c25_meaning_lines.specs.Constant.{constant_value}
-use Rattle.c25_meaning_lines.specs.Line.{Piece}
-use Rattle.c25_meaning_lines.specs.declared.line.TokenKind.{TokenKind}
-use Rattle.c25_meaning_lines.specs.declared.line.TokenKind.TheVariants as kind
-use Rattle.c25_meaning_lines.specs.declared.line.Sign.{Sign}
-use Rattle.c25_meaning_lines.specs.declared.line.Sign.TheVariants as sign
+use Rattle.c25_meaning_language.specs.Constant.{constant_value}
+use Rattle.c25_meaning_language.specs.Line.{Piece}
+use Rattle.c25_meaning_language.specs.declared.line.TokenKind.{TokenKind}
+use Rattle.c25_meaning_language.specs.declared.line.TokenKind.TheVariants as kind
+use Rattle.c25_meaning_language.specs.declared.line.Sign.{Sign}
+use Rattle.c25_meaning_language.specs.declared.line.Sign.TheVariants as sign
 use Rattle.c25_meaning_language.specs.declared.expression.UnaryOperator.{UnaryOperator}
 use Rattle.c25_meaning_language.specs.declared.expression.UnaryOperator.TheVariants as unary
 use Rattle.c25_meaning_language.specs.declared.expression.BinaryOperator.{BinaryOperator}

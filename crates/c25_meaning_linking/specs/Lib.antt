@@ -1,2 +1,13 @@
+pub mod Command
+pub mod CommandGrammar
+pub mod CommandMemory
+pub mod CommandSections
+pub mod CommandText
+pub mod CommandTokens
+pub mod CommandFaults
+pub mod LinkFaults
+pub mod GoodMap
+pub mod MapText
+pub mod Place
 pub mod Linking
 pub mod Words

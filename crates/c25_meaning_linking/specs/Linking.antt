@@ -8,17 +8,17 @@ use Rattle.std.specs.Fmt.{decimal}
 use Rattle.std.specs.Ordering.{nat_cmp}
 use Rattle.std.specs.FinMap as finite
 use Rattle.c25_bits.specs.Cut.{cut}
-use Rattle.c25_meaning_commands.specs.Command.{CommandData}
+use Rattle.c25_meaning_linking.specs.Command.{CommandData}
 use Rattle.c25_meaning_common.specs.Fields.{takes}
-use Rattle.c25_meaning_placing.specs.GoodMap.{is_among, IsGoodMap, IsUnplaced, ranges_for, placings_for, requests}
-use Rattle.c25_meaning_placing.specs.MapText.{MapData, PartData, SectionPlace, NamedValue}
+use Rattle.c25_meaning_linking.specs.GoodMap.{is_among, IsGoodMap, IsUnplaced, ranges_for, placings_for, requests}
+use Rattle.c25_meaning_linking.specs.MapText.{MapData, PartData, SectionPlace, NamedValue}
 use Rattle.c25_meaning_image.specs.Marks.{fit_from, run_fit}
 use Rattle.c25_meaning_objects.specs.Module.{SectionData, Contents, body_size}
-use Rattle.c25_meaning_placing.specs.Place.{Place, by_modules, is_section_named, part_base}
+use Rattle.c25_meaning_linking.specs.Place.{Place, by_modules, is_section_named, part_base}
 use Rattle.c25_meaning_common.specs.Results.{◌>>=◌}
 use Rattle.c25_meaning_linking.specs.Words.{Definition, symbol_name, section_name, definitions, definition_of, definition_value, name_value, relocated_value, HasWord, program_marks, program_run_marks, LineData, program_lines}
-use Rattle.c25_meaning_placing.specs.declared.link_fault.LinkFault.{LinkFault}
-use Rattle.c25_meaning_placing.specs.declared.link_fault.LinkFault.TheVariants.{Unresolved, DefinedTwice, RelocRange, NoEntry}
+use Rattle.c25_meaning_linking.specs.declared.link_fault.LinkFault.{LinkFault}
+use Rattle.c25_meaning_linking.specs.declared.link_fault.LinkFault.TheVariants.{Unresolved, DefinedTwice, RelocRange, NoEntry}
 use Rattle.c25_meaning_common.specs.declared.placed.Placed.{Placed}
 use Rattle.c25_meaning_image.specs.declared.mark.Mark.{Mark}
 use Rattle.c25_meaning_image.specs.declared.mark.RunMark.{RunMark}

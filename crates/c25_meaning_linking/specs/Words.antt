@@ -6,7 +6,7 @@ use Rattle.std.specs.List.{slice_get, zip}
 use Rattle.std.specs.Str.{bytes_eq}
 use Rattle.c25_meaning_objects.specs.Module.{SectionData, SymbolData, Contents, is_global, body_words}
 use Rattle.c25_meaning_common.specs.Fields.{filled, field_number}
-use Rattle.c25_meaning_placing.specs.Place.{Place, by_modules, part_base, part_run, page_of, runs_elsewhere, IsPart}
+use Rattle.c25_meaning_linking.specs.Place.{Place, by_modules, part_base, part_run, page_of, runs_elsewhere, IsPart}
 use Rattle.c25_meaning_image.specs.declared.mark.Mark.{Mark}
 use Rattle.c25_meaning_image.specs.declared.mark.RunMark.{RunMark}
 use Rattle.c25_meaning_objects.specs.declared.object.LineMark.{LineMark}

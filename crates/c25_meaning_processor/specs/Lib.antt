@@ -1,3 +1,4 @@
+pub mod Arithmetic
 pub mod Effect
 pub mod FirstState
 pub mod Memory
@@ -10,3 +11,9 @@ pub mod Statements
 pub mod Status
 pub mod Step
 pub mod WordStep
+pub mod Samples
+pub mod Schedule
+pub mod Script
+pub mod Signals
+pub mod Goes
+pub mod Set

@@ -3,7 +3,7 @@
 ghost use Rattle.std.specs.Prelude.{◌≡◌, ◌<◌};
 
 use crate::lines::Lines;
-use c25_meaning_arithmetic::accumulator::{Acc, ProductShift};
+use crate::accumulator::{Acc, ProductShift};
 use std::marker::Model;
 
 /// The number of an auxiliary register, 0 to 7.

@@ -7,10 +7,10 @@ use Rattle.c25_meaning_expansion.proofs.ExpansionFirst.{first_giving}
 use Rattle.c25_meaning_expansion.specs.Expansion.{Config, Rewriting, Gives, Goes, Finishes, Faults, Misses}
 use Rattle.c25_meaning_expansion.specs.ExpansionAnswers.{expanded_line, fault_by, given_by}
 use Rattle.c25_meaning_expansion.specs.ExpansionRuns.{first, start, start_of}
-use Rattle.c25_meaning_files.specs.Files.{Files, text_named}
-use Rattle.c25_meaning_files.specs.Rows.{file_number}
+use Rattle.c25_meaning_expansion.specs.Files.{Files, text_named}
+use Rattle.c25_meaning_expansion.specs.Rows.{file_number}
 use Rattle.c25_meaning_language.specs.ExpansionFault.{ExpansionFault}
-use Rattle.c25_meaning_sources.specs.ModuleOfSource.{Passed, no_lines, pass_line, passed, passed_by}
+use Rattle.c25_meaning_assembly.specs.ModuleOfSource.{Passed, no_lines, pass_line, passed, passed_by}
 
 same_behind : (r : Result Passed ExpansionFault) (f g : Passed → Result Passed ExpansionFault) → ((b : Passed) → f b ≡ g b) → (r >>= f) ≡ (r >>= g)
 same_behind (Ok b) f g h = h b

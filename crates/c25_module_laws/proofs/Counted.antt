@@ -4,7 +4,7 @@ use Rattle.std.specs.List.{slice_get, list_all}
 use Rattle.std.proofs.lemmas.Bool.Decides.{nat_tests}
 use Rattle.std.proofs.lemmas.List.{length-append}
 use Rattle.c25_meaning_language.specs.Forms.{is_expression, counted, others, more_behind, addr_written, formed, memory, expressions, change_written, jump_change, jumping, short_count, long_least, plain_change, row_form, form_of}
-use Rattle.c25_meaning_lines.specs.Line.{Piece}
+use Rattle.c25_meaning_language.specs.Line.{Piece}
 use Rattle.c25_meaning_language.specs.Operands.{written_of}
 use Rattle.c25_meaning_language.specs.Reading.{tree_in}
 use Rattle.c25_meaning_common.specs.Results.{◌>>=◌, fold_ok}

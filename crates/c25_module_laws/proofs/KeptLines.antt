@@ -10,9 +10,9 @@ use Rattle.c25_meaning_expansion.specs.Expansion.{Config}
 use Rattle.c25_meaning_expansion.specs.ExpansionAnswers.{ExpandedLine, given_by, fault_by}
 use Rattle.c25_meaning_language.specs.ExpansionFault.{ExpansionFault}
 use Rattle.c25_meaning_expansion.specs.ExpansionRuns.{first}
-use Rattle.c25_meaning_files.specs.Files.{Files}
+use Rattle.c25_meaning_expansion.specs.Files.{Files}
 use Rattle.c25_meaning_objects.specs.Module.{each_fits}
-use Rattle.c25_meaning_sources.specs.ModuleOfSource.{Passed, no_lines, entry_of, origin_of, pass_line, passed, passed_by, passed_from, read_and_pass}
+use Rattle.c25_meaning_assembly.specs.ModuleOfSource.{Passed, no_lines, entry_of, origin_of, pass_line, passed, passed_by, passed_from, read_and_pass}
 use Rattle.c25_meaning_common.specs.Results.{◌>>=◌, fold_ok}
 use Rattle.c25_meaning_assembly.specs.Sections as meaning
 use Rattle.c25_meaning_assembly.specs.Sections.{Definitions, Section, Content, Operands, Words, Zeros, Exported, Origin, LaidContent, Progress, changed, longer, with_block, with_mark, use_line, block, block_allowed, flag_in, is_in, are_distinct, once, all_once, stands, define, label, here, loaded_here, table, place_in, same_kind, of_kind, section_opened, grow, lay, with_item, size_at, size_by, is_called, count_in, reserve, reserve_room, register_names, define_pair, name_count, few, pass, allowed, act}

@@ -9,10 +9,10 @@ use Rattle.c25_meaning_language.specs.Arguments.{folded, past_quote, before_quot
 use Rattle.c25_meaning_assembly.specs.AssemblyLine as line
 use Rattle.c25_meaning_assembly.specs.AssemblyLine.{AssemblyAct, Statement, statement_by, directive_in, read_statement, section_in, said_in, as_section, later_in, entering, reserving, reserving_in, some_names, expressions_in, with_expression, loading, without, act_of, act_without, act_by, instructing, parts_for, label_for, names_label, directive_of}
 use Rattle.c25_meaning_common.specs.Bytes.{is_blank, is_field, is_letter, begins_name, goes_on_name, is_digit, is_letter_or_digit, is_plain}
-use Rattle.c25_meaning_lines.specs.Constant.{is_constant}
-use Rattle.c25_meaning_lines.specs.Lexeme.{name_of, constant_of, character_of, quoted_by, quoted_len, double_sign, single_sign, sign_by, dotted_of, lexeme}
-use Rattle.c25_meaning_lines.specs.Line.{Piece, Part, Parts, Scan, before, covered, scan, scan_from, is_name, is_label, without_colon, label_of, label_in, word_in, statement_of, line_of, is_comment_line, first_word}
-use Rattle.c25_meaning_lines.specs.Line as parts
+use Rattle.c25_meaning_language.specs.Constant.{is_constant}
+use Rattle.c25_meaning_language.specs.Lexeme.{name_of, constant_of, character_of, quoted_by, quoted_len, double_sign, single_sign, sign_by, dotted_of, lexeme}
+use Rattle.c25_meaning_language.specs.Line.{Piece, Part, Parts, Scan, before, covered, scan, scan_from, is_name, is_label, without_colon, label_of, label_in, word_in, statement_of, line_of, is_comment_line, first_word}
+use Rattle.c25_meaning_language.specs.Line as parts
 use Rattle.c25_meaning_objects.specs.Module.{is_section_name, is_symbol_name}
 use Rattle.c25_meaning_language.specs.Operands.{operands_of, is_comma, line_fault}
 use Rattle.c25_meaning_common.specs.Results.{◌>>=◌, told}
@@ -21,13 +21,13 @@ use Rattle.c25_meaning_language.specs.Tree.{Tree}
 use Rattle.c25_meaning_assembly.specs.declared.assembly.Directive.{Directive}
 use Rattle.c25_meaning_assembly.specs.declared.assembly.Directive.TheVariants as directive
 use Rattle.c25_meaning_assembly.specs.declared.assembly.Target.TheVariants as target
-use Rattle.c25_meaning_lines.specs.declared.line.LineFault.{LineFault}
-use Rattle.c25_meaning_lines.specs.declared.line.LineFault.TheVariants as fault
-use Rattle.c25_meaning_lines.specs.declared.line.Lexeme.{Lexeme}
-use Rattle.c25_meaning_lines.specs.declared.line.Lexeme.TheVariants.{Blank, Comment, Token, Fault}
-use Rattle.c25_meaning_lines.specs.declared.line.Sign.{Sign}
-use Rattle.c25_meaning_lines.specs.declared.line.TokenKind.{TokenKind}
-use Rattle.c25_meaning_lines.specs.declared.line.TokenKind.TheVariants as kind
+use Rattle.c25_meaning_language.specs.declared.line.LineFault.{LineFault}
+use Rattle.c25_meaning_language.specs.declared.line.LineFault.TheVariants as fault
+use Rattle.c25_meaning_language.specs.declared.line.Lexeme.{Lexeme}
+use Rattle.c25_meaning_language.specs.declared.line.Lexeme.TheVariants.{Blank, Comment, Token, Fault}
+use Rattle.c25_meaning_language.specs.declared.line.Sign.{Sign}
+use Rattle.c25_meaning_language.specs.declared.line.TokenKind.{TokenKind}
+use Rattle.c25_meaning_language.specs.declared.line.TokenKind.TheVariants as kind
 use Rattle.c25_meaning_language.specs.declared.statement.FaultKind.{FaultKind}
 use Rattle.c25_meaning_language.specs.declared.statement.FaultKind.TheVariants as refused
 use Rattle.c25_module_laws.proofs.Counted.{IsCount, operation_counted}

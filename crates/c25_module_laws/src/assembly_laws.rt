@@ -3,9 +3,9 @@
 ghost use Rattle.std.specs.Prelude.{◌≡◌, ◌<◌, ◌≤◌, List, ℕ, Ok, Some};
 ghost use Rattle.c25_meaning_expansion.specs.Expansion.{Config};
 ghost use Rattle.c25_meaning_expansion.specs.ExpansionRuns.{start_of};
-ghost use Rattle.c25_meaning_files.specs.Files.{Files};
+ghost use Rattle.c25_meaning_expansion.specs.Files.{Files};
 ghost use Rattle.c25_meaning_objects.specs.Module.{IsModule};
-ghost use Rattle.c25_meaning_sources.specs.ModuleOfSource.{Assembled, Passed, assembled, no_lines, passed};
+ghost use Rattle.c25_meaning_assembly.specs.ModuleOfSource.{Assembled, Passed, assembled, no_lines, passed};
 
 /// The module of a source is a module: its sections, marks, symbols, relocations, files, lines and
 /// blocks are in order and in their ranges.

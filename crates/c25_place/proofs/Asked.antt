@@ -5,15 +5,15 @@ use Rattle.std.specs.Str.{bytes_eq}
 use Rattle.std.proofs.lemmas.List.{map-append, append-nil}
 use Rattle.std.proofs.lemmas.List.Elements.{filter-append}
 use Rattle.std.proofs.lemmas.List.Folds.{list_any-append}
-use Rattle.c25_meaning_commands.specs.Command.{PlacingData}
-use Rattle.c25_meaning_placing.specs.GoodMap.{Request, request, has_address, comes_first, comes_later, is_among, new_names}
+use Rattle.c25_meaning_linking.specs.Command.{PlacingData}
+use Rattle.c25_meaning_linking.specs.GoodMap.{Request, request, has_address, comes_first, comes_later, is_among, new_names}
 use Rattle.c25_meaning_objects.specs.Module.{Contents}
-use Rattle.c25_meaning_placing.specs.Place.{all_sections, is_there, is_section_named}
+use Rattle.c25_meaning_linking.specs.Place.{all_sections, is_there, is_section_named}
 use Rattle.c25_place.specs.Outputs.{output_of, size_of_sections, any_words}
 use Rattle.c25_place.specs.Requests.{is_due, request_by, HasNames}
 use Rattle.c25_place.specs.declared.outputs.Output.{Output}
 use Rattle.c25_place.proofs.Sized.{or_false}
-use Rattle.c25_meaning_placing.proofs.PlaceNames.{same_name}
+use Rattle.c25_meaning_linking.proofs.PlaceNames.{same_name}
 
 -- ---- what a section comes to makes its request
 

@@ -11,10 +11,10 @@ use Rattle.std.proofs.lemmas.List.Sums.{sum_by_push}
 use Rattle.std.proofs.lemmas.Option.{slice_get-get_or, slice_get-map, slice_get_past, slice_get_read}
 use Rattle.c25_meaning_objects.specs.Module.{Contents, SectionData, body_size}
 use Rattle.c25_meaning_objects.specs.declared.object.Block.{Block}
-use Rattle.c25_meaning_placing.specs.Place.{BlockData, block_behind, blocks_behind, by_modules, is_block_named, is_section_named, part_blocks, size_for, size_of_parts}
-use Rattle.c25_meaning_placing.proofs.ByModules.{by_modules_more}
-use Rattle.c25_meaning_placing.proofs.Parts.{sizes_more}
-use Rattle.c25_meaning_placing.proofs.PlaceNames.{same_name}
+use Rattle.c25_meaning_linking.specs.Place.{BlockData, block_behind, blocks_behind, by_modules, is_block_named, is_section_named, part_blocks, size_for, size_of_parts}
+use Rattle.c25_meaning_linking.proofs.ByModules.{by_modules_more}
+use Rattle.c25_meaning_linking.proofs.Parts.{sizes_more}
+use Rattle.c25_meaning_linking.proofs.PlaceNames.{same_name}
 use Rattle.c25_obj.specs.View.{section_data, sections_data}
 use Rattle.c25_obj.specs.declared.parts.Section.{Section}
 use Rattle.c25_place.specs.Blocks.{KnowsPaging, anywhere}

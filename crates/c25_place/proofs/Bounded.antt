@@ -4,11 +4,11 @@ use Rattle.std.specs.Borrow.{Bor}
 use Rattle.std.specs.Str.{bytes_eq}
 use Rattle.std.proofs.lemmas.List.{length-map, length-take}
 use Rattle.std.proofs.lemmas.List.Elements.{All-append, All-map, All-take}
-use Rattle.c25_meaning_commands.specs.Command.{PlacingData}
-use Rattle.c25_meaning_placing.specs.GoodMap.{requests, request, listed_request, unlisted_request, comes_first, comes_later, unlisted_names}
-use Rattle.c25_meaning_placing.specs.GoodMap as good
+use Rattle.c25_meaning_linking.specs.Command.{PlacingData}
+use Rattle.c25_meaning_linking.specs.GoodMap.{requests, request, listed_request, unlisted_request, comes_first, comes_later, unlisted_names}
+use Rattle.c25_meaning_linking.specs.GoodMap as good
 use Rattle.c25_meaning_objects.specs.Module.{Contents, SectionData, body_size, has_words}
-use Rattle.c25_meaning_placing.specs.Place.{all_sections, size_of_parts}
+use Rattle.c25_meaning_linking.specs.Place.{all_sections, size_of_parts}
 use Rattle.c25_obj.specs.View.{section_data}
 use Rattle.c25_obj.specs.declared.parts.Section.{Section}
 use Rattle.c25_place.specs.Outputs.{AreSmall, output_of, size_of_sections}

@@ -2,8 +2,8 @@
 use Rattle.std.proofs.Common.{◌≤◌, List, [], ◌∷◌, Option, Some, None, unwrap_or, All, arith}
 use Rattle.std.specs.Prelude.{IfSome, codes}
 use Rattle.std.proofs.lemmas.List.Elements.{All-nil, All-cons}
-use Rattle.c25_meaning_commands.specs.Command.{RangeData, PlacingData, CommandData, IsCommand, IsRange, AreApart, Pairwise}
-use Rattle.c25_meaning_placing.specs.GoodMap.{default_ranges, ranges_for, placings_for}
+use Rattle.c25_meaning_linking.specs.Command.{RangeData, PlacingData, CommandData, IsCommand, IsRange, AreApart, Pairwise}
+use Rattle.c25_meaning_linking.specs.GoodMap.{default_ranges, ranges_for, placings_for}
 
 abbrev program_range : RangeData
 program_range = record { page = 0; name = codes "PROG"; origin = 0; size = 65536 }

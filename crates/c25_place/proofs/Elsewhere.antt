@@ -3,9 +3,9 @@ use Rattle.std.proofs.Common.{◌≡◌, ℕ, ◌+◌, ◌≤◌, Bool, true, fa
 use Rattle.std.specs.Option.{option_map_or}
 use Rattle.std.proofs.lemmas.List.{get_or-replicate, length-replicate}
 use Rattle.std.proofs.lemmas.List.Folds.{list_any-append}
-use Rattle.c25_meaning_commands.specs.Command.{RangeData}
-use Rattle.c25_meaning_placing.specs.GoodMap.{Request, RunsAt, Runs, page_for, runs_at, is_run_at, IsRunFree}
-use Rattle.c25_meaning_placing.specs.Place.{Place}
+use Rattle.c25_meaning_linking.specs.Command.{RangeData}
+use Rattle.c25_meaning_linking.specs.GoodMap.{Request, RunsAt, Runs, page_for, runs_at, is_run_at, IsRunFree}
+use Rattle.c25_meaning_linking.specs.Place.{Place}
 use Rattle.c25_place.specs.Placement.{AreWords}
 use Rattle.c25_place.specs.Room.{KnowsRuns, AreFree}
 use Rattle.c25_place.specs.declared.runs.RunWords.{RunWords}

@@ -5,8 +5,8 @@ use Rattle.std.proofs.lemmas.Bool.{cases_lt}
 use Rattle.std.proofs.lemmas.Bool.Decides.{nat_tests}
 use Rattle.std.proofs.lemmas.List.{get_or-replicate, length-replicate}
 use Rattle.std.proofs.lemmas.List.Folds.{list_any-append}
-use Rattle.c25_meaning_commands.specs.Command.{RangeData, IsRange, TargetData, Anywhere, InRange, At}
-use Rattle.c25_meaning_placing.specs.declared.link_fault.LinkFault.{LinkFault}
+use Rattle.c25_meaning_linking.specs.Command.{RangeData, IsRange, TargetData, Anywhere, InRange, At}
+use Rattle.c25_meaning_linking.specs.declared.link_fault.LinkFault.{LinkFault}
 use Rattle.std.proofs.lemmas.List.Elements.{All-head, All-tail}
 use Rattle.c25_place.specs.Blocks.{KnowsFits}
 use Rattle.c25_place.specs.Placement.{AreWords}
@@ -16,8 +16,8 @@ use Rattle.c25_place.specs.declared.requests.Wanted.{Wanted}
 use Rattle.c25_place.specs.declared.requests.Wanted.TheVariants as wanted
 use Rattle.c25_place.specs.declared.ranges.Range.{Range}
 use Rattle.c25_place.proofs.Listed.{split_at}
-use Rattle.c25_meaning_placing.specs.GoodMap.{is_inside, is_taken, has_word, IsFree, IsLeastFit, NoneFits, IsFirstFit, IsBase, IsBaseAt, IsBaseIn}
-use Rattle.c25_meaning_placing.specs.Place.{Place, Covers, BlockData}
+use Rattle.c25_meaning_linking.specs.GoodMap.{is_inside, is_taken, has_word, IsFree, IsLeastFit, NoneFits, IsFirstFit, IsBase, IsBaseAt, IsBaseIn}
+use Rattle.c25_meaning_linking.specs.Place.{Place, Covers, BlockData}
 use Rattle.c25_place.specs.Room.{KnowsTaken, AreFree, IsOpen, IsFirstFree, IsRunBefore}
 
 -- ---- inside a range

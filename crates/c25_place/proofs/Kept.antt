@@ -4,7 +4,7 @@ use Rattle.std.specs.Str.{bytes_eq}
 use Rattle.std.proofs.lemmas.Bool.Decides.{nat_tests}
 use Rattle.std.proofs.lemmas.List.{append-nil, map-append, take-map, length-map, get_or-map, length-append}
 use Rattle.std.proofs.lemmas.List.Elements.{filter-append}
-use Rattle.c25_meaning_commands.specs.Command.{RangeData, AreApart, Pairwise}
+use Rattle.c25_meaning_linking.specs.Command.{RangeData, AreApart, Pairwise}
 use Rattle.c25_place.specs.Ranges.{on_page, place_in}
 use Rattle.c25_place.specs.View.{range_view, ranges_view}
 use Rattle.c25_place.specs.declared.ranges.Range.{Range}

@@ -2,8 +2,8 @@
 use Rattle.std.proofs.Common.{◌≡◌, ℕ, Bool, true, false, ◌||◌, cond, List, [], ◌∷◌, Option, Some, None, filter, refl, ap, ◌∙◌}
 use Rattle.std.specs.List.{list_any}
 use Rattle.std.specs.Prelude.{◌==◌, unwrap_or}
-use Rattle.c25_meaning_commands.specs.Command.{Anywhere, At, InRange, RangeData, TargetData}
-use Rattle.c25_meaning_placing.specs.GoodMap.{default_page, is_named_on, is_usable}
+use Rattle.c25_meaning_linking.specs.Command.{Anywhere, At, InRange, RangeData, TargetData}
+use Rattle.c25_meaning_linking.specs.GoodMap.{default_page, is_named_on, is_usable}
 use Rattle.c25_place.specs.Missing.{Any, MissingData, Named, OnPage, has_named, has_page, missing_for, missing_page, unless}
 
 -- where nothing is left of a list, nothing of it passes

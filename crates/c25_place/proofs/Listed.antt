@@ -8,8 +8,8 @@ use Rattle.std.proofs.lemmas.List.{map-append, take_more, take_all}
 use Rattle.std.proofs.lemmas.List.Elements.{All-nil, All-cons, All-head, All-tail, All-push}
 use Rattle.c25_cmd.specs.View.{placing_of, placings_of}
 use Rattle.c25_cmd.specs.declared.command.Placing.{Placing}
-use Rattle.c25_meaning_commands.specs.Command.{PlacingData}
-use Rattle.c25_meaning_placing.specs.GoodMap.{is_among}
+use Rattle.c25_meaning_linking.specs.Command.{PlacingData}
+use Rattle.c25_meaning_linking.specs.GoodMap.{is_among}
 use Rattle.c25_meaning_objects.specs.Module.{Contents, IsModule, body_size, each_fits, section_fits, has_sections, lists_fit}
 use Rattle.c25_obj.proofs.Small.{sections_small}
 use Rattle.c25_obj.proofs.Texts.{both}

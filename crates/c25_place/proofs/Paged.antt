@@ -2,8 +2,8 @@
 use Rattle.std.proofs.Common.{◌≡◌, ℕ, ◌+◌, ◌%◌, Bool, true, false, ◌&&◌, leb, List, [], ◌∷◌, ◌++◌, length, get_or, refl, sym, ap, subst, ◌∙◌, arith}
 use Rattle.std.proofs.lemmas.List.{get_or-replicate, length-replicate}
 use Rattle.std.proofs.lemmas.List.Folds.{list_all-append}
-use Rattle.c25_meaning_placing.specs.GoodMap.{is_paged, blocks_fit}
-use Rattle.c25_meaning_placing.specs.Place.{BlockData, block_behind}
+use Rattle.c25_meaning_linking.specs.GoodMap.{is_paged, blocks_fit}
+use Rattle.c25_meaning_linking.specs.Place.{BlockData, block_behind}
 use Rattle.c25_meaning_objects.specs.declared.object.Block.{Block}
 use Rattle.c25_place.specs.Blocks.{KnowsFits, KnowsPaging, anywhere}
 use Rattle.c25_place.specs.declared.blocks.Paging.{Paging}

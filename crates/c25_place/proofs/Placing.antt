@@ -2,11 +2,11 @@
 use Rattle.std.proofs.Common.{◌≡◌, ℕ, List, [], ◌∷◌, ◌++◌, Result, Ok, Err, inr, reverse, filter, refl, sym, ap, subst, String}
 use Rattle.std.specs.declared.alloc.Global.{Global}
 use Rattle.std.proofs.lemmas.List.{reverse-append, reverse-reverse}
-use Rattle.c25_meaning_commands.specs.Command.{RangeData}
-use Rattle.c25_meaning_placing.specs.GoodMap.{Request, Stands, Stand, ArePlaced, IsBase, IsBaseOf, IsUnfit, Runs, is_usable, page_for}
-use Rattle.c25_meaning_placing.specs.Place.{Place}
-use Rattle.c25_meaning_placing.specs.declared.link_fault.LinkFault.{LinkFault}
-use Rattle.c25_meaning_placing.specs.declared.link_fault.LinkFault.TheVariants.{BadRun}
+use Rattle.c25_meaning_linking.specs.Command.{RangeData}
+use Rattle.c25_meaning_linking.specs.GoodMap.{Request, Stands, Stand, ArePlaced, IsBase, IsBaseOf, IsUnfit, Runs, is_usable, page_for}
+use Rattle.c25_meaning_linking.specs.Place.{Place}
+use Rattle.c25_meaning_linking.specs.declared.link_fault.LinkFault.{LinkFault}
+use Rattle.c25_meaning_linking.specs.declared.link_fault.LinkFault.TheVariants.{BadRun}
 use Rattle.c25_meaning_common.specs.declared.failure.Failure.{Failure}
 use Rattle.c25_meaning_common.specs.declared.failure.Failure.TheVariants.{NoMemory, Fault}
 use Rattle.c25_meaning_common.specs.declared.placed.Placed.{Placed}

@@ -5,11 +5,11 @@ use Rattle.std.specs.List.{list_any}
 use Rattle.std.specs.Str.{bytes_eq}
 use Rattle.std.proofs.lemmas.List.{map-append}
 use Rattle.std.proofs.lemmas.List.Elements.{All-push}
-use Rattle.c25_meaning_placing.specs.GoodMap.{unlisted_request, is_among, new_names}
-use Rattle.c25_meaning_placing.specs.GoodMap as good
+use Rattle.c25_meaning_linking.specs.GoodMap.{unlisted_request, is_among, new_names}
+use Rattle.c25_meaning_linking.specs.GoodMap as good
 use Rattle.c25_meaning_objects.specs.Module.{Contents, SectionData}
-use Rattle.c25_meaning_placing.specs.Place.{all_sections, is_section_named, is_there}
-use Rattle.c25_meaning_placing.proofs.PlaceNames.{is_same}
+use Rattle.c25_meaning_linking.specs.Place.{all_sections, is_section_named, is_there}
+use Rattle.c25_meaning_linking.proofs.PlaceNames.{is_same}
 use Rattle.c25_obj.specs.View.{section_data}
 use Rattle.c25_obj.specs.declared.parts.Section.{Section}
 use Rattle.c25_place.specs.Outputs.{output_of}

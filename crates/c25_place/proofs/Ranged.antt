@@ -3,9 +3,9 @@ use Rattle.std.proofs.Common.{◌≡◌, ℕ, zero, suc, ◌+◌, ◌<◌, ◌&&
 use Rattle.std.specs.List.{list_any}
 use Rattle.std.specs.Str.{bytes_eq}
 use Rattle.std.proofs.lemmas.List.Elements.{All-nil, All-cons, All-head, All-tail, All-filter}
-use Rattle.c25_meaning_commands.specs.Command.{RangeData, AreApart, Pairwise}
-use Rattle.c25_meaning_placing.specs.GoodMap.{is_named_on}
-use Rattle.c25_meaning_placing.proofs.PlaceNames.{same_name, is_same}
+use Rattle.c25_meaning_linking.specs.Command.{RangeData, AreApart, Pairwise}
+use Rattle.c25_meaning_linking.specs.GoodMap.{is_named_on}
+use Rattle.c25_meaning_linking.proofs.PlaceNames.{same_name, is_same}
 use Rattle.c25_place.specs.Ranges.{on_page, place_from}
 use Rattle.std.proofs.lemmas.List.{take-map, drop-map}
 use Rattle.c25_place.specs.View.{range_view, ranges_view}

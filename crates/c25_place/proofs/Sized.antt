@@ -5,8 +5,8 @@ use Rattle.std.specs.Str.{bytes_eq}
 use Rattle.std.proofs.lemmas.List.Folds.{list_any-append}
 use Rattle.std.proofs.lemmas.List.Sums.{sum_by-cons, sum_by_push, sum_by-le}
 use Rattle.c25_meaning_objects.specs.Module.{SectionData, body_size, has_words}
-use Rattle.c25_meaning_placing.specs.Place.{is_section_named, size_for}
-use Rattle.c25_meaning_placing.proofs.PlaceNames.{same_name, is_same}
+use Rattle.c25_meaning_linking.specs.Place.{is_section_named, size_for}
+use Rattle.c25_meaning_linking.proofs.PlaceNames.{same_name, is_same}
 use Rattle.c25_place.specs.Outputs.{size_of_sections, any_words, output_of}
 use Rattle.c25_place.specs.declared.outputs.Output.{Output}
 

@@ -3,8 +3,8 @@ use Rattle.std.specs.Prelude.{◌≡◌, ℕ, ◌<◌, ◌%◌, Bool, true, fals
 use Rattle.std.specs.Borrow.{Bor}
 use Rattle.std.specs.HashMap.{HashMap}
 use Rattle.c25_meaning_objects.specs.Module.{Contents}
-use Rattle.c25_meaning_placing.specs.GoodMap.{blocks_fit}
-use Rattle.c25_meaning_placing.specs.Place.{BlockData, blocks_of, size_of_parts}
+use Rattle.c25_meaning_linking.specs.GoodMap.{blocks_fit}
+use Rattle.c25_meaning_linking.specs.Place.{BlockData, blocks_of, size_of_parts}
 use Rattle.c25_place.specs.View.{named}
 use Rattle.c25_place.specs.declared.blocks.Blocks.{Blocks}
 use Rattle.c25_place.specs.declared.blocks.Paging.{Paging}

@@ -2,8 +2,8 @@
 use Rattle.std.specs.Prelude.{◌≡◌, ℕ, ◌==◌, ◌||◌, Bool, true, false, List, find, Option, Some, None, unwrap_or, if◌then◌else◌}
 use Rattle.std.specs.List.{list_any}
 use Rattle.std.specs.Str.{bytes_eq}
-use Rattle.c25_meaning_commands.specs.Command.{Anywhere, At, CommandData, InRange, PlacingData, RangeData, TargetData}
-use Rattle.c25_meaning_placing.specs.GoodMap.{Request, is_named_on, page_for, placings_for, ranges_for}
+use Rattle.c25_meaning_linking.specs.Command.{Anywhere, At, CommandData, InRange, PlacingData, RangeData, TargetData}
+use Rattle.c25_meaning_linking.specs.GoodMap.{Request, is_named_on, page_for, placings_for, ranges_for}
 use Rattle.c25_place.specs.declared.missing.MissingRange.{MissingRange}
 use Rattle.c25_place.specs.declared.missing.MissingRange.TheVariants as missing
 

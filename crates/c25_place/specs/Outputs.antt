@@ -2,7 +2,7 @@
 use Rattle.std.specs.Prelude.{◌≡◌, ◌≤◌, ℕ, Bool, ◌&&◌, List, All, Option, Some, None, if◌then◌else◌}
 use Rattle.std.specs.List.{list_any, sum_by}
 use Rattle.c25_meaning_objects.specs.Module.{SectionData, body_size, has_words}
-use Rattle.c25_meaning_placing.specs.Place.{is_section_named, size_for}
+use Rattle.c25_meaning_linking.specs.Place.{is_section_named, size_for}
 use Rattle.std.specs.Borrow.{Bor}
 use Rattle.c25_obj.specs.declared.parts.Section.{Section}
 use Rattle.c25_obj.specs.View.{body_data}

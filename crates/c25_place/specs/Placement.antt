@@ -2,13 +2,13 @@
 use Rattle.std.specs.Prelude.{◌≡◌, ℕ, ◌+◌, ◌<◌, ◌≤◌, List, [], ◌∷◌, ◌++◌, IfSome, Result, Ok, Err, String}
 use Rattle.std.specs.declared.alloc.Global.{Global}
 use Rattle.std.specs.declared.vec.Vec.{Vec}
-use Rattle.c25_meaning_commands.specs.Command.{RangeData}
-use Rattle.c25_meaning_placing.specs.GoodMap.{Request, Stands, ArePlaced, IsUnplaced, IsBaseOf, IsUnfit, Runs}
-use Rattle.c25_meaning_placing.specs.Place as place
+use Rattle.c25_meaning_linking.specs.Command.{RangeData}
+use Rattle.c25_meaning_linking.specs.GoodMap.{Request, Stands, ArePlaced, IsUnplaced, IsBaseOf, IsUnfit, Runs}
+use Rattle.c25_meaning_linking.specs.Place as place
 use Rattle.c25_meaning_common.specs.declared.failure.Failure.{Failure}
 use Rattle.c25_meaning_common.specs.declared.failure.Failure.TheVariants.{NoMemory, Fault}
 use Rattle.c25_meaning_common.specs.declared.placed.Placed.{Placed}
-use Rattle.c25_meaning_placing.specs.declared.link_fault.LinkFault.{LinkFault}
+use Rattle.c25_meaning_linking.specs.declared.link_fault.LinkFault.{LinkFault}
 use Rattle.c25_place.specs.View.{refusal_of, places_view}
 use Rattle.c25_place.specs.declared.placement.Place.{Place}
 

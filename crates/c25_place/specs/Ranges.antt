@@ -1,7 +1,7 @@
 -- The ranges of both pages, as the code has them.
 use Rattle.std.specs.Prelude.{◌≡◌, ◌==◌, ℕ, ◌+◌, List, [], ◌∷◌, filter, Option, Some, None, if◌then◌else◌, All}
 use Rattle.std.specs.Str.{bytes_eq}
-use Rattle.c25_meaning_commands.specs.Command.{RangeData, IsRange, AreApart, Pairwise}
+use Rattle.c25_meaning_linking.specs.Command.{RangeData, IsRange, AreApart, Pairwise}
 use Rattle.c25_place.specs.View.{named, ranges_view}
 use Rattle.c25_place.specs.declared.ranges.PageRanges.{PageRanges}
 use Rattle.c25_place.specs.declared.ranges.Ranges.{Ranges}

@@ -1,10 +1,10 @@
 -- The sections that are to be placed, as the code has them.
 use Rattle.std.specs.Prelude.{◌≡◌, ◌≤◌, ℕ, Bool, true, false, ◌&&◌, not, List, All, None, IfSome}
-use Rattle.c25_meaning_commands.specs.Command.{PlacingData, Anywhere}
-use Rattle.c25_meaning_placing.specs.GoodMap.{has_address, is_among}
-use Rattle.c25_meaning_placing.specs.GoodMap as good
+use Rattle.c25_meaning_linking.specs.Command.{PlacingData, Anywhere}
+use Rattle.c25_meaning_linking.specs.GoodMap.{has_address, is_among}
+use Rattle.c25_meaning_linking.specs.GoodMap as good
 use Rattle.c25_meaning_objects.specs.Module.{Contents}
-use Rattle.c25_meaning_placing.specs.Place.{blocks_of, is_there}
+use Rattle.c25_meaning_linking.specs.Place.{blocks_of, is_there}
 use Rattle.c25_place.specs.declared.outputs.Output.{Output}
 use Rattle.c25_place.specs.declared.requests.Request.{Request}
 

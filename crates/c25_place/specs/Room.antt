@@ -1,7 +1,7 @@
 -- Which words of both pages are taken, as the code has it.
 use Rattle.std.specs.Prelude.{◌≡◌, ℕ, ◌+◌, ◌-◌, ◌%◌, ◌<◌, ◌≤◌, Bool, true, false, List, length, slice_index_or}
-use Rattle.c25_meaning_placing.specs.GoodMap.{is_taken, is_run_at}
-use Rattle.c25_meaning_placing.specs.Place.{Place, Covers}
+use Rattle.c25_meaning_linking.specs.GoodMap.{is_taken, is_run_at}
+use Rattle.c25_meaning_linking.specs.Place.{Place, Covers}
 use Rattle.c25_place.specs.declared.room.Room.{Room}
 use Rattle.c25_place.specs.declared.runs.RunWords.{RunWords}
 

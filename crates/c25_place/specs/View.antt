@@ -4,14 +4,14 @@ use Rattle.std.specs.Borrow.{Bor}
 use Rattle.std.specs.HashMap.{HashMap, get_by}
 use Rattle.std.specs.Str.{bytes_eq}
 use Rattle.std.specs.declared.alloc.Global.{Global}
-use Rattle.c25_meaning_commands.specs.Command.{RangeData, TargetData}
-use Rattle.c25_meaning_commands.specs.Command as command
-use Rattle.c25_meaning_placing.specs.GoodMap as good
-use Rattle.c25_meaning_placing.specs.Place as place
-use Rattle.c25_meaning_placing.specs.Place.{blocks_of}
+use Rattle.c25_meaning_linking.specs.Command.{RangeData, TargetData}
+use Rattle.c25_meaning_linking.specs.Command as command
+use Rattle.c25_meaning_linking.specs.GoodMap as good
+use Rattle.c25_meaning_linking.specs.Place as place
+use Rattle.c25_meaning_linking.specs.Place.{blocks_of}
 use Rattle.c25_meaning_objects.specs.Module.{Contents, SectionData}
 use Rattle.c25_meaning_common.specs.declared.placed.Placed.{Placed}
-use Rattle.c25_meaning_placing.specs.declared.link_fault.LinkFault.{LinkFault}
+use Rattle.c25_meaning_linking.specs.declared.link_fault.LinkFault.{LinkFault}
 use Rattle.c25_obj.specs.declared.parts.Section.{Section}
 use Rattle.c25_obj.specs.View.{section_data}
 use Rattle.c25_place.specs.declared.placement.Place.{Place}

@@ -4,7 +4,7 @@
 ghost use Rattle.std.specs.Prelude.{◌≡◌, ◌≤◌, ◌+◌, ◌%◌, ◌++◌, ◌∷◌, [], ◌&&◌, ℕ, List, All, length, false, nat_le, slice_index_or, unwrap_or, IfOk, OnOk};
 ghost use Rattle.std.specs.List.{sum_by};
 ghost use Rattle.c25_meaning_objects.specs.Module.{Contents, IsModule, body_size};
-ghost use Rattle.c25_meaning_placing.specs.Place.{BlockData, blocks_behind, blocks_of, block_behind, size_for, size_of_parts};
+ghost use Rattle.c25_meaning_linking.specs.Place.{BlockData, blocks_behind, blocks_of, block_behind, size_for, size_of_parts};
 ghost use Rattle.c25_obj.specs.View.{body_data, contents, sections_data};
 ghost use Rattle.c25_place.specs.Blocks.{anywhere, KnowsPaging, KnowsFound, KnowsBlocks};
 

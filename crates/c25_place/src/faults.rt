@@ -6,7 +6,7 @@ ghost use Rattle.c25_place.specs.View.{refusal_of};
 use c25_meaning_common::failure::Failure;
 use c25_meaning_common::no_memory::NoMemory;
 use c25_meaning_common::placed::Placed;
-use c25_meaning_placing::link_fault::LinkFault;
+use c25_meaning_linking::link_fault::LinkFault;
 use std::alloc::Global;
 
 /// Why modules are not linked: a fault with a name, or want of memory.

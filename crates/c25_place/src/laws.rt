@@ -1,8 +1,8 @@
 //! A law of the ranges that are told as missing, the contract of a function that does nothing.
 
 ghost use Rattle.std.specs.Prelude.{◌≡◌, List, [], Some};
-ghost use Rattle.c25_meaning_commands.specs.Command.{RangeData};
-ghost use Rattle.c25_meaning_placing.specs.GoodMap.{Request, usable};
+ghost use Rattle.c25_meaning_linking.specs.Command.{RangeData};
+ghost use Rattle.c25_meaning_linking.specs.GoodMap.{Request, usable};
 ghost use Rattle.c25_place.specs.Missing.{IsSoOf, MissingData, missing_for};
 
 /// Of each section that has no range to stand in something is told, and it is so.

@@ -5,7 +5,7 @@ ghost use Rattle.std.specs.Option.{option_map};
 ghost use Rattle.std.specs.Prelude.{◌≡◌, ◌==◌, IfOk};
 ghost use Rattle.std.specs.Str.{bytes_eq};
 ghost use Rattle.c25_cmd.specs.View.{command_data, placing_of, placings_of};
-ghost use Rattle.c25_meaning_placing.specs.GoodMap.{is_named_on};
+ghost use Rattle.c25_meaning_linking.specs.GoodMap.{is_named_on};
 ghost use Rattle.c25_place.specs.Missing.{has_named, has_page, missing_data, missing_for, missing_on, missing_page, missing_placing, missing_range, placing_named, unless};
 ghost use Rattle.c25_place.specs.View.{range_view, ranges_view, wanted_view};
 

@@ -1,7 +1,7 @@
 //! Names that were seen.
 
 ghost use Rattle.std.specs.Prelude.{◌≡◌, ◌∷◌, ◌++◌, [], not, if◌then◌else◌, IfOk, OnOk};
-ghost use Rattle.c25_meaning_placing.specs.GoodMap.{is_among};
+ghost use Rattle.c25_meaning_linking.specs.GoodMap.{is_among};
 
 use indexmap::IndexSet;
 use std::alloc::{AllocError, Global};

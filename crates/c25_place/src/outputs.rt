@@ -2,7 +2,7 @@
 
 ghost use Rattle.std.specs.Prelude.{◌≡◌, ◌<◌, ◌≤◌, ◌++◌, List, All, length, false, unwrap_or, IfOk, OnOk};
 ghost use Rattle.c25_meaning_objects.specs.Module.{SectionData, body_size, has_words};
-ghost use Rattle.c25_meaning_placing.specs.Place.{all_sections};
+ghost use Rattle.c25_meaning_linking.specs.Place.{all_sections};
 ghost use Rattle.c25_obj.specs.View.{body_data, section_data, sections_data};
 ghost use Rattle.c25_place.specs.Outputs.{output_of, AreSmall, KnowsOutputs};
 ghost use Rattle.c25_place.specs.View.{sections_view};

@@ -2,10 +2,10 @@
 
 ghost use Rattle.std.specs.Prelude.{◌≡◌, ◌<◌, ◌≤◌, ◌+◌, ◌^◌, ◌++◌, ◌∷◌, [], List, ℕ, true, false, Ok, Err, All, IfOk, IfSome, OnOk, OnErr, MatchOption, length};
 ghost use Rattle.std.specs.List.{list_any};
-ghost use Rattle.c25_meaning_commands.specs.Command.{RangeData, IsRange};
-ghost use Rattle.c25_meaning_placing.specs.GoodMap.{IsLeastFit, NoneFits, IsFirstFit, IsBase, IsBaseAt, IsBaseIn, is_inside, may_stand, Stands, ArePlaced, IsBaseOf, Runs, page_for};
+ghost use Rattle.c25_meaning_linking.specs.Command.{RangeData, IsRange};
+ghost use Rattle.c25_meaning_linking.specs.GoodMap.{IsLeastFit, NoneFits, IsFirstFit, IsBase, IsBaseAt, IsBaseIn, is_inside, may_stand, Stands, ArePlaced, IsBaseOf, Runs, page_for};
 ghost use Rattle.c25_meaning_objects.specs.Module.{Contents};
-ghost use Rattle.c25_meaning_placing.specs.Place as place;
+ghost use Rattle.c25_meaning_linking.specs.Place as place;
 ghost use Rattle.c25_place.specs.Blocks.{KnowsBlocks, KnowsFits};
 ghost use Rattle.c25_place.specs.Placement.{IsPlacedOrRefused, ArePlacedOrRefused, IsFitOrNot, IsWithin, AreWords};
 ghost use Rattle.c25_place.specs.Ranges.{KnowsRanges, HasRanges};
@@ -21,7 +21,7 @@ use crate::room::{PAGE_WORDS, Room, first_free};
 use crate::runs::RunWords;
 use c25_cmd::taken::any_taken;
 use c25_meaning_common::failure::Failure;
-use c25_meaning_placing::link_fault::LinkFault;
+use c25_meaning_linking::link_fault::LinkFault;
 use std::alloc::{AllocError, Global};
 
 /// A section of the program and where it stands.

@@ -2,8 +2,8 @@
 
 ghost use Rattle.std.specs.Prelude.{◌≡◌, IfOk, All};
 ghost use Rattle.c25_cmd.specs.View.{command_data, placings_of};
-ghost use Rattle.c25_meaning_commands.specs.Command.{IsCommand};
-ghost use Rattle.c25_meaning_placing.specs.GoodMap.{placings_for, ranges_for, requests};
+ghost use Rattle.c25_meaning_linking.specs.Command.{IsCommand};
+ghost use Rattle.c25_meaning_linking.specs.GoodMap.{placings_for, ranges_for, requests};
 ghost use Rattle.c25_place.specs.Placement.{ArePlacedOrRefused, IsWithin};
 
 use crate::blocks::Blocks;

@@ -2,9 +2,9 @@
 
 ghost use Rattle.std.specs.Prelude.{◌≡◌, ◌≤◌, ℕ, List, filter, take, drop, IfOk, IfSome};
 ghost use Rattle.c25_cmd.specs.View.{command_data, ranges_of};
-ghost use Rattle.c25_meaning_commands.specs.Command.{RangeData, AreApart, Pairwise, IsCommand};
+ghost use Rattle.c25_meaning_linking.specs.Command.{RangeData, AreApart, Pairwise, IsCommand};
 ghost use Rattle.c25_meaning_objects.specs.Module.{Contents};
-ghost use Rattle.c25_meaning_placing.specs.GoodMap.{default_ranges, ranges_for, default_page, page_for, is_named_on, is_usable};
+ghost use Rattle.c25_meaning_linking.specs.GoodMap.{default_ranges, ranges_for, default_page, page_for, is_named_on, is_usable};
 ghost use Rattle.c25_place.specs.Ranges.{KnowsPage, KnowsRanges, HasRanges};
 ghost use Rattle.c25_place.specs.View.{ranges_view, request_view, wanted_view};
 

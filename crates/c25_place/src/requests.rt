@@ -2,11 +2,11 @@
 
 ghost use Rattle.std.specs.Prelude.{◌≡◌, ◌≤◌, ◌++◌, ℕ, List, map, filter, None, IfOk, OnOk, IfSome, All};
 ghost use Rattle.c25_cmd.specs.View.{target_of, placing_of, placings_of};
-ghost use Rattle.c25_meaning_commands.specs.Command.{PlacingData};
-ghost use Rattle.c25_meaning_placing.specs.GoodMap.{has_address, comes_first, comes_later, listed_request, unlisted_request, new_names, requests};
-ghost use Rattle.c25_meaning_placing.specs.GoodMap as good;
+ghost use Rattle.c25_meaning_linking.specs.Command.{PlacingData};
+ghost use Rattle.c25_meaning_linking.specs.GoodMap.{has_address, comes_first, comes_later, listed_request, unlisted_request, new_names, requests};
+ghost use Rattle.c25_meaning_linking.specs.GoodMap as good;
 ghost use Rattle.c25_meaning_objects.specs.Module.{Contents, SectionData};
-ghost use Rattle.c25_meaning_placing.specs.Place.{all_sections};
+ghost use Rattle.c25_meaning_linking.specs.Place.{all_sections};
 ghost use Rattle.c25_obj.specs.View.{section_data};
 ghost use Rattle.c25_place.specs.Outputs.{output_of, KnowsOutputs};
 ghost use Rattle.c25_place.specs.Requests.{is_due, request_by, unlisted, HasPages, HasNames};

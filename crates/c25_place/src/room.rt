@@ -1,7 +1,7 @@
 //! Which words of both pages are taken.
 
 ghost use Rattle.std.specs.Prelude.{◌≡◌, ◌<◌, ◌≤◌, ◌+◌, ◌-◌, ◌&&◌, ◌||◌, ℕ, List, [], ◌∷◌, ◌++◌, true, false, length, slice_index_or, nat_le, nat_lt, replicate, IfOk, MatchOption};
-ghost use Rattle.c25_meaning_placing.specs.Place as place;
+ghost use Rattle.c25_meaning_linking.specs.Place as place;
 ghost use Rattle.c25_place.specs.Room.{KnowsTaken, KnowsRoom, IsOpen, IsFirstFree};
 
 use crate::blocks::PAGE;

@@ -1,8 +1,8 @@
 //! Where sections run that run elsewhere than they are loaded.
 
 ghost use Rattle.std.specs.Prelude.{◌≡◌, ◌≤◌, ◌+◌, ◌++◌, ◌∷◌, [], List, true, false, length, IfOk, IfSome};
-ghost use Rattle.c25_meaning_placing.specs.GoodMap.{IsRunFree};
-ghost use Rattle.c25_meaning_placing.specs.Place as place;
+ghost use Rattle.c25_meaning_linking.specs.GoodMap.{IsRunFree};
+ghost use Rattle.c25_meaning_linking.specs.Place as place;
 ghost use Rattle.c25_place.specs.Room.{KnowsRuns};
 
 use crate::room::PAGE_WORDS;

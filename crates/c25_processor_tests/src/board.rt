@@ -100,7 +100,7 @@ fn runs_are_one_run(rt: HostRuntime) -> Result<(), Fail> {
     Ok(())
 }
 
-/// How a board runs into such a sink, and on once it is cleared, `c25_refusals` tells.
+/// How a board runs into such a sink, and on once it is cleared, `show_refusals` tells.
 #[test]
 fn cleared_sinks_take_words_again(rt: HostRuntime) {
     let mut sink = FixedSink::<3>::new();

@@ -5,7 +5,7 @@ use c25_core::alu::{
     add, negate, norm, product, rotate_left, rotate_right, shift_left, shift_left_once,
     shift_right_once, shifted_product, subc, subtract, take_absolute_value,
 };
-use c25_meaning_arithmetic::accumulator::{Acc, ProductShift};
+use c25_meaning_processor::accumulator::{Acc, ProductShift};
 
 /// An accumulator with these flags.
 fn acc(value: u32, ov: bool, c: bool) -> Acc {

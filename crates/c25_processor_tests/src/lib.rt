@@ -1,4 +1,4 @@
-//! Tests of the processor through public calls: fields of words (`c25_bits`), the instruction set (`c25_isa`, `c25_mnemonics`),
+//! Tests of the processor through public calls: fields of words (`c25_bits`), the instruction set (`c25_isa`, `c25_isa`),
 //! the data path and single steps (`c25_core`), and the board and its samples (`c25_board`); the bus that tests are made with.
 #![tactic(auto)]
 

@@ -2,7 +2,7 @@
 
 use crate::values::equal;
 use c25_meaning_instructions::mnemonic::{MemName, Mnemonic, PlainName, Spelling};
-use c25_mnemonics::mnemonic;
+use c25_isa::mnemonic;
 
 #[test]
 fn names_are_read_in_either_case(rt: HostRuntime) {

@@ -3,7 +3,7 @@ use Rattle.std.proofs.Common.{◌≡◌, ◌∙◌, ap, ap₂, sym, refl, subst,
 use Rattle.std.proofs.lemmas.List.{map-append, drop_more, drop_all}
 use Rattle.std.specs.Prelude.{String, zip}
 use Rattle.std.specs.declared.alloc.Global.{Global}
-use Rattle.c25_meaning_files.specs.Files.{Files}
+use Rattle.c25_meaning_expansion.specs.Files.{Files}
 use Rattle.c25_report.specs.ProgramFiles.{listing_name, listing_names}
 
 next : (base : List ℕ) (i : ℕ) → listing_names base (i + 1) ≡ listing_names base i ++ listing_name base (i + 1) ∷ []

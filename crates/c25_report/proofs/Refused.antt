@@ -7,7 +7,7 @@ use Rattle.clap.specs.declared.error.kind.ErrorKind.TheVariants.{OutOfMemory}
 use Rattle.c25_meaning_common.specs.declared.failure.Failure.{Failure}
 use Rattle.c25_meaning_common.specs.declared.failure.Failure.TheVariants as failure
 use Rattle.c25_report.specs.Ending.{kind_status, words_status}
-use Rattle.c25_words.specs.Task.{IsWantOfMemory}
+use Rattle.c25_options.specs.Task.{IsWantOfMemory}
 
 of_kind : (kind : ErrorKind) → (kind ≡ OutOfMemory → ⊥) → kind_status kind ≡ 2
 of_kind OutOfMemory other = absurd (other refl)

@@ -11,7 +11,7 @@ use Rattle.c25_board.specs.declared.board.Outcome.TheVariants as outcome
 use Rattle.c25_meaning_common.specs.declared.failure.Failure.{Failure}
 use Rattle.c25_meaning_common.specs.declared.failure.Failure.TheVariants as failure
 use Rattle.c25_meaning_common.specs.declared.no_memory.NoMemory as no_memory
-use Rattle.c25_words.specs.Task.{IsWantOfMemory}
+use Rattle.c25_options.specs.Task.{IsWantOfMemory}
 use Rattle.c25_report.specs.declared.ending.Ending.{Ending}
 use Rattle.c25_report.specs.declared.ending.Ending.TheVariants.{Done, Left, Sunk, Faulty, NoMemory, Unprinted, NoTask, NoText}
 use Rattle.c25_report.specs.declared.ending.Report.{Report}

@@ -6,7 +6,7 @@ ghost use Rattle.c25_report.specs.Ending.{IsReported, IsTold, IsToldOfWords, sta
 
 use crate::printing::print_line;
 use c25_meaning_common::no_memory::NoMemory;
-use c25_words::fault::{WordsFault, is_want_of_memory};
+use c25_options::fault::{WordsFault, is_want_of_memory};
 use std::alloc::Global;
 use std::io;
 use std::io::Write;

@@ -5,3 +5,7 @@ pub mod Keeps
 pub mod KeptRuns
 pub mod OneRun
 pub mod Sizes
+pub mod Apart
+pub mod Fetched
+pub mod Few
+pub mod Runs

@@ -1,5 +1,5 @@
-//! Laws of runs, each the contract of a function that does nothing: words run as the statements that
-//! they read as, runs end once, and runs add up.
+//! Laws of runs and of their outputs, each the contract of a function that does nothing.
 #![tactic(auto)]
 
-pub mod laws;
+pub mod outputs;
+pub mod runs;

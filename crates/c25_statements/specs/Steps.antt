@@ -2,7 +2,7 @@
 use Rattle.std.specs.Prelude.{ℕ, List, codes, Result, Ok}
 use Rattle.c25_meaning_language.specs.DirectiveOperands.{name_in}
 use Rattle.c25_meaning_assembly.specs.AssemblyLine.{AssemblyAct, Put, Reserve, alone, expressions_in, flagged, later_in, section_in}
-use Rattle.c25_meaning_lines.specs.Line.{Piece}
+use Rattle.c25_meaning_language.specs.Line.{Piece}
 use Rattle.c25_meaning_common.specs.Results.{◌>>=◌}
 use Rattle.c25_meaning_assembly.specs.StatementLine.{Operation, operation_of, spelled}
 use Rattle.c25_meaning_assembly.specs.declared.assembly.Target.{Target}

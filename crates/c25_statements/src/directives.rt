@@ -13,7 +13,7 @@ use crate::strings::strings_in;
 use c25_meaning_assembly::assembly::{Directive, Target};
 use c25_meaning_common::failure::Failure;
 use c25_meaning_language::statement::FaultKind;
-use c25_operands::{expression_in, name_in};
+use c25_expr::directive_operands::{expression_in, name_in};
 use c25_text::tokens::Token;
 use std::alloc::Global;
 

@@ -2,7 +2,7 @@
 
 ghost use Rattle.std.specs.Prelude.{◌≡◌, ◌==◌, slice_index};
 ghost use Rattle.c25_meaning_assembly.specs.AssemblyLine.{directive_of, directive_in, is_ignored};
-ghost use Rattle.c25_meaning_lines.specs.Line.{first_word};
+ghost use Rattle.c25_meaning_language.specs.Line.{first_word};
 
 use c25_meaning_assembly::assembly::Directive;
 use c25_meaning_common::bytes::byte_at;

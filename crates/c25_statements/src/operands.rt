@@ -15,7 +15,7 @@ use c25_expr::operands::written_of;
 use c25_expr::tree::Expr;
 use c25_meaning_common::failure::Failure;
 use c25_meaning_language::statement::{FaultKind, Written};
-use c25_operands::{name_in, tree_in};
+use c25_expr::directive_operands::{name_in, tree_in};
 use c25_text::tokens::Token;
 use std::alloc::Global;
 

@@ -17,7 +17,7 @@ use c25_meaning_common::failure::Failure;
 use c25_meaning_common::no_memory::NoMemory;
 use c25_meaning_instructions::mnemonic::Spelling;
 use c25_meaning_language::statement::{FaultKind, Form, Written};
-use c25_mnemonics::mnemonic;
+use c25_isa::mnemonic;
 use c25_text::tokens::Token;
 use std::alloc::Global;
 

@@ -8,7 +8,7 @@ ghost use Rattle.c25_expr.specs.Pieces.{operands_view};
 use c25_meaning_common::failure::Failure;
 use c25_meaning_common::no_memory::NoMemory;
 use c25_meaning_language::statement::FaultKind;
-use c25_operands::string_in;
+use c25_expr::directive_operands::string_in;
 use c25_text::tokens::Token;
 use std::alloc::Global;
 

@@ -7,3 +7,4 @@ pub mod Kept
 pub mod Pairs
 pub mod Quotings
 pub mod Writing
+pub mod PlainTexts

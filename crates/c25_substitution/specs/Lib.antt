@@ -1,3 +1,4 @@
 pub mod Fresh
 pub mod Pairs
 pub mod View
+pub mod PlainTexts

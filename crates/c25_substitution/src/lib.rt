@@ -1,11 +1,11 @@
-//! Substitution: names of a line replaced by the texts that they stand for, and the texts that macro
-//! calls and `.asg` give them.
+//! Names of a line replaced by their texts; arguments of macro calls; a law of lines in which nothing is replaced.
 #![tactic(auto)]
 
 pub mod arguments;
 mod aside;
 mod change;
 mod fragments;
+pub mod laws;
 mod output;
 pub mod parameters;
 mod quoting;

@@ -4,7 +4,7 @@ ghost use Rattle.std.specs.Prelude.{◌≡◌, ◌-◌, ◌≤◌, ◌++◌, ◌
 ghost use Rattle.std.specs.Cow.{cow_str_bytes};
 ghost use Rattle.c25_meaning_common.specs.Results.{Meets};
 ghost use Rattle.c25_meaning_language.specs.Substitution.{line_quoting, substituted, substituted_before_comma, unsubstituted, drafted, drafted_by};
-ghost use Rattle.c25_substitution_laws.specs.PlainTexts.{HasNoMark};
+ghost use Rattle.c25_substitution.specs.PlainTexts.{HasNoMark};
 ghost use Rattle.c25_substitution.specs.Fresh.{IsFresh};
 ghost use Rattle.c25_substitution.specs.View.{changed, names_of, fragment_of, written_so_far, IsAll, IsWithin, Writes};
 

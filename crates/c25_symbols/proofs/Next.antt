@@ -12,10 +12,10 @@ use Rattle.c25_map.specs.View.{map_data}
 use Rattle.c25_map.specs.View as viewed
 use Rattle.c25_map.specs.declared.map.Map.{Map}
 use Rattle.c25_map.specs.declared.map.OutputSection.{OutputSection}
-use Rattle.c25_meaning_placing.specs.MapText.{SectionPlace}
+use Rattle.c25_meaning_linking.specs.MapText.{SectionPlace}
 use Rattle.c25_meaning_objects.specs.Module.{Contents, SectionData, body_size}
-use Rattle.c25_meaning_placing.specs.Place.{Place, all_sections, base_of, place_named, run_base, run_base_of, size_for}
-use Rattle.c25_meaning_placing.proofs.PlaceNames.{is_same, same_name}
+use Rattle.c25_meaning_linking.specs.Place.{Place, all_sections, base_of, place_named, run_base, run_base_of, size_for}
+use Rattle.c25_meaning_linking.proofs.PlaceNames.{is_same, same_name}
 use Rattle.c25_obj.specs.View.{section_data, sections_data}
 use Rattle.c25_obj.specs.declared.parts.Section.{Section}
 use Rattle.c25_symbols.specs.Parts.{AreAlike, BeginsAt, KnowsNext, at_zero, first_of, first_part, next_of, size_of_sections}

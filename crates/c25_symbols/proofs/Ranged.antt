@@ -3,7 +3,7 @@ use Rattle.std.proofs.Common.{◌≡◌, ℕ, ◌<◌, List, All, length, get_or
 use Rattle.std.proofs.lemmas.List.{get_or-map, length-map}
 use Rattle.c25_cmd.specs.View.{range_of, ranges_of}
 use Rattle.c25_cmd.specs.declared.command.MemoryRange.{MemoryRange}
-use Rattle.c25_meaning_commands.specs.Command.{IsRange}
+use Rattle.c25_meaning_linking.specs.Command.{IsRange}
 
 pub range_at : (memory : List MemoryRange) (i : ℕ) (r : MemoryRange) → All IsRange (ranges_of memory) → i < length memory → r ≡ get_or memory i r → IsRange (range_of r)
 range_at memory i r all low at =

@@ -2,7 +2,7 @@
 use Rattle.std.specs.Prelude.{◌≡◌, ℕ, ◌+◌, ◌%◌, ◌^◌, List, Option, option_map, unwrap_or}
 use Rattle.std.specs.List.{sum_by}
 use Rattle.c25_meaning_objects.specs.Module.{SectionData}
-use Rattle.c25_meaning_placing.specs.Place.{Place, base_of, place_named, run_base, run_base_of, size_for}
+use Rattle.c25_meaning_linking.specs.Place.{Place, base_of, place_named, run_base, run_base_of, size_for}
 use Rattle.c25_symbols.specs.View.{named}
 use Rattle.c25_symbols.specs.declared.parts.NextParts.{NextParts}
 use Rattle.c25_symbols.specs.declared.parts.PartBase.{PartBase}

@@ -8,7 +8,7 @@ use Rattle.c25_meaning_linking.specs.Words.{is_defined, kind_value, section_name
 use Rattle.c25_meaning_objects.specs.Module.{Contents, SymbolData}
 use Rattle.c25_meaning_objects.specs.declared.object.SymbolKind.{SymbolKind}
 use Rattle.c25_meaning_objects.specs.declared.object.SymbolKind.TheVariants.{Absolute, InSection, Loaded, External}
-use Rattle.c25_meaning_placing.specs.Place.{Place, by_modules}
+use Rattle.c25_meaning_linking.specs.Place.{Place, by_modules}
 
 -- a symbol of a program: the low 32 bits of what it stands for, its kind, the name of its section, the name of its module's source, and
 -- its own

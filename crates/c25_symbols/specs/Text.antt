@@ -2,13 +2,13 @@
 use Rattle.std.specs.Prelude.{ℕ, ◌-◌, List, ◌++◌, codes, nat_lt, if◌then◌else◌}
 use Rattle.std.specs.Fmt.{decimal}
 use Rattle.std.specs.List.{flat_map}
-use Rattle.c25_meaning_commands.specs.Command.{RangeData}
+use Rattle.c25_meaning_linking.specs.Command.{RangeData}
 use Rattle.c25_meaning_common.specs.Digits.{four_digits}
 use Rattle.c25_meaning_objects.specs.Module.{Contents}
 use Rattle.c25_meaning_objects.specs.declared.object.SymbolKind.{SymbolKind}
 use Rattle.c25_meaning_objects.specs.declared.object.SymbolKind.TheVariants.{Absolute, InSection, Loaded, External}
-use Rattle.c25_meaning_placing.specs.MapText.{map_line, five_digits, eight_digits}
-use Rattle.c25_meaning_placing.specs.Place.{Place}
+use Rattle.c25_meaning_linking.specs.MapText.{map_line, five_digits, eight_digits}
+use Rattle.c25_meaning_linking.specs.Place.{Place}
 use Rattle.c25_symbols.specs.Symbols.{Listed, symbols_by_name}
 use Rattle.c25_symbols.specs.Used.{used_in}
 

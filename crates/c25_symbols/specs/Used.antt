@@ -1,9 +1,9 @@
 -- The words of a range that sections have (own).
 use Rattle.std.specs.Prelude.{ℕ, zero, suc, ◌+◌, ◌==◌, Bool, ◌&&◌, ◌||◌, List, if◌then◌else◌}
 use Rattle.std.specs.List.{list_any}
-use Rattle.c25_meaning_commands.specs.Command.{RangeData}
-use Rattle.c25_meaning_placing.specs.GoodMap.{has_word, runs_at}
-use Rattle.c25_meaning_placing.specs.Place.{Place}
+use Rattle.c25_meaning_linking.specs.Command.{RangeData}
+use Rattle.c25_meaning_linking.specs.GoodMap.{has_word, runs_at}
+use Rattle.c25_meaning_linking.specs.Place.{Place}
 
 -- whether a section of a page is loaded at a word of it, or runs at it
 abbrev pub has_used : ℕ → ℕ → Place → Bool

@@ -5,9 +5,9 @@ use Rattle.std.specs.HashMap.{HashMap, get_by}
 use Rattle.std.specs.Str.{bytes_eq}
 use Rattle.c25_map.specs.View.{section_data}
 use Rattle.c25_map.specs.declared.map.OutputSection.{OutputSection}
-use Rattle.c25_meaning_commands.specs.Command.{RangeData}
-use Rattle.c25_meaning_placing.specs.MapText.{MapData}
-use Rattle.c25_meaning_placing.specs.Place.{Place}
+use Rattle.c25_meaning_linking.specs.Command.{RangeData}
+use Rattle.c25_meaning_linking.specs.MapText.{MapData}
+use Rattle.c25_meaning_linking.specs.Place.{Place}
 use Rattle.c25_symbols.specs.Symbols.{Listed}
 use Rattle.c25_symbols.specs.Used.{is_used}
 use Rattle.c25_symbols.specs.declared.entries.Entry.{Entry}

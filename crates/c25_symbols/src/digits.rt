@@ -2,10 +2,10 @@
 
 ghost use Rattle.std.specs.Prelude.{◌≡◌, ◌++◌, ◌∷◌, ◌<◌, [], OnOk, string_bytes};
 ghost use Rattle.c25_meaning_common.specs.Digits.{four_digits};
-ghost use Rattle.c25_meaning_placing.specs.MapText.{decimal_digit, eight_digits, five_digits};
+ghost use Rattle.c25_meaning_linking.specs.MapText.{decimal_digit, eight_digits, five_digits};
 ghost use Rattle.c25_symbols.specs.Text.{value_digits};
 
-use c25_digits::four;
+use c25_texts::digits::four;
 use std::alloc::AllocError;
 
 /// Appends four hexadecimal digits.
@@ -16,7 +16,7 @@ pub(crate) fn push_four(out: &mut String, number: u16) -> Result<(), AllocError>
 }
 
 /// Appends eight hexadecimal digits.
-#[tactic(auto, unfolding(c25_meaning_placing::specs::MapText::eight_digits))]
+#[tactic(auto, unfolding(c25_meaning_linking::specs::MapText::eight_digits))]
 fn push_eight(out: &mut String, number: u32) -> Result<(), AllocError>
     ensures { OnOk result (string_bytes out.new ≡ string_bytes out.old ++ eight_digits number) }
 {

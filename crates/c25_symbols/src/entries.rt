@@ -5,8 +5,8 @@ ghost use Rattle.std.specs.List.{slice_get};
 ghost use Rattle.c25_bits.specs.Cut.{cut};
 ghost use Rattle.c25_meaning_linking.specs.Words.{is_defined, kind_value, section_base, section_run, section_name};
 ghost use Rattle.c25_meaning_objects.specs.Module.{Contents};
-ghost use Rattle.c25_meaning_placing.specs.Place.{all_sections};
-ghost use Rattle.c25_meaning_placing.specs.Place as place;
+ghost use Rattle.c25_meaning_linking.specs.Place.{all_sections};
+ghost use Rattle.c25_meaning_linking.specs.Place as place;
 ghost use Rattle.c25_obj.specs.View.{contents, symbol_data};
 ghost use Rattle.c25_symbols.specs.Parts.{AreAlike, BeginsAt, KnowsNext};
 ghost use Rattle.c25_symbols.specs.Symbols.{all_symbols, listed, module_symbols, section_of, source_of};
@@ -148,7 +148,7 @@ fn push_symbols<'a>(
 }
 
 /// The symbols that modules define, whose sections stand where a map says, by modules and symbols.
-#[tactic(auto, using(c25_meaning_placing::proofs::ByModules::by_modules_more, c25_meaning_placing::proofs::ByModules::by_modules_all))]
+#[tactic(auto, using(c25_meaning_linking::proofs::ByModules::by_modules_more, c25_meaning_linking::proofs::ByModules::by_modules_all))]
 pub(crate) fn all_entries<'a>(
     alloc: Global,
     modules: &'a [Module],

@@ -2,9 +2,9 @@
 
 ghost use Rattle.std.specs.Prelude.{◌≡◌, ◌≤◌, ℕ, List};
 ghost use Rattle.std.specs.List.Sorted.{IsSortedBy, IsStableBy};
-ghost use Rattle.c25_meaning_commands.specs.Command.{RangeData};
+ghost use Rattle.c25_meaning_linking.specs.Command.{RangeData};
 ghost use Rattle.c25_meaning_objects.specs.Module.{Contents};
-ghost use Rattle.c25_meaning_placing.specs.Place.{Place};
+ghost use Rattle.c25_meaning_linking.specs.Place.{Place};
 ghost use Rattle.c25_symbols.specs.Symbols.{Listed, all_symbols, is_before, symbols_by_name};
 ghost use Rattle.c25_symbols.specs.Used.{used_in};
 

@@ -3,7 +3,7 @@
 ghost use Rattle.std.specs.Prelude.{◌≡◌, ◌++◌, ◌∷◌, [], ℕ, List, IfOk, OnOk};
 ghost use Rattle.std.specs.Option.{option_or};
 ghost use Rattle.c25_meaning_objects.specs.Module.{SectionData, body_size};
-ghost use Rattle.c25_meaning_placing.specs.Place as place;
+ghost use Rattle.c25_meaning_linking.specs.Place as place;
 ghost use Rattle.c25_obj.specs.View.{body_data, section_data, sections_data};
 ghost use Rattle.c25_symbols.specs.Parts.{AreAlike, KnowsNext, first_of, first_part, next_of};
 ghost use Rattle.c25_symbols.specs.View.{named, place_of, places_view};

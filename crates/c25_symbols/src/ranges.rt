@@ -3,9 +3,9 @@
 ghost use Rattle.std.specs.Prelude.{◌≡◌, ◌≤◌, ◌++◌, List, OnOk, All, string_bytes};
 ghost use Rattle.std.specs.List.{flat_map};
 ghost use Rattle.c25_cmd.specs.View.{command_data, ranges_of};
-ghost use Rattle.c25_meaning_commands.specs.Command.{IsCommand, IsRange};
-ghost use Rattle.c25_meaning_placing.specs.GoodMap.{ranges_for};
-ghost use Rattle.c25_meaning_placing.specs.Place as place;
+ghost use Rattle.c25_meaning_linking.specs.Command.{IsCommand, IsRange};
+ghost use Rattle.c25_meaning_linking.specs.GoodMap.{ranges_for};
+ghost use Rattle.c25_meaning_linking.specs.Place as place;
 ghost use Rattle.c25_symbols.specs.Text.{range_line, word_counts};
 ghost use Rattle.c25_symbols.specs.View.{AreSized, KnowsUsed, range_view};
 

@@ -1,7 +1,7 @@
 //! Which words of both pages are used.
 
 ghost use Rattle.std.specs.Prelude.{◌≡◌, ◌+◌, ◌<◌, ◌≤◌, ◌||◌, ◌&&◌, ℕ, List, ◌∷◌, ◌++◌, [], false, length, nat_le, nat_lt, slice_index_or, IfOk};
-ghost use Rattle.c25_meaning_placing.specs.Place as place;
+ghost use Rattle.c25_meaning_linking.specs.Place as place;
 ghost use Rattle.c25_symbols.specs.Used.{used_from};
 ghost use Rattle.c25_symbols.specs.View.{AreSized, KnowsPage, KnowsUsed, place_of, places_view};
 

@@ -4,8 +4,8 @@ ghost use Rattle.std.specs.Prelude.{◌≡◌, ◌++◌, List, OnOk, IfOk, map, 
 ghost use Rattle.std.specs.List.{flat_map};
 ghost use Rattle.c25_cmd.specs.View.{command_data};
 ghost use Rattle.c25_map.specs.View.{map_data};
-ghost use Rattle.c25_meaning_commands.specs.Command.{IsCommand};
-ghost use Rattle.c25_meaning_placing.specs.GoodMap.{ranges_for};
+ghost use Rattle.c25_meaning_linking.specs.Command.{IsCommand};
+ghost use Rattle.c25_meaning_linking.specs.GoodMap.{ranges_for};
 ghost use Rattle.c25_symbols.specs.Symbols.{symbols_by_name};
 ghost use Rattle.c25_symbols.specs.Text.{kind_text, place_words, symbol_line, symbols_text};
 ghost use Rattle.c25_symbols.specs.View.{entries_view, entry_view, places_of, places_view};

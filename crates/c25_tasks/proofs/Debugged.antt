@@ -4,7 +4,7 @@ use Rattle.std.specs.Prelude.{Result, String}
 use Rattle.std.specs.declared.alloc.Global.{Global}
 use Rattle.c25_chain.specs.Refusal.{Fault}
 use Rattle.c25_disk.specs.Held.{Held}
-use Rattle.c25_meaning_files.specs.Files.{Files}
+use Rattle.c25_meaning_expansion.specs.Files.{Files}
 use Rattle.c25_tasks.specs.Debugging.{DebugsOver}
 
 pub debugs_over : (held : Held) (given : Files) (names sources : List (List ℕ)) (command samples schedule script command_shown samples_shown schedule_shown script_shown : List ℕ) (answer : Result (String Global) Fault) → sources ≡ names → command_shown ≡ command → samples_shown ≡ samples → schedule_shown ≡ schedule → script_shown ≡ script → DebugsOver held given sources command_shown samples_shown schedule_shown script_shown answer → DebugsOver held given names command samples schedule script answer

@@ -12,10 +12,10 @@ use Rattle.c25_meaning_common.specs.declared.failure.Failure.TheVariants as fail
 use Rattle.c25_report.specs.declared.ending.Ending.{Ending}
 use Rattle.c25_report.specs.declared.ending.Ending.TheVariants as ending
 use Rattle.c25_report.specs.declared.ending.Report.{Report}
-use Rattle.c25_words.specs.Task.{text_of, texts_of}
-use Rattle.c25_words.specs.declared.task.RunFiles.{RunFiles}
-use Rattle.c25_words.specs.declared.task.Task.{Task}
-use Rattle.c25_words.specs.declared.task.Task.TheVariants.{Assemble, Link, Build, Run, Debug}
+use Rattle.c25_options.specs.Task.{text_of, texts_of}
+use Rattle.c25_options.specs.declared.task.RunFiles.{RunFiles}
+use Rattle.c25_options.specs.declared.task.Task.{Task}
+use Rattle.c25_options.specs.declared.task.Task.TheVariants.{Assemble, Link, Build, Run, Debug}
 use Rattle.c25_tasks.specs.Assembly.{Assembles}
 use Rattle.c25_tasks.specs.Building.{WritesProgram}
 use Rattle.c25_tasks.specs.Debugging.{DebugsTold}

@@ -12,3 +12,4 @@ pub mod WithSymbols
 pub mod Openings
 pub mod Misfitted
 pub mod Gathering
+pub mod Lines

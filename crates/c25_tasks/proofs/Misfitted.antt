@@ -4,7 +4,7 @@ use Rattle.std.specs.Prelude.{IfOk, IfSome, Result, Ok, Err}
 use Rattle.c25_chain.specs.Refusal.{Fault}
 use Rattle.c25_disk.specs.Copies.{HasCopied}
 use Rattle.c25_disk.specs.Held.{Held, ReadsSources}
-use Rattle.c25_meaning_files.specs.Files.{Files}
+use Rattle.c25_meaning_expansion.specs.Files.{Files}
 use Rattle.c25_tasks.specs.Fields.{IsFieldAmong, IsFieldOfSources}
 use Rattle.c25_tasks.specs.Files.{ComesTo, IsOptional}
 use Rattle.c25_tasks.specs.declared.fields.FieldNote.{FieldNote}

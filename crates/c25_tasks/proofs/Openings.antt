@@ -7,10 +7,10 @@ use Rattle.c25_asm.specs.Trails.{IsTrail, IsWhole}
 use Rattle.c25_asm.specs.declared.tracing.Refused.{Refused}
 use Rattle.c25_macro.specs.Tracers.{fault_in}
 use Rattle.c25_meaning_common.specs.declared.failure.Failure.{Failure}
-use Rattle.c25_meaning_files.specs.Files.{Files}
-use Rattle.c25_meaning_files.specs.declared.place.SourcePlace.{SourcePlace}
+use Rattle.c25_meaning_expansion.specs.Files.{Files}
+use Rattle.c25_meaning_expansion.specs.declared.place.SourcePlace.{SourcePlace}
 use Rattle.c25_meaning_language.specs.ExpansionFault.{ExpansionFault}
-use Rattle.c25_words.specs.Task.{texts_of}
+use Rattle.c25_options.specs.Task.{texts_of}
 use Rattle.c25_tasks.specs.Trails.{IsFirstTrail, opening_text, openings_text}
 use Rattle.c25_tasks.specs.declared.trails.NoTrail.{NoTrail}
 

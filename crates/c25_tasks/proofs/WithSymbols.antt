@@ -10,9 +10,9 @@ use Rattle.c25_chain.specs.declared.linked.Linked.{Linked}
 use Rattle.c25_chain.specs.declared.modules.Modules.{Modules}
 use Rattle.c25_disk.specs.Held.{Held}
 use Rattle.c25_meaning_common.specs.Results.{IsNoMemory}
-use Rattle.c25_meaning_files.specs.Files.{Files}
+use Rattle.c25_meaning_expansion.specs.Files.{Files}
 use Rattle.c25_meaning_objects.specs.Module.{Contents}
-use Rattle.c25_meaning_placing.specs.GoodMap.{ranges_for}
+use Rattle.c25_meaning_linking.specs.GoodMap.{ranges_for}
 use Rattle.c25_symbols.specs.Text.{symbols_text}
 use Rattle.c25_tasks.specs.Symbols.{BuildsWithSymbols, BuildsWithSymbolsOver, IsBuiltWithSymbols}
 use Rattle.c25_tasks.specs.declared.symbols.BuiltWithSymbols.{BuiltWithSymbols}

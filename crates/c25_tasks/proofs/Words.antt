@@ -5,9 +5,9 @@ use Rattle.std.specs.Prelude.{Result, Ok, String}
 use Rattle.std.specs.declared.alloc.Global.{Global}
 use Rattle.clap.specs.declared.error.Error.{Error}
 use Rattle.c25_meaning_common.specs.declared.failure.Failure.{Failure}
-use Rattle.c25_words.specs.Task.{Reads}
-use Rattle.c25_words.specs.declared.task.Task.{Task}
-use Rattle.c25_words.specs.declared.task.Task.TheVariants.{RunStandardInput}
+use Rattle.c25_options.specs.Task.{Reads}
+use Rattle.c25_options.specs.declared.task.Task.{Task}
+use Rattle.c25_options.specs.declared.task.Task.TheVariants.{RunStandardInput}
 use Rattle.c25_tasks.specs.Program.{AreRead}
 
 pub are_read : (words : List (String Global)) (answer : Result Task (Failure Error)) → (length words < 2 → answer ≡ Ok RunStandardInput) → (2 ≤ length words → Reads (map string_bytes words) answer) → AreRead (map string_bytes words) answer

@@ -7,9 +7,9 @@ use Rattle.c25_chain.specs.declared.fault.Refusal.{Refusal}
 use Rattle.c25_disk.specs.Held.{Held}
 use Rattle.c25_disk.specs.Written.{contents_of}
 use Rattle.c25_disk.specs.declared.writing.Output.{Output}
-use Rattle.c25_meaning_files.specs.Files.{Files}
+use Rattle.c25_meaning_expansion.specs.Files.{Files}
 use Rattle.c25_meaning_assembly.specs.Listing.{listing_text}
-use Rattle.c25_meaning_sources.specs.ModuleOfSource.{Assembled}
+use Rattle.c25_meaning_assembly.specs.ModuleOfSource.{Assembled}
 use Rattle.c25_meaning_objects.specs.Records.{spelling}
 use Rattle.c25_meaning_common.specs.Results.{MeetsBy, ◌>>=◌}
 use Rattle.c25_report.specs.declared.ending.Ending.{Ending}

@@ -6,7 +6,7 @@ use Rattle.c25_chain.specs.declared.built.Built.{Built}
 use Rattle.c25_disk.specs.Held.{Held, Stay}
 use Rattle.c25_disk.specs.Written.{contents_of}
 use Rattle.c25_disk.specs.declared.writing.Output.{Output}
-use Rattle.c25_meaning_files.specs.Files.{Files}
+use Rattle.c25_meaning_expansion.specs.Files.{Files}
 use Rattle.c25_report.specs.ProgramFiles.{files_of}
 use Rattle.c25_report.specs.declared.ending.Ending.{Ending}
 use Rattle.c25_report.specs.declared.texts.ProgramFileTexts.{ProgramFileTexts}

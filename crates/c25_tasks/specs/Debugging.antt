@@ -3,12 +3,12 @@ use Rattle.std.specs.Prelude.{ℕ, List, Result, String}
 use Rattle.std.specs.declared.alloc.Global.{Global}
 use Rattle.c25_chain.specs.Chain.{given_of}
 use Rattle.c25_chain.specs.Refusal.{Fault}
-use Rattle.c25_debug_chain.specs.Debug.{Debugs}
+use Rattle.c25_chain.specs.Debug.{Debugs}
 use Rattle.c25_disk.specs.Held.{Held}
-use Rattle.c25_meaning_files.specs.Files.{Files}
+use Rattle.c25_meaning_expansion.specs.Files.{Files}
 use Rattle.c25_report.specs.declared.ending.Ending.{Ending}
-use Rattle.c25_words.specs.Task.{text_of}
-use Rattle.c25_words.specs.declared.task.RunFiles.{RunFiles}
+use Rattle.c25_options.specs.Task.{text_of}
+use Rattle.c25_options.specs.declared.task.RunFiles.{RunFiles}
 use Rattle.c25_tasks.specs.Files.{AfterNamed, AfterOptional, AfterSources, ComesTo}
 use Rattle.c25_tasks.specs.Tells.{Printed, TellsAnswers}
 use Rattle.c25_tasks.specs.declared.notes.Notes.{Notes}

@@ -5,12 +5,12 @@ use Rattle.std.specs.declared.alloc.Global.{Global}
 use Rattle.c25_chain.specs.declared.fault.Refusal.{Refusal}
 use Rattle.c25_chain.specs.declared.fault.Refusal.TheVariants.{Source, NoFile, Object, Command, Link, Hex, Schedule, Samples, Script, File}
 use Rattle.c25_cmd.specs.Refused.{StandingData, refused_at}
-use Rattle.c25_details.specs.Details.{missing_text, refused_text}
+use Rattle.c25_explain.specs.Details.{missing_text, refused_text}
 use Rattle.c25_disk.specs.Held.{Held, IsAllOf}
-use Rattle.c25_meaning_commands.specs.Command.{CommandData}
-use Rattle.c25_meaning_commands.specs.CommandText.{command_of}
-use Rattle.c25_meaning_placing.specs.declared.link_fault.LinkFault.{LinkFault}
-use Rattle.c25_meaning_placing.specs.declared.link_fault.LinkFault.TheVariants.{BadRun, DefinedTwice, DoesNotFit, NoEntry, NoRange, Overlap, RelocRange, Unresolved}
+use Rattle.c25_meaning_linking.specs.Command.{CommandData}
+use Rattle.c25_meaning_linking.specs.CommandText.{command_of}
+use Rattle.c25_meaning_linking.specs.declared.link_fault.LinkFault.{LinkFault}
+use Rattle.c25_meaning_linking.specs.declared.link_fault.LinkFault.TheVariants.{BadRun, DefinedTwice, DoesNotFit, NoEntry, NoRange, Overlap, RelocRange, Unresolved}
 use Rattle.c25_place.specs.Missing.{MissingData, missing_range}
 use Rattle.c25_tasks.specs.Fields.{ShowsFieldOver}
 use Rattle.c25_tasks.specs.Trails.{IsTrailText}

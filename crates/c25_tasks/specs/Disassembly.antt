@@ -15,7 +15,7 @@ use Rattle.c25_disk.specs.Held.{Held, IsAllOf}
 use Rattle.c25_disk.specs.declared.fault.FileFault.TheVariants.{CannotRead}
 use Rattle.c25_meaning_common.specs.Digits.{hexadecimal_of}
 use Rattle.c25_meaning_common.specs.Results.{FailsBy, MeetsBy, told}
-use Rattle.c25_meaning_intel_hex.specs.Hex.{HasWordsOf, bytes_given}
+use Rattle.c25_hex.specs.Hex.{HasWordsOf, bytes_given}
 use Rattle.c25_meaning_objects.specs.Module.{Contents}
 use Rattle.c25_report.specs.declared.ending.Ending.{Ending}
 use Rattle.c25_tasks.specs.Files.{IsUnread}

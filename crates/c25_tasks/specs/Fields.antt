@@ -5,20 +5,20 @@ use Rattle.std.specs.Option.{option_map}
 use Rattle.std.specs.String.{string_bytes}
 use Rattle.std.specs.declared.alloc.Global.{Global}
 use Rattle.c25_chain.specs.Modules.{Modules, modules_of}
-use Rattle.c25_details.specs.Details.{misfit_text}
+use Rattle.c25_explain.specs.Details.{misfit_text}
 use Rattle.c25_disk.specs.Copies.{HasCopied}
 use Rattle.c25_disk.specs.Held.{Held, IsAllOf, ReadsSources}
 use Rattle.c25_explain.specs.Note.{line_of}
 use Rattle.c25_link.specs.Misfits.{MisfitData, first_misfit}
-use Rattle.c25_meaning_commands.specs.Command.{CommandData}
-use Rattle.c25_meaning_commands.specs.CommandText.{command_of}
+use Rattle.c25_meaning_linking.specs.Command.{CommandData}
+use Rattle.c25_meaning_linking.specs.CommandText.{command_of}
 use Rattle.c25_meaning_common.specs.Faults.{placed_text}
 use Rattle.c25_meaning_common.specs.declared.placed.FileLine.{FileLine}
-use Rattle.c25_meaning_files.specs.Files.{Files}
+use Rattle.c25_meaning_expansion.specs.Files.{Files}
 use Rattle.c25_meaning_linking.specs.Linking.{names_checked}
 use Rattle.c25_meaning_objects.specs.Module.{Contents}
-use Rattle.c25_meaning_placing.specs.GoodMap.{IsGoodMap}
-use Rattle.c25_meaning_placing.specs.Place.{Place}
+use Rattle.c25_meaning_linking.specs.GoodMap.{IsGoodMap}
+use Rattle.c25_meaning_linking.specs.Place.{Place}
 use Rattle.c25_tasks.specs.Files.{IsOptional}
 use Rattle.c25_tasks.specs.Objects.{AreFiles, modules_in}
 use Rattle.c25_tasks.specs.declared.fields.FieldNote.{FieldNote}

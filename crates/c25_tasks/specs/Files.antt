@@ -12,7 +12,7 @@ use Rattle.c25_disk.specs.declared.fault.FileFault.{FileFault}
 use Rattle.c25_disk.specs.declared.fault.FileFault.TheVariants.{CannotRead}
 use Rattle.c25_disk.specs.declared.work.CopyFault.{CopyFault}
 use Rattle.c25_disk.specs.declared.work.CopyFault.TheVariants as copy
-use Rattle.c25_meaning_files.specs.Files.{Files}
+use Rattle.c25_meaning_expansion.specs.Files.{Files}
 use Rattle.c25_meaning_common.specs.declared.failure.Failure.{Failure}
 use Rattle.c25_meaning_common.specs.declared.failure.Failure.TheVariants as failure
 

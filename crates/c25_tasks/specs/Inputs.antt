@@ -5,9 +5,9 @@ use Rattle.std.specs.String.{string_bytes}
 use Rattle.c25_chain.specs.Refusal.{Fault}
 use Rattle.c25_disk.specs.Held.{Held}
 use Rattle.c25_meaning_common.specs.Results.{IsNoMemory}
-use Rattle.c25_meaning_files.specs.Files.{Files}
-use Rattle.c25_words.specs.Task.{text_of}
-use Rattle.c25_words.specs.declared.task.RunFiles.{RunFiles}
+use Rattle.c25_meaning_expansion.specs.Files.{Files}
+use Rattle.c25_options.specs.Task.{text_of}
+use Rattle.c25_options.specs.declared.task.RunFiles.{RunFiles}
 use Rattle.c25_tasks.specs.Files.{AfterOptional, AfterSources}
 use Rattle.c25_tasks.specs.declared.sources.Inputs.{Inputs}
 use Rattle.c25_tasks.specs.declared.sources.TextsBeside.{TextsBeside}

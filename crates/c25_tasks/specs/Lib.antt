@@ -16,3 +16,4 @@ pub mod Explaining
 pub mod Disassembly
 pub mod Program
 pub mod Inputs
+pub mod Lines

@@ -15,9 +15,9 @@ use Rattle.c25_explain.specs.declared.note.Shown.{Shown}
 use Rattle.c25_explain.specs.declared.note.Shown.TheVariants as shown
 use Rattle.c25_explain.specs.declared.note.Unread.{Unread}
 use Rattle.c25_explain.specs.declared.note.Unread.TheVariants.{NotOpened, NotRead, NotUtf8}
-use Rattle.c25_explanation_laws.specs.Lines.{of_refusal}
-use Rattle.c25_words.specs.Task.{text_of, texts_of}
-use Rattle.c25_words.specs.declared.task.RunFiles.{RunFiles}
+use Rattle.c25_tasks.specs.Lines.{of_refusal}
+use Rattle.c25_options.specs.Task.{text_of, texts_of}
+use Rattle.c25_options.specs.declared.task.RunFiles.{RunFiles}
 use Rattle.c25_tasks.specs.Details.{IsBehind}
 use Rattle.c25_tasks.specs.declared.notes.Notes.{Notes}
 use Rattle.c25_tasks.specs.declared.notes.Notes.TheVariants.{Nothing, Explanations}

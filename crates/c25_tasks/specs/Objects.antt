@@ -5,7 +5,7 @@ use Rattle.c25_chain.specs.Refusal.{Fault}
 use Rattle.c25_chain.specs.declared.fault.Refusal.{Refusal}
 use Rattle.c25_chain.specs.declared.fault.Refusal.TheVariants.{Object}
 use Rattle.c25_disk.specs.Held.{AreAsHeld, Held}
-use Rattle.c25_meaning_files.specs.Files.{Files}
+use Rattle.c25_meaning_expansion.specs.Files.{Files}
 use Rattle.c25_meaning_objects.specs.Module.{Contents}
 use Rattle.c25_meaning_objects.specs.RecordReading.{module_of}
 use Rattle.c25_meaning_common.specs.Results.{◌>>=◌, fold_ok, told}

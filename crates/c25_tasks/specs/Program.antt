@@ -12,9 +12,9 @@ use Rattle.c25_report.specs.Ending.{IsShort}
 use Rattle.c25_report.specs.declared.ending.Ending.{Ending}
 use Rattle.c25_report.specs.declared.ending.Ending.TheVariants as ending
 use Rattle.c25_report.specs.declared.ending.Report.{Report}
-use Rattle.c25_words.specs.Task.{Reads, text_of, texts_of}
-use Rattle.c25_words.specs.declared.task.Task.{Task}
-use Rattle.c25_words.specs.declared.task.Task.TheVariants.{RunStandardInput, Assemble, Link, Build, Run, Debug, Explain, Disassemble}
+use Rattle.c25_options.specs.Task.{Reads, text_of, texts_of}
+use Rattle.c25_options.specs.declared.task.Task.{Task}
+use Rattle.c25_options.specs.declared.task.Task.TheVariants.{RunStandardInput, Assemble, Link, Build, Run, Debug, Explain, Disassemble}
 use Rattle.c25_tasks.specs.Assembly.{Assembles}
 use Rattle.c25_tasks.specs.Building.{WritesProgram}
 use Rattle.c25_tasks.specs.Debugging.{DebugsTold}

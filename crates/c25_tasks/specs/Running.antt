@@ -6,10 +6,10 @@ use Rattle.c25_chain.specs.Refusal.{Fault}
 use Rattle.c25_chain.specs.declared.ready.Ready.{Ready}
 use Rattle.c25_disk.specs.Copies.{HasCopied}
 use Rattle.c25_disk.specs.Held.{Held, IsAllOf}
-use Rattle.c25_meaning_files.specs.Files.{Files}
+use Rattle.c25_meaning_expansion.specs.Files.{Files}
 use Rattle.c25_report.specs.declared.ending.Ending.{Ending}
-use Rattle.c25_words.specs.Task.{text_of}
-use Rattle.c25_words.specs.declared.task.RunFiles.{RunFiles}
+use Rattle.c25_options.specs.Task.{text_of}
+use Rattle.c25_options.specs.declared.task.RunFiles.{RunFiles}
 use Rattle.c25_tasks.specs.Files.{AfterOptional, AfterSources, ComesTo, FailsWith, IsOptional, IsUnread, ReadsAll}
 use Rattle.c25_tasks.specs.Tells.{Printed, PrintsGiven, TellsRun}
 use Rattle.c25_tasks.specs.declared.notes.Notes.{Notes}

@@ -16,11 +16,11 @@ use Rattle.c25_disk.specs.Written.{EndsBefore, contents_of}
 use Rattle.c25_disk.specs.declared.fault.FileFault.TheVariants.{CannotWrite}
 use Rattle.c25_disk.specs.declared.writing.Output.{Output}
 use Rattle.c25_meaning_common.specs.declared.failure.Failure.TheVariants as failure
-use Rattle.c25_meaning_files.specs.Files.{Files}
+use Rattle.c25_meaning_expansion.specs.Files.{Files}
 use Rattle.c25_report.specs.Ending.{IsPrinted, IsShort, status_of}
 use Rattle.c25_report.specs.declared.ending.Ending.{Ending}
 use Rattle.c25_report.specs.declared.ending.Ending.TheVariants as ending
-use Rattle.c25_stream.specs.Run.{PrintsAnswer, PrintsRun, PrintsStatements, TellsAnswer, TellsEnd}
+use Rattle.c25_run.specs.Run.{PrintsAnswer, PrintsRun, PrintsStatements, TellsAnswer, TellsEnd}
 use Rattle.c25_tasks.specs.Notes.{IsNoted}
 use Rattle.c25_tasks.specs.declared.notes.Notes.{Notes}
 

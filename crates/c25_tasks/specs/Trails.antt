@@ -9,8 +9,8 @@ use Rattle.c25_disk.specs.Copies.{HasCopied}
 use Rattle.c25_disk.specs.Held.{Held, ReadsSources}
 use Rattle.c25_explain.specs.Note.{line_of}
 use Rattle.c25_meaning_common.specs.Faults.{placed_text}
-use Rattle.c25_meaning_files.specs.Files.{Files, file_name, text_named}
-use Rattle.c25_meaning_files.specs.declared.place.SourcePlace.{SourcePlace}
+use Rattle.c25_meaning_expansion.specs.Files.{Files, file_name, text_named}
+use Rattle.c25_meaning_expansion.specs.declared.place.SourcePlace.{SourcePlace}
 use Rattle.c25_meaning_language.specs.ExpansionFault.{ExpansionFault, Faulty}
 use Rattle.c25_tasks.specs.declared.trails.NoTrail.{NoTrail}
 use Rattle.c25_tasks.specs.declared.trails.NoTrail.TheVariants.{Missing, Other}

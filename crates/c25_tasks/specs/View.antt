@@ -2,7 +2,7 @@
 use Rattle.std.specs.Prelude.{map}
 use Rattle.std.specs.String.{string_bytes}
 use Rattle.c25_chain.specs.Chain.{Given, given_of}
-use Rattle.c25_meaning_files.specs.Files.{Files}
+use Rattle.c25_meaning_expansion.specs.Files.{Files}
 use Rattle.c25_tasks.specs.declared.copies.Debug.{Debug}
 use Rattle.c25_tasks.specs.declared.copies.Run.{Run}
 

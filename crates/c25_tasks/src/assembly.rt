@@ -6,7 +6,7 @@ ghost use Rattle.c25_asm.specs.View.{assembled_of};
 ghost use Rattle.c25_chain.specs.Refusal.{refusal_of};
 ghost use Rattle.c25_meaning_common.specs.Results.{MeetsBy};
 ghost use Rattle.c25_meaning_objects.specs.Records.{spelling};
-ghost use Rattle.c25_words.specs.Task.{text_of};
+ghost use Rattle.c25_options.specs.Task.{text_of};
 ghost use Rattle.c25_tasks.specs.Assembly.{AsmOutputs, asm_files, asm_written, output_files};
 ghost use Rattle.c25_tasks.specs.Files.{missing_name};
 
@@ -101,7 +101,7 @@ struct Assembly<'a> {
 impl<'a> Work for Assembly<'a> {
     ghost use Rattle.c25_meaning_common.specs.Results.{MeetsBy};
     ghost use Rattle.c25_chain.specs.Refusal.{refusal_of};
-    ghost use Rattle.c25_words.specs.Task.{text_of};
+    ghost use Rattle.c25_options.specs.Task.{text_of};
     ghost use Rattle.c25_tasks.specs.Assembly.{asm_written, output_files};
     ghost use Rattle.c25_tasks.specs.Files.{missing_name};
 

@@ -1,6 +1,6 @@
 //! What `build` makes of sources.
 
-ghost use Rattle.c25_words.specs.Task.{text_of, texts_of};
+ghost use Rattle.c25_options.specs.Task.{text_of, texts_of};
 ghost use Rattle.c25_tasks.specs.Building.{BuildsFrom};
 
 use crate::copies::{Build, work_over};

@@ -9,7 +9,7 @@ use c25_chain::built::Built;
 use c25_chain::fault::{Fault, Refusal};
 use c25_chain::ready::Ready;
 use c25_chain::{build, make_ready};
-use c25_debug_chain::debug_chain;
+use c25_chain::debug_chain;
 use c25_disk::disk::Disk;
 use c25_disk::with_copies;
 use c25_disk::work::Work;
@@ -98,7 +98,7 @@ pub(crate) struct Debug<'a> {
 }
 
 impl<'a> Work for Debug<'a> {
-    ghost use Rattle.c25_debug_chain.specs.Debug.{Debugs};
+    ghost use Rattle.c25_chain.specs.Debug.{Debugs};
     ghost use Rattle.c25_tasks.specs.Files.{missing_name};
     ghost use Rattle.c25_tasks.specs.View.{debugged_of};
 

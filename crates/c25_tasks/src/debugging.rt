@@ -1,7 +1,7 @@
 //! The debugging of sources from a disk.
 
 ghost use Rattle.std.specs.Prelude.{string_bytes};
-ghost use Rattle.c25_words.specs.Task.{texts_of};
+ghost use Rattle.c25_options.specs.Task.{texts_of};
 ghost use Rattle.c25_tasks.specs.Debugging.{DebugsFrom, DebugsTold};
 
 use crate::copies::{Debug, work_over};
@@ -12,7 +12,7 @@ use crate::sources::{Inputs, inputs_of};
 use c25_chain::fault::Fault;
 use c25_disk::disk::Disk;
 use c25_report::ending::Report;
-use c25_words::task::RunFiles;
+use c25_options::task::RunFiles;
 use std::alloc::Global;
 use std::io::Write;
 

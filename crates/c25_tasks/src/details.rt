@@ -1,16 +1,16 @@
 //! What is told beside the line of a fault of the command file or of linking.
 
 ghost use Rattle.std.specs.Prelude.{string_bytes};
-ghost use Rattle.c25_words.specs.Task.{text_of, texts_of};
+ghost use Rattle.c25_options.specs.Task.{text_of, texts_of};
 ghost use Rattle.c25_tasks.specs.Details.{ShowsLink, ShowsMissing, ShowsOf, ShowsStanding};
 
 use crate::fields::field_text;
 use c25_cmd::{read_command, refused_at};
-use c25_details::{missing_text, refused_text};
+use c25_explain::{missing_text, refused_text};
 use c25_disk::disk::Disk;
 use c25_disk::read_file;
 use c25_meaning_common::placed::Placed;
-use c25_meaning_placing::link_fault::LinkFault;
+use c25_meaning_linking::link_fault::LinkFault;
 use c25_place::missing_range;
 use std::alloc::Global;
 

@@ -8,7 +8,7 @@ ghost use Rattle.c25_disk.specs.declared.fault.FileFault.TheVariants as kind;
 ghost use Rattle.c25_tasks.specs.Disassembly.{Disassembles, DisassemblesBy, DisassemblesFrom, DisassemblesNamed, DisassemblesTold, IsGivenText, IsTextOf, RefusesObject, address_of, given_by, given_in, is_hex, no_address_line, object_line};
 ghost use Rattle.c25_tasks.specs.Objects.{module_in};
 ghost use Rattle.c25_tasks.specs.Tells.{IsLineOf};
-ghost use Rattle.c25_words.specs.Task.{text_of};
+ghost use Rattle.c25_options.specs.Task.{text_of};
 
 use crate::files::fault_of_file;
 use crate::objects::{Object, module_of};
@@ -19,7 +19,7 @@ use c25_disk::disk::Disk;
 use c25_disk::fault::FileFault;
 use c25_disk::read_binary;
 use c25_hex::read_hex;
-use c25_items::hexadecimal_of;
+use c25_texts::hexadecimal_of;
 use c25_meaning_common::failure::Failure;
 use c25_meaning_common::no_memory::NoMemory;
 use c25_meaning_common::placed::Placed;

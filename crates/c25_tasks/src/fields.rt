@@ -4,7 +4,7 @@ ghost use Rattle.std.specs.Option.{option_map};
 ghost use Rattle.std.specs.Prelude.{◌≡◌, IfOk, IfSome, map, string_bytes};
 ghost use Rattle.c25_link.specs.Misfits.{misfit_data};
 ghost use Rattle.c25_link.specs.Misfits as misfits;
-ghost use Rattle.c25_words.specs.Task.{text_of, texts_of};
+ghost use Rattle.c25_options.specs.Task.{text_of, texts_of};
 ghost use Rattle.c25_tasks.specs.Fields.{IsFieldNote, IsFieldOfObjects, IsFieldOfSources, IsFieldOver, IsLineText, IsNoteOfField, ShowsField, ShowsFieldOver, line_text, line_view, name_at};
 
 use crate::copies::work_over;
@@ -14,7 +14,7 @@ use crate::sources::{Inputs, command_alone, inputs_of};
 use c25_chain::assemble_all;
 use c25_chain::fault::{Fault, Refusal};
 use c25_cmd::read_command;
-use c25_details::misfit_text;
+use c25_explain::misfit_text;
 use c25_disk::disk::Disk;
 use c25_disk::read_file;
 use c25_disk::work::Work;

@@ -1,4 +1,4 @@
-//! The tasks of the program: what its words ask for, over any files, reader and writers.
+//! The tasks of the program, over any files, command line, readers and writers.
 #![tactic(auto)]
 
 mod assembly;
@@ -10,6 +10,7 @@ mod disassembly;
 mod explaining;
 mod fields;
 mod files;
+pub mod laws;
 mod linking;
 mod notes;
 mod objects;

@@ -1,6 +1,6 @@
 //! What `link` makes of object files.
 
-ghost use Rattle.c25_words.specs.Task.{texts_of};
+ghost use Rattle.c25_options.specs.Task.{texts_of};
 ghost use Rattle.c25_tasks.specs.Linking.{LinksFrom};
 
 use crate::files::read_named;

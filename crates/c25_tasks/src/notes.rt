@@ -2,7 +2,7 @@
 
 ghost use Rattle.std.specs.Option.{option_map};
 ghost use Rattle.std.specs.Prelude.{◌≡◌, IfOk, string_bytes};
-ghost use Rattle.c25_words.specs.Task.{text_of, texts_of};
+ghost use Rattle.c25_options.specs.Task.{text_of, texts_of};
 ghost use Rattle.c25_tasks.specs.Details.{IsBehind};
 ghost use Rattle.c25_tasks.specs.Notes.{AreNotesFor, IsExplained, IsExplainedAt, IsExplainedUnread, IsLineOf, IsLineOfNoText, IsNoted, IsWhy, at_line, place_of, unread_name};
 
@@ -17,7 +17,7 @@ use c25_explain::fault::AnyFault;
 use c25_explain::note::{Shown, Unread, explained, line_of};
 use c25_meaning_common::failure::Failure;
 use c25_meaning_common::no_memory::NoMemory;
-use c25_words::task::RunFiles;
+use c25_options::task::RunFiles;
 use std::alloc::Global;
 
 /// What is noted of a fault.

@@ -8,7 +8,7 @@ use crate::task::do_task;
 use c25_disk::disk::Disk;
 use c25_meaning_common::no_memory::NoMemory;
 use c25_report::ending::{Ended, Ending, Report, finish};
-use c25_words::read::read_words;
+use c25_options::read::read_words;
 use std::alloc::{AllocError, Global};
 use std::io::{ErrorKind, Read, Write};
 use std::rt::Env;

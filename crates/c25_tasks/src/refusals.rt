@@ -1,7 +1,7 @@
 //! The faults of refusals.
 
 ghost use Rattle.std.specs.Prelude.{◌≡◌};
-ghost use Rattle.c25_explanation_laws.specs.Lines.{of_refusal};
+ghost use Rattle.c25_tasks.specs.Lines.{of_refusal};
 
 use c25_chain::fault::Refusal;
 use c25_explain::fault::AnyFault;

@@ -12,7 +12,7 @@ use c25_disk::disk::Disk;
 use c25_meaning_common::failure::Failure;
 use c25_report::ending::{Ending, Report};
 use c25_report::printing::print_answers;
-use c25_stream::print_run;
+use c25_run::print_run;
 use std::alloc::Global;
 use std::io::Write;
 

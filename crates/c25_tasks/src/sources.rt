@@ -1,7 +1,7 @@
 //! Sources of a disk, and the texts beside them.
 
 ghost use Rattle.std.specs.Prelude.{◌≡◌};
-ghost use Rattle.c25_words.specs.Task.{texts_of};
+ghost use Rattle.c25_options.specs.Task.{texts_of};
 ghost use Rattle.c25_tasks.specs.Files.{ReadsAll};
 ghost use Rattle.c25_tasks.specs.Inputs.{ReadsBeside, ReadsInputs, command_alone};
 
@@ -10,7 +10,7 @@ use c25_chain::fault::Fault;
 use c25_disk::disk::Disk;
 use c25_disk::read_sources;
 use c25_macro::files::Files;
-use c25_words::task::RunFiles;
+use c25_options::task::RunFiles;
 use std::alloc::Global;
 
 /// The texts of sources. The first that is there already is refused (37), and so is the first that

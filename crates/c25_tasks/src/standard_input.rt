@@ -17,7 +17,7 @@ use c25_macro::files::{FileTwice, Files};
 use c25_meaning_common::failure::Failure;
 use c25_meaning_common::placed::Placed;
 use c25_report::ending::Report;
-use c25_words::task::DEFAULT_STEPS;
+use c25_options::task::DEFAULT_STEPS;
 use std::alloc::Global;
 use std::io::{Read, Write};
 

@@ -3,11 +3,11 @@
 ghost use Rattle.std.specs.Option.{option_map};
 ghost use Rattle.std.specs.Prelude.{◌≡◌, Ok, IfOk, map, string_bytes};
 ghost use Rattle.c25_chain.specs.Linked.{places_of};
-ghost use Rattle.c25_meaning_commands.specs.Command.{CommandData};
-ghost use Rattle.c25_meaning_commands.specs.CommandText.{command_of};
-ghost use Rattle.c25_meaning_placing.specs.GoodMap.{ranges_for};
+ghost use Rattle.c25_meaning_linking.specs.Command.{CommandData};
+ghost use Rattle.c25_meaning_linking.specs.CommandText.{command_of};
+ghost use Rattle.c25_meaning_linking.specs.GoodMap.{ranges_for};
 ghost use Rattle.c25_symbols.specs.Text.{symbols_text};
-ghost use Rattle.c25_words.specs.Task.{text_of, texts_of};
+ghost use Rattle.c25_options.specs.Task.{text_of, texts_of};
 ghost use Rattle.c25_tasks.specs.Files.{missing_name};
 ghost use Rattle.c25_tasks.specs.Symbols.{BuildsWithSymbols, BuildsWithSymbolsFrom};
 

@@ -3,7 +3,7 @@
 ghost use Rattle.std.specs.Prelude.{◌≡◌, [], map, string_bytes};
 ghost use Rattle.c25_disk.specs.Written.{contents_of};
 ghost use Rattle.c25_report.specs.ProgramFiles.{files_of};
-ghost use Rattle.c25_words.specs.Task.{text_of, texts_of};
+ghost use Rattle.c25_options.specs.Task.{text_of, texts_of};
 ghost use Rattle.c25_tasks.specs.Assembly.{Assembles};
 ghost use Rattle.c25_tasks.specs.Building.{WritesProgram, and_file};
 ghost use Rattle.c25_tasks.specs.Program.{AreNotesUnder, Does, effect_of};
@@ -29,7 +29,7 @@ use c25_disk::disk::Disk;
 use c25_disk::{Output, write_outputs};
 use c25_report::ending::{Ending, Report};
 use c25_report::texts::{ProgramFileTexts, file_names};
-use c25_words::task::{RunFiles, Task};
+use c25_options::task::{RunFiles, Task};
 use std::alloc::Global;
 use std::io::{Read, Write};
 

@@ -4,7 +4,7 @@ ghost use Rattle.std.specs.Option.{option_map};
 ghost use Rattle.std.specs.Prelude.{◌≡◌, IfOk, IsTrue, string_bytes};
 ghost use Rattle.c25_macro.specs.Tracers.{fault_in};
 ghost use Rattle.c25_meaning_language.specs.ExpansionFault.{Faulty};
-ghost use Rattle.c25_words.specs.Task.{texts_of};
+ghost use Rattle.c25_options.specs.Task.{texts_of};
 ghost use Rattle.c25_tasks.specs.Trails.{IsFirstTrail, ShowsTrailOver, openings_text, opening_text, text_at, wanted_by};
 
 use c25_asm::{Refused, Traced, trace};
@@ -17,7 +17,7 @@ use c25_macro::tracer::StepFault;
 use c25_meaning_common::failure::Failure;
 use c25_meaning_common::no_memory::NoMemory;
 use c25_meaning_common::placed::{FileLine, Placed};
-use c25_meaning_files::place::SourcePlace;
+use c25_meaning_expansion::place::SourcePlace;
 use c25_meaning_language::statement::FaultKind;
 use std::alloc::Global;
 
@@ -133,7 +133,7 @@ fn trail_among(
 impl Work for Trace<'_> {
     ghost use Rattle.std.specs.Prelude.{IfOk, string_bytes};
     ghost use Rattle.c25_meaning_language.specs.ExpansionFault.{Faulty};
-    ghost use Rattle.c25_words.specs.Task.{texts_of};
+    ghost use Rattle.c25_options.specs.Task.{texts_of};
     ghost use Rattle.c25_tasks.specs.Trails.{ShowsTrail, wanted_by};
 
     /// The lines as they are shown.

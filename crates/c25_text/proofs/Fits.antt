@@ -8,15 +8,15 @@ use Rattle.std.proofs.lemmas.List.{get_or_past, get_or-take, get_or-drop, length
 use Rattle.std.proofs.lemmas.List.Sums.{prefix_len_passes, prefix_len-le-length}
 use Rattle.std.proofs.lemmas.List.Folds.{length-prefix_len, list_all_at}
 use Rattle.c25_meaning_common.specs.Bytes.{is_blank, is_digit, is_letter_or_digit, begins_name, goes_on_name, is_plain}
-use Rattle.c25_meaning_lines.specs.Lexeme.{lexeme, name_of, constant_of, character_of, quoted_by, quoted_len, dotted_of, sign_by, double_sign, single_sign}
-use Rattle.c25_meaning_lines.specs.declared.line.Lexeme.{Lexeme}
-use Rattle.c25_meaning_lines.specs.declared.line.Lexeme.TheVariants.{Blank, Comment, Token, Fault}
-use Rattle.c25_meaning_lines.specs.declared.line.LineFault.{LineFault}
-use Rattle.c25_meaning_lines.specs.declared.line.TokenKind.{TokenKind}
-use Rattle.c25_meaning_lines.specs.declared.line.LineFault.TheVariants as fault
-use Rattle.c25_meaning_lines.specs.declared.line.TokenKind.TheVariants as kind
-use Rattle.c25_meaning_lines.specs.declared.line.Sign.TheVariants as sign
-use Rattle.c25_meaning_lines.specs.declared.line.Sign.{Sign}
+use Rattle.c25_meaning_language.specs.Lexeme.{lexeme, name_of, constant_of, character_of, quoted_by, quoted_len, dotted_of, sign_by, double_sign, single_sign}
+use Rattle.c25_meaning_language.specs.declared.line.Lexeme.{Lexeme}
+use Rattle.c25_meaning_language.specs.declared.line.Lexeme.TheVariants.{Blank, Comment, Token, Fault}
+use Rattle.c25_meaning_language.specs.declared.line.LineFault.{LineFault}
+use Rattle.c25_meaning_language.specs.declared.line.TokenKind.{TokenKind}
+use Rattle.c25_meaning_language.specs.declared.line.LineFault.TheVariants as fault
+use Rattle.c25_meaning_language.specs.declared.line.TokenKind.TheVariants as kind
+use Rattle.c25_meaning_language.specs.declared.line.Sign.TheVariants as sign
+use Rattle.c25_meaning_language.specs.declared.line.Sign.{Sign}
 
 pub record Fits (t : List ℕ) (n : ℕ) : Type 0 where
   pub first : get_or t 0 0 < 128

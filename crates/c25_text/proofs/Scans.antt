@@ -3,12 +3,12 @@ use Rattle.std.proofs.Common.{◌≡◌, ℕ, zero, suc, ◌+◌, ◌-◌, ◌<�
 use Rattle.std.proofs.lemmas.List.{drop-drop, drop_all, length-drop, take_rest, get_or-drop}
 use Rattle.std.specs.Str.{IsUtf8, IsCharBoundary}
 use Rattle.std.proofs.lemmas.Str.{IsCharBoundary-before_ascii, IsCharBoundary-after_ascii}
-use Rattle.c25_meaning_lines.specs.Lexeme.{lexeme}
-use Rattle.c25_meaning_lines.specs.Line.{Scan, scan, scan_from, before, covered}
-use Rattle.c25_meaning_lines.specs.declared.line.Lexeme.{Lexeme}
-use Rattle.c25_meaning_lines.specs.declared.line.Lexeme.TheVariants.{Blank, Comment, Token, Fault}
-use Rattle.c25_meaning_lines.specs.declared.line.LineFault.{LineFault}
-use Rattle.c25_meaning_lines.specs.declared.line.TokenKind.{TokenKind}
+use Rattle.c25_meaning_language.specs.Lexeme.{lexeme}
+use Rattle.c25_meaning_language.specs.Line.{Scan, scan, scan_from, before, covered}
+use Rattle.c25_meaning_language.specs.declared.line.Lexeme.{Lexeme}
+use Rattle.c25_meaning_language.specs.declared.line.Lexeme.TheVariants.{Blank, Comment, Token, Fault}
+use Rattle.c25_meaning_language.specs.declared.line.LineFault.{LineFault}
+use Rattle.c25_meaning_language.specs.declared.line.TokenKind.{TokenKind}
 use Rattle.c25_text.specs.View.{IsFirstToken}
 use Rattle.c25_text.proofs.Fits.{token_fits}
 

@@ -5,16 +5,16 @@ use Rattle.std.proofs.lemmas.Bool.{cond_both, cond-true, both_ways, true_from_ne
 use Rattle.std.proofs.lemmas.List.{get_or-drop, length-drop, length-take}
 use Rattle.std.proofs.lemmas.List.Sums.{prefix_len-drop_yes, prefix_len-drop_no, prefix_len-drop_all}
 use Rattle.c25_meaning_common.specs.Bytes.{is_blank, is_digit, is_letter_or_digit, begins_name, goes_on_name, is_plain}
-use Rattle.c25_meaning_lines.specs.Constant.{is_constant}
-use Rattle.c25_meaning_lines.specs.Lexeme.{lexeme, name_of, constant_of, character_of, quoted_by, quoted_len, dotted_of, sign_by, double_sign, single_sign}
-use Rattle.c25_meaning_lines.specs.Line.{Scan, scan_from, past_blanks, AreTokens, Operands, Piece}
-use Rattle.c25_meaning_lines.specs.declared.line.Lexeme.{Lexeme}
-use Rattle.c25_meaning_lines.specs.declared.line.Lexeme.TheVariants.{Blank, Comment, Token, Fault}
-use Rattle.c25_meaning_lines.specs.declared.line.LineFault.{LineFault}
-use Rattle.c25_meaning_lines.specs.declared.line.LineFault.TheVariants as fault
-use Rattle.c25_meaning_lines.specs.declared.line.TokenKind.{TokenKind}
-use Rattle.c25_meaning_lines.specs.declared.line.TokenKind.TheVariants as kind
-use Rattle.c25_meaning_lines.specs.declared.line.Sign.{Sign}
+use Rattle.c25_meaning_language.specs.Constant.{is_constant}
+use Rattle.c25_meaning_language.specs.Lexeme.{lexeme, name_of, constant_of, character_of, quoted_by, quoted_len, dotted_of, sign_by, double_sign, single_sign}
+use Rattle.c25_meaning_language.specs.Line.{Scan, scan_from, past_blanks, AreTokens, Operands, Piece}
+use Rattle.c25_meaning_language.specs.declared.line.Lexeme.{Lexeme}
+use Rattle.c25_meaning_language.specs.declared.line.Lexeme.TheVariants.{Blank, Comment, Token, Fault}
+use Rattle.c25_meaning_language.specs.declared.line.LineFault.{LineFault}
+use Rattle.c25_meaning_language.specs.declared.line.LineFault.TheVariants as fault
+use Rattle.c25_meaning_language.specs.declared.line.TokenKind.{TokenKind}
+use Rattle.c25_meaning_language.specs.declared.line.TokenKind.TheVariants as kind
+use Rattle.c25_meaning_language.specs.declared.line.Sign.{Sign}
 use Rattle.c25_text.proofs.Scans.{scan_blank, scan_comment, scan_fault, scan_token, scan_end, token_within}
 
 -- it is no blank

@@ -1,8 +1,8 @@
 -- The parts of a line are those of the relation, and so is its fault.
 use Rattle.std.proofs.Common.{◌≡◌, ℕ, Bool, true, false, List, drop, Option, Some, None, Result, Ok, Err, MatchBool, cond, refl, sym, ap, ◌∙◌, subst, inl, inr}
 use Rattle.std.specs.Prelude.{◌⊎◌, ◌↔◌}
-use Rattle.c25_meaning_lines.specs.Line.{Part, Parts, Piece, Scan, scan_from, part_from, is_comment_line, comment_line, label_in, word_in, word_end, statement_by, statement_of, line_of, FailsAt, Operands, IsStatement, IsLine, FailsBehind, HasFault}
-use Rattle.c25_meaning_lines.specs.declared.line.LineFault.{LineFault}
+use Rattle.c25_meaning_language.specs.Line.{Part, Parts, Piece, Scan, scan_from, part_from, is_comment_line, comment_line, label_in, word_in, word_end, statement_by, statement_of, line_of, FailsAt, Operands, IsStatement, IsLine, FailsBehind, HasFault}
+use Rattle.c25_meaning_language.specs.declared.line.LineFault.{LineFault}
 use Rattle.c25_text.proofs.Shown.{operands_shown}
 use Rattle.c25_text.proofs.Unique.{scan_ends, scan_fails}
 

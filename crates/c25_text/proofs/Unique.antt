@@ -1,11 +1,11 @@
 -- A text has no other tokens than those of its scan.
 use Rattle.std.proofs.Common.{◌≡◌, ℕ, zero, suc, ◌+◌, ◌<◌, ◌≤◌, List, [], ◌∷◌, length, take, drop, Option, Some, None, refl, sym, ap, ◌∙◌, inl, inr, arith}
 use Rattle.std.proofs.lemmas.Bool.{cases_lt}
-use Rattle.c25_meaning_lines.specs.Lexeme.{lexeme}
-use Rattle.c25_meaning_lines.specs.Line.{Piece, scan_from, before, past_blanks, AreTokens, EndsAt, FailsAt}
-use Rattle.c25_meaning_lines.specs.declared.line.Lexeme.{Lexeme}
-use Rattle.c25_meaning_lines.specs.declared.line.Lexeme.TheVariants.{Blank, Comment, Token, Fault}
-use Rattle.c25_meaning_lines.specs.declared.line.LineFault.{LineFault}
+use Rattle.c25_meaning_language.specs.Lexeme.{lexeme}
+use Rattle.c25_meaning_language.specs.Line.{Piece, scan_from, before, past_blanks, AreTokens, EndsAt, FailsAt}
+use Rattle.c25_meaning_language.specs.declared.line.Lexeme.{Lexeme}
+use Rattle.c25_meaning_language.specs.declared.line.Lexeme.TheVariants.{Blank, Comment, Token, Fault}
+use Rattle.c25_meaning_language.specs.declared.line.LineFault.{LineFault}
 use Rattle.c25_text.proofs.Scans.{scan_blank, scan_comment, scan_fault, scan_token, scan_end}
 use Rattle.c25_text.proofs.Shown.{not_comment, not_token, not_fault, past_yes, past_no, past_end}
 

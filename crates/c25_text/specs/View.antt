@@ -1,8 +1,8 @@
 -- What the types of lines stand for.
 use Rattle.std.specs.Prelude.{◌≡◌, ℕ, ◌+◌, ◌-◌, ◌<◌, ◌≤◌, List, ◌∷◌, length, slice_index, slice_range}
 use Rattle.std.specs.Option.{option_map}
-use Rattle.c25_meaning_lines.specs.Line.{Piece, Part, Parts, scan_from}
-use Rattle.c25_meaning_lines.specs.declared.line.TokenKind.{TokenKind}
+use Rattle.c25_meaning_language.specs.Line.{Piece, Part, Parts, scan_from}
+use Rattle.c25_meaning_language.specs.declared.line.TokenKind.{TokenKind}
 use Rattle.c25_text.specs.declared.tokens.Token.{Token}
 use Rattle.c25_text.specs.declared.tokens.Tokens.{Tokens}
 use Rattle.c25_text.specs.declared.line.Word.{Word}

@@ -3,7 +3,7 @@
 ghost use Rattle.std.specs.Prelude.{◌≡◌, ◌≤◌, length};
 ghost use Rattle.std.specs.List.{prefix_len};
 ghost use Rattle.c25_meaning_common.specs.Bytes.{is_blank, is_field};
-ghost use Rattle.c25_meaning_lines.specs.Line.{past_blanks, past_field};
+ghost use Rattle.c25_meaning_language.specs.Line.{past_blanks, past_field};
 
 use c25_meaning_common::bytes::is_blank;
 

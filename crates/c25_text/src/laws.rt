@@ -1,8 +1,8 @@
 //! Laws of lines: what the definitions say, as facts about all texts. The functions do nothing.
 
 ghost use Rattle.std.specs.Prelude.{◌≡◌, ◌↔◌, ℕ, List, Ok, Err};
-ghost use Rattle.c25_meaning_lines.specs.Line.{Parts, IsLine, HasFault, Operands, line_of, scan_from};
-ghost use Rattle.c25_meaning_lines.specs.declared.line.LineFault.{LineFault};
+ghost use Rattle.c25_meaning_language.specs.Line.{Parts, IsLine, HasFault, Operands, line_of, scan_from};
+ghost use Rattle.c25_meaning_language.specs.declared.line.LineFault.{LineFault};
 
 /// A line has the parts that it is split into, and no others.
 pub fn line_has_its_parts()

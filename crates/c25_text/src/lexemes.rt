@@ -4,13 +4,13 @@ ghost use Rattle.std.specs.Prelude.{◌≡◌, ◌<◌, ◌≤◌, length, true,
 ghost use Rattle.std.specs.List.{list_all};
 ghost use Rattle.c25_meaning_common.specs.Bytes.{is_plain};
 ghost use Rattle.c25_meaning_common.specs.Digits.{all_digits};
-ghost use Rattle.c25_meaning_lines.specs.Constant.{suffix_base, numeral, is_constant, constant_value};
-ghost use Rattle.c25_meaning_lines.specs.Lexeme.{name_of, constant_of, character_of, quoted_len, quoted_by, dotted_of, double_sign, single_sign, sign_by, lexeme};
+ghost use Rattle.c25_meaning_language.specs.Constant.{suffix_base, numeral, is_constant, constant_value};
+ghost use Rattle.c25_meaning_language.specs.Lexeme.{name_of, constant_of, character_of, quoted_len, quoted_by, dotted_of, double_sign, single_sign, sign_by, lexeme};
 
 use c25_meaning_common::bytes::{begins_name, byte_at, is_blank, is_digit};
 use c25_meaning_common::digits::{digit, value_in};
 use c25_meaning_common::runs::{constant_run, name_run};
-use c25_meaning_lines::line::{Lexeme, LineFault, Sign, TokenKind};
+use c25_meaning_language::line::{Lexeme, LineFault, Sign, TokenKind};
 
 fn suffix_base(b: u8) -> Option<u8>
     ensures { result ≡ suffix_base b }
@@ -194,7 +194,7 @@ fn sign_of(b: u8, c: u8) -> Lexeme
 }
 
 /// What stands at the front of a text that is not empty.
-#[tactic(auto, unfolding(c25_meaning_lines::specs::Lexeme::lexeme))]
+#[tactic(auto, unfolding(c25_meaning_language::specs::Lexeme::lexeme))]
 pub(crate) fn lexeme(text: &[u8]) -> Lexeme
     requires { 0 < length text.now }
     ensures value { result ≡ lexeme text.now }

@@ -4,14 +4,14 @@ ghost use Rattle.std.specs.Prelude.{◌≡◌, ℕ, List, Ok, Err, length, slice
 ghost use Rattle.std.specs.List.{list_all};
 ghost use Rattle.std.specs.Option.{option_map};
 ghost use Rattle.c25_meaning_common.specs.Bytes.{is_visible};
-ghost use Rattle.c25_meaning_lines.specs.Line.{line_of, part_from, label_of, word_of, without_colon, is_name, is_comment_line, first_word, Operands, scan_from};
+ghost use Rattle.c25_meaning_language.specs.Line.{line_of, part_from, label_of, word_of, without_colon, is_name, is_comment_line, first_word, Operands, scan_from};
 ghost use Rattle.c25_text.specs.View.{parts_of, part_of, pieces_left};
 
 use crate::fields::{past_blanks, past_field};
 use crate::tokens::{Tokens, comment_from};
 use c25_meaning_common::bytes::{begins_name, byte_at};
 use c25_meaning_common::runs::all_go_on_name;
-use c25_meaning_lines::line::LineFault;
+use c25_meaning_language::line::LineFault;
 
 /// A part of a line that is no token: the place of its first byte, and its text, which is the slice of
 /// the line there.

@@ -2,11 +2,11 @@
 
 ghost use Rattle.std.specs.Prelude.{◌≡◌, ◌+◌, ◌<◌, ◌≤◌, [], ◌∷◌, length, slice_index, IfOk, IfSome, MatchOption, Ok, Err};
 ghost use Rattle.std.specs.Iterator.{YieldsFirstBy, item_count};
-ghost use Rattle.c25_meaning_lines.specs.Line.{scan_from, stop_of};
+ghost use Rattle.c25_meaning_language.specs.Line.{scan_from, stop_of};
 ghost use Rattle.c25_text.specs.View.{piece_of, end_of, pieces_left, IsFirstToken};
 
 use crate::lexemes::lexeme;
-use c25_meaning_lines::line::{Lexeme, LineFault, TokenKind};
+use c25_meaning_language::line::{Lexeme, LineFault, TokenKind};
 
 /// A token.
 #[derive(Clone, Copy)]

@@ -2,10 +2,10 @@
 
 ghost use Rattle.std.specs.Prelude.{◌≡◌, ◌+ℤ◌, ◌-ℤ◌, ℤ, pos, unsigned_abs, if◌then◌else◌};
 ghost use Rattle.c25_bits.specs.Cut.{signed};
-ghost use Rattle.c25_meaning_arithmetic.specs.Arithmetic.{absolute_value, difference, negated, sum, with_total};
+ghost use Rattle.c25_meaning_processor.specs.Arithmetic.{absolute_value, difference, negated, sum, with_total};
 ghost use Rattle.c25_core.specs.Total.{IsTotal};
 
-use c25_meaning_arithmetic::accumulator::Acc;
+use c25_meaning_processor::accumulator::Acc;
 
 /// The lowest number of 32 signed bits. In each number with its sign, this bit is set.
 const LOWEST: u32 = 0x8000_0000;
@@ -99,7 +99,7 @@ fn keep(acc: &mut Acc, total: Total, carry: bool, ovm: bool)
 /// `A += v`, where v is the signed number of the bits of `addend`. C is the carry out of the 32 bits.
 /// Where the sum leaves 32 signed bits, OV is set, and with `ovm` the accumulator takes the end of the
 /// range that was left.
-#[tactic(auto, unfolding(c25_meaning_arithmetic::specs::Arithmetic::sum))]
+#[tactic(auto, unfolding(c25_meaning_processor::specs::Arithmetic::sum))]
 #[inline(always)]
 pub fn add(acc: &mut Acc, addend: u32, ovm: bool)
     ensures { acc.new ≡ sum acc.old (signed addend 32) ovm }
@@ -111,7 +111,7 @@ pub fn add(acc: &mut Acc, addend: u32, ovm: bool)
 
 /// `A -= v`, where v is the signed number of the bits of `amount`. C is 0 where the 32 bits borrow. OV
 /// and saturation are as for [`add`].
-#[tactic(auto, unfolding(c25_meaning_arithmetic::specs::Arithmetic::difference))]
+#[tactic(auto, unfolding(c25_meaning_processor::specs::Arithmetic::difference))]
 #[inline(always)]
 pub fn subtract(acc: &mut Acc, amount: u32, ovm: bool)
     ensures { acc.new ≡ difference acc.old (signed amount 32) ovm }
@@ -123,7 +123,7 @@ pub fn subtract(acc: &mut Acc, amount: u32, ovm: bool)
 
 /// `ABS`: the accumulator's absolute value, and C 0. 80000000h has none in 32 signed bits, so there OV is
 /// set, and with `ovm` the value is 7FFFFFFFh.
-#[tactic(auto, unfolding(c25_meaning_arithmetic::specs::Arithmetic::absolute_value))]
+#[tactic(auto, unfolding(c25_meaning_processor::specs::Arithmetic::absolute_value))]
 pub fn take_absolute_value(acc: &mut Acc, ovm: bool)
     ensures { acc.new ≡ absolute_value acc.old ovm }
 {
@@ -133,7 +133,7 @@ pub fn take_absolute_value(acc: &mut Acc, ovm: bool)
 
 /// `NEG`: the accumulator's negative, and C 1 at 0 alone. At 80000000h OV is set, and with `ovm` the value
 /// is 7FFFFFFFh.
-#[tactic(auto, unfolding(c25_meaning_arithmetic::specs::Arithmetic::negated))]
+#[tactic(auto, unfolding(c25_meaning_processor::specs::Arithmetic::negated))]
 pub fn negate(acc: &mut Acc, ovm: bool)
     ensures { acc.new ≡ negated acc.old ovm }
 {

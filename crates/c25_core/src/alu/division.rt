@@ -2,15 +2,15 @@
 
 ghost use Rattle.std.specs.Prelude.{◌≡◌};
 ghost use Rattle.c25_bits.specs.Cut.{signed};
-ghost use Rattle.c25_meaning_arithmetic.specs.Arithmetic.{conditional_difference};
+ghost use Rattle.c25_meaning_processor.specs.Arithmetic.{conditional_difference};
 
 use crate::alu::addition::total_difference;
-use c25_meaning_arithmetic::accumulator::Acc;
+use c25_meaning_processor::accumulator::Acc;
 
 /// The accumulator after one step of `SUBC`, where the signed number of the bits of `divisor` is the
 /// divisor times 2^15. Sixteen steps leave the quotient in the low half and the rest in the high one.
 /// Nothing saturates.
-#[tactic(auto, using(crate::proofs::Numbers::twice, crate::proofs::Numbers::twice_and_one, crate::proofs::Numbers::cut_signed), unfolding(c25_meaning_arithmetic::specs::Arithmetic::conditional_difference))]
+#[tactic(auto, using(crate::proofs::Numbers::twice, crate::proofs::Numbers::twice_and_one, crate::proofs::Numbers::cut_signed), unfolding(c25_meaning_processor::specs::Arithmetic::conditional_difference))]
 pub fn subc(acc: Acc, divisor: u32) -> Acc
     ensures { result ≡ conditional_difference acc (signed divisor 32) }
 {

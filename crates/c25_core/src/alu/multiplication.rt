@@ -1,12 +1,12 @@
 //! Products, and how they are shifted.
 
 ghost use Rattle.std.specs.Prelude.{◌≡◌};
-ghost use Rattle.c25_meaning_arithmetic.specs.Arithmetic.{product, shifted_product};
+ghost use Rattle.c25_meaning_processor.specs.Arithmetic.{product, shifted_product};
 
-use c25_meaning_arithmetic::accumulator::ProductShift;
+use c25_meaning_processor::accumulator::ProductShift;
 
 /// The product of two signed words, in 32 bits.
-#[tactic(auto, unfolding(c25_meaning_arithmetic::specs::Arithmetic::product))]
+#[tactic(auto, unfolding(c25_meaning_processor::specs::Arithmetic::product))]
 pub fn product(first: i16, second: i16) -> u32
     ensures { result ≡ product first second }
 {
@@ -16,7 +16,7 @@ pub fn product(first: i16, second: i16) -> u32
 
 /// The product as PM hands it on, by any PM.
 #[inline(never)]
-#[tactic(auto, unfolding(c25_meaning_arithmetic::specs::Arithmetic::shifted_product))]
+#[tactic(auto, unfolding(c25_meaning_processor::specs::Arithmetic::shifted_product))]
 fn shifted_by(p: u32, shift: ProductShift) -> u32
     ensures { result ≡ shifted_product p shift }
 {
@@ -31,7 +31,7 @@ fn shifted_by(p: u32, shift: ProductShift) -> u32
 /// The product as PM hands it on, cut to 32 bits. The shift to the right keeps the sign. The PM that
 /// shifts nothing, which most programs have, is asked for first.
 #[inline(always)]
-#[tactic(auto, unfolding(c25_meaning_arithmetic::specs::Arithmetic::shifted_product))]
+#[tactic(auto, unfolding(c25_meaning_processor::specs::Arithmetic::shifted_product))]
 pub fn shifted_product(p: u32, shift: ProductShift) -> u32
     ensures { result ≡ shifted_product p shift }
 {

@@ -2,10 +2,10 @@
 
 ghost use Rattle.std.specs.Prelude.{◌≡◌, ◌<◌};
 ghost use Rattle.c25_bits.specs.Cut.{cut, signed};
-ghost use Rattle.c25_meaning_arithmetic.specs.Arithmetic.{left_once, normalized, right_once, rotated_left, rotated_right, scaled, shifted_left};
+ghost use Rattle.c25_meaning_processor.specs.Arithmetic.{left_once, normalized, right_once, rotated_left, rotated_right, scaled, shifted_left};
 
 use c25_bits::extend;
-use c25_meaning_arithmetic::accumulator::Acc;
+use c25_meaning_processor::accumulator::Acc;
 
 /// Bit 31.
 const SIGN: u32 = 0x8000_0000;
@@ -32,7 +32,7 @@ pub(crate) fn moved_left(value: u32, shift: u16) -> u32
 }
 
 /// A memory word times 2^`shift` in 32 bits; it is read with its sign where `sxm` says so.
-#[tactic(auto, unfolding(c25_meaning_arithmetic::specs::Arithmetic::scaled))]
+#[tactic(auto, unfolding(c25_meaning_processor::specs::Arithmetic::scaled))]
 #[inline(always)]
 pub(crate) fn scaled(sxm: bool, word: u16, shift: u16) -> u32
     requires { shift < 16 }
@@ -44,7 +44,7 @@ pub(crate) fn scaled(sxm: bool, word: u16, shift: u16) -> u32
 
 /// The value shifted once to the left by `NORM`, or None where it is 0 or already has its sign in
 /// bit 31 alone.
-#[tactic(auto, unfolding(c25_meaning_arithmetic::specs::Arithmetic::normalized))]
+#[tactic(auto, unfolding(c25_meaning_processor::specs::Arithmetic::normalized))]
 pub fn norm(value: u32) -> Option<u32>
     ensures { result ≡ normalized value }
 {
@@ -57,7 +57,7 @@ pub fn norm(value: u32) -> Option<u32>
 }
 
 /// The accumulator after `SFL`: bit 31 goes to C.
-#[tactic(auto, unfolding(c25_meaning_arithmetic::specs::Arithmetic::left_once))]
+#[tactic(auto, unfolding(c25_meaning_processor::specs::Arithmetic::left_once))]
 pub fn shift_left_once(acc: Acc) -> Acc
     ensures { result ≡ left_once acc }
 {
@@ -69,7 +69,7 @@ pub fn shift_left_once(acc: Acc) -> Acc
 }
 
 /// The accumulator after `SFR`: bit 0 goes to C, and with `sxm` the sign stays.
-#[tactic(auto, unfolding(c25_meaning_arithmetic::specs::Arithmetic::right_once))]
+#[tactic(auto, unfolding(c25_meaning_processor::specs::Arithmetic::right_once))]
 pub fn shift_right_once(acc: Acc, sxm: bool) -> Acc
     ensures { result ≡ right_once acc sxm }
 {
@@ -82,7 +82,7 @@ pub fn shift_right_once(acc: Acc, sxm: bool) -> Acc
 }
 
 /// The accumulator after `ROL`: C goes to bit 0, and bit 31 to C.
-#[tactic(auto, unfolding(c25_meaning_arithmetic::specs::Arithmetic::rotated_left))]
+#[tactic(auto, unfolding(c25_meaning_processor::specs::Arithmetic::rotated_left))]
 pub fn rotate_left(acc: Acc) -> Acc
     ensures { result ≡ rotated_left acc }
 {
@@ -94,7 +94,7 @@ pub fn rotate_left(acc: Acc) -> Acc
 }
 
 /// The accumulator after `ROR`: C goes to bit 31, and bit 0 to C.
-#[tactic(auto, unfolding(c25_meaning_arithmetic::specs::Arithmetic::rotated_right))]
+#[tactic(auto, unfolding(c25_meaning_processor::specs::Arithmetic::rotated_right))]
 pub fn rotate_right(acc: Acc) -> Acc
     ensures { result ≡ rotated_right acc }
 {

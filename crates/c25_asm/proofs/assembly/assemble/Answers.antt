@@ -1,4 +1,4 @@
-use Rattle.c25_meaning_sources.specs.ModuleOfSource.{assembled}
+use Rattle.c25_meaning_assembly.specs.ModuleOfSource.{assembled}
 use Rattle.c25_asm.proofs.Made.{listed_meets}
 use Rattle.c25_asm.proofs.assembly.assemble.Goals as goal
 

@@ -2,7 +2,7 @@ use Rattle.std.proofs.Common.{sym, subst}
 use Rattle.c25_macro.specs.Expander.{Expansion}
 use Rattle.c25_macro.specs.Expanders.{expansion_of}
 use Rattle.c25_meaning_expansion.specs.ExpansionRuns.{start_of}
-use Rattle.c25_meaning_sources.specs.ModuleOfSource.{Passed, no_lines, passed_from}
+use Rattle.c25_meaning_assembly.specs.ModuleOfSource.{Passed, no_lines, passed_from}
 use Rattle.c25_asm.specs.Coming.{Comes}
 use Rattle.c25_asm.proofs.Coming.{begins}
 use Rattle.c25_asm.proofs.assembly.pass_all.Goals as goal

@@ -1,7 +1,7 @@
 use Rattle.std.proofs.Common.{ap, refl, sym, ◌∙◌}
 use Rattle.std.proofs.lemmas.Result.{err_from_is_err_and}
 use Rattle.c25_macro.specs.Expanders.{expansion_of}
-use Rattle.c25_meaning_sources.specs.ModuleOfSource.{Passed}
+use Rattle.c25_meaning_assembly.specs.ModuleOfSource.{Passed}
 use Rattle.c25_meaning_assembly.specs.Sections.{table}
 use Rattle.c25_listing.specs.View.{entries_of}
 use Rattle.c25_phases.specs.View.{progress_of, symbols_of}

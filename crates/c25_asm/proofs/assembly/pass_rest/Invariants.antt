@@ -2,7 +2,7 @@ use Rattle.std.proofs.Common.{◌≡◌, Result}
 use Rattle.c25_macro.specs.Expander.{left_of}
 use Rattle.c25_macro.specs.Expanders.{expansion_of}
 use Rattle.c25_meaning_language.specs.ExpansionFault.{ExpansionFault}
-use Rattle.c25_meaning_sources.specs.ModuleOfSource.{Passed}
+use Rattle.c25_meaning_assembly.specs.ModuleOfSource.{Passed}
 use Rattle.c25_asm.specs.Coming.{Comes}
 use Rattle.c25_asm.specs.View.{passed_of}
 use Rattle.c25_asm.proofs.assembly.pass_rest.Given as goal

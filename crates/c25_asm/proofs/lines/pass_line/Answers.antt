@@ -2,7 +2,7 @@ use Rattle.std.proofs.Common.{ℕ, List, [], ◌∷◌, ◌++◌, ap, sym, ◌�
 use Rattle.c25_macro.specs.Expander.{shown}
 use Rattle.c25_meaning_assembly.specs.Listing.{Entry}
 use Rattle.c25_meaning_assembly.specs.Sections.{size_at}
-use Rattle.c25_meaning_sources.specs.ModuleOfSource.{origin_of}
+use Rattle.c25_meaning_assembly.specs.ModuleOfSource.{origin_of}
 use Rattle.c25_listing.specs.View.{entries_of}
 use Rattle.c25_phases.specs.Steps.{text_passed}
 use Rattle.c25_phases.specs.View.{progress_of}

@@ -1,7 +1,7 @@
 use Rattle.std.proofs.Common.{List, ℕ, ap, sym, ◌∙◌}
 use Rattle.c25_macro.specs.Expander.{shown}
 use Rattle.c25_meaning_assembly.specs.Emission.{at_origin}
-use Rattle.c25_meaning_sources.specs.ModuleOfSource.{origin_of}
+use Rattle.c25_meaning_assembly.specs.ModuleOfSource.{origin_of}
 use Rattle.c25_phases.specs.Steps.{text_passed}
 use Rattle.c25_phases.specs.View.{progress_of}
 use Rattle.c25_phases.specs.declared.progress.Progress.{Progress}

@@ -1,5 +1,5 @@
 use Rattle.std.proofs.Common.{ℕ, List, string_bytes, subst}
-use Rattle.c25_meaning_intel_hex.specs.Hex.{SpellsWords}
+use Rattle.c25_hex.specs.Hex.{SpellsWords}
 use Rattle.c25_chain.proofs.page.page_of.Goals as goal
 
 pub returns-in-Ok-clause-words : goal.returns-in-Ok-clause-words

@@ -1,7 +1,7 @@
 use Rattle.std.proofs.lemmas.Result.{IfOk-weaker}
 use Rattle.c25_board.specs.Board.{state}
 use Rattle.c25_board.specs.Outputs.{outputs_of}
-use Rattle.c25_meaning_stimulus.specs.Samples.{samples_at}
+use Rattle.c25_meaning_processor.specs.Samples.{samples_at}
 use Rattle.c25_chain.proofs.Ends.{begins}
 use Rattle.c25_chain.proofs.run.board_of.Goals as goal
 

@@ -1,4 +1,4 @@
-use Rattle.c25_meaning_sources.specs.ModuleOfSource.{assembled}
+use Rattle.c25_meaning_assembly.specs.ModuleOfSource.{assembled}
 use Rattle.c25_chain.proofs.Alone.{fails_as}
 use Rattle.c25_chain.proofs.sources.assemble_source.Goals as goal
 

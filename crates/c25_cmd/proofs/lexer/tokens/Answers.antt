@@ -1,6 +1,6 @@
 use Rattle.std.proofs.Common.{◌++◌, ◌∷◌, [], ◌∙◌, ap, sym, arith, drop, List}
 use Rattle.std.proofs.lemmas.List.{map_push, length-drop}
-use Rattle.c25_meaning_commands.specs.CommandTokens as lexed
+use Rattle.c25_meaning_linking.specs.CommandTokens as lexed
 use Rattle.c25_cmd.specs.View.{token_of, tokens_of, option_tokens}
 use Rattle.c25_cmd.proofs.Scans.{more, scan_done}
 use Rattle.c25_cmd.proofs.lexer.tokens.Goals as goal

@@ -1,8 +1,8 @@
 use Rattle.std.proofs.Common.{◌∙◌, ◌++◌, ◌∷◌, [], ℕ, List, Ok, sym, ap, subst, refl}
 use Rattle.std.proofs.lemmas.List.{map_push}
-use Rattle.c25_meaning_commands.specs.Command.{RangeData}
-use Rattle.c25_meaning_commands.specs.CommandGrammar.{Reading}
-use Rattle.c25_meaning_commands.specs.CommandMemory.{more_ranges, range_at}
+use Rattle.c25_meaning_linking.specs.Command.{RangeData}
+use Rattle.c25_meaning_linking.specs.CommandGrammar.{Reading}
+use Rattle.c25_meaning_linking.specs.CommandMemory.{more_ranges, range_at}
 use Rattle.c25_meaning_common.specs.Results.{◌>>=◌}
 use Rattle.c25_cmd.specs.Known.{KnowsWords}
 use Rattle.c25_cmd.specs.View.{range_of, ranges_of, tokens_of}

@@ -1,6 +1,6 @@
 use Rattle.std.proofs.Common.{arith}
 use Rattle.std.proofs.lemmas.Grind.{common_steps}
-use Rattle.c25_meaning_commands.specs.CommandMemory.{extent_at}
+use Rattle.c25_meaning_linking.specs.CommandMemory.{extent_at}
 use Rattle.c25_cmd.proofs.memory.extent_at.Goals as goal
 
 pub shares_word-requires-clause-within : goal.shares_word-requires-clause-within

@@ -1,9 +1,9 @@
 -- what is still read completes what was read
 use Rattle.std.proofs.Common.{◌≡◌, ◌≤◌, ◌-◌, length, []}
-use Rattle.c25_meaning_commands.specs.declared.command_token.Want.TheVariants as want
-use Rattle.c25_meaning_commands.specs.declared.command_token.Sign.TheVariants as sign
-use Rattle.c25_meaning_commands.specs.CommandGrammar.{repeated}
-use Rattle.c25_meaning_commands.specs.CommandMemory.{more_ranges}
+use Rattle.c25_meaning_linking.specs.declared.command_token.Want.TheVariants as want
+use Rattle.c25_meaning_linking.specs.declared.command_token.Sign.TheVariants as sign
+use Rattle.c25_meaning_linking.specs.CommandGrammar.{repeated}
+use Rattle.c25_meaning_linking.specs.CommandMemory.{more_ranges}
 use Rattle.c25_cmd.specs.Known.{HasRangeNames, KnowsWords}
 use Rattle.c25_cmd.specs.View.{ranges_of, tokens_of}
 use Rattle.c25_cmd.proofs.memory.ranges_at.Given as goal

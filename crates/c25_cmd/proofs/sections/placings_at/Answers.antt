@@ -1,9 +1,9 @@
 use Rattle.std.proofs.Common.{◌∙◌, sym, length, []}
 use Rattle.std.proofs.lemmas.Result.{err_from_is_err_and}
-use Rattle.c25_meaning_commands.specs.declared.command_token.Want.TheVariants as want
-use Rattle.c25_meaning_commands.specs.declared.command_token.Sign.TheVariants as sign
-use Rattle.c25_meaning_commands.specs.CommandGrammar.{repeated}
-use Rattle.c25_meaning_commands.specs.CommandSections.{more_placings}
+use Rattle.c25_meaning_linking.specs.declared.command_token.Want.TheVariants as want
+use Rattle.c25_meaning_linking.specs.declared.command_token.Sign.TheVariants as sign
+use Rattle.c25_meaning_linking.specs.CommandGrammar.{repeated}
+use Rattle.c25_meaning_linking.specs.CommandSections.{more_placings}
 use Rattle.c25_cmd.specs.View.{placings_of, tokens_of}
 use Rattle.c25_cmd.proofs.Loops.{stops, is_spent, goes_on, fails}
 use Rattle.c25_cmd.proofs.sections.placings_at.Goals as goal

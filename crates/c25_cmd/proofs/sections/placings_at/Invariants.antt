@@ -1,9 +1,9 @@
 -- what is still read completes what was read
 use Rattle.std.proofs.Common.{◌≡◌, ◌-◌, length, []}
-use Rattle.c25_meaning_commands.specs.declared.command_token.Want.TheVariants as want
-use Rattle.c25_meaning_commands.specs.declared.command_token.Sign.TheVariants as sign
-use Rattle.c25_meaning_commands.specs.CommandGrammar.{repeated}
-use Rattle.c25_meaning_commands.specs.CommandSections.{more_placings}
+use Rattle.c25_meaning_linking.specs.declared.command_token.Want.TheVariants as want
+use Rattle.c25_meaning_linking.specs.declared.command_token.Sign.TheVariants as sign
+use Rattle.c25_meaning_linking.specs.CommandGrammar.{repeated}
+use Rattle.c25_meaning_linking.specs.CommandSections.{more_placings}
 use Rattle.c25_cmd.specs.Known.{HasNames}
 use Rattle.c25_cmd.specs.View.{placings_of, tokens_of}
 use Rattle.c25_cmd.proofs.sections.placings_at.Given as goal

@@ -1,8 +1,8 @@
 use Rattle.std.proofs.Common.{◌<◌, ◌≤◌, ◌∙◌, ap, sym, subst, ℕ, List, Option, slice_index}
 use Rattle.std.specs.Option.{option_map_or}
-use Rattle.c25_meaning_commands.specs.declared.command_token.Keyword.{Keyword}
-use Rattle.c25_meaning_commands.specs.declared.command_token.Kind.TheVariants as kind
-use Rattle.c25_meaning_commands.specs.CommandTokens.{number_kind, keyword_of, word_numeral}
+use Rattle.c25_meaning_linking.specs.declared.command_token.Keyword.{Keyword}
+use Rattle.c25_meaning_linking.specs.declared.command_token.Kind.TheVariants as kind
+use Rattle.c25_meaning_linking.specs.CommandTokens.{number_kind, keyword_of, word_numeral}
 use Rattle.c25_meaning_common.specs.Digits.{digit}
 use Rattle.c25_cmd.proofs.WordKinds.{number_word, other_word}
 use Rattle.c25_cmd.proofs.words.word_kind.Goals as goal

@@ -1,5 +1,5 @@
 use Rattle.std.proofs.Common.{◌+◌, ◌≤◌, length}
-use Rattle.c25_meaning_files.specs.Files.{Files}
+use Rattle.c25_meaning_expansion.specs.Files.{Files}
 use Rattle.c25_disk.specs.Copies.{HasCopied}
 use Rattle.c25_disk.proofs.ahead.read_all.Given as goal
 

@@ -1,7 +1,7 @@
 use Rattle.std.proofs.Common.{◌≡◌, length}
 use Rattle.std.specs.List.{find}
 use Rattle.std.specs.Prelude.{◌==◌}
-use Rattle.c25_meaning_files.specs.Rows.{rows_of}
+use Rattle.c25_meaning_expansion.specs.Rows.{rows_of}
 use Rattle.c25_explain.proofs.note.line_of.Given as goal
 
 abbrev pub invariant-loop-row : goal.invariant-loop-row

@@ -1,10 +1,10 @@
 use Rattle.std.proofs.Common.{◌≡◌, ◌<◌, ◌+◌, get_or, ℕ, length, sym, ap, subst, ◌∙◌, arith, cond, Bool, Ok, Err}
-use Rattle.c25_meaning_intel_hex.specs.declared.hex_fault.HexFault.TheVariants.{NoEnd}
+use Rattle.c25_hex.specs.declared.hex_fault.HexFault.TheVariants.{NoEnd}
 use Rattle.std.proofs.lemmas.Iterator.Splits.{YieldsList-from_lines}
 use Rattle.std.proofs.lemmas.Iterator.Consumers.{YieldsList-turn, YieldsList-end}
 use Rattle.std.proofs.lemmas.List.{length_push}
 use Rattle.std.specs.Str.Lines.{lines}
-use Rattle.c25_meaning_intel_hex.specs.Hex.{bytes_given}
+use Rattle.c25_hex.specs.Hex.{bytes_given}
 use Rattle.c25_hex.specs.Cells.{cells_map}
 use Rattle.c25_hex.specs.View.{hex_state}
 use Rattle.c25_hex.proofs.LineSteps.{line_read, line_failed, no_more}

@@ -1,6 +1,6 @@
 use Rattle.std.proofs.Common.{◌≡◌, length, drop}
 use Rattle.std.specs.Str.Lines.{lines}
-use Rattle.c25_meaning_intel_hex.specs.Hex.{after_lines, bytes_given}
+use Rattle.c25_hex.specs.Hex.{after_lines, bytes_given}
 use Rattle.c25_hex.specs.View.{hex_state}
 use Rattle.c25_hex.proofs.hex_reader.bytes_given.Given as goal
 

@@ -1,5 +1,5 @@
 use Rattle.std.proofs.Common.{ℕ, List, Option, subst}
-use Rattle.c25_meaning_intel_hex.specs.Hex.{HasWordsOf}
+use Rattle.c25_hex.specs.Hex.{HasWordsOf}
 use Rattle.c25_hex.specs.Cells.{cells_map}
 use Rattle.c25_hex.proofs.hex_reader.read_hex.Goals as goal
 

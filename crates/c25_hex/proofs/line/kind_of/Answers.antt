@@ -1,6 +1,6 @@
 use Rattle.std.proofs.Common.{arith}
 use Rattle.std.proofs.lemmas.Grind.{common_steps}
-use Rattle.c25_meaning_intel_hex.specs.Hex.{checked_line}
+use Rattle.c25_hex.specs.Hex.{checked_line}
 use Rattle.c25_hex.proofs.line.kind_of.Goals as goal
 
 pub returns-in_default-clause-checked : goal.returns-in_default-clause-checked

@@ -1,6 +1,6 @@
 use Rattle.std.proofs.Common.{arith, Some, get_or, ◌+◌, ◌∙◌}
 use Rattle.std.proofs.lemmas.List.{length-set}
-use Rattle.c25_meaning_intel_hex.specs.Hex.{put_bytes}
+use Rattle.c25_hex.specs.Hex.{put_bytes}
 use Rattle.c25_hex.specs.Cells.{cells_map}
 use Rattle.c25_hex.proofs.CellMaps.{put_more}
 use Rattle.c25_hex.proofs.reader.put_bytes.Goals as goal

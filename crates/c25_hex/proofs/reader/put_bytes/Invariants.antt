@@ -1,5 +1,5 @@
 use Rattle.std.proofs.Common.{◌≡◌, ◌+◌, drop, length}
-use Rattle.c25_meaning_intel_hex.specs.Hex.{put_bytes}
+use Rattle.c25_hex.specs.Hex.{put_bytes}
 use Rattle.c25_hex.specs.Cells.{cells_map}
 use Rattle.c25_hex.proofs.reader.put_bytes.Given as goal
 

@@ -1,6 +1,6 @@
 use Rattle.std.proofs.Common.{◌≡◌, ◌*◌, length, take}
 use Rattle.std.specs.List.{flat_map}
-use Rattle.c25_meaning_intel_hex.specs.HexText.{word_bytes}
+use Rattle.c25_hex.specs.HexText.{word_bytes}
 use Rattle.c25_hex.proofs.stretch.bytes_of_words.Given as goal
 
 abbrev pub invariant-loop-word : goal.invariant-loop-word

@@ -1,8 +1,8 @@
 use Rattle.std.proofs.Common.{List, ℕ, [], ◌∷◌, ◌++◌, sym, ap, subst, ◌∙◌, string_bytes}
 use Rattle.std.specs.Map.Iter.{deref_pair}
 use Rattle.std.proofs.lemmas.Map.Iter.{rest_more, rest_all}
-use Rattle.c25_meaning_intel_hex.specs.Hex.{SpellsWords}
-use Rattle.c25_meaning_intel_hex.specs.HexText.{text_of, end_line}
+use Rattle.c25_hex.specs.Hex.{SpellsWords}
+use Rattle.c25_hex.specs.HexText.{text_of, end_line}
 use Rattle.c25_hex.specs.View.{stretch_of}
 use Rattle.c25_hex.specs.declared.writer.Writer.{Writer}
 use Rattle.c25_hex.proofs.ReadBack.{read_back}

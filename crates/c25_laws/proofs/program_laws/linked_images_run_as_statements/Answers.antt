@@ -1,7 +1,7 @@
 use Rattle.std.proofs.Common.{List, ℕ}
 use Rattle.c25_run_laws.proofs.Image.{runs_alike, statements_stay}
-use Rattle.c25_meaning_commands.specs.Command.{CommandData}
-use Rattle.c25_meaning_files.specs.Files.{Files}
+use Rattle.c25_meaning_linking.specs.Command.{CommandData}
+use Rattle.c25_meaning_expansion.specs.Files.{Files}
 use Rattle.c25_meaning_processor.specs.FirstState.{first_of_pages}
 use Rattle.c25_meaning_linking.specs.Linking.{ImageData, IsProgram}
 use Rattle.c25_meaning_objects.specs.Module.{Contents}

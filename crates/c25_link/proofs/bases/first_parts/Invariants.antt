@@ -1,7 +1,7 @@
 -- each name so far has the first of its places
 use Rattle.std.proofs.Common.{◌≡◌, ℕ, List, [], take}
 use Rattle.std.specs.Option.{option_map}
-use Rattle.c25_meaning_placing.specs.Place.{place_named}
+use Rattle.c25_meaning_linking.specs.Place.{place_named}
 use Rattle.c25_link.specs.Bases.{next_part}
 use Rattle.c25_place.specs.View.{named, places_view}
 use Rattle.c25_link.proofs.bases.first_parts.Given as goal

@@ -1,7 +1,7 @@
 use Rattle.std.proofs.Common.{◌≡◌, ◌<◌, ◌≤◌, ap, subst, ◌∙◌, ◌++◌, take, length, get_or, List, arith}
 use Rattle.std.proofs.lemmas.List.{length-map}
 use Rattle.c25_meaning_objects.specs.Module.{SectionData}
-use Rattle.c25_meaning_placing.specs.Place.{all_sections}
+use Rattle.c25_meaning_linking.specs.Place.{all_sections}
 use Rattle.c25_obj.specs.View.{contents, section_data, sections_data}
 use Rattle.c25_obj.specs.declared.parts.Section.{Section}
 use Rattle.c25_link.specs.Bases.{KnowsNext, part_of, parts_of}

@@ -2,8 +2,8 @@
 use Rattle.std.proofs.Common.{◌≡◌, ◌<◌, ◌++◌, ℕ, List, Some, take, length}
 use Rattle.std.specs.List.{slice_get}
 use Rattle.c25_meaning_objects.specs.Module.{Contents}
-use Rattle.c25_meaning_placing.specs.Place as place
-use Rattle.c25_meaning_placing.specs.Place.{all_sections}
+use Rattle.c25_meaning_linking.specs.Place as place
+use Rattle.c25_meaning_linking.specs.Place.{all_sections}
 use Rattle.c25_obj.specs.View.{contents, sections_data}
 use Rattle.c25_link.specs.Bases.{HasRoom, KnowsNext, parts_of}
 use Rattle.c25_link.proofs.bases.module_bases.Given as goal

@@ -1,6 +1,6 @@
 -- the definitions of the modules so far stand there
 use Rattle.std.proofs.Common.{◌≡◌, take}
-use Rattle.c25_meaning_placing.specs.Place.{by_modules}
+use Rattle.c25_meaning_linking.specs.Place.{by_modules}
 use Rattle.c25_meaning_linking.specs.Words.{module_definitions}
 use Rattle.c25_link.specs.View.{definitions_view}
 use Rattle.c25_link.proofs.definitions.all_definitions.Given as goal

@@ -2,7 +2,7 @@ use Rattle.std.proofs.Common.{◌≡◌, List, [], ap, sym, ◌∙◌, Err, is_s
 use Rattle.std.proofs.lemmas.List.{take_all}
 use Rattle.c25_meaning_linking.specs.Linking.{first_again, refused_with}
 use Rattle.c25_meaning_linking.specs.Words.{definition_of}
-use Rattle.c25_meaning_placing.specs.declared.link_fault.LinkFault.TheVariants.{DefinedTwice}
+use Rattle.c25_meaning_linking.specs.declared.link_fault.LinkFault.TheVariants.{DefinedTwice}
 use Rattle.c25_link.specs.View.{definitions_view, names_of}
 use Rattle.c25_link.specs.declared.definitions.Definition.{Definition}
 use Rattle.c25_place.specs.View.{named}

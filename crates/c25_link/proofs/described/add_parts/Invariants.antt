@@ -1,7 +1,7 @@
 -- the parts so far stand with those of their names
 use Rattle.std.proofs.Common.{◌≡◌, ◌++◌, ℕ, List, take, map, filter}
 use Rattle.c25_meaning_linking.specs.Linking.{section_part}
-use Rattle.c25_meaning_placing.specs.Place.{is_section_named}
+use Rattle.c25_meaning_linking.specs.Place.{is_section_named}
 use Rattle.c25_obj.specs.View.{sections_data}
 use Rattle.c25_link.specs.Described.{parts_named}
 use Rattle.c25_link.specs.Layout.{places_in}

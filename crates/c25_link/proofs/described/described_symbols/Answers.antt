@@ -2,7 +2,7 @@ use Rattle.std.proofs.Common.{◌≡◌, ◌+◌, ◌<◌, List, map, take, leng
 use Rattle.std.proofs.lemmas.List.{map-append}
 use Rattle.c25_map.specs.View.{symbol_data}
 use Rattle.c25_meaning_linking.specs.Linking.{symbol_value, named_value}
-use Rattle.c25_meaning_placing.specs.MapText.{NamedValue}
+use Rattle.c25_meaning_linking.specs.MapText.{NamedValue}
 use Rattle.c25_link.specs.Layout.{places_in}
 use Rattle.c25_link.specs.View.{definition_view, definitions_view}
 use Rattle.c25_link.specs.declared.definitions.Definition.{Definition}

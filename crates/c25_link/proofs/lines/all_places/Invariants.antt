@@ -1,6 +1,6 @@
 -- those of the modules so far stand there
 use Rattle.std.proofs.Common.{◌≡◌, take}
-use Rattle.c25_meaning_placing.specs.Place.{by_modules}
+use Rattle.c25_meaning_linking.specs.Place.{by_modules}
 use Rattle.c25_link.specs.Layout.{places_in}
 use Rattle.c25_link.specs.Lines.{module_places}
 use Rattle.c25_link.proofs.lines.all_places.Given as goal

@@ -1,9 +1,9 @@
 use Rattle.std.proofs.Common.{◌≡◌, ℕ, List, Ok, Option, All, ap, sym, subst, ◌∙◌}
 use Rattle.std.specs.Option.{option_map}
 use Rattle.c25_cmd.specs.View.{command_data}
-use Rattle.c25_meaning_placing.specs.GoodMap.{IsGoodMap}
+use Rattle.c25_meaning_linking.specs.GoodMap.{IsGoodMap}
 use Rattle.c25_meaning_linking.specs.Linking.{map_of, names_checked}
-use Rattle.c25_meaning_placing.specs.MapText.{IsPrinted}
+use Rattle.c25_meaning_linking.specs.MapText.{IsPrinted}
 use Rattle.c25_link.specs.Bases.{HasRoom, KnowsBases}
 use Rattle.c25_link.specs.Layout.{HasOnePart, RunApart}
 use Rattle.c25_link.specs.Link.{LinksAt}

@@ -2,7 +2,7 @@ use Rattle.std.proofs.Common.{List, sym, subst}
 use Rattle.std.specs.Option.{option_map}
 use Rattle.c25_meaning_image.specs.declared.mark.Mark.{Mark}
 use Rattle.c25_meaning_linking.specs.Linking.{HasMarks, HasRunMarks}
-use Rattle.c25_meaning_placing.specs.MapText.{IsPrinted}
+use Rattle.c25_meaning_linking.specs.MapText.{IsPrinted}
 use Rattle.c25_link.specs.Layout.{places_in}
 use Rattle.c25_link.specs.Link.{IsImageAt}
 use Rattle.c25_link.proofs.linking.linked_image.Goals as goal

@@ -2,7 +2,7 @@ use Rattle.std.proofs.Common.{◌≡◌, ℕ, ◌+◌, ◌<◌, List, length, ap
 use Rattle.std.specs.FinMap as finite
 use Rattle.std.proofs.lemmas.List.{length-map}
 use Rattle.c25_meaning_objects.specs.Module.{Initialised, body_words}
-use Rattle.c25_meaning_placing.specs.Place.{IsPart}
+use Rattle.c25_meaning_linking.specs.Place.{IsPart}
 use Rattle.c25_meaning_image.specs.WordMap.{put_all}
 use Rattle.c25_obj.specs.View.{contents, body_data, section_data}
 use Rattle.c25_obj.specs.declared.parts.Body.{Body}

@@ -1,6 +1,6 @@
 -- the marks of the modules so far stand there
 use Rattle.std.proofs.Common.{◌≡◌, take}
-use Rattle.c25_meaning_placing.specs.Place.{by_modules}
+use Rattle.c25_meaning_linking.specs.Place.{by_modules}
 use Rattle.c25_meaning_linking.specs.Words.{module_marks}
 use Rattle.c25_link.specs.Layout.{places_in}
 use Rattle.c25_link.proofs.marks.all_marks.Given as goal

@@ -1,6 +1,6 @@
 use Rattle.std.proofs.Common.{◌≡◌, List, Ok, All, ap, sym, subst, ◌∙◌}
 use Rattle.c25_cmd.specs.View.{command_data}
-use Rattle.c25_meaning_placing.specs.GoodMap.{IsGoodMap}
+use Rattle.c25_meaning_linking.specs.GoodMap.{IsGoodMap}
 use Rattle.c25_meaning_linking.specs.Linking.{names_checked}
 use Rattle.c25_link.specs.Bases.{HasRoom, KnowsBases}
 use Rattle.c25_link.specs.Layout.{HasOnePart, RunApart}

@@ -1,7 +1,7 @@
 -- each field of the modules so far takes its value
 use Rattle.std.proofs.Common.{◌≡◌, None, find, take}
 use Rattle.c25_meaning_linking.specs.Linking.{spills, module_uses}
-use Rattle.c25_meaning_placing.specs.Place.{by_modules}
+use Rattle.c25_meaning_linking.specs.Place.{by_modules}
 use Rattle.c25_link.specs.Layout.{places_in}
 use Rattle.c25_link.proofs.misfits.misfit_among.Given as goal
 

@@ -1,7 +1,7 @@
 -- the lines of the parts so far stand there
 use Rattle.std.proofs.Common.{◌≡◌, ◌++◌, take, map, string_bytes}
 use Rattle.std.specs.List.{flat_map}
-use Rattle.c25_meaning_placing.specs.MapText.{part_text}
+use Rattle.c25_meaning_linking.specs.MapText.{part_text}
 use Rattle.c25_map.specs.View.{part_data}
 use Rattle.c25_map.proofs.writing.push_parts.Given as goal
 

@@ -1,6 +1,6 @@
 use Rattle.std.proofs.Common.{◌≤◌, List, All, subst, sym, arith}
 use Rattle.std.proofs.lemmas.Grind.{common_steps}
-use Rattle.c25_meaning_placing.specs.MapText.{PartData}
+use Rattle.c25_meaning_linking.specs.MapText.{PartData}
 use Rattle.c25_map.specs.View.{part_data}
 use Rattle.c25_map.specs.declared.map.Part.{Part}
 use Rattle.c25_map.proofs.Mapped.{unmapped}

@@ -1,5 +1,5 @@
 use Rattle.std.proofs.Common.{List, All, subst, sym}
-use Rattle.c25_meaning_placing.specs.MapText.{HasDigits}
+use Rattle.c25_meaning_linking.specs.MapText.{HasDigits}
 use Rattle.c25_map.specs.View.{section_data}
 use Rattle.c25_map.specs.declared.map.OutputSection.{OutputSection}
 use Rattle.c25_map.proofs.Mapped.{unmapped}

@@ -1,5 +1,5 @@
 use Rattle.std.specs.Prelude.{◌==◌}
-use Rattle.c25_meaning_commands.specs.Command.{RangeData}
+use Rattle.c25_meaning_linking.specs.Command.{RangeData}
 use Rattle.c25_place.specs.View.{range_view}
 use Rattle.c25_place.proofs.Listed.{any_at}
 use Rattle.c25_place.proofs.missing.has_page.Goals as goal

@@ -1,4 +1,4 @@
-use Rattle.c25_meaning_placing.specs.GoodMap.{is_named_on}
+use Rattle.c25_meaning_linking.specs.GoodMap.{is_named_on}
 use Rattle.c25_place.specs.View.{range_view}
 use Rattle.c25_place.proofs.Listed.{any_at}
 use Rattle.c25_place.proofs.missing.is_named.Goals as goal

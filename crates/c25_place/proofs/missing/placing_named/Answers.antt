@@ -2,7 +2,7 @@ use Rattle.std.proofs.Common.{Some, ap, sym, ◌∙◌}
 use Rattle.std.specs.Str.{bytes_eq}
 use Rattle.c25_cmd.specs.View.{placing_of}
 use Rattle.c25_cmd.specs.declared.command.Placing.{Placing}
-use Rattle.c25_meaning_commands.specs.Command.{PlacingData}
+use Rattle.c25_meaning_linking.specs.Command.{PlacingData}
 use Rattle.c25_place.proofs.Lacked.{found_at, none_more}
 use Rattle.c25_place.proofs.missing.placing_named.Goals as goal
 

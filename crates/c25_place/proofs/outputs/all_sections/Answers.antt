@@ -1,6 +1,6 @@
 use Rattle.std.proofs.Common.{sym, ap, subst, List, All, ◌≤◌, ◌∙◌}
 use Rattle.std.proofs.lemmas.List.{take_all}
-use Rattle.c25_meaning_placing.specs.Place.{all_sections}
+use Rattle.c25_meaning_linking.specs.Place.{all_sections}
 use Rattle.c25_meaning_objects.specs.Module.{body_size}
 use Rattle.c25_obj.specs.View.{body_data}
 use Rattle.c25_obj.specs.declared.parts.Section.{Section}

@@ -1,6 +1,6 @@
 use Rattle.std.proofs.Common.{arith}
-use Rattle.c25_meaning_commands.specs.Command.{IsRange}
-use Rattle.c25_meaning_placing.specs.GoodMap.{NoneFits}
+use Rattle.c25_meaning_linking.specs.Command.{IsRange}
+use Rattle.c25_meaning_linking.specs.GoodMap.{NoneFits}
 use Rattle.c25_place.specs.View.{range_view}
 use Rattle.c25_place.proofs.Fits.{first_fit_is}
 use Rattle.c25_place.proofs.Listed.{unmapped, all_more, all_whole}

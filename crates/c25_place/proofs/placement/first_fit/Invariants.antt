@@ -1,7 +1,7 @@
 -- it fits in no range so far
 use Rattle.std.proofs.Common.{ℕ, List, All, take}
-use Rattle.c25_meaning_placing.specs.GoodMap.{NoneFits}
-use Rattle.c25_meaning_placing.specs.Place as place
+use Rattle.c25_meaning_linking.specs.GoodMap.{NoneFits}
+use Rattle.c25_meaning_linking.specs.Place as place
 use Rattle.c25_place.specs.Blocks.{KnowsFits}
 use Rattle.c25_place.specs.Room.{KnowsTaken}
 use Rattle.c25_place.specs.View.{ranges_view}

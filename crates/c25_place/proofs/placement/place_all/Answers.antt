@@ -1,6 +1,6 @@
 use Rattle.std.proofs.Common.{List, Err, take, drop, suc, sym, subst}
 use Rattle.std.proofs.lemmas.List.{take_all}
-use Rattle.c25_meaning_placing.specs.GoodMap.{Request, ArePlaced}
+use Rattle.c25_meaning_linking.specs.GoodMap.{Request, ArePlaced}
 use Rattle.c25_place.specs.Placement.{ArePlacedOrRefused}
 use Rattle.c25_place.specs.View.{request_view, requests_view, places_view}
 use Rattle.c25_place.specs.declared.requests.Request as asked

@@ -1,8 +1,8 @@
 -- the sections so far are placed
 use Rattle.std.proofs.Common.{List, All, take}
-use Rattle.c25_meaning_commands.specs.Command.{RangeData}
+use Rattle.c25_meaning_linking.specs.Command.{RangeData}
 use Rattle.c25_meaning_objects.specs.Module.{Contents}
-use Rattle.c25_meaning_placing.specs.GoodMap.{ArePlaced}
+use Rattle.c25_meaning_linking.specs.GoodMap.{ArePlaced}
 use Rattle.c25_place.specs.Blocks.{KnowsBlocks}
 use Rattle.c25_place.specs.Placement.{IsWithin}
 use Rattle.c25_place.specs.Ranges.{KnowsRanges}

@@ -1,9 +1,9 @@
 use Rattle.std.proofs.Common.{◌≤◌, ◌<◌, List, All, IfSome, length, ap, sym, subst, ◌∙◌}
 use Rattle.c25_cmd.specs.View.{command_data, placing_of}
-use Rattle.c25_meaning_commands.specs.Command.{PlacingData}
-use Rattle.c25_meaning_placing.specs.GoodMap.{placings_for, ranges_for, requests}
-use Rattle.c25_meaning_placing.specs.GoodMap as good
-use Rattle.c25_meaning_placing.specs.Place.{all_sections}
+use Rattle.c25_meaning_linking.specs.Command.{PlacingData}
+use Rattle.c25_meaning_linking.specs.GoodMap.{placings_for, ranges_for, requests}
+use Rattle.c25_meaning_linking.specs.GoodMap as good
+use Rattle.c25_meaning_linking.specs.Place.{all_sections}
 use Rattle.std.specs.Borrow.{Bor}
 use Rattle.c25_obj.specs.declared.parts.Section.{Section}
 use Rattle.c25_place.specs.Outputs.{AreSmall, KnowsOutputs}

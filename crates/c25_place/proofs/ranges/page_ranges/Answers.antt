@@ -1,6 +1,6 @@
 use Rattle.std.proofs.Common.{List, [], length, vec_len, ap, sym, ◌∙◌}
 use Rattle.std.proofs.lemmas.List.{take_all}
-use Rattle.c25_meaning_commands.specs.Command.{RangeData}
+use Rattle.c25_meaning_linking.specs.Command.{RangeData}
 use Rattle.c25_place.specs.Ranges.{on_page, place_in}
 use Rattle.c25_place.specs.View.{named, ranges_view}
 use Rattle.c25_place.specs.declared.ranges.Range.{Range}

@@ -2,8 +2,8 @@ use Rattle.std.proofs.Common.{List, ℕ, map, take, ap, subst, ◌∙◌}
 use Rattle.std.proofs.lemmas.List.{take_all}
 use Rattle.c25_cmd.specs.View.{placings_of}
 use Rattle.c25_cmd.specs.declared.command.Placing.{Placing}
-use Rattle.c25_meaning_commands.specs.Command.{PlacingData}
-use Rattle.c25_meaning_placing.specs.GoodMap.{is_among}
+use Rattle.c25_meaning_linking.specs.Command.{PlacingData}
+use Rattle.c25_meaning_linking.specs.GoodMap.{is_among}
 use Rattle.c25_place.specs.Requests.{HasNames}
 use Rattle.c25_place.proofs.Asked.{names_more}
 use Rattle.c25_place.proofs.Listed.{names_next}

@@ -1,7 +1,7 @@
 -- the names so far are those of the listed sections so far
 use Rattle.std.proofs.Common.{map, take}
 use Rattle.c25_cmd.specs.View.{placings_of}
-use Rattle.c25_meaning_commands.specs.Command.{PlacingData}
+use Rattle.c25_meaning_linking.specs.Command.{PlacingData}
 use Rattle.c25_place.specs.Requests.{HasNames}
 use Rattle.c25_place.proofs.requests.listed_names.Given as goal
 

@@ -2,7 +2,7 @@ use Rattle.std.proofs.Common.{◌++◌, List, ap, map, filter, ◌∙◌}
 use Rattle.std.proofs.lemmas.List.{take_all}
 use Rattle.c25_cmd.specs.View.{placings_of}
 use Rattle.c25_cmd.specs.declared.command.Placing.{Placing}
-use Rattle.c25_meaning_placing.specs.GoodMap.{listed_request}
+use Rattle.c25_meaning_linking.specs.GoodMap.{listed_request}
 use Rattle.c25_place.specs.Requests.{is_due}
 use Rattle.c25_place.specs.View.{requests_view}
 use Rattle.c25_place.proofs.requests.push_listed.Goals as goal

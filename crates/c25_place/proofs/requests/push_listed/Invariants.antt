@@ -1,9 +1,9 @@
 -- the listed sections so far stand there
 use Rattle.std.proofs.Common.{◌≡◌, ◌++◌, List, take, map, filter}
 use Rattle.c25_cmd.specs.View.{placings_of}
-use Rattle.c25_meaning_placing.specs.GoodMap.{listed_request}
+use Rattle.c25_meaning_linking.specs.GoodMap.{listed_request}
 use Rattle.c25_meaning_objects.specs.Module.{Contents}
-use Rattle.c25_meaning_placing.specs.Place.{all_sections}
+use Rattle.c25_meaning_linking.specs.Place.{all_sections}
 use Rattle.c25_place.specs.Outputs.{KnowsOutputs}
 use Rattle.c25_place.specs.Requests.{is_due, HasPages}
 use Rattle.c25_place.specs.View.{requests_view}

@@ -1,8 +1,8 @@
 -- the sections so far that are not listed stand there, and their names are seen
 use Rattle.std.proofs.Common.{◌≡◌, ◌++◌, ℕ, List, take, map}
-use Rattle.c25_meaning_placing.specs.GoodMap.{unlisted_request, new_names}
+use Rattle.c25_meaning_linking.specs.GoodMap.{unlisted_request, new_names}
 use Rattle.c25_meaning_objects.specs.Module.{Contents, SectionData}
-use Rattle.c25_meaning_placing.specs.Place.{all_sections}
+use Rattle.c25_meaning_linking.specs.Place.{all_sections}
 use Rattle.c25_place.specs.Outputs.{KnowsOutputs}
 use Rattle.c25_place.specs.Requests.{HasPages, HasNames}
 use Rattle.c25_place.specs.View.{requests_view, sections_view}

@@ -1,5 +1,5 @@
 use Rattle.std.proofs.Common.{List, ℕ, subst, ap, ◌∙◌, length, ◌≤◌}
-use Rattle.c25_meaning_lines.specs.Line.{past_field}
+use Rattle.c25_meaning_language.specs.Line.{past_field}
 use Rattle.c25_text.proofs.Cuts.{field_cut}
 use Rattle.c25_substitution.proofs.arguments.operand_text.Goals as goal
 

@@ -1,6 +1,6 @@
 use Rattle.std.proofs.Common.{ap, ◌∙◌, arith}
 use Rattle.std.proofs.lemmas.Str.{IsCharBoundary-start}
-use Rattle.c25_meaning_lines.specs.Line.{past_blanks}
+use Rattle.c25_meaning_language.specs.Line.{past_blanks}
 use Rattle.c25_text.proofs.Cuts.{blank_cut}
 use Rattle.c25_substitution.proofs.strings.trimmed_start.Goals as goal
 

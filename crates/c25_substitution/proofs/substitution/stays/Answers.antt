@@ -1,8 +1,8 @@
 use Rattle.std.proofs.Common.{drop, refl, subst}
 use Rattle.std.specs.List.{take_while}
 use Rattle.c25_meaning_common.specs.Bytes.{goes_on_name}
-use Rattle.c25_substitution_laws.specs.PlainTexts.{HasNoMark}
-use Rattle.c25_substitution_laws.proofs.PlainTexts.{line_kept}
+use Rattle.c25_substitution.specs.PlainTexts.{HasNoMark}
+use Rattle.c25_substitution.proofs.PlainTexts.{line_kept}
 use Rattle.c25_substitution.specs.View.{names_of}
 use Rattle.c25_substitution.proofs.substitution.stays.Goals as goal
 

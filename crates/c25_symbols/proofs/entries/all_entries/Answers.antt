@@ -1,7 +1,7 @@
 use Rattle.std.proofs.Common.{◌≡◌, ◌+◌, ◌++◌, List, ap, get_or, map, string_bytes, subst, sym, take, ◌∙◌}
 use Rattle.c25_meaning_objects.specs.Module.{SectionData}
-use Rattle.c25_meaning_placing.proofs.ByModules.{by_modules_more, by_modules_all}
-use Rattle.c25_meaning_placing.specs.Place.{all_sections}
+use Rattle.c25_meaning_linking.proofs.ByModules.{by_modules_more, by_modules_all}
+use Rattle.c25_meaning_linking.specs.Place.{all_sections}
 use Rattle.c25_obj.specs.View.{contents, sections_data}
 use Rattle.c25_symbols.specs.Parts.{KnowsNext}
 use Rattle.c25_symbols.specs.Symbols.{Listed, module_symbols}

@@ -1,6 +1,6 @@
 -- the next parts begin behind the modules so far, and their symbols are there
 use Rattle.std.proofs.Common.{◌≡◌, map, string_bytes, take}
-use Rattle.c25_meaning_placing.specs.Place.{all_sections, by_modules}
+use Rattle.c25_meaning_linking.specs.Place.{all_sections, by_modules}
 use Rattle.c25_symbols.specs.Parts.{KnowsNext}
 use Rattle.c25_symbols.specs.Symbols.{module_symbols}
 use Rattle.c25_symbols.specs.View.{entries_view, places_view}

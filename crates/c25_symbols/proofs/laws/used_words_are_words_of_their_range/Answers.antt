@@ -1,5 +1,5 @@
 use Rattle.std.proofs.Common.{ℕ, zero, suc, ◌+◌, ◌≤◌, Bool, true, false, cond, List, arith}
-use Rattle.c25_meaning_placing.specs.Place.{Place}
+use Rattle.c25_meaning_linking.specs.Place.{Place}
 use Rattle.c25_symbols.specs.Used.{is_used, used_from}
 use Rattle.c25_symbols.proofs.laws.used_words_are_words_of_their_range.Goals as goal
 

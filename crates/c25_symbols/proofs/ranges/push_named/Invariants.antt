@@ -2,7 +2,7 @@
 use Rattle.std.proofs.Common.{◌≡◌, ◌++◌, List, take, string_bytes}
 use Rattle.std.specs.List.{flat_map}
 use Rattle.c25_cmd.specs.View.{ranges_of}
-use Rattle.c25_meaning_placing.specs.Place.{Place}
+use Rattle.c25_meaning_linking.specs.Place.{Place}
 use Rattle.c25_symbols.specs.Text.{range_line}
 use Rattle.c25_symbols.specs.View.{KnowsUsed}
 use Rattle.c25_symbols.proofs.ranges.push_named.Given as goal

@@ -1,6 +1,6 @@
 -- those so far are counted
 use Rattle.std.proofs.Common.{◌≡◌, ◌≤◌, ℕ, List}
-use Rattle.c25_meaning_placing.specs.Place.{Place}
+use Rattle.c25_meaning_linking.specs.Place.{Place}
 use Rattle.c25_symbols.specs.Used.{used_from}
 use Rattle.c25_symbols.specs.View.{KnowsPage}
 use Rattle.c25_symbols.proofs.used.count.Given as goal

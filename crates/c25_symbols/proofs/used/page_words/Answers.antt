@@ -1,7 +1,7 @@
 use Rattle.std.proofs.Common.{◌≡◌, ◌+◌, Bool, List, length, sym, subst, take, rules}
 use Rattle.std.proofs.lemmas.List.{take_all}
 use Rattle.c25_map.specs.declared.map.OutputSection.{OutputSection}
-use Rattle.c25_meaning_placing.specs.Place.{Place}
+use Rattle.c25_meaning_linking.specs.Place.{Place}
 use Rattle.c25_symbols.specs.View.{KnowsPage, places_view}
 use Rattle.c25_symbols.proofs.Marked.{marked_none, written_back}
 use Rattle.c25_symbols.proofs.Next.{places_more}

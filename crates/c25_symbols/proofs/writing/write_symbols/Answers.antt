@@ -2,8 +2,8 @@ use Rattle.std.proofs.Common.{◌≡◌, ◌++◌, List, ap, map, string_bytes, 
 use Rattle.std.specs.List.{flat_map}
 use Rattle.c25_cmd.specs.View.{command_data}
 use Rattle.c25_map.specs.View.{map_data}
-use Rattle.c25_meaning_placing.specs.GoodMap.{ranges_for}
-use Rattle.c25_meaning_placing.specs.Place.{Place}
+use Rattle.c25_meaning_linking.specs.GoodMap.{ranges_for}
+use Rattle.c25_meaning_linking.specs.Place.{Place}
 use Rattle.c25_symbols.specs.Symbols.{symbols_by_name}
 use Rattle.c25_symbols.specs.Text.{range_line, symbol_line}
 use Rattle.c25_symbols.specs.View.{KnowsUsed, places_of, places_view}

@@ -1,5 +1,5 @@
 use Rattle.std.proofs.Common.{◌∙◌, ap, inl, inr, map, string_bytes}
-use Rattle.c25_words.specs.Task.{texts_of}
+use Rattle.c25_options.specs.Task.{texts_of}
 use Rattle.c25_tasks.specs.Debugging.{DebugsOver}
 use Rattle.c25_tasks.specs.Files.{AfterNamed, IsUnread}
 use Rattle.c25_tasks.proofs.Debugged.{debugs_over}

@@ -1,6 +1,6 @@
 use Rattle.std.proofs.Common.{◌∙◌, ap, map, string_bytes, subst}
-use Rattle.c25_words.specs.Task.{text_of, texts_of}
-use Rattle.c25_words.specs.declared.task.RunFiles.{RunFiles}
+use Rattle.c25_options.specs.Task.{text_of, texts_of}
+use Rattle.c25_options.specs.declared.task.RunFiles.{RunFiles}
 use Rattle.c25_tasks.specs.Files.{IsOptional}
 use Rattle.c25_tasks.proofs.Gathering.{inputs_are}
 use Rattle.c25_tasks.proofs.Misfitted.{field_of_work}

@@ -1,5 +1,5 @@
 use Rattle.std.proofs.Common.{◌≡◌, map, string_bytes, take}
-use Rattle.c25_words.specs.Task.{texts_of}
+use Rattle.c25_options.specs.Task.{texts_of}
 use Rattle.c25_tasks.proofs.files.names_of.Given as goal
 
 abbrev pub invariant-loop-name : goal.invariant-loop-name

@@ -1,6 +1,6 @@
 use Rattle.std.proofs.Common.{◌∙◌, ap, inl, inr, sym}
 use Rattle.std.specs.Prelude.{Ok}
-use Rattle.c25_words.specs.Task.{texts_of}
+use Rattle.c25_options.specs.Task.{texts_of}
 use Rattle.c25_tasks.specs.Files.{IsUnread}
 use Rattle.c25_tasks.specs.Objects.{IsUnreadAmong, modules_in, objects_of}
 use Rattle.c25_tasks.proofs.Gathered.{fails_with}

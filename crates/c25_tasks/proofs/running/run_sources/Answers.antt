@@ -1,5 +1,5 @@
 use Rattle.std.proofs.Common.{string_bytes}
-use Rattle.c25_words.specs.Task.{texts_of}
+use Rattle.c25_options.specs.Task.{texts_of}
 use Rattle.c25_tasks.proofs.Answered.{answered, given_from}
 use Rattle.c25_tasks.proofs.Gathered.{of_files}
 use Rattle.c25_tasks.specs.Running.{IsGivenFrom}

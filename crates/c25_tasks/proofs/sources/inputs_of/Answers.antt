@@ -1,6 +1,6 @@
 use Rattle.std.proofs.Common.{inl, inr, refl}
 use Rattle.std.specs.Prelude.{Ok, Err}
-use Rattle.c25_words.specs.Task.{texts_of}
+use Rattle.c25_options.specs.Task.{texts_of}
 use Rattle.c25_tasks.specs.Files.{ReadsAll}
 use Rattle.c25_tasks.specs.Inputs.{AreInputs}
 use Rattle.c25_tasks.proofs.Gathered.{fails_with}

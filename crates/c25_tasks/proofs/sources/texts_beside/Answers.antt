@@ -1,5 +1,5 @@
 use Rattle.std.proofs.Common.{inl, inr, refl}
-use Rattle.c25_words.specs.Task.{text_of}
+use Rattle.c25_options.specs.Task.{text_of}
 use Rattle.c25_tasks.specs.Files.{IsUnreadOptional}
 use Rattle.c25_tasks.proofs.Gathered.{fails_with}
 use Rattle.c25_tasks.proofs.sources.texts_beside.Goals as goal

@@ -1,7 +1,7 @@
 use Rattle.std.proofs.Common.{◌≡◌, ap, ◌∙◌, List, map, string_bytes}
 use Rattle.c25_chain.specs.Linked.{places_of}
 use Rattle.c25_meaning_objects.specs.Module.{Contents}
-use Rattle.c25_meaning_placing.specs.GoodMap.{ranges_for}
+use Rattle.c25_meaning_linking.specs.GoodMap.{ranges_for}
 use Rattle.c25_symbols.specs.Text.{symbols_text}
 use Rattle.c25_tasks.proofs.WithSymbols.{with_symbols}
 use Rattle.c25_tasks.proofs.symbols.build_with_symbols.Goals as goal

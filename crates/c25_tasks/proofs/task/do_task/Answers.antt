@@ -1,5 +1,5 @@
 use Rattle.std.proofs.Common.{refl}
-use Rattle.c25_words.specs.declared.task.Task.TheVariants.{Disassemble, Explain}
+use Rattle.c25_options.specs.declared.task.Task.TheVariants.{Disassemble, Explain}
 use Rattle.c25_tasks.proofs.Done.{does, does_assemble, does_build, does_debug, does_link, does_run, reported}
 use Rattle.c25_tasks.proofs.Quiet.{keeps, stays}
 use Rattle.c25_tasks.proofs.task.do_task.Goals as goal

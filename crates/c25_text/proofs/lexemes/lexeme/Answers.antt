@@ -1,6 +1,6 @@
 use Rattle.std.proofs.Common.{arith}
 use Rattle.std.proofs.lemmas.Grind.{common_steps}
-use Rattle.c25_meaning_lines.specs.Lexeme.{lexeme}
+use Rattle.c25_meaning_language.specs.Lexeme.{lexeme}
 use Rattle.c25_text.proofs.lexemes.lexeme.Goals as goal
 
 pub returns-in-34-clause-value : goal.returns-in-34-clause-value

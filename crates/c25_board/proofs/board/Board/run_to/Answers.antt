@@ -1,6 +1,6 @@
 use Rattle.std.proofs.Common.{◌∙◌, sym, subst, arith, List, Ok, Err}
-use Rattle.c25_meaning_stimulus.specs.declared.schedule.Entry.{Entry}
-use Rattle.c25_meaning_stimulus.specs.Signals.{signals_of}
+use Rattle.c25_meaning_processor.specs.declared.schedule.Entry.{Entry}
+use Rattle.c25_meaning_processor.specs.Signals.{signals_of}
 use Rattle.c25_meaning_processor.specs.WordStep.{WordStep}
 use Rattle.c25_board.specs.Board.{signals, state, steps}
 use Rattle.c25_board.specs.Run.{Puts}

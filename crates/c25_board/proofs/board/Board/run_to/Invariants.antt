@@ -1,6 +1,6 @@
 use Rattle.std.proofs.Common.{◌≡◌, ◌+◌}
 use Rattle.c25_meaning_processor.specs.WordStep.{WordStep}
-use Rattle.c25_meaning_breakpoints.specs.Goes.{Passes}
+use Rattle.c25_meaning_processor.specs.Goes.{Passes}
 use Rattle.c25_board.specs.Board.{entries, signals, state, steps}
 use Rattle.c25_board.proofs.board.Board.run_to.Given as goal
 

@@ -1,7 +1,7 @@
 use Rattle.std.proofs.Common.{◌∙◌, ap, sym, arith, ℕ, List}
 use Rattle.std.specs.Prelude.{slice_get}
-use Rattle.c25_meaning_stimulus.specs.declared.sample.Sample.{Sample}
-use Rattle.c25_meaning_stimulus.specs.Samples.{samples_at}
+use Rattle.c25_meaning_processor.specs.declared.sample.Sample.{Sample}
+use Rattle.c25_meaning_processor.specs.Samples.{samples_at}
 use Rattle.c25_board.proofs.SamplesTaken.{none_left, has_left, takes}
 use Rattle.c25_board.proofs.samples.SamplesFeed.take.Goals as goal
 

@@ -1,4 +1,4 @@
-use Rattle.c25_meaning_arithmetic.specs.Arithmetic.{absolute_value}
+use Rattle.c25_meaning_processor.specs.Arithmetic.{absolute_value}
 use Rattle.c25_core.proofs.alu.addition.take_absolute_value.Goals as goal
 
 pub returns : goal.returns

@@ -1,6 +1,6 @@
 use Rattle.std.proofs.Common.{◌≡◌, ℕ, ◌<◌, ◌≤◌, ◌*◌, ◌%◌, ◌^◌, nat_abs, Bool, true, false, arith, ap, ◌∙◌}
 use Rattle.c25_bits.specs.Cut.{cut, signed}
-use Rattle.c25_meaning_arithmetic.specs.Arithmetic.{scaled, extended}
+use Rattle.c25_meaning_processor.specs.Arithmetic.{scaled, extended}
 use Rattle.c25_core.proofs.Numbers.{cut_signed, scaled_bits}
 use Rattle.c25_core.proofs.alu.shifts.scaled.Goals as goal
 

@@ -2,7 +2,7 @@ use Rattle.std.proofs.Common.{ap, ◌∙◌}
 use Rattle.std.specs.Map.{lookup}
 use Rattle.std.specs.Option.{option_map}
 use Rattle.std.specs.Str.{bytes_eq}
-use Rattle.c25_meaning_files.specs.Rows.{file_number}
+use Rattle.c25_meaning_expansion.specs.Rows.{file_number}
 use Rattle.c25_files.proofs.Entries.{lookup-views, numbered}
 use Rattle.c25_files.proofs.files.Files.find.Goals as goal
 

@@ -1,7 +1,7 @@
 use Rattle.std.proofs.Common.{sym, ◌∙◌, string_bytes, ◌++◌}
 use Rattle.std.specs.Map.Iter.{deref_pair}
 use Rattle.std.proofs.lemmas.Map.Iter.{rest_more, rest_all}
-use Rattle.c25_meaning_intel_hex.specs.HexText.{text_of, lines_on, stretches_on}
+use Rattle.c25_hex.specs.HexText.{text_of, lines_on, stretches_on}
 use Rattle.c25_hex.specs.View.{stretch_of}
 use Rattle.c25_hex.proofs.WriterSteps.{goes_further, begins_line, last_line}
 use Rattle.c25_hex.proofs.writer.Writer.put_words.Goals as goal

@@ -1,5 +1,5 @@
 use Rattle.std.proofs.Common.{◌≡◌, ◌++◌, string_bytes}
-use Rattle.c25_meaning_intel_hex.specs.HexText.{text_of, lines_on, stretches_on}
+use Rattle.c25_hex.specs.HexText.{text_of, lines_on, stretches_on}
 use Rattle.c25_hex.specs.View.{stretch_of}
 use Rattle.c25_hex.proofs.writer.Writer.put_words.Given as goal
 

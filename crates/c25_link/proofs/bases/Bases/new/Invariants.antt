@@ -2,7 +2,7 @@
 use Rattle.std.proofs.Common.{◌≡◌, ◌<◌, ℕ, Some, take, length}
 use Rattle.std.specs.List.{slice_get}
 use Rattle.c25_meaning_objects.specs.Module.{Contents}
-use Rattle.c25_meaning_placing.specs.Place.{all_sections}
+use Rattle.c25_meaning_linking.specs.Place.{all_sections}
 use Rattle.c25_link.specs.Bases.{HasRoom, KnowsNext, parts_of, part_in}
 use Rattle.c25_place.specs.View.{places_view}
 use Rattle.c25_link.proofs.bases.Bases.new.Given as goal

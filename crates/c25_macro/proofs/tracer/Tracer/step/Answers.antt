@@ -1,6 +1,6 @@
 use Rattle.std.proofs.Common.{◌≡◌, ◌∷◌, ◌-◌, Ok, drop, if◌then◌else◌, length, nat_lt, refl, reverse, rules, ◌∙◌}
 use Rattle.c25_meaning_expansion.specs.ExpansionRuns.{rewrite}
-use Rattle.c25_meaning_trail.specs.Trail.{line_of}
+use Rattle.c25_meaning_expansion.specs.Trail.{line_of}
 use Rattle.c25_macro.specs.Config.{Follows, config}
 use Rattle.c25_macro.specs.Scopes.{scopes}
 use Rattle.c25_macro.specs.Tracers.{Trace, trace_of}

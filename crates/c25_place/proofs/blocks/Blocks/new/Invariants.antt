@@ -1,6 +1,6 @@
 -- what the modules so far ask is known
 use Rattle.std.proofs.Common.{take}
-use Rattle.c25_meaning_placing.specs.Place.{by_modules, part_blocks, size_of_parts}
+use Rattle.c25_meaning_linking.specs.Place.{by_modules, part_blocks, size_of_parts}
 use Rattle.c25_place.specs.Blocks.{KnowsFound}
 use Rattle.c25_place.proofs.blocks.Blocks.new.Given as goal
 

@@ -1,8 +1,8 @@
 use Rattle.std.proofs.Common.{List, All, Ok, Err, inl, sym, subst}
 use Rattle.std.proofs.lemmas.List.Elements.{All-filter}
-use Rattle.c25_meaning_commands.specs.Command.{RangeData, IsRange}
-use Rattle.c25_meaning_placing.specs.GoodMap.{is_usable}
-use Rattle.c25_meaning_placing.specs.Place.{blocks_of}
+use Rattle.c25_meaning_linking.specs.Command.{RangeData, IsRange}
+use Rattle.c25_meaning_linking.specs.GoodMap.{is_usable}
+use Rattle.c25_meaning_linking.specs.Place.{blocks_of}
 use Rattle.c25_place.specs.View.{wanted_view, ranges_view, request_view, places_view}
 use Rattle.c25_place.proofs.Placing.{base_of_is, bad_run}
 use Rattle.c25_place.proofs.placement.PlacedSections.base_for.Goals as goal

@@ -1,6 +1,6 @@
 use Rattle.std.proofs.Common.{List, [], ◌∷◌, ap, sym, subst, refl, ◌∙◌}
 use Rattle.std.proofs.lemmas.List.{map-append}
-use Rattle.c25_meaning_placing.specs.Place as place
+use Rattle.c25_meaning_linking.specs.Place as place
 use Rattle.c25_place.specs.Room.{KnowsRoom, KnowsRuns}
 use Rattle.c25_place.specs.View.{request_view, place_view, places_view, refusal_of}
 use Rattle.c25_place.specs.declared.placement.Place.{Place}

@@ -1,5 +1,5 @@
 use Rattle.std.proofs.Common.{Bool, cond, is_some, Option, ℕ, ap, sym, ◌∙◌}
-use Rattle.c25_meaning_placing.specs.GoodMap.{default_page}
+use Rattle.c25_meaning_linking.specs.GoodMap.{default_page}
 use Rattle.c25_place.specs.View.{wanted_view}
 use Rattle.c25_place.specs.declared.requests.Wanted.{Wanted}
 use Rattle.c25_place.proofs.Listed.{copied_some}

@@ -1,7 +1,7 @@
 use Rattle.std.proofs.Common.{List, ap, ◌∙◌, subst}
 use Rattle.c25_cmd.specs.View.{command_data}
-use Rattle.c25_meaning_commands.specs.Command.{RangeData}
-use Rattle.c25_meaning_placing.specs.GoodMap.{ranges_for}
+use Rattle.c25_meaning_linking.specs.Command.{RangeData}
+use Rattle.c25_meaning_linking.specs.GoodMap.{ranges_for}
 use Rattle.c25_place.specs.Ranges.{KnowsPage}
 use Rattle.c25_place.specs.View.{ranges_view}
 use Rattle.c25_place.specs.declared.ranges.Range.{Range}

@@ -1,5 +1,5 @@
 use Rattle.std.proofs.Common.{filter, ap, sym, ◌∙◌}
-use Rattle.c25_meaning_placing.specs.GoodMap.{is_usable}
+use Rattle.c25_meaning_linking.specs.GoodMap.{is_usable}
 use Rattle.c25_place.specs.View.{wanted_view}
 use Rattle.c25_place.specs.declared.requests.Wanted.{Wanted}
 use Rattle.c25_place.proofs.ranges.Ranges.usable.Goals as goal

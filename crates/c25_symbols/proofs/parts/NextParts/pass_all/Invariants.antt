@@ -1,7 +1,7 @@
 -- the next parts begin behind the sections so far
 use Rattle.std.proofs.Common.{◌++◌, List, take}
 use Rattle.c25_meaning_objects.specs.Module.{SectionData}
-use Rattle.c25_meaning_placing.specs.Place.{Place}
+use Rattle.c25_meaning_linking.specs.Place.{Place}
 use Rattle.c25_obj.specs.View.{sections_data}
 use Rattle.c25_symbols.specs.Parts.{KnowsNext}
 use Rattle.c25_symbols.proofs.parts.NextParts.pass_all.Given as goal

@@ -1,5 +1,0 @@
-use Rattle.c25_breaks.proofs.OneBit.{no_bit}
-use Rattle.c25_breaks.proofs.bits.Bits.new.Goals as goal
-
-pub returns : goal.returns
-returns c = no_bit 1024

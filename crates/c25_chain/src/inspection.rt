@@ -1,0 +1,39 @@
+//! Where a board stands: what a debugger tells of it.
+
+ghost use Rattle.std.specs.Prelude.{◌≡◌, IfOk, string_bytes};
+ghost use Rattle.c25_board.specs.Board.{entries, signals, state, steps};
+ghost use Rattle.c25_chain.specs.Inspection.{TellsBoth, TellsWhere};
+ghost use Rattle.c25_debug.specs.Told.{point_of};
+
+use c25_board::board::Board;
+use c25_board::ports::{Feed, Sink};
+use c25_link::Image;
+use c25_meaning_common::no_memory::NoMemory;
+use c25_meaning_processor::script::Cmd;
+use c25_debug::session::Session;
+use std::alloc::Global;
+
+/// What a session answers to `regs`, and then to `where`.
+fn tell_both<F: Feed + Drop, S: Sink + Drop>(
+    session: &mut Session<'_, F, S>,
+) -> Result<String, NoMemory>
+    ensures { IfOk result (λ text. TellsBoth (signals session.old.board) session.old.image.now
+        (point_of session.old.board session.old.breakpoints) (string_bytes text)) }
+{
+    let mut text = session.command(&Cmd::Regs)?;
+    let place = session.command(&Cmd::Where)?;
+    text.push_str(place.as_str())?;
+    Ok(text)
+}
+
+/// What a debugger answers to `regs`, and then to `where`, over a board that runs this image.
+pub fn where_it_stands<F: Feed + Drop, S: Sink + Drop>(
+    alloc: Global,
+    board: Board<F, S>,
+    image: &Image,
+) -> Result<String, NoMemory>
+    ensures { IfOk result (λ text. TellsWhere image.now (entries board) (steps board) (state board) (string_bytes text)) }
+{
+    let mut session = Session::new(alloc, board, image);
+    tell_both(&mut session)
+}

@@ -1,4 +1,0 @@
-pub mod Agreed
-pub mod Debugged
-pub mod Scripted
-pub mod Standing

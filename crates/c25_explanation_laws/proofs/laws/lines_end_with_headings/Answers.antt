@@ -1,5 +1,0 @@
-use Rattle.c25_explanation_laws.proofs.Lines.{ends}
-use Rattle.c25_explanation_laws.proofs.laws.lines_end_with_headings.Goals as goal
-
-pub returns : goal.returns
-returns c = ends

@@ -1,0 +1,66 @@
+//! What readers have left.
+
+ghost use Rattle.std.specs.Prelude.{◌≡◌, ◌≤◌, IfOk, IfSome, OnOk, length, string_bytes};
+ghost use Rattle.std.specs.Io.KnownBytes.{IsAtEnd};
+ghost use Rattle.c25_files.specs.Whole.{IsAllOf};
+
+use c25_meaning_common::failure::Failure;
+use std::alloc::Global;
+use std::io::Read;
+use thiserror::Error;
+
+/// A text may have so many bytes.
+const LIMIT: usize = 16_777_216;
+
+/// A text that cannot be had: a read failed or there were too many, a byte past the limit came, or
+/// the bytes are not UTF-8 (8).
+#[derive(Clone, Copy, Debug, Error)]
+#[error("{}", self.name())]
+pub struct CannotRead;
+
+impl CannotRead {
+    ghost use Rattle.std.specs.Prelude.{◌≡◌, codes};
+
+    /// The name that it is told by.
+    pub fn name(&self) -> &'static str
+        ensures { result.now ≡ codes "CannotRead" }
+    {
+        "CannotRead"
+    }
+}
+
+/// All that a reader has left, however its reads cut it. It is refused (8) where a read fails, where
+/// 33,554,432 reads bring no end, and where there are more than 16,777,216 bytes.
+pub fn read_bytes<R: Read>(alloc: Global, reader: &mut R) -> Result<Vec<u8>, Failure<CannotRead>>
+    ensures ok { IfOk result (λ bytes. IsAllOf (R.remaining reader.old) bytes.items) }
+    ensures end { OnOk result (IsAtEnd (R.remaining reader.new)) }
+{
+    let mut bytes = Vec::new(alloc);
+    let mut buffer = [0u8; 4096];
+    for _ in 0..33_554_432 {
+        let Ok(count) = reader.read(&mut buffer) else {
+            return Err(Failure::Fault(CannotRead));
+        };
+        if count == 0 {
+            return Ok(bytes);
+        }
+        if LIMIT.saturating_sub(bytes.len()) < count {
+            return Err(Failure::Fault(CannotRead));
+        }
+        bytes.extend_from_slice(&buffer[..count])?;
+    }
+    Err(Failure::Fault(CannotRead))
+}
+
+/// A reader's rest as a text. It is refused (8) where the bytes cannot be had, and where they are not
+/// UTF-8.
+pub fn read_text<R: Read>(alloc: Global, reader: &mut R) -> Result<String, Failure<CannotRead>>
+    ensures ok { IfOk result (λ text. IsAllOf (R.remaining reader.old) (string_bytes text)) }
+    ensures end { OnOk result (IsAtEnd (R.remaining reader.new)) }
+{
+    let bytes = read_bytes(alloc, reader)?;
+    match String::from_utf8(bytes) {
+        Ok(text) => Ok(text),
+        Err(_not_utf8) => Err(Failure::Fault(CannotRead)),
+    }
+}

@@ -1,0 +1,77 @@
+-- The module of a source: its lines as expansion gives them, each read and passed under the symbols that the lines before
+-- it define (SPRU018, the assembler's two passes).
+use Rattle.std.specs.Prelude.{ℕ, zero, suc, ◌-◌, List, [], ◌∷◌, ◌++◌, Option, Some, None, Result, Ok, Err}
+use Rattle.c25_meaning_assembly.specs.AssemblyLine.{read_statement}
+use Rattle.c25_meaning_assembly.specs.Emission.{at_origin, finished}
+use Rattle.c25_meaning_expansion.specs.Expansion.{Config}
+use Rattle.c25_meaning_expansion.specs.ExpansionAnswers.{ExpandedLine, given_by, fault_by}
+use Rattle.c25_meaning_language.specs.ExpansionFault.{ExpansionFault, Missing}
+use Rattle.c25_meaning_expansion.specs.ExpansionRuns.{first, start_of}
+use Rattle.c25_meaning_expansion.specs.Files.{Files}
+use Rattle.c25_meaning_assembly.specs.Listing.{Entry}
+use Rattle.c25_meaning_objects.specs.Module.{Contents}
+use Rattle.c25_meaning_common.specs.Results.{◌>>=◌}
+use Rattle.c25_meaning_assembly.specs.Sections.{Origin, Progress, start, table, size_at, pass}
+
+-- what the lines so far have made, and their entries in the listing
+pub record Passed : Type 0 where
+  pub progress : Progress
+  pub entries : List Entry
+
+-- before the first line
+abbrev pub no_lines : Passed
+no_lines = record { progress = start; entries = [] }
+
+-- where a line stands
+abbrev pub origin_of : ExpandedLine → Origin
+origin_of l = record { file = l.file; line = l.line }
+
+-- a line's entry in the listing: the words by which its section grew
+abbrev pub entry_of : ExpandedLine → Progress → Progress → Entry
+entry_of l old new = record {
+  line = l.line;
+  text = l.text;
+  section = old.current;
+  offset = size_at old.sections old.current;
+  count = size_at new.sections old.current - size_at old.sections old.current;
+}
+
+-- a line's text read and passed: what it shows by itself, then what it does
+abbrev pub read_and_pass : ExpandedLine → Progress → Result Progress ExpansionFault
+read_and_pass l p = at_origin (origin_of l) (read_statement l.text >>= λ s. pass (origin_of l) s p)
+
+-- one line more
+unfoldable pub pass_line : ExpandedLine → Passed → Result Passed ExpansionFault
+pass_line l a =
+    read_and_pass l a.progress >>= λ p. Ok (record { progress = p; entries = a.entries ++ entry_of l a.progress p ∷ [] })
+
+-- what follows what expansion answers: a fault, a line more, or the end
+abbrev pub passed_by : Option ExpansionFault → Option (ExpandedLine × Config) → (Config → Passed → Result Passed ExpansionFault) → Passed → Result Passed ExpansionFault
+passed_by (Some f) given go_on a = Err f
+passed_by None None go_on a = Ok a
+passed_by None (Some (l, c)) go_on a = pass_line l a >>= λ b. go_on c b
+
+-- all lines that come, so many at most
+unfoldable pub passed : Files → ℕ → Config → Passed → Result Passed ExpansionFault
+passed files zero c a = Ok a
+passed files (suc n) c a =
+    passed_by (fault_by files (first files (table a.progress) c)) (given_by files (first files (table a.progress) c)) (passed files n) a
+
+-- the lines of the module that begins so, if there is one of this name; at most 200,000 come
+abbrev pub passed_from : Files → List ℕ → Option Config → Result Passed ExpansionFault
+passed_from files name None = Err (Missing name 0 name)
+passed_from files name (Some c) = passed files 200001 c no_lines
+
+-- a module and the entries of its lines
+pub record Assembled : Type 0 where
+  pub contents : Contents
+  pub entries : List Entry
+
+-- the module of lines that have passed
+abbrev pub completed : Passed → Result Assembled ExpansionFault
+completed a = finished a.progress >>= λ m. Ok (record { contents = m; entries = a.entries })
+
+-- the module of the source of a name, or its fault that is told: the first line's that is wrong by the lines before it,
+-- or else the first operand's under all symbols
+unfoldable pub assembled : Files → List ℕ → Result Assembled ExpansionFault
+assembled files name = passed_from files name (start_of files name) >>= λ a. completed a

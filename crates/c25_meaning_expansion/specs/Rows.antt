@@ -1,0 +1,34 @@
+-- Lines of files, each with its place.
+use Rattle.std.specs.Prelude.{ℕ, ◌+◌, ◌-◌, Bool, true, false, List, [], ◌∷◌, length, slice_get, Some, None}
+use Rattle.std.specs.List.{position_or_len}
+use Rattle.std.specs.Str.{bytes_eq}
+use Rattle.std.specs.Str.Lines.{lines}
+use Rattle.c25_meaning_expansion.specs.Files.{Files}
+use Rattle.c25_meaning_expansion.specs.declared.place.SourcePlace.{SourcePlace}
+
+-- a line: where it stands, and its text without its end
+pub record Row : Type 0 where
+  pub place : SourcePlace
+  pub text : List ℕ
+
+-- the lines of a file from one on; a line ends in LF or CRLF
+abbrev pub rows_from : ℕ → ℕ → List (List ℕ) → List Row
+rows_from file line [] = []
+rows_from file line (text ∷ texts) = record { place = record { file = file; line = line }; text = text } ∷ rows_from file (line + 1) texts
+
+-- the lines of a file with this text
+abbrev pub rows_of : ℕ → List ℕ → List Row
+rows_of file text = rows_from file 1 (lines text)
+
+-- no items
+abbrev pub is_empty : {A : Type 0} → List A → Bool
+is_empty [] = true
+is_empty (x ∷ xs) = false
+
+-- where the last of some lines stands, or else this place
+abbrev pub last_place : SourcePlace → List Row → SourcePlace
+last_place place rows = elim (slice_get rows (length rows - 1)) [ None ↦ place | Some row ↦ row.place ]
+
+-- the number of the file of a name, in the order in which files were added
+abbrev pub file_number : Files → List ℕ → ℕ
+file_number files name = position_or_len (λ file. bytes_eq name file.0) files

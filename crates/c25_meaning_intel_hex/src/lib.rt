@@ -1,4 +1,0 @@
-//! Intel hex texts of words.
-#![tactic(auto)]
-
-pub mod hex_fault;

@@ -1,4 +1,0 @@
-pub mod Constant
-pub mod Faults
-pub mod Lexeme
-pub mod Line

@@ -1,4 +1,0 @@
-//! Lines of a source: fields, tokens, constants.
-#![tactic(auto)]
-
-pub mod line;

@@ -1,0 +1,133 @@
+-- The tokens of a command file: words and signs, parted by blanks and comments (SPRU018, linker description, linker
+-- command files; which characters a word has, how far a number may go and that reserved words are read in either
+-- case are this project's own).
+use Rattle.std.specs.Prelude.{ℕ, zero, suc, ◌+◌, ◌-◌, ◌^◌, ◌==◌, ◌||◌, ◌&&◌, not, min, Bool, List, [], ◌∷◌, length, take, drop, slice_index, map, codes, count_by, Option, Some, None, is_some, option_map, nat_lt, nat_le, if◌then◌else◌}
+use Rattle.std.specs.List.{prefix_len}
+use Rattle.std.specs.Option.{option_map_or}
+use Rattle.std.specs.Str.{bytes_eq}
+use Rattle.std.specs.Str.Lines.{lines}
+use Rattle.std.specs.Char.{to_ascii_lowercase}
+use Rattle.c25_meaning_common.specs.Bytes.{is_space}
+use Rattle.c25_meaning_common.specs.Digits.{Numeral, digit, are_digits, value_in}
+use Rattle.c25_meaning_linking.specs.declared.command_token.Sign.{Sign}
+use Rattle.c25_meaning_linking.specs.declared.command_token.Sign.TheVariants as sign
+use Rattle.c25_meaning_linking.specs.declared.command_token.Keyword.{Keyword}
+use Rattle.c25_meaning_linking.specs.declared.command_token.Keyword.TheVariants as keyword
+use Rattle.c25_meaning_linking.specs.declared.command_token.Kind.{Kind}
+use Rattle.c25_meaning_linking.specs.declared.command_token.Kind.TheVariants as kind
+use Rattle.c25_meaning_linking.specs.declared.command_token.Lexeme.{Lexeme}
+use Rattle.c25_meaning_linking.specs.declared.command_token.Lexeme.TheVariants as piece
+
+-- ---- characters
+
+-- { } ( ) : , = > *
+abbrev pub sign_of : ℕ → Option Sign
+sign_of b =
+    if b == 123 then Some sign.OpenBrace
+    else (if b == 125 then Some sign.CloseBrace
+    else (if b == 40 then Some sign.OpenParenthesis
+    else (if b == 41 then Some sign.CloseParenthesis
+    else (if b == 58 then Some sign.Colon
+    else (if b == 44 then Some sign.Comma
+    else (if b == 61 then Some sign.Equals
+    else (if b == 62 then Some sign.Greater
+    else (if b == 42 then Some sign.Star
+    else None))))))))
+
+-- 21h to 7Eh without the signs, `/` and `"`
+abbrev pub is_word : ℕ → Bool
+is_word b = nat_le 33 b && nat_le b 126 && not (is_some (sign_of b)) && not (b == 47 || b == 34)
+
+-- ---- what stands at the front of a text
+
+-- how far a comment goes on behind its `/*`, if it is closed
+abbrev pub comment_len : List ℕ → Option ℕ
+comment_len [] = None
+comment_len (b ∷ rest) = if b == 42 && slice_index rest 0 == 47 then Some 2 else option_map (λ n. n + 1) (comment_len rest)
+
+-- what stands at the front of a text that is not empty; a character that is none of these can stand nowhere
+unfoldable pub lexeme : List ℕ → Lexeme
+lexeme text =
+    if is_space (slice_index text 0) then piece.Blank
+    else (if is_word (slice_index text 0) then piece.Word (prefix_len is_word text)
+    else (if slice_index text 0 == 47 && slice_index text 1 == 42
+    then option_map_or (λ n. piece.Comment (n + 2)) (comment_len (drop 2 text)) piece.OpenComment
+    else option_map_or piece.Sign (sign_of (slice_index text 0)) piece.Stray))
+
+-- ---- words
+
+-- `0x` before hexadecimal digits, `h` behind them, or decimal digits
+abbrev pub word_numeral : List ℕ → Numeral
+word_numeral text =
+    if slice_index text 0 == 48 && (slice_index text 1 == 120 || slice_index text 1 == 88) then record { base = 16; digits = drop 2 text }
+    else (if slice_index text (length text - 1) == 104 || slice_index text (length text - 1) == 72
+    then record { base = 16; digits = take (length text - 1) text }
+    else record { base = 10; digits = text })
+
+-- 1 to 19 digits, and no 0 before decimal ones
+abbrev pub is_numeral : Numeral → Bool
+is_numeral n = are_digits n.base n.digits && nat_lt (length n.digits) 20
+    && not (n.base == 10 && slice_index n.digits 0 == 48 && nat_lt 1 (length n.digits))
+
+-- a number, 4,294,967,295 where it is larger, or a word that only begins as one
+abbrev pub number_kind : Numeral → Kind
+number_kind n = if is_numeral n then kind.Number (min (value_in n.base n.digits) (2 ^ 32 - 1)) else kind.Malformed
+
+-- the reserved word of a spelling in lower case
+abbrev pub keyword_of : List ℕ → Option Keyword
+keyword_of lower =
+    if bytes_eq lower (codes "memory") then Some keyword.Memory
+    else (if bytes_eq lower (codes "sections") then Some keyword.Sections
+    else (if bytes_eq lower (codes "page") then Some keyword.Page
+    else (if bytes_eq lower (codes "origin") || bytes_eq lower (codes "org") || bytes_eq lower (codes "o") then Some keyword.Origin
+    else (if bytes_eq lower (codes "length") || bytes_eq lower (codes "len") || bytes_eq lower (codes "l") then Some keyword.Length
+    else (if bytes_eq lower (codes "load") then Some keyword.Load
+    else (if bytes_eq lower (codes "run") then Some keyword.Run
+    else None))))))
+
+-- a word that begins with a digit is a number, any other a reserved word, read in either case, or else a name
+unfoldable pub word_kind : List ℕ → Kind
+word_kind text =
+    if nat_lt (digit (slice_index text 0)) 10 then number_kind (word_numeral text)
+    else option_map_or kind.Keyword (keyword_of (map to_ascii_lowercase text)) kind.Name
+
+-- ---- tokens
+
+-- a token: what it is, where it begins, and what is written where it is a word
+pub record Token : Type 0 where
+  pub kind : Kind
+  pub place : ℕ
+  pub text : List ℕ
+
+-- the end of the text
+abbrev pub end_at : ℕ → Token
+end_at place = record { kind = kind.End; place = place; text = [] }
+
+-- a lexeme in front of the tokens behind it; a comment that nothing closes can't stand, at the end of the text
+abbrev pub before : Lexeme → ℕ → List ℕ → List Token → List Token
+before (piece.Word n) at text later = record { kind = word_kind (take n text); place = at; text = take n text } ∷ later
+before (piece.Sign s) at text later = record { kind = kind.Sign s; place = at; text = [] } ∷ later
+before piece.Stray at text later = record { kind = kind.Stray; place = at; text = [] } ∷ later
+before piece.OpenComment at text later = record { kind = kind.Stray; place = at + length text; text = [] } ∷ later
+before _ at text later = later
+
+-- how many bytes a lexeme has behind its first
+abbrev pub covered : Lexeme → List ℕ → ℕ
+covered (piece.Word n) text = n - 1
+covered (piece.Comment n) text = n - 1
+covered piece.OpenComment text = length text
+covered _ text = 0
+
+-- the tokens from a place on, where a lexeme still runs on for `skip` bytes; the end is the last
+unfoldable pub scan : ℕ → ℕ → List ℕ → List Token
+scan skip at [] = end_at at ∷ []
+scan (suc skip) at (b ∷ rest) = scan skip (at + 1) rest
+scan zero at (b ∷ rest) = before (lexeme (b ∷ rest)) at (b ∷ rest) (scan (covered (lexeme (b ∷ rest)) rest) (at + 1) rest)
+
+-- the tokens of a text
+abbrev pub tokens : List ℕ → List Token
+tokens text = scan 0 0 text
+
+-- the line of a place, from 1; the end of the text stands on its last line
+abbrev pub line_at : List ℕ → ℕ → ℕ
+line_at text place = min (count_by (λ b. b == 10) (take place text) + 1) (length (lines text))

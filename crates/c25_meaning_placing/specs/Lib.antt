@@ -1,4 +1,0 @@
-pub mod Faults
-pub mod GoodMap
-pub mod MapText
-pub mod Place

@@ -1,2 +1,0 @@
-//! The module of a source: what its expansion gives, assembled.
-#![tactic(auto)]

@@ -1,4 +1,0 @@
-pub mod Samples
-pub mod Schedule
-pub mod Script
-pub mod Signals

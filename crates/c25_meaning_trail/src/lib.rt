@@ -1,2 +1,0 @@
-//! Where the files, expansions and turns that are open were opened.
-#![tactic(auto)]

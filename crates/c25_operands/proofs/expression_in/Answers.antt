@@ -1,6 +1,0 @@
-use Rattle.std.proofs.Common.{arith}
-use Rattle.std.proofs.lemmas.Grind.{common_steps}
-use Rattle.c25_operands.proofs.expression_in.Goals as goal
-
-pub returns-in-Expression : goal.returns-in-Expression
-returns-in-Expression c = grind (arith, common_steps)

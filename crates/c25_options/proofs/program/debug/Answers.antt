@@ -1,0 +1,9 @@
+use Rattle.c25_options.proofs.program.debug.Goals as goal
+
+pub returns : goal.returns
+returns c =
+    let command = c.subcommand-command.ensures in
+    let command = c.with_sources-command.ensures _ command in
+    let command = c.with_argument-command.ensures _ _ command c.needed-script.ensures.rule in
+    let command = c.with_run_files-command.ensures _ command in
+    c.with_explain.ensures _ command

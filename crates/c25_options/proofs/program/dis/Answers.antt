@@ -1,0 +1,7 @@
+use Rattle.c25_options.proofs.program.dis.Goals as goal
+
+pub returns : goal.returns
+returns c =
+    let command = c.subcommand-command.ensures in
+    let command = c.with_argument-command.ensures _ _ command c.operand.ensures.rule in
+    c.with_argument.ensures _ _ command c.first_address.ensures.rule

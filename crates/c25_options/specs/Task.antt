@@ -1,0 +1,107 @@
+-- What the words ask for, by the matches that `clap` defines.
+use Rattle.std.specs.Prelude.{◌≡◌, ℕ, Bool, false, List, [], Option, Some, None, Result, Ok, Err, codes, map, option_map, IsSomeAnd}
+use Rattle.std.specs.Str.{bytes_eq}
+use Rattle.std.specs.Str.Parse.{IsNumeral, digits_value, without_leading_plus}
+use Rattle.std.specs.Borrow.{Bor}
+use Rattle.clap.specs.Words.{Row, Text, all_of, first_of, kind_of, one_of, subcommand_of}
+use Rattle.clap.specs.Faults.{fault_of}
+use Rattle.clap.specs.Kinds.{HasKind, Kinds}
+use Rattle.clap.specs.declared.error.Error.{Error}
+use Rattle.clap.specs.declared.error.kind.ErrorKind.TheVariants.{OutOfMemory}
+use Rattle.c25_meaning_common.specs.declared.failure.Failure.{Failure}
+use Rattle.c25_meaning_common.specs.declared.failure.Failure.TheVariants.{NoMemory, Fault}
+use Rattle.c25_options.specs.Program.{program}
+use Rattle.c25_options.specs.declared.task.RunFiles.{RunFiles}
+use Rattle.c25_options.specs.declared.task.Task.{Task}
+use Rattle.c25_options.specs.declared.task.Task.TheVariants.{RunStandardInput, Assemble, Link, Build, Run, Debug, Explain, Disassemble}
+
+-- the texts of borrowed words
+abbrev pub texts_of : List (Bor Text) → List Text
+texts_of = map (λ s. s.now)
+
+-- the text of a borrowed word that may be left out
+abbrev pub text_of : Option (Bor Text) → Option Text
+text_of = option_map (λ s. s.now)
+
+-- the number that a text gives, in decimal, behind a plus that may begin it
+abbrev pub Gives : Text → ℕ → Type 0
+Gives text n = IsNumeral 10 (without_leading_plus text) × (n ≡ digits_value 10 (without_leading_plus text))
+
+-- the number of steps that the text of `--steps` gives (`one_of` takes a minus off, so `-0` is 0), which is 1,000 where there is none
+abbrev pub IsSteps : Option Text → ℕ → Type 0
+IsSteps None n = n ≡ 1000
+IsSteps (Some text) n = Gives text n
+
+-- the number that the text of an operand gives, which is there (`-0` is 0 here too)
+abbrev pub IsNumber : Option Text → ℕ → Type 0
+IsNumber text n = IsSomeAnd text (λ t. Gives t n)
+
+-- whether a flag was given: the text that is found for it is `true` where it was, and else `false`
+abbrev pub IsFlag : Option Text → Bool → Type 0
+IsFlag None given = given ≡ false
+IsFlag (Some text) given = given ≡ bytes_eq text (codes "true")
+
+-- the files of a run are the values of its options
+pub record AreRunFiles (rows : List Row) (files : RunFiles) : Type 0 where
+  pub command : text_of files.command ≡ first_of (codes "command") rows
+  pub samples : text_of files.samples ≡ first_of (codes "samples") rows
+  pub schedule : text_of files.schedule ≡ first_of (codes "schedule") rows
+
+-- the task is what a subcommand of this name with these matches asks for
+abbrev pub Asks : Text → List Row → Task → Type 0
+Asks name rows RunStandardInput = ⊥
+Asks name rows (Assemble source object listing explain) =
+    (name ≡ codes "asm")
+    × (first_of (codes "source") rows ≡ Some source.now)
+    × (first_of (codes "obj") rows ≡ Some object.now)
+    × (first_of (codes "list") rows ≡ text_of listing)
+    × IsFlag (one_of (codes "explain") rows) explain
+Asks name rows (Link command objects base explain) =
+    (name ≡ codes "link")
+    × (first_of (codes "command") rows ≡ Some command.now)
+    × (all_of (codes "object") rows ≡ Some (texts_of objects.items))
+    × (first_of (codes "out") rows ≡ Some base.now)
+    × IsFlag (one_of (codes "explain") rows) explain
+Asks name rows (Build sources base command symbols explain) =
+    (name ≡ codes "build")
+    × (all_of (codes "source") rows ≡ Some (texts_of sources.items))
+    × (first_of (codes "out") rows ≡ Some base.now)
+    × (first_of (codes "command") rows ≡ text_of command)
+    × (first_of (codes "symbols") rows ≡ text_of symbols)
+    × IsFlag (one_of (codes "explain") rows) explain
+Asks name rows (Run sources steps files regs explain) =
+    (name ≡ codes "run")
+    × (all_of (codes "source") rows ≡ Some (texts_of sources.items))
+    × IsSteps (one_of (codes "steps") rows) steps
+    × AreRunFiles rows files
+    × IsFlag (one_of (codes "regs") rows) regs
+    × IsFlag (one_of (codes "explain") rows) explain
+Asks name rows (Debug sources script files explain) =
+    (name ≡ codes "debug")
+    × (all_of (codes "source") rows ≡ Some (texts_of sources.items))
+    × (first_of (codes "script") rows ≡ Some script.now)
+    × AreRunFiles rows files
+    × IsFlag (one_of (codes "explain") rows) explain
+Asks name rows (Explain number) = (name ≡ codes "explain") × IsNumber (one_of (codes "number") rows) number
+Asks name rows (Disassemble file from) =
+    (name ≡ codes "dis") × (first_of (codes "file") rows ≡ Some file.now) × (first_of (codes "from") rows ≡ text_of from)
+
+-- the same of what `clap` finds
+abbrev pub IsAskedBy : Option (Text × List Row) → Task → Type 0
+IsAskedBy None task = ⊥
+IsAskedBy (Some found) task = Asks found.0 found.1 task
+
+-- memory ran out: a growth was refused, or was to `clap`, which tells it by a kind of its error
+abbrev pub IsWantOfMemory : Failure Error → Type 0
+IsWantOfMemory (NoMemory n) = Unit {0}
+IsWantOfMemory (Fault error) = kind_of error ≡ OutOfMemory
+
+-- an answer refuses for one of these kinds, unless memory ran out
+abbrev pub RefusesBy : Kinds → Failure Error → Type 0
+RefusesBy kinds (NoMemory n) = Unit {0}
+RefusesBy kinds (Fault error) = HasKind kinds error
+
+-- what an answer says of words, the program's name first: a task where `clap` has no fault of them, and else one of its faults
+abbrev pub Reads : List Text → Result Task (Failure Error) → Type 0
+Reads words (Ok task) = (fault_of program words ≡ []) × IsAskedBy (subcommand_of program words) task
+Reads words (Err failure) = RefusesBy (fault_of program words) failure

@@ -1,0 +1,111 @@
+//! Operands and options of the subcommands.
+
+ghost use Rattle.std.specs.Prelude.{◌≡◌, codes, false};
+ghost use Rattle.clap.specs.Words.{rule_of};
+ghost use Rattle.c25_options.specs.Program.{flag_rule, needed_rule, number_rule, operand_rule, operands_rule, option_rule, output_rule, steps_rule};
+
+use clap::{Arg, ArgAction, value_parser};
+use std::alloc::Global;
+
+/// `--name`, which is given or not.
+pub(crate) fn flag<'a>(alloc: Global, name: &'a str, help: &'a str) -> Arg<'a>
+    ensures rule { rule_of result ≡ flag_rule name.entry.now }
+    ensures local { result.global ≡ false }
+{
+    Arg::new(alloc, name)
+        .long(name)
+        .action(ArgAction::SetTrue)
+        .help(help)
+}
+
+/// `--name FILE`.
+pub(crate) fn option<'a>(alloc: Global, name: &'a str, help: &'a str) -> Arg<'a>
+    ensures rule { rule_of result ≡ option_rule name.entry.now }
+    ensures local { result.global ≡ false }
+{
+    Arg::new(alloc, name)
+        .long(name)
+        .value_name("FILE")
+        .help(help)
+}
+
+/// `--name FILE`, which must be there.
+pub(crate) fn needed<'a>(alloc: Global, name: &'a str, help: &'a str) -> Arg<'a>
+    ensures rule { rule_of result ≡ needed_rule name.entry.now }
+    ensures local { result.global ≡ false }
+{
+    option(alloc, name, help).required(true)
+}
+
+/// `--name FILE` or `-o FILE`, where what is made goes; it must be there.
+pub(crate) fn output<'a>(alloc: Global, name: &'a str, help: &'a str) -> Arg<'a>
+    ensures rule { rule_of result ≡ output_rule name.entry.now }
+    ensures local { result.global ≡ false }
+{
+    needed(alloc, name, help).short('o')
+}
+
+/// `--command FILE`.
+pub(crate) fn command_file<'a>(alloc: Global) -> Arg<'a>
+    ensures rule { rule_of result ≡ option_rule (codes "command") }
+    ensures local { result.global ≡ false }
+{
+    option(
+        alloc,
+        "command",
+        "The linker's command file; without one, an empty one",
+    )
+}
+
+/// `--out BASE` or `-o BASE`, which must be there.
+pub(crate) fn base_name<'a>(alloc: Global, help: &'a str) -> Arg<'a>
+    ensures rule { rule_of result ≡ output_rule (codes "out") }
+    ensures local { result.global ≡ false }
+{
+    output(alloc, "out", help).value_name("BASE")
+}
+
+/// `--steps N`, N from 0 to 4,294,967,295.
+pub(crate) fn steps<'a>(alloc: Global) -> Arg<'a>
+    ensures rule { rule_of result ≡ steps_rule }
+    ensures local { result.global ≡ false }
+{
+    option(alloc, "steps", "The number of steps, 1000 by default")
+        .value_name("N")
+        .value_parser(value_parser!(u32))
+}
+
+/// `--from ADDRESS`.
+pub(crate) fn first_address<'a>(alloc: Global, help: &'a str) -> Arg<'a>
+    ensures rule { rule_of result ≡ option_rule (codes "from") }
+    ensures local { result.global ≡ false }
+{
+    option(alloc, "from", help).value_name("ADDRESS")
+}
+
+/// One operand, which must be there.
+pub(crate) fn operand<'a>(alloc: Global, name: &'a str, value: &'a str, help: &'a str) -> Arg<'a>
+    ensures rule { rule_of result ≡ operand_rule name.entry.now }
+    ensures local { result.global ≡ false }
+{
+    Arg::new(alloc, name)
+        .value_name(value)
+        .help(help)
+        .required(true)
+}
+
+/// `NUMBER`, from 0 to 255, which must be there.
+pub(crate) fn number<'a>(alloc: Global, help: &'a str) -> Arg<'a>
+    ensures rule { rule_of result ≡ number_rule }
+    ensures local { result.global ≡ false }
+{
+    operand(alloc, "number", "NUMBER", help).value_parser(value_parser!(u8))
+}
+
+/// One operand or more.
+pub(crate) fn operands<'a>(alloc: Global, name: &'a str, value: &'a str, help: &'a str) -> Arg<'a>
+    ensures rule { rule_of result ≡ operands_rule name.entry.now }
+    ensures local { result.global ≡ false }
+{
+    operand(alloc, name, value, help).num_args(1..)
+}

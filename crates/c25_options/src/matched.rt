@@ -1,0 +1,89 @@
+//! Values of what `clap` found.
+
+ghost use Rattle.std.specs.Prelude.{◌≡◌, IfOk, IfSome, IsSomeAnd, Some, codes};
+ghost use Rattle.clap.specs.Words.{all_of, first_of, one_of};
+ghost use Rattle.c25_options.specs.Complete.{IsFlagIn, IsNumberText, IsThere, rows_in};
+ghost use Rattle.c25_options.specs.Task.{AreRunFiles, IsFlag, IsNumber, IsSteps, text_of, texts_of};
+
+use crate::task::{DEFAULT_STEPS, RunFiles};
+use c25_meaning_common::no_memory::NoMemory;
+use clap::ArgMatches;
+use std::alloc::Global;
+
+/// The value of an argument that is there.
+pub(crate) fn needed<'a>(matches: &ArgMatches<'a>, id: &str) -> &'a str
+    requires { IsThere (rows_in matches.now) id.now }
+    ensures { first_of id.now (rows_in matches.now) ≡ Some result.now }
+{
+    match matches.get_str(id) {
+        Some(value) => value,
+        None => unreachable!(),
+    }
+}
+
+/// The value of an option, if it was given.
+pub(crate) fn optional<'a>(matches: &ArgMatches<'a>, id: &str) -> Option<&'a str>
+    ensures { first_of id.now (rows_in matches.now) ≡ text_of result }
+{
+    matches.get_str(id)
+}
+
+/// A list of borrowed words.
+fn copied<'a>(alloc: Global, words: &[&'a str]) -> Result<Vec<&'a str>, NoMemory>
+    ensures { IfOk result (λ v. v.items ≡ words.now) }
+{
+    Vec::from_slice(alloc, words).map_err(NoMemory::from)
+}
+
+/// The values of an operand that is there, in their order.
+pub(crate) fn all<'a>(
+    alloc: Global,
+    matches: &ArgMatches<'a>,
+    id: &str,
+) -> Result<Vec<&'a str>, NoMemory>
+    requires { IsThere (rows_in matches.now) id.now }
+    ensures { IfOk result (λ v. all_of id.now (rows_in matches.now) ≡ Some (texts_of v.items)) }
+{
+    match matches.get_strs(id) {
+        Some(values) => copied(alloc, values),
+        None => unreachable!(),
+    }
+}
+
+/// Whether a flag was given.
+pub(crate) fn flag(matches: &ArgMatches<'_>, id: &str) -> bool
+    requires { IsFlagIn (rows_in matches.now) id.now }
+    ensures { IsFlag (one_of id.now (rows_in matches.now)) result }
+{
+    matches.get_flag(id)
+}
+
+/// The number of steps.
+pub(crate) fn steps(matches: &ArgMatches<'_>) -> u32
+    requires { IfSome (one_of (codes "steps") (rows_in matches.now)) (IsNumberText 32) }
+    ensures { IsSteps (one_of (codes "steps") (rows_in matches.now)) result }
+{
+    matches.get_one::<u32>("steps").unwrap_or(DEFAULT_STEPS)
+}
+
+/// The number that is asked for.
+pub(crate) fn number(matches: &ArgMatches<'_>) -> u8
+    requires { IsSomeAnd (one_of (codes "number") (rows_in matches.now)) (IsNumberText 8) }
+    ensures { IsNumber (one_of (codes "number") (rows_in matches.now)) result }
+{
+    match matches.get_one::<u8>("number") {
+        Some(number) => number,
+        None => unreachable!(),
+    }
+}
+
+/// The files that a run reads beside its sources.
+pub(crate) fn run_files<'a>(matches: &ArgMatches<'a>) -> RunFiles<'a>
+    ensures { AreRunFiles (rows_in matches.now) result }
+{
+    RunFiles {
+        command: optional(matches, "command"),
+        samples: optional(matches, "samples"),
+        schedule: optional(matches, "schedule"),
+    }
+}

@@ -1,0 +1,215 @@
+//! The program's command line, as a command of `clap`.
+
+ghost use Rattle.std.specs.Prelude.{◌≡◌, IfOk, false};
+ghost use Rattle.clap.specs.Simple.{new_shape};
+ghost use Rattle.clap.specs.Words.{App, Rule, Shape, app_of, rule_of, with_subcommand};
+ghost use Rattle.c25_options.specs.Program.{IsSubcommand, added, asm_shape, bare_program, build_shape, debug_shape, dis_shape, explain_shape, link_shape, program, run_shape, with_explain, with_run_files, with_sources};
+
+use crate::arguments::{
+    base_name, command_file, first_address, flag, needed, number, operand, operands, option,
+    output, steps,
+};
+use clap::{Arg, Command};
+use std::alloc::{AllocError, Global};
+
+/// What `--version` prints behind the program's name. It rises with each change of what the program
+/// reads, writes or answers.
+const VERSION: &str = "1.6.0";
+
+/// What help says of the program behind its subcommands.
+const MORE: &str =
+    "Without words it assembles and links standard input, runs it for 1000 steps and prints its outputs.
+
+Status: 0 done; 1 refused, with one line on standard error: FILE:LINE: NUMBER NAME; 2 the words are no task,
+or ask for help or the version; 3 the code was left.
+A fault by its number, with an example: c25 explain NUMBER; all of them: docs/FAULTS.md. Everything else: docs/MANUAL.md.";
+
+/// A command that is being made, unless memory ran out before.
+type Made<'a> = Result<Command<'a>, AllocError>;
+
+/// A subcommand without arguments; help shows the example.
+fn subcommand<'a>(alloc: Global, name: &'a str, about: &'a str, example: &'a str) -> Made<'a>
+    ensures { IfOk result (IsSubcommand (new_shape name.entry.now)) }
+{
+    Ok(Command::new(alloc, name).about(about).after_help(example))
+}
+
+/// The subcommand with one more argument, behind its others.
+fn with_argument<'a>(subcommand: Made<'a>, argument: Arg<'a>) -> Made<'a>
+    requires { argument.global ≡ false }
+    ensures { (shape : Shape) (rule : Rule) → IfOk subcommand.entry (IsSubcommand shape) → rule_of argument.entry ≡ rule → IfOk result (IsSubcommand (added shape rule)) }
+{
+    subcommand?.arg(argument)
+}
+
+/// The flag by which a fault is explained.
+fn with_explain<'a>(alloc: Global, subcommand: Made<'a>) -> Made<'a>
+    ensures { (shape : Shape) → IfOk subcommand.entry (IsSubcommand shape) → IfOk result (IsSubcommand (with_explain shape)) }
+{
+    let help = "Explains a fault behind its line, as explain does";
+    with_argument(subcommand, flag(alloc, "explain", help))
+}
+
+/// The sources of a subcommand.
+fn with_sources<'a>(alloc: Global, subcommand: Made<'a>) -> Made<'a>
+    ensures { (shape : Shape) → IfOk subcommand.entry (IsSubcommand shape) → IfOk result (IsSubcommand (with_sources shape)) }
+{
+    let sources = operands(alloc, "source", "SOURCE", "The sources, in their order");
+    with_argument(subcommand, sources)
+}
+
+/// The files that a run reads beside its sources.
+fn with_run_files<'a>(alloc: Global, subcommand: Made<'a>) -> Made<'a>
+    ensures { (shape : Shape) → IfOk subcommand.entry (IsSubcommand shape) → IfOk result (IsSubcommand (with_run_files shape)) }
+{
+    let command = with_argument(subcommand, command_file(alloc));
+    let samples = option(alloc, "samples", "The words that IN reads, by ports");
+    let command = with_argument(command, samples);
+    let schedule = option(alloc, "schedule", "Interrupts and levels of BIO by steps");
+    with_argument(command, schedule)
+}
+
+fn asm<'a>(alloc: Global) -> Made<'a>
+    ensures { IfOk result (IsSubcommand asm_shape) }
+{
+    let command = subcommand(
+        alloc,
+        "asm",
+        "Assembles a source: writes its object and its listing",
+        "Example: c25 asm fir.asm -o fir.obj --list fir.lst --explain",
+    );
+    let command = with_argument(command, operand(alloc, "source", "SOURCE", "The source"));
+    let command = with_argument(command, output(alloc, "obj", "The file for the object"));
+    let command = with_argument(command, option(alloc, "list", "The file for the listing"));
+    with_explain(alloc, command)
+}
+
+fn link<'a>(alloc: Global) -> Made<'a>
+    ensures { IfOk result (IsSubcommand link_shape) }
+{
+    let command = subcommand(
+        alloc,
+        "link",
+        "Links objects: writes BASE.p0.hex, BASE.p1.hex and BASE.map",
+        "Example: c25 link fir.cmd main.obj fir.obj -o fir",
+    );
+    let file = operand(alloc, "command", "COMMAND", "The linker's command file");
+    let command = with_argument(command, file);
+    let objects = operands(alloc, "object", "OBJECT", "The objects, in their order");
+    let command = with_argument(command, objects);
+    let base = base_name(alloc, "How the names of the hex texts and the map begin");
+    let command = with_argument(command, base);
+    with_explain(alloc, command)
+}
+
+fn build<'a>(alloc: Global) -> Made<'a>
+    ensures { IfOk result (IsSubcommand build_shape) }
+{
+    let command = subcommand(
+        alloc,
+        "build",
+        "Assembles and links sources: writes what link does, and a listing BASE.N.lst of each",
+        "Example: c25 build main.asm fir.asm -o fir --command fir.cmd --symbols fir.sym",
+    );
+    let command = with_sources(alloc, command);
+    let base = base_name(alloc, "How the names of the written files begin");
+    let command = with_argument(command, base);
+    let command = with_argument(command, command_file(alloc));
+    let help = "The file for the names of the program and their addresses";
+    let command = with_argument(command, option(alloc, "symbols", help));
+    with_explain(alloc, command)
+}
+
+fn run<'a>(alloc: Global) -> Made<'a>
+    ensures { IfOk result (IsSubcommand run_shape) }
+{
+    let command = subcommand(
+        alloc,
+        "run",
+        "Assembles, links and runs sources: prints their outputs and how the run ended",
+        "Example: c25 run fir.asm --steps 100000 --samples in.txt --regs > out.txt",
+    );
+    let command = with_sources(alloc, command);
+    let command = with_argument(command, steps(alloc));
+    let help = "Prints the registers at the end of the run too";
+    let command = with_argument(command, flag(alloc, "regs", help));
+    let command = with_run_files(alloc, command);
+    with_explain(alloc, command)
+}
+
+fn debug<'a>(alloc: Global) -> Made<'a>
+    ensures { IfOk result (IsSubcommand debug_shape) }
+{
+    let command = subcommand(
+        alloc,
+        "debug",
+        "Runs sources under a debugger's script: prints the answers to its commands",
+        "Example: c25 debug fir.asm --script fir.dbg --samples in.txt",
+    );
+    let command = with_sources(alloc, command);
+    let script = needed(alloc, "script", "The debugger's commands, a line each");
+    let command = with_argument(command, script);
+    let command = with_run_files(alloc, command);
+    with_explain(alloc, command)
+}
+
+fn explain<'a>(alloc: Global) -> Made<'a>
+    ensures { IfOk result (IsSubcommand explain_shape) }
+{
+    let command = subcommand(
+        alloc,
+        "explain",
+        "Prints what a fault means, its smallest example and what to do",
+        "Example: c25 explain 53",
+    );
+    let help = "The number of the fault, as its line has it";
+    with_argument(command, number(alloc, help))
+}
+
+fn dis<'a>(alloc: Global) -> Made<'a>
+    ensures { IfOk result (IsSubcommand dis_shape) }
+{
+    let command = subcommand(
+        alloc,
+        "dis",
+        "Prints an object or a hex text as instructions",
+        "Example: c25 dis fir.p0.hex --from 0400",
+    );
+    let help = "The object, or the hex text of program memory";
+    let command = with_argument(command, operand(alloc, "file", "FILE", help));
+    let help = "Where printing begins in a hex text, one to four hexadecimal digits";
+    with_argument(command, first_address(alloc, help))
+}
+
+/// The program, which takes words by its subcommands alone.
+fn bare_program<'a>(alloc: Global) -> Command<'a>
+    ensures { app_of result ≡ bare_program }
+{
+    Command::new(alloc, "c25")
+        .about("Assembles, links and runs programs of the TMS320C25")
+        .version(VERSION)
+        .after_help(MORE)
+        .subcommand_required(true)
+        .disable_help_subcommand(true)
+}
+
+/// The program with one more subcommand, behind its others.
+fn with_subcommand<'a>(program: Made<'a>, subcommand: Made<'a>) -> Made<'a>
+    ensures { (app : App) (shape : Shape) → IfOk program.entry (λ c. app_of c ≡ app) → IfOk subcommand.entry (IsSubcommand shape) → IfOk result (λ c. app_of c ≡ with_subcommand app shape) }
+{
+    program?.subcommand(subcommand?)
+}
+
+/// The program with its subcommands.
+pub(crate) fn program<'a>(alloc: Global) -> Made<'a>
+    ensures { IfOk result (λ c. app_of c ≡ program) }
+{
+    let program = Ok(bare_program(alloc));
+    let program = with_subcommand(program, asm(alloc));
+    let program = with_subcommand(program, link(alloc));
+    let program = with_subcommand(program, build(alloc));
+    let program = with_subcommand(program, run(alloc));
+    let program = with_subcommand(program, debug(alloc));
+    let program = with_subcommand(program, explain(alloc));
+    with_subcommand(program, dis(alloc))
+}

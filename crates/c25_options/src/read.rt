@@ -1,0 +1,176 @@
+//! The task of the program's words.
+
+ghost use Rattle.std.specs.Prelude.{◌≡◌, ◌<◌, ◌≤◌, IfErr, IfOk, IfSome, IsSomeAnd, Ok, codes, length, map, string_bytes, true};
+ghost use Rattle.clap.specs.Words.{app_of, one_of, subcommand_rows_of, takes};
+ghost use Rattle.c25_meaning_common.specs.Results.{IsNoMemory};
+ghost use Rattle.c25_options.specs.Complete.{IsComplete, IsFlagIn, IsFoundComplete, IsNumberText, IsThere, rows_in};
+ghost use Rattle.c25_options.specs.Program.{program};
+ghost use Rattle.c25_options.specs.declared.task.Task.TheVariants.{RunStandardInput};
+ghost use Rattle.c25_options.specs.Task.{Asks, IsAskedBy, IsWantOfMemory, Reads};
+
+use crate::fault::WordsFault;
+use crate::matched::{all, flag, needed, number, optional, run_files, steps};
+use crate::program::program;
+use crate::task::Task;
+use c25_meaning_common::failure::Failure;
+use c25_meaning_common::no_memory::NoMemory;
+use clap::{ArgMatches, Command};
+use std::alloc::Global;
+
+/// The task of `asm`.
+fn assemble<'a>(matches: &ArgMatches<'a>) -> Task<'a>
+    requires { IsThere (rows_in matches.now) (codes "source") × IsThere (rows_in matches.now) (codes "obj") × IsFlagIn (rows_in matches.now) (codes "explain") }
+    ensures { Asks (codes "asm") (rows_in matches.now) result }
+{
+    Task::Assemble {
+        source: needed(matches, "source"),
+        object: needed(matches, "obj"),
+        listing: optional(matches, "list"),
+        explain: flag(matches, "explain"),
+    }
+}
+
+/// The task of `link`.
+fn link<'a>(alloc: Global, matches: &ArgMatches<'a>) -> Result<Task<'a>, NoMemory>
+    requires { IsThere (rows_in matches.now) (codes "command") × IsThere (rows_in matches.now) (codes "object") × IsThere (rows_in matches.now) (codes "out") × IsFlagIn (rows_in matches.now) (codes "explain") }
+    ensures { IfOk result (Asks (codes "link") (rows_in matches.now)) }
+{
+    Ok(Task::Link {
+        command: needed(matches, "command"),
+        objects: all(alloc, matches, "object")?,
+        base: needed(matches, "out"),
+        explain: flag(matches, "explain"),
+    })
+}
+
+/// The task of `build`.
+fn build<'a>(alloc: Global, matches: &ArgMatches<'a>) -> Result<Task<'a>, NoMemory>
+    requires { IsThere (rows_in matches.now) (codes "source") × IsThere (rows_in matches.now) (codes "out") × IsFlagIn (rows_in matches.now) (codes "explain") }
+    ensures { IfOk result (Asks (codes "build") (rows_in matches.now)) }
+{
+    Ok(Task::Build {
+        sources: all(alloc, matches, "source")?,
+        base: needed(matches, "out"),
+        command: optional(matches, "command"),
+        symbols: optional(matches, "symbols"),
+        explain: flag(matches, "explain"),
+    })
+}
+
+/// The task of `run`.
+fn run<'a>(alloc: Global, matches: &ArgMatches<'a>) -> Result<Task<'a>, NoMemory>
+    requires { IsThere (rows_in matches.now) (codes "source") × IfSome (one_of (codes "steps") (rows_in matches.now)) (IsNumberText 32) × IsFlagIn (rows_in matches.now) (codes "regs") × IsFlagIn (rows_in matches.now) (codes "explain") }
+    ensures { IfOk result (Asks (codes "run") (rows_in matches.now)) }
+{
+    Ok(Task::Run {
+        sources: all(alloc, matches, "source")?,
+        steps: steps(matches),
+        files: run_files(matches),
+        regs: flag(matches, "regs"),
+        explain: flag(matches, "explain"),
+    })
+}
+
+/// The task of `debug`.
+fn debug<'a>(alloc: Global, matches: &ArgMatches<'a>) -> Result<Task<'a>, NoMemory>
+    requires { IsThere (rows_in matches.now) (codes "source") × IsThere (rows_in matches.now) (codes "script") × IsFlagIn (rows_in matches.now) (codes "explain") }
+    ensures { IfOk result (Asks (codes "debug") (rows_in matches.now)) }
+{
+    Ok(Task::Debug {
+        sources: all(alloc, matches, "source")?,
+        script: needed(matches, "script"),
+        files: run_files(matches),
+        explain: flag(matches, "explain"),
+    })
+}
+
+/// The task of `explain`.
+fn explain<'a>(matches: &ArgMatches<'a>) -> Task<'a>
+    requires { IsSomeAnd (one_of (codes "number") (rows_in matches.now)) (IsNumberText 8) }
+    ensures { Asks (codes "explain") (rows_in matches.now) result }
+{
+    Task::Explain {
+        number: number(matches),
+    }
+}
+
+/// The task of `dis`.
+fn disassemble<'a>(matches: &ArgMatches<'a>) -> Task<'a>
+    requires { IsThere (rows_in matches.now) (codes "file") }
+    ensures { Asks (codes "dis") (rows_in matches.now) result }
+{
+    Task::Disassemble {
+        file: needed(matches, "file"),
+        from: optional(matches, "from"),
+    }
+}
+
+/// The task of a subcommand.
+fn task_of<'a>(alloc: Global, name: &str, matches: &ArgMatches<'a>) -> Result<Task<'a>, NoMemory>
+    requires { IsComplete name.now (rows_in matches.now) }
+    ensures { IfOk result (Asks name.now (rows_in matches.now)) }
+{
+    match name {
+        "asm" => Ok(assemble(matches)),
+        "link" => link(alloc, matches),
+        "build" => build(alloc, matches),
+        "run" => run(alloc, matches),
+        "debug" => debug(alloc, matches),
+        "explain" => Ok(explain(matches)),
+        "dis" => Ok(disassemble(matches)),
+        _ => unreachable!(),
+    }
+}
+
+/// The task of what `clap` found.
+fn found_task<'a>(alloc: Global, matches: &ArgMatches<'a>) -> Result<Task<'a>, WordsFault>
+    requires { IsFoundComplete (subcommand_rows_of matches.now) }
+    ensures asked { IfOk result (IsAskedBy (subcommand_rows_of matches.now)) }
+    ensures short { IfErr result IsNoMemory }
+{
+    match matches.subcommand() {
+        Some((name, matches)) => Ok(task_of(alloc, name, matches)?),
+        None => unreachable!(),
+    }
+}
+
+/// Reads words by the program's command line, as a command of `clap`.
+fn read_by<'a>(
+    alloc: Global,
+    command: Command<'a>,
+    words: &'a [String],
+) -> Result<Task<'a>, WordsFault>
+    requires { app_of command ≡ program }
+    ensures read { Reads (map string_bytes words.now) result }
+    ensures takes { takes program (map string_bytes words.now) ≡ true → IfErr result IsWantOfMemory }
+{
+    match command.try_get_matches_from(words) {
+        Ok(matches) => found_task(alloc, &matches),
+        Err(error) => Err(Failure::Fault(error)),
+    }
+}
+
+/// Reads words of which there are others behind the program's name.
+fn read_some<'a>(alloc: Global, words: &'a [String]) -> Result<Task<'a>, WordsFault>
+    ensures read { Reads (map string_bytes words.now) result }
+    ensures takes { takes program (map string_bytes words.now) ≡ true → IfErr result IsWantOfMemory }
+{
+    match program(alloc) {
+        Ok(command) => read_by(alloc, command, words),
+        Err(error) => Err(Failure::NoMemory(NoMemory::from(error))),
+    }
+}
+
+/// Reads the program's words, of which the first is its name. Memory aside, it refuses words that no
+/// row of `Task` takes (an unknown subcommand or option, one given twice, an operand or option that
+/// is missing or too many, a number of steps or of a fault that is none), and a request for help.
+pub fn read_words<'a>(alloc: Global, words: &'a [String]) -> Result<Task<'a>, WordsFault>
+    ensures none { length words.now < 2 → result ≡ Ok RunStandardInput }
+    ensures some { 2 ≤ length words.now → Reads (map string_bytes words.now) result }
+    ensures takes { takes program (map string_bytes words.now) ≡ true → IfErr result IsWantOfMemory }
+{
+    if words.len() < 2 {
+        return Ok(Task::RunStandardInput);
+    }
+    read_some(alloc, words)
+}

@@ -1,4 +1,0 @@
-pub mod Apart
-pub mod Fetched
-pub mod Few
-pub mod Runs

@@ -1,5 +1,0 @@
-use Rattle.c25_output_laws.proofs.Few.{runs_grow}
-use Rattle.c25_output_laws.proofs.laws.steps_put_one_output_at_most.Goals as goal
-
-pub returns : goal.returns
-returns c = runs_grow

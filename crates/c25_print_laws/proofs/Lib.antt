@@ -1,0 +1,16 @@
+pub mod DataWords
+pub mod Families
+pub mod Lines
+pub mod Mnemonics
+pub mod Names
+pub mod Numerals
+pub mod Operations
+pub mod PrintedSources
+pub mod ReadBack
+pub mod SourceLines
+pub mod SourcePassed
+pub mod Tokens
+pub mod Values
+pub mod Words
+pub mod Covered
+pub mod PlainLines

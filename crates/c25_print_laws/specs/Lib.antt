@@ -1,0 +1,4 @@
+pub mod Saying
+pub mod Source
+pub mod Column
+pub mod ExpansionLaws

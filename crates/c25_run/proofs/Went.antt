@@ -1,0 +1,71 @@
+-- What a board that was run with an empty batch prints: the batch has room for an output of each step.
+use Rattle.std.proofs.Common.{◌≡◌, ◌∙◌, ℕ, ◌+◌, ◌<◌, ◌≤◌, List, [], ◌++◌, length, Option, ap, refl, sym, subst, append-nil, arith}
+use Rattle.std.proofs.Math.Nat.{le-min}
+use Rattle.std.specs.Prelude.{◌-◌, ◌^◌, min}
+use Rattle.std.specs.Io.KnownBytes.{Appends}
+use Rattle.c25_board.specs.Run.{IsRun}
+use Rattle.c25_board.specs.declared.board.Outcome.{Outcome}
+use Rattle.c25_board.specs.declared.board.Outcome.TheVariants as outcome
+use Rattle.c25_chain.specs.OutcomeText.{outcome_of, steps_of}
+use Rattle.c25_chain.specs.Run.{last_state}
+use Rattle.c25_report.specs.Ending.{HasFront}
+use Rattle.c25_run.specs.Printed.{BreaksOff, PrintsSome}
+use Rattle.c25_meaning_processor.specs.Run.{Ending, Left, Ran, Runs, Signals}
+use Rattle.c25_meaning_processor.specs.RunText.{outputs_text}
+use Rattle.c25_meaning_processor.specs.State.{State}
+use Rattle.c25_meaning_processor.specs.WordStep.{WordStep}
+use Rattle.c25_run_laws.specs.Behind.{behind}
+use Rattle.c25_run.proofs.Joined.{PutFew}
+
+-- a sink that has failed has failed some times
+fails_some : (failed fails : ℕ) → fails ≡ min (failed + 1) (2 ^ 64 - 1) → 0 < fails
+fails_some failed fails counted =
+    let some : 1 ≤ min (failed + 1) (2 ^ 64 - 1) = le-min (omega arith) (omega arith) in
+    omega (arith, some, counted)
+
+-- the state without outputs
+abbrev pub cleared : State → State
+cleared t = record t { world = record t.world { outputs = [] } }
+
+module _ (put : PutFew) (signals : Signals) (k n : ℕ) (s t : State) (j failed fails : ℕ) (empty : s.world.outputs ≡ []) (few : n ≤ 4096) (full : 0 < fails → length t.world.outputs ≡ 4096) where
+  record Went (o : Outcome) : Type 0 where
+    pub end : Ending
+    pub run : Runs WordStep signals k n s end
+    pub outcome_is : o ≡ outcome_of end
+    pub count : j ≡ steps_of (k + n) end
+    pub last : last_state end ≡ t
+
+  went : (o : Outcome) → IsRun signals k n s o j t failed fails → Went o
+  went outcome.Ran run = record { end = Ran t; run = run.0; outcome_is = refl; count = run.1; last = refl }
+  went (outcome.Left at stop) run = record { end = Left at stop t; run = run.0; outcome_is = refl; count = run.1; last = refl }
+  went (outcome.SinkFault at) run =
+      let grown = put signals k run.0 s t run.3 in
+      let below = run.1 in
+      let least = grown.2 in
+      let all = full (fails_some failed fails run.5) in
+      let same = ap length (grown.1 ∙ ap (λ (xs : List (ℕ × ℕ)). xs ++ grown.0) empty) in
+      absurd (omega (arith, below, least, all, same, few))
+
+  broken : (e : Ending) (old new : Option (List ℕ)) → Runs WordStep signals k n s e → last_state e ≡ t → HasFront (outputs_text t.world.outputs) old new → BreaksOff signals k n s old new
+  broken (Ran x) old new run is front =
+      record { done = n; few = omega arith; reached = x; reaches = run; front = subst (λ (y : State). HasFront (outputs_text y.world.outputs) old new) (sym is) front }
+  broken (Left i stop x) old new run is front =
+      let before = run.before in
+      record { done = run.done; few = omega (arith, before); reached = x; reaches = run.reached; front = subst (λ (y : State). HasFront (outputs_text y.world.outputs) old new) (sym is) front }
+
+  pub some_broken : (o : Outcome) (old new : Option (List ℕ)) → IsRun signals k n s o j t failed fails → HasFront (outputs_text t.world.outputs) old new → BreaksOff signals k n s old new
+  some_broken o old new ran front = let w = went o ran in broken w.end old new w.run w.last front
+
+  pub some_printed : (o : Outcome) (u : State) (old new : Option (List ℕ)) → IsRun signals k n s o j t failed fails → u ≡ cleared t → Appends old new (outputs_text t.world.outputs) → PrintsSome signals k n s o j u old new
+  some_printed o u old new ran is printed =
+      let w = went o ran in
+      let all : t ≡ behind t.world.outputs (cleared t) = ap (λ (xs : List (ℕ × ℕ)). record t { world = record t.world { outputs = xs } }) (sym (append-nil t.world.outputs)) in
+      record {
+        end = w.end;
+        run = w.run;
+        outcome_is = w.outcome_is;
+        count = w.count;
+        outputs = t.world.outputs;
+        left = w.last ∙ all ∙ ap (behind t.world.outputs) (sym is);
+        printed = printed;
+      }

@@ -1,0 +1,137 @@
+//! The run of a program that is ready, printed as it goes.
+
+ghost use Rattle.std.specs.Prelude.{◌≡◌, ℕ, IfOk, List, string_bytes, true};
+ghost use Rattle.c25_board.specs.Board.{entries, signals, state, steps};
+ghost use Rattle.c25_chain.specs.Chain.{Given};
+ghost use Rattle.c25_chain.specs.OutcomeText.{outcome_of, steps_of};
+ghost use Rattle.c25_chain.specs.Ready.{IsReady};
+ghost use Rattle.c25_chain.specs.Run.{last_state};
+ghost use Rattle.c25_meaning_image.specs.Marks.{fit_from, run_fit};
+ghost use Rattle.c25_meaning_processor.specs.FirstState.{first_of_pages};
+ghost use Rattle.c25_meaning_processor.specs.Run as runs;
+ghost use Rattle.c25_meaning_processor.specs.Samples.{samples_at};
+ghost use Rattle.c25_run_laws.specs.Behind.{behind};
+ghost use Rattle.c25_run.specs.Printed.{IsFresh};
+ghost use Rattle.c25_run.specs.Run.{PrintsAnswer, PrintsFrom, PrintsRun, PrintsStatements, TellsEnd};
+
+use crate::batch::Batch;
+use crate::printing::{BatchBoard, print_board};
+use c25_board::board::{Board, Outcome};
+use c25_board::samples::Samples;
+use c25_board::schedule::Schedule;
+use c25_chain::laws::{ready_programs_run_as_answered, ready_programs_run_as_their_sources};
+use c25_chain::linked::Linked;
+use c25_chain::ready::Ready;
+use c25_chain::where_it_stands;
+use c25_link::Image;
+use c25_meaning_common::no_memory::NoMemory;
+use c25_run_laws::outputs::{outputs_have_no_part_in_runs, steps_put_one_output_at_most};
+use c25_report::ending::{Ending, Report};
+use c25_report::printing::ending_of;
+use c25_run_laws::runs::{two_runs_are_one, words_end_once};
+use std::alloc::Global;
+use std::io::Write;
+
+/// The board of a linked program after a reset, which keeps the outputs of some steps alone.
+fn board_of(
+    alloc: Global,
+    linked: &Linked,
+    samples: Samples,
+    schedule: Schedule,
+) -> Result<BatchBoard, NoMemory>
+    requires marks { fit_from 0 linked.now.image.marks ≡ true }
+    requires run_marks { run_fit linked.now.image.marks linked.now.image.run_marks ≡ true }
+    ensures state { IfOk result (λ board. state board ≡ first_of_pages linked.now.page0.words linked.now.page1.words linked.now.image.marks linked.now.image.run_marks (samples_at samples)) }
+    ensures steps { IfOk result (λ board. steps board ≡ 0) }
+    ensures schedule { IfOk result (λ board. entries board ≡ schedule) }
+    ensures fresh { IfOk result (λ board. IsFresh board.devices.sink) }
+{
+    let page0 = &linked.page0.words;
+    let page1 = &linked.page1.words;
+    let marks = linked.image.marks();
+    let sink = Batch::new();
+    let run_marks = linked.image.run_marks();
+    Board::new(
+        alloc, page0, page1, marks, run_marks, schedule, samples, sink,
+    )
+}
+
+/// What is told of a run whose text is printed: how it ended, and where its board stands, if the registers
+/// are asked for.
+fn report_of(
+    alloc: Global,
+    board: BatchBoard,
+    image: &Image,
+    outcome: Outcome,
+    regs: bool,
+) -> Report
+    ensures { (n : ℕ) (end : runs.Ending) (outputs : List (ℕ × ℕ)) → outcome ≡ outcome_of end → steps board ≡ steps_of n end
+        → last_state end ≡ behind outputs (state board) → TellsEnd regs image.now (entries board) n end result.ending (string_bytes result.note) }
+{
+    outputs_have_no_part_in_runs();
+    if !regs {
+        return Report::without_note(alloc, ending_of(outcome));
+    }
+    match where_it_stands(alloc, board, image) {
+        Ok(note) => Report {
+            ending: ending_of(outcome),
+            note,
+        },
+        Err(error) => Report::without_note(alloc, Ending::NoMemory(error)),
+    }
+}
+
+/// Runs n steps of a linked program, from a reset on.
+fn print_linked<O: Write>(
+    alloc: Global,
+    linked: &Linked,
+    samples: Samples,
+    schedule: Schedule,
+    n: u32,
+    regs: bool,
+    out: &mut O,
+) -> Report
+    requires marks { fit_from 0 linked.now.image.marks ≡ true }
+    requires run_marks { run_fit linked.now.image.marks linked.now.image.run_marks ≡ true }
+    ensures { PrintsFrom regs linked.now.image schedule n
+        (first_of_pages linked.now.page0.words linked.now.page1.words linked.now.image.marks linked.now.image.run_marks (samples_at samples))
+        result.ending (string_bytes result.note) (O.contents out.old) (O.contents out.new) }
+{
+    let mut board = match board_of(alloc, linked, samples, schedule) {
+        Ok(board) => board,
+        Err(error) => return Report::without_note(alloc, Ending::NoMemory(error)),
+    };
+    match print_board(&mut board, n, out) {
+        Ok(outcome) => report_of(alloc, board, &linked.image, outcome, regs),
+        Err(_) => Report::without_note(alloc, Ending::Unprinted),
+    }
+}
+
+/// Runs n steps of a program that is ready, from a reset on, and prints their outputs as they go, and then
+/// how they ended. All memory is taken before the first step: where that is refused, nothing is printed.
+///
+/// Where the registers are asked for, the note tells where the board stands behind the run: what a debugger
+/// answers to `regs`, and then to `where`. Memory may be refused for it behind the printed run.
+///
+/// What is printed and told is the run of the statements of the sources, and what `run_chain` answers of the
+/// same texts: its outputs, its outcome and its number of steps, and its registers.
+pub fn print_run<O: Write>(alloc: Global, ready: Ready, n: u32, regs: bool, out: &mut O) -> Report
+    ensures run { (given : Given) → IsReady given ready
+        → PrintsRun ready n regs result.ending (string_bytes result.note) (O.contents out.old) (O.contents out.new) }
+    ensures statements { (given : Given) → IsReady given ready
+        → PrintsStatements given ready n regs result.ending (string_bytes result.note) (O.contents out.old) (O.contents out.new) }
+    ensures answer { (given : Given) → IsReady given ready
+        → PrintsAnswer given n regs result.ending (string_bytes result.note) (O.contents out.old) (O.contents out.new) }
+{
+    ready_programs_run_as_their_sources();
+    ready_programs_run_as_answered();
+    steps_put_one_output_at_most();
+    two_runs_are_one();
+    words_end_once();
+    let Ready {
+        built,
+        samples,
+        schedule,
+    } = ready;
+    print_linked(alloc, &built.linked, samples, schedule, n, regs, out)
+}

@@ -1,5 +1,0 @@
-pub mod Ended
-pub mod Fetched
-pub mod Joined
-pub mod Listed
-pub mod Rows

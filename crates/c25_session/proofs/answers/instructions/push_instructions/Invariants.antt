@@ -1,8 +1,0 @@
-use Rattle.std.proofs.Common.{drop, string_bytes}
-use Rattle.c25_meaning_debugger.specs.Debugger.{source_line_at}
-use Rattle.c25_session.proofs.Listed.{Finishes}
-use Rattle.c25_session.proofs.answers.instructions.push_instructions.Given as goal
-
-abbrev pub invariant-loop-mark : goal.invariant-loop-mark
-invariant-loop-mark l =
-    Finishes l.image.program (source_line_at l.image) l.marks l.address l.count (string_bytes l.fn.text) (drop l.mark-index l.marks) l.left (string_bytes l.text)

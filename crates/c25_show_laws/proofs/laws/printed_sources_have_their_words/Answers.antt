@@ -1,5 +1,0 @@
-use Rattle.c25_show_laws.proofs.PrintedSources.{source_words}
-use Rattle.c25_show_laws.proofs.laws.printed_sources_have_their_words.Goals as goal
-
-pub returns : goal.returns
-returns c = source_words

@@ -1,8 +1,0 @@
-use Rattle.c25_show_laws.proofs.DataWords.{one_word, two_words}
-use Rattle.c25_show_laws.proofs.laws.printed_words_read_back.Goals as goal
-
-pub returns-clause-one : goal.returns-clause-one
-returns-clause-one c = one_word
-
-pub returns-clause-two : goal.returns-clause-two
-returns-clause-two c = two_words

@@ -1,4 +1,0 @@
-//! Laws of substitution, each the contract of a function that does nothing.
-#![tactic(auto)]
-
-pub mod laws;

@@ -1,9 +1,0 @@
-use Rattle.c25_words.proofs.program.asm.Goals as goal
-
-pub returns : goal.returns
-returns c =
-    let command = c.subcommand-command.ensures in
-    let command = c.with_argument-command.ensures _ _ command c.operand.ensures.rule in
-    let command = c.with_argument-command-2.ensures _ _ command c.output.ensures.rule in
-    let command = c.with_argument-command-3.ensures _ _ command c.option.ensures.rule in
-    c.with_explain.ensures _ command
