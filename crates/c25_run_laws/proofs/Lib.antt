@@ -8,4 +8,4 @@ pub mod Sizes
 pub mod Apart
 pub mod Fetched
 pub mod Few
-pub mod Runs
+pub mod OutputRuns
