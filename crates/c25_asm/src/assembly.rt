@@ -18,7 +18,7 @@ use c25_macro::expander::Expander;
 use c25_macro::files::Files;
 use c25_meaning_common::failure::Failure;
 use c25_meaning_common::no_memory::NoMemory;
-use c25_obj::{Module, module};
+use c25_module::{Module, module};
 use c25_phases::fault::AsmFault;
 use c25_phases::finish;
 use std::alloc::Global;

@@ -16,7 +16,7 @@ use c25_link::{Image, link};
 use c25_linking_laws::linking::program_maps_have_their_form;
 use c25_meaning_common::failure::Failure;
 use c25_meaning_common::no_memory::NoMemory;
-use c25_obj::Module;
+use c25_module::Module;
 use std::alloc::Global;
 
 /// A linked program and its texts.

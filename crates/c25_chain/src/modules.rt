@@ -11,7 +11,7 @@ use crate::fault::Fault;
 use crate::sources::{Listing, assemble_source, read_back};
 use c25_macro::files::Files;
 use c25_meaning_common::no_memory::NoMemory;
-use c25_obj::Module;
+use c25_module::Module;
 use std::alloc::Global;
 
 /// The modules of sources, and the texts of their listings.

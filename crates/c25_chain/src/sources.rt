@@ -18,7 +18,7 @@ use c25_meaning_common::failure::Failure;
 use c25_meaning_common::no_memory::NoMemory;
 use c25_meaning_common::placed::{FileLine, Placed};
 use c25_meaning_language::statement::FaultKind;
-use c25_obj::{Module, write_module};
+use c25_module::{Module, write_module};
 use c25_records::read_module;
 use std::alloc::Global;
 

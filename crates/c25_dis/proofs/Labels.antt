@@ -8,8 +8,8 @@ use Rattle.std.proofs.lemmas.List.Folds.{flat_map-map}
 use Rattle.c25_meaning_objects.specs.Module.{SymbolData}
 use Rattle.c25_meaning_objects.specs.declared.object.ModuleMark.{ModuleMark}
 use Rattle.c25_meaning_objects.specs.declared.object.Relocation.{Relocation}
-use Rattle.c25_obj.specs.View.{symbol_data, symbols_data}
-use Rattle.c25_obj.specs.declared.parts.Symbol.{Symbol}
+use Rattle.c25_module.specs.View.{symbol_data, symbols_data}
+use Rattle.c25_module.specs.declared.parts.Symbol.{Symbol}
 use Rattle.c25_dis.specs.Index.{IsIndexOf, is_at, is_there}
 use Rattle.c25_dis.specs.Sections.{counts_from, label_line, stands_at}
 use Rattle.c25_dis.specs.View.{label_by, label_in, mark_place, offset_place, relocation_place, symbol_place}

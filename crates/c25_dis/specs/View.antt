@@ -4,7 +4,7 @@ use Rattle.std.specs.List.{slice_get}
 use Rattle.std.specs.String.{string_bytes}
 use Rattle.c25_meaning_objects.specs.declared.object.ModuleMark.{ModuleMark}
 use Rattle.c25_meaning_objects.specs.declared.object.Relocation.{Relocation}
-use Rattle.c25_obj.specs.declared.parts.Symbol.{Symbol}
+use Rattle.c25_module.specs.declared.parts.Symbol.{Symbol}
 use Rattle.c25_dis.specs.Index.{IsIndexOf}
 use Rattle.c25_dis.specs.Sections.{counts_from, label_line}
 use Rattle.c25_dis.specs.declared.index.IndexEntry.{IndexEntry}

@@ -5,7 +5,7 @@ ghost use Rattle.c25_dis.specs.Sections.{IsModuleText};
 
 use crate::section::push_section;
 use c25_meaning_common::no_memory::NoMemory;
-use c25_obj::Module;
+use c25_module::Module;
 use std::alloc::Global;
 
 /// The text of an object module: for each section, in the order of the module, a line with its name and

@@ -2,12 +2,12 @@
 
 ghost use Rattle.std.specs.Prelude.{◌≡◌, ◌++◌, OnOk, string_bytes};
 ghost use Rattle.c25_dis.specs.Sections.{addend_text, base_text, filled_text, section_name, symbol_name};
-ghost use Rattle.c25_obj.specs.View.{contents};
+ghost use Rattle.c25_module.specs.View.{contents};
 
 use crate::line::push_text;
 use c25_meaning_common::no_memory::NoMemory;
 use c25_meaning_objects::object::{Relocation, RelocationBase};
-use c25_obj::Parts;
+use c25_module::Parts;
 
 /// Appends the name of the section of a number.
 fn push_section_name(text: &mut String, parts: &Parts, number: u16) -> Result<(), NoMemory>

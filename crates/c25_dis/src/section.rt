@@ -6,7 +6,7 @@ ghost use Rattle.c25_dis.specs.Sections.{body_text, heading, is_long, is_second,
 ghost use Rattle.c25_dis.specs.Index.{IsIndexOf};
 ghost use Rattle.c25_dis.specs.View.{AreIndexed, label_by, symbol_place};
 ghost use Rattle.c25_meaning_objects.specs.Module.{body_size, body_words, words_at};
-ghost use Rattle.c25_obj.specs.View.{body_data, contents, section_data, symbols_data};
+ghost use Rattle.c25_module.specs.View.{body_data, contents, section_data, symbols_data};
 
 use crate::index::{IndexEntry, at, first_at, index_of, item_at};
 use crate::instruction_reader::instruction;
@@ -15,7 +15,7 @@ use crate::notes::push_filled;
 use c25_meaning_common::no_memory::NoMemory;
 use c25_meaning_instructions::insn::Insn;
 use c25_meaning_objects::object::ModuleMark;
-use c25_obj::{Body, Parts, Section, Symbol};
+use c25_module::{Body, Parts, Section, Symbol};
 use std::alloc::Global;
 
 /// A section of a module, by its number, and which symbols, marks and relocations stand where in it.

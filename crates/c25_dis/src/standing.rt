@@ -5,7 +5,7 @@ ghost use Rattle.c25_dis.specs.Sections.{counts_from};
 
 use crate::index::Stands;
 use c25_meaning_objects::object::{ModuleMark, Relocation, SymbolKind};
-use c25_obj::Symbol;
+use c25_module::Symbol;
 
 /// Whether values of a kind count from a section.
 fn counts_from(kind: SymbolKind, section: usize) -> bool

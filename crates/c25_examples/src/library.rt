@@ -21,7 +21,7 @@ use c25_meaning_common::failure::Failure;
 use c25_meaning_image::marks::{marks_fit, run_marks_fit};
 use c25_meaning_image::word_map::WordMap;
 use c25_meaning_processor::script::Cmd;
-use c25_obj::Module;
+use c25_module::Module;
 use c25_records::read_module;
 use c25_debug::session::Session;
 use std::alloc::Global;

@@ -1,4 +1,4 @@
-//! Tests of what reads and writes files besides sources: items of a line each (`c25_texts`), object records (`c25_obj`,
+//! Tests of what reads and writes files besides sources: items of a line each (`c25_texts`), object records (`c25_module`,
 //! `c25_records`), Intel hex texts (`c25_hex`), and the words and marks of images (`c25_meaning_image`).
 #![tactic(auto)]
 

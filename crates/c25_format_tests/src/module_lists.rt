@@ -2,7 +2,7 @@
 
 use crate::values::equal;
 use c25_meaning_objects::object::{Block, LineMark, ModuleMark, Scope, SymbolKind, Version};
-use c25_obj::{Body, Parts, Section, Symbol, spells};
+use c25_module::{Body, Parts, Section, Symbol, spells};
 use std::alloc::{AllocError, Global};
 
 /// Lists of version 2 without anything.

@@ -5,7 +5,7 @@ use c25_meaning_common::relocation::RelocationKind;
 use c25_meaning_objects::object::{
     Block, LineMark, ModuleMark, Relocation, RelocationBase, Scope, SymbolKind, Version,
 };
-use c25_obj::{Body, Module, Parts, Section, Symbol, spells, write_module};
+use c25_module::{Body, Module, Parts, Section, Symbol, spells, write_module};
 use c25_records::read_module;
 use std::alloc::Global;
 

@@ -18,8 +18,8 @@ use Rattle.c25_meaning_linking.specs.Words as words
 use Rattle.c25_meaning_linking.proofs.PlaceNames.{same_name}
 use Rattle.c25_place.proofs.Listed.{unmapped}
 use Rattle.c25_place.proofs.Sized.{turned}
-use Rattle.c25_obj.specs.View.{section_data, sections_data}
-use Rattle.c25_obj.specs.declared.parts.Section.{Section}
+use Rattle.c25_module.specs.View.{section_data, sections_data}
+use Rattle.c25_module.specs.declared.parts.Section.{Section}
 use Rattle.c25_link.specs.View.{definition_view, definitions_view, names_of}
 use Rattle.c25_link.specs.declared.definitions.Definition.{Definition}
 use Rattle.c25_link.proofs.Again.{again_some, again_none, or_false}

@@ -11,8 +11,8 @@ use Rattle.std.proofs.lemmas.Option.{slice_get_read, slice_get-map}
 use Rattle.c25_meaning_objects.specs.Module.{SectionData, Contents, IsModule, is_module, each_fits, section_fits}
 use Rattle.c25_meaning_linking.specs.Words.{Definition, definitions, definition_of}
 use Rattle.c25_meaning_linking.proofs.Parts.{sections_of_module}
-use Rattle.c25_obj.specs.View.{section_data, sections_data}
-use Rattle.c25_obj.specs.declared.parts.Section.{Section}
+use Rattle.c25_module.specs.View.{section_data, sections_data}
+use Rattle.c25_module.specs.declared.parts.Section.{Section}
 use Rattle.c25_link.proofs.Named.{owners}
 
 -- one module more

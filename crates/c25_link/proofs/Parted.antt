@@ -16,9 +16,9 @@ use Rattle.c25_meaning_linking.specs.Place.{Place, all_sections, part_base, part
 use Rattle.c25_meaning_linking.specs.Words.{section_base, section_page, section_run, section_runs_elsewhere}
 use Rattle.c25_meaning_linking.proofs.Parts.{same_index, sections_of_module}
 use Rattle.c25_meaning_linking.proofs.PlaceNames.{same_name}
-use Rattle.c25_obj.specs.View.{contents, body_data, section_data, sections_data}
-use Rattle.c25_obj.specs.declared.parts.Parts.{Parts}
-use Rattle.c25_obj.specs.declared.parts.Section.{Section}
+use Rattle.c25_module.specs.View.{contents, body_data, section_data, sections_data}
+use Rattle.c25_module.specs.declared.parts.Parts.{Parts}
+use Rattle.c25_module.specs.declared.parts.Section.{Section}
 use Rattle.c25_place.specs.Outputs.{size_of_sections}
 use Rattle.c25_place.proofs.Listed.{small_sections}
 use Rattle.c25_link.specs.Bases.{part_of, parts_of, part_in, next_part, HasRoom, HasPlaceFor}

@@ -8,7 +8,7 @@ use Rattle.c25_meaning_objects.specs.declared.object.LineMark.{LineMark}
 use Rattle.c25_meaning_objects.specs.declared.object.ModuleMark.{ModuleMark}
 use Rattle.c25_meaning_linking.specs.Place.{Place, by_modules}
 use Rattle.c25_meaning_linking.specs.Words.{LineData, placed_mark, is_line_on_program}
-use Rattle.c25_obj.specs.View.{files_data}
+use Rattle.c25_module.specs.View.{files_data}
 use Rattle.c25_link.specs.declared.lines.LinePlace.{LinePlace}
 use Rattle.c25_link.specs.declared.lines.Lines.{Lines}
 

@@ -1,7 +1,7 @@
 -- How this crate's types stand for the definitions' data.
 use Rattle.std.specs.Prelude.{◌≡◌, ℕ, List, map, option_map}
 use Rattle.c25_meaning_linking.specs.Words as words
-use Rattle.c25_obj.specs.View.{contents, symbol_data}
+use Rattle.c25_module.specs.View.{contents, symbol_data}
 use Rattle.c25_place.specs.View.{named}
 use Rattle.c25_link.specs.declared.definitions.Definition.{Definition}
 use Rattle.c25_link.specs.declared.definitions.Definitions.{Definitions}

@@ -6,11 +6,11 @@ ghost use Rattle.c25_meaning_objects.specs.Module.{SectionData, Contents, IsModu
 ghost use Rattle.c25_meaning_linking.specs.Place as place;
 ghost use Rattle.c25_meaning_linking.specs.Place.{all_sections};
 ghost use Rattle.c25_meaning_linking.specs.Words.{section_base, section_page, section_run, section_runs_elsewhere};
-ghost use Rattle.c25_obj.specs.View.{contents, body_data, section_data};
+ghost use Rattle.c25_module.specs.View.{contents, body_data, section_data};
 ghost use Rattle.c25_link.specs.Bases.{parts_of, next_part, KnowsBases, KnowsNext, HasRoom, HasPlaceFor};
 ghost use Rattle.c25_place.specs.View.{places_view};
 
-use c25_obj::{Module, Parts, Section};
+use c25_module::{Module, Parts, Section};
 use c25_place::{Place, body_size};
 use std::alloc::{AllocError, Global};
 use std::collections::HashMap;

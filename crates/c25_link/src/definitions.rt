@@ -7,14 +7,14 @@ ghost use Rattle.c25_meaning_common.specs.Results.{MeetsBy};
 ghost use Rattle.c25_meaning_linking.specs.Words.{is_definition, module_definitions, definitions, definition_of};
 ghost use Rattle.c25_meaning_linking.specs.Words as words;
 ghost use Rattle.c25_meaning_linking.specs.declared.link_fault.LinkFault.TheVariants as fault;
-ghost use Rattle.c25_obj.specs.View.{contents, symbol_data};
+ghost use Rattle.c25_module.specs.View.{contents, symbol_data};
 ghost use Rattle.c25_link.specs.View.{definition_view, definitions_view, names_of, HasDefinitions};
 ghost use Rattle.c25_place.specs.View.{named, refusal_of};
 
 use c25_meaning_common::failure::Failure;
 use c25_meaning_objects::object::{Scope, SymbolKind};
 use c25_meaning_linking::link_fault::LinkFault;
-use c25_obj::{Module, Parts, Symbol};
+use c25_module::{Module, Parts, Symbol};
 use c25_place::{Refused, refusal};
 use std::alloc::{AllocError, Global};
 use std::collections::HashMap;

@@ -8,7 +8,7 @@ ghost use Rattle.c25_map.specs.View.{map_data, section_data, symbol_data, part_d
 ghost use Rattle.c25_meaning_linking.specs.Linking.{section_part, section_parts, section_place, named_value, symbol_value, entry_value, map_of};
 ghost use Rattle.c25_meaning_linking.specs.Place.{by_modules, is_section_named};
 ghost use Rattle.c25_meaning_linking.specs.Words.{definitions};
-ghost use Rattle.c25_obj.specs.View.{contents};
+ghost use Rattle.c25_module.specs.View.{contents};
 ghost use Rattle.c25_link.specs.Described.{parts_named, part_data_of};
 ghost use Rattle.c25_link.specs.Layout.{IsLaidOut, IsOwner, places_in};
 ghost use Rattle.c25_link.specs.View.{definition_view, definitions_view};
@@ -18,7 +18,7 @@ use crate::definitions::Definition;
 use crate::layout::Layout;
 use crate::values::{definition_value, name_value};
 use c25_map::{GlobalSymbol, Map, OutputSection, Part};
-use c25_obj::Parts;
+use c25_module::Parts;
 use c25_place::{Place, body_size};
 use std::alloc::{AllocError, Global};
 use std::collections::HashMap;

@@ -5,7 +5,7 @@ ghost use Rattle.c25_link.specs.Layout.{AreModules};
 
 use crate::bases::Bases;
 use crate::definitions::Definitions;
-use c25_obj::Module;
+use c25_module::Module;
 use c25_place::Place;
 
 /// Modules, their definitions, and where the sections of the program and the parts of the modules

@@ -5,14 +5,14 @@ ghost use Rattle.std.specs.List.Sorted.{IsPermutation, IsNonDecreasingBy};
 ghost use Rattle.std.specs.Option.{option_map};
 ghost use Rattle.c25_meaning_image.specs.Marks.{fit_from};
 ghost use Rattle.c25_meaning_linking.specs.Linking.{HasLines, line_at};
-ghost use Rattle.c25_obj.specs.View.{contents, files_data};
+ghost use Rattle.c25_module.specs.View.{contents, files_data};
 ghost use Rattle.c25_link.specs.Layout.{IsLaidOut, IsOwner, places_in};
 ghost use Rattle.c25_link.specs.Lines.{module_places, all_places, file_at, files_view, lines_view};
 
 use crate::layout::Layout;
 use crate::marks::placed_mark;
 use c25_meaning_image::mark::Mark;
-use c25_obj::{Module, Parts};
+use c25_module::{Module, Parts};
 use std::alloc::{AllocError, Global};
 
 /// An instruction on page 0 that has a line: the number of its module, the number of the line's file

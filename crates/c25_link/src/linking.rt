@@ -25,7 +25,7 @@ use c25_cmd::Command;
 use c25_linking_laws::linking::{instructions_run_apart, program_maps_have_their_form};
 use c25_meaning_common::failure::Failure;
 use c25_meaning_linking::link_fault::LinkFault;
-use c25_obj::Module;
+use c25_module::Module;
 use c25_place::{Refused, good_places, refusal};
 use std::alloc::Global;
 

@@ -7,7 +7,7 @@ ghost use Rattle.c25_meaning_image.specs.WordMap.{put_all};
 ghost use Rattle.c25_meaning_linking.specs.Linking.{HasWords};
 ghost use Rattle.c25_meaning_objects.specs.Module.{SectionData, body_size};
 ghost use Rattle.c25_meaning_linking.specs.Words.{relocated, section_base, section_page};
-ghost use Rattle.c25_obj.specs.View.{contents, body_data, section_data};
+ghost use Rattle.c25_module.specs.View.{contents, body_data, section_data};
 ghost use Rattle.c25_link.specs.Layout.{IsLaidOut, IsOwner, places_in};
 ghost use Rattle.c25_link.specs.Loading.{KnowsRelocations, loaded, linked_at, HavePagesBefore};
 
@@ -19,7 +19,7 @@ use c25_meaning_common::no_memory::NoMemory;
 use c25_meaning_image::word_list::WordList;
 use c25_meaning_image::word_map::WordMap;
 use c25_meaning_objects::object::Relocation;
-use c25_obj::{Body, Parts};
+use c25_module::{Body, Parts};
 use std::alloc::{AllocError, Global};
 use std::collections::HashMap;
 

@@ -4,14 +4,14 @@ ghost use Rattle.std.specs.Prelude.{◌≡◌, ◌<◌, ◌^◌, ◌+◌, ◌++�
 ghost use Rattle.std.specs.List.Sorted.{IsPermutation, IsNonDecreasingBy};
 ghost use Rattle.c25_meaning_linking.specs.Linking.{HasMarks, HasRunMarks};
 ghost use Rattle.c25_meaning_linking.specs.Words.{module_marks, module_run_marks, program_marks, program_run_marks};
-ghost use Rattle.c25_obj.specs.View.{contents};
+ghost use Rattle.c25_module.specs.View.{contents};
 ghost use Rattle.c25_link.specs.Layout.{IsLaidOut, IsOwner, places_in};
 
 use crate::bases::PartBase;
 use crate::layout::Layout;
 use c25_meaning_image::mark::{Mark, RunMark};
 use c25_meaning_objects::object::ModuleMark;
-use c25_obj::Parts;
+use c25_module::Parts;
 use std::alloc::{AllocError, Global};
 
 /// Where an instruction of a module is loaded, in the part of its section.

@@ -7,7 +7,7 @@ ghost use Rattle.c25_cmd.specs.View.{command_data};
 ghost use Rattle.c25_meaning_linking.specs.Command.{IsCommand};
 ghost use Rattle.c25_meaning_linking.specs.Linking.{base_name, module_uses, spills, use_of};
 ghost use Rattle.c25_meaning_linking.specs.Words.{section_base};
-ghost use Rattle.c25_obj.specs.View.{contents};
+ghost use Rattle.c25_module.specs.View.{contents};
 ghost use Rattle.c25_link.specs.Layout.{IsLaidOut, IsOwner, places_in};
 ghost use Rattle.c25_link.specs.Misfits.{FindsMisfit, first_misfit, has_word, instruction_line, line_in, line_of, misfit_data, misfit_of};
 
@@ -20,7 +20,7 @@ use crate::values::relocated_value;
 use c25_cmd::Command;
 use c25_linking_laws::linking::instructions_run_apart;
 use c25_meaning_objects::object::{LineMark, ModuleMark, Relocation, RelocationBase};
-use c25_obj::{Module, Parts};
+use c25_module::{Module, Parts};
 use c25_place::{Refused, good_places};
 use std::alloc::Global;
 

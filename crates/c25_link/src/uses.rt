@@ -6,7 +6,7 @@ ghost use Rattle.std.specs.Option.{option_map};
 ghost use Rattle.c25_meaning_linking.specs.Linking.{is_missing, missing_base, base_name, is_unresolved, module_uses, first_unresolved, spills, first_spilled};
 ghost use Rattle.c25_meaning_linking.specs.Words.{section_name, symbol_name};
 ghost use Rattle.c25_meaning_linking.specs.Words as words;
-ghost use Rattle.c25_obj.specs.View.{contents};
+ghost use Rattle.c25_module.specs.View.{contents};
 ghost use Rattle.c25_link.specs.Layout.{IsLaidOut, IsOwner, places_in};
 ghost use Rattle.c25_link.specs.View.{HasDefinitions};
 
@@ -15,7 +15,7 @@ use crate::fields::takes;
 use crate::layout::Layout;
 use crate::values::relocated_value;
 use c25_meaning_objects::object::RelocationBase;
-use c25_obj::{Module, Parts};
+use c25_module::{Module, Parts};
 
 /// The name of a module's section by its number, empty where there is none.
 pub(crate) fn section_name(owner: &Parts, index: u16) -> &str

@@ -3,7 +3,7 @@
 ghost use Rattle.std.specs.Prelude.{◌≡◌, ◌^◌, Some, pos, negsuc, ◌≤ℤ◌, ◌+ℤ◌};
 ghost use Rattle.c25_meaning_objects.specs.Module.{Contents};
 ghost use Rattle.c25_meaning_linking.specs.Words.{section_base, section_run, kind_value, definition_value, name_value, base_value, relocated_value};
-ghost use Rattle.c25_obj.specs.View.{contents};
+ghost use Rattle.c25_module.specs.View.{contents};
 ghost use Rattle.c25_link.specs.Layout.{IsLaidOut, IsOwner, places_in};
 ghost use Rattle.c25_link.specs.View.{definition_view};
 
@@ -11,7 +11,7 @@ use crate::definitions::Definition;
 use crate::layout::Layout;
 use crate::uses::symbol_name;
 use c25_meaning_objects::object::{Relocation, RelocationBase, SymbolKind};
-use c25_obj::Parts;
+use c25_module::Parts;
 
 /// A sum.
 fn sum(base: i64, addend: i32) -> i64

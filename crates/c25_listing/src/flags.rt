@@ -2,12 +2,12 @@
 
 ghost use Rattle.std.specs.Prelude.{◌≡◌, length, replicate, false, slice_get, IfOk, fold};
 ghost use Rattle.c25_meaning_objects.specs.Module.{body_words};
-ghost use Rattle.c25_obj.specs.View.{body_data, contents, sections_data};
+ghost use Rattle.c25_module.specs.View.{body_data, contents, sections_data};
 ghost use Rattle.c25_listing.specs.Flags.{flag_at, flag_by, flags_of, no_flags, raised, with_flag};
 
 use c25_meaning_common::no_memory::NoMemory;
 use c25_meaning_objects::object::Relocation;
-use c25_obj::{Body, Parts, Section};
+use c25_module::{Body, Parts, Section};
 use std::alloc::Global;
 use std::marker::Model;
 

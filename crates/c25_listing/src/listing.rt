@@ -2,7 +2,7 @@
 
 ghost use Rattle.std.specs.Prelude.{◌≤◌, ◌+◌};
 
-use c25_obj::Module;
+use c25_module::Module;
 use std::borrow::CowStr;
 
 /// A line, and where its words are.

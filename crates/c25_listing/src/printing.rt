@@ -5,14 +5,14 @@ ghost use Rattle.std.specs.String.{string_bytes};
 ghost use Rattle.c25_meaning_assembly.specs.Listing as listing;
 ghost use Rattle.c25_meaning_objects.specs.Module.{words_at};
 ghost use Rattle.c25_meaning_common.specs.Digits.{four_digits};
-ghost use Rattle.c25_obj.specs.View.{contents};
+ghost use Rattle.c25_module.specs.View.{contents};
 ghost use Rattle.c25_listing.specs.Flags.{flags_of, no_flags, with_flag};
 ghost use Rattle.c25_listing.specs.View.{entry_of};
 
 use crate::flags::{Flags, relocated_words};
 use crate::listing::Entry;
 use c25_meaning_common::no_memory::NoMemory;
-use c25_obj::{Body, Parts};
+use c25_module::{Body, Parts};
 use c25_substitution::strings::trimmed_end;
 use std::alloc::{AllocError, Global};
 use std::fmt::Write;

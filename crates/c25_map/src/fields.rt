@@ -9,7 +9,7 @@ use crate::map::{GlobalSymbol, OutputSection, Part};
 use crate::map_fault::MapFault;
 use crate::numbers::{address_of, is_number, long_of, page_of, size_of, word_of};
 use c25_meaning_common::failure::Failure;
-use c25_obj::{is_section_name, is_symbol_name};
+use c25_module::{is_section_name, is_symbol_name};
 use std::alloc::Global;
 
 /// The part of a line `PART number base size`.

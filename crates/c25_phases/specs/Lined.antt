@@ -6,7 +6,7 @@ use Rattle.std.specs.declared.alloc.Global.{Global}
 use Rattle.c25_meaning_assembly.specs.Emission.{Lines}
 use Rattle.c25_meaning_assembly.specs.Sections.{once}
 use Rattle.c25_meaning_objects.specs.declared.object.LineMark.{LineMark}
-use Rattle.c25_obj.specs.View.{files_data}
+use Rattle.c25_module.specs.View.{files_data}
 
 -- files and lines are those files and lines
 pub record IsLined (meant : Lines) (names : List (String Global)) (marks : List LineMark) : Type 0 where

@@ -4,7 +4,7 @@ ghost use Rattle.std.specs.Prelude.{◌≡◌, ◌≤◌, IfOk, OnOk, length, ma
 ghost use Rattle.c25_meaning_assembly.specs.Emission as emission;
 ghost use Rattle.c25_meaning_common.specs.Results.{MeetsBy};
 ghost use Rattle.c25_meaning_assembly.specs.Sections.{name_count};
-ghost use Rattle.c25_obj.specs.View.{contents, symbol_data, symbols_data};
+ghost use Rattle.c25_module.specs.View.{contents, symbol_data, symbols_data};
 ghost use Rattle.c25_phases.specs.Laid.{module_of};
 ghost use Rattle.c25_phases.specs.View.{fault_of, item_of, progress_of};
 
@@ -20,7 +20,7 @@ use c25_meaning_common::failure::Failure;
 use c25_meaning_common::no_memory::NoMemory;
 use c25_meaning_language::value::{Base, Value};
 use c25_meaning_objects::object::{Scope, SymbolKind, Version};
-use c25_obj::{Parts, Symbol};
+use c25_module::{Parts, Symbol};
 use std::alloc::Global;
 use std::mem;
 

@@ -4,13 +4,13 @@ ghost use Rattle.std.specs.Prelude.{◌≡◌, ◌≤◌, ◌+◌, OnOk, IfOk};
 ghost use Rattle.c25_meaning_assembly.specs.Emission.{extended, section_of};
 ghost use Rattle.c25_meaning_assembly.specs.Sections.{empty_section, is_called, longer, with_block, with_mark};
 ghost use Rattle.c25_phases.specs.Origins.{source_line, source_lines};
-ghost use Rattle.c25_obj.specs.View.{section_data};
+ghost use Rattle.c25_module.specs.View.{section_data};
 
 use crate::item::SourceLine;
 use crate::source_lines::SourceLines;
 use c25_meaning_common::no_memory::NoMemory;
 use c25_meaning_objects::object::{Block, ModuleMark, Relocation};
-use c25_obj::Body;
+use c25_module::Body;
 use std::alloc::Global;
 use std::marker::Model;
 
@@ -141,7 +141,7 @@ impl<'a> Section<'a> {
     }
 
     /// The section of the module.
-    pub(crate) fn into_part(self) -> c25_obj::Section
+    pub(crate) fn into_part(self) -> c25_module::Section
         ensures { section_data result ≡ section_of self.entry }
     {
         let Section {
@@ -156,6 +156,6 @@ impl<'a> Section<'a> {
         } else {
             Body::Uninitialised(size)
         };
-        c25_obj::Section { name, body }
+        c25_module::Section { name, body }
     }
 }

@@ -5,7 +5,7 @@ ghost use Rattle.std.specs.List.{position, find, flat_map, fold};
 ghost use Rattle.std.specs.Option.{option_copied};
 ghost use Rattle.c25_meaning_assembly.specs.Emission.{extended, lines_in, section_of, with_line};
 ghost use Rattle.c25_meaning_assembly.specs.Sections.{changed, is_called, longer, same_kind, size_at, with_block, with_mark};
-ghost use Rattle.c25_obj.specs.View.{sections_data};
+ghost use Rattle.c25_module.specs.View.{sections_data};
 ghost use Rattle.c25_phases.specs.Origins.{source_line};
 
 use crate::item::SourceLine;
@@ -204,7 +204,7 @@ impl<'a> Sections<'a> {
     }
 
     /// The sections of the module.
-    pub(crate) fn into_parts(self) -> Result<Vec<c25_obj::Section>, NoMemory>
+    pub(crate) fn into_parts(self) -> Result<Vec<c25_module::Section>, NoMemory>
         ensures { IfOk result (λ v. sections_data v.items ≡ map section_of self.entry) }
     {
         let Sections { alloc, sections } = self;

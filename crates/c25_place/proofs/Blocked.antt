@@ -15,8 +15,8 @@ use Rattle.c25_meaning_linking.specs.Place.{BlockData, block_behind, blocks_behi
 use Rattle.c25_meaning_linking.proofs.ByModules.{by_modules_more}
 use Rattle.c25_meaning_linking.proofs.Parts.{sizes_more}
 use Rattle.c25_meaning_linking.proofs.PlaceNames.{same_name}
-use Rattle.c25_obj.specs.View.{section_data, sections_data}
-use Rattle.c25_obj.specs.declared.parts.Section.{Section}
+use Rattle.c25_module.specs.View.{section_data, sections_data}
+use Rattle.c25_module.specs.declared.parts.Section.{Section}
 use Rattle.c25_place.specs.Blocks.{KnowsPaging, anywhere}
 use Rattle.c25_place.specs.declared.blocks.Paging.{Paging}
 use Rattle.c25_place.proofs.Listed.{mapped_more}

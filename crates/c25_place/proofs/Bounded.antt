@@ -9,8 +9,8 @@ use Rattle.c25_meaning_linking.specs.GoodMap.{requests, request, listed_request,
 use Rattle.c25_meaning_linking.specs.GoodMap as good
 use Rattle.c25_meaning_objects.specs.Module.{Contents, SectionData, body_size, has_words}
 use Rattle.c25_meaning_linking.specs.Place.{all_sections, size_of_parts}
-use Rattle.c25_obj.specs.View.{section_data}
-use Rattle.c25_obj.specs.declared.parts.Section.{Section}
+use Rattle.c25_module.specs.View.{section_data}
+use Rattle.c25_module.specs.declared.parts.Section.{Section}
 use Rattle.c25_place.specs.Outputs.{AreSmall, output_of, size_of_sections}
 use Rattle.c25_place.specs.View.{request_view, requests_view, sections_view}
 use Rattle.c25_place.specs.declared.outputs.Output.{Output}

@@ -11,10 +11,10 @@ use Rattle.c25_cmd.specs.declared.command.Placing.{Placing}
 use Rattle.c25_meaning_linking.specs.Command.{PlacingData}
 use Rattle.c25_meaning_linking.specs.GoodMap.{is_among}
 use Rattle.c25_meaning_objects.specs.Module.{Contents, IsModule, body_size, each_fits, section_fits, has_sections, lists_fit}
-use Rattle.c25_obj.proofs.Small.{sections_small}
-use Rattle.c25_obj.proofs.Texts.{both}
-use Rattle.c25_obj.specs.View.{body_data, sections_data}
-use Rattle.c25_obj.specs.declared.parts.Section.{Section}
+use Rattle.c25_module.proofs.Small.{sections_small}
+use Rattle.c25_module.proofs.Texts.{both}
+use Rattle.c25_module.specs.View.{body_data, sections_data}
+use Rattle.c25_module.specs.declared.parts.Section.{Section}
 
 -- ---- mapped lists
 

@@ -10,8 +10,8 @@ use Rattle.c25_meaning_linking.specs.GoodMap as good
 use Rattle.c25_meaning_objects.specs.Module.{Contents, SectionData}
 use Rattle.c25_meaning_linking.specs.Place.{all_sections, is_section_named, is_there}
 use Rattle.c25_meaning_linking.proofs.PlaceNames.{is_same}
-use Rattle.c25_obj.specs.View.{section_data}
-use Rattle.c25_obj.specs.declared.parts.Section.{Section}
+use Rattle.c25_module.specs.View.{section_data}
+use Rattle.c25_module.specs.declared.parts.Section.{Section}
 use Rattle.c25_place.specs.Outputs.{output_of}
 use Rattle.c25_place.specs.Requests.{request_by, unlisted, HasNames, HasPages}
 use Rattle.c25_place.specs.View.{request_view, requests_view, sections_view}

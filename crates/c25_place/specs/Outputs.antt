@@ -4,8 +4,8 @@ use Rattle.std.specs.List.{list_any, sum_by}
 use Rattle.c25_meaning_objects.specs.Module.{SectionData, body_size, has_words}
 use Rattle.c25_meaning_linking.specs.Place.{is_section_named, size_for}
 use Rattle.std.specs.Borrow.{Bor}
-use Rattle.c25_obj.specs.declared.parts.Section.{Section}
-use Rattle.c25_obj.specs.View.{body_data}
+use Rattle.c25_module.specs.declared.parts.Section.{Section}
+use Rattle.c25_module.specs.View.{body_data}
 use Rattle.c25_place.specs.View.{named}
 use Rattle.c25_place.specs.declared.outputs.Output.{Output}
 use Rattle.c25_place.specs.declared.outputs.Outputs.{Outputs}

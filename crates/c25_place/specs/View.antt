@@ -12,8 +12,8 @@ use Rattle.c25_meaning_linking.specs.Place.{blocks_of}
 use Rattle.c25_meaning_objects.specs.Module.{Contents, SectionData}
 use Rattle.c25_meaning_common.specs.declared.placed.Placed.{Placed}
 use Rattle.c25_meaning_linking.specs.declared.link_fault.LinkFault.{LinkFault}
-use Rattle.c25_obj.specs.declared.parts.Section.{Section}
-use Rattle.c25_obj.specs.View.{section_data}
+use Rattle.c25_module.specs.declared.parts.Section.{Section}
+use Rattle.c25_module.specs.View.{section_data}
 use Rattle.c25_place.specs.declared.placement.Place.{Place}
 use Rattle.c25_place.specs.declared.ranges.Range.{Range}
 use Rattle.c25_place.specs.declared.requests.Request.{Request}

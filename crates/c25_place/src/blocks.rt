@@ -5,12 +5,12 @@ ghost use Rattle.std.specs.Prelude.{◌≡◌, ◌≤◌, ◌+◌, ◌%◌, ◌+
 ghost use Rattle.std.specs.List.{sum_by};
 ghost use Rattle.c25_meaning_objects.specs.Module.{Contents, IsModule, body_size};
 ghost use Rattle.c25_meaning_linking.specs.Place.{BlockData, blocks_behind, blocks_of, block_behind, size_for, size_of_parts};
-ghost use Rattle.c25_obj.specs.View.{body_data, contents, sections_data};
+ghost use Rattle.c25_module.specs.View.{body_data, contents, sections_data};
 ghost use Rattle.c25_place.specs.Blocks.{anywhere, KnowsPaging, KnowsFound, KnowsBlocks};
 
 use crate::outputs::body_size;
 use c25_meaning_objects::object::Block;
-use c25_obj::{Module, Parts, Section};
+use c25_module::{Module, Parts, Section};
 use std::alloc::{AllocError, Global};
 use std::collections::HashMap;
 

@@ -3,11 +3,11 @@
 ghost use Rattle.std.specs.Prelude.{◌≡◌, ◌<◌, ◌≤◌, ◌++◌, List, All, length, false, unwrap_or, IfOk, OnOk};
 ghost use Rattle.c25_meaning_objects.specs.Module.{SectionData, body_size, has_words};
 ghost use Rattle.c25_meaning_linking.specs.Place.{all_sections};
-ghost use Rattle.c25_obj.specs.View.{body_data, section_data, sections_data};
+ghost use Rattle.c25_module.specs.View.{body_data, section_data, sections_data};
 ghost use Rattle.c25_place.specs.Outputs.{output_of, AreSmall, KnowsOutputs};
 ghost use Rattle.c25_place.specs.View.{sections_view};
 
-use c25_obj::{Body, Module, Section};
+use c25_module::{Body, Module, Section};
 use std::alloc::{AllocError, Global};
 use std::collections::HashMap;
 

@@ -13,7 +13,7 @@ use crate::placement::{Place, place_all};
 use crate::ranges::Ranges;
 use crate::requests::requests;
 use c25_cmd::{Command, Placing};
-use c25_obj::Module;
+use c25_module::Module;
 use std::alloc::Global;
 
 /// The sections that a command lists.

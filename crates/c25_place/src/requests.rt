@@ -7,7 +7,7 @@ ghost use Rattle.c25_meaning_linking.specs.GoodMap.{has_address, comes_first, co
 ghost use Rattle.c25_meaning_linking.specs.GoodMap as good;
 ghost use Rattle.c25_meaning_objects.specs.Module.{Contents, SectionData};
 ghost use Rattle.c25_meaning_linking.specs.Place.{all_sections};
-ghost use Rattle.c25_obj.specs.View.{section_data};
+ghost use Rattle.c25_module.specs.View.{section_data};
 ghost use Rattle.c25_place.specs.Outputs.{output_of, KnowsOutputs};
 ghost use Rattle.c25_place.specs.Requests.{is_due, request_by, unlisted, HasPages, HasNames};
 ghost use Rattle.c25_place.specs.View.{requests_view, request_view, sections_view, wanted_view};
@@ -15,7 +15,7 @@ ghost use Rattle.c25_place.specs.View.{requests_view, request_view, sections_vie
 use crate::names::SeenNames;
 use crate::outputs::{Output, Outputs};
 use c25_cmd::{Placing, Target};
-use c25_obj::Section;
+use c25_module::Section;
 use std::alloc::{AllocError, Global};
 
 /// Where a section is to stand.

@@ -24,8 +24,8 @@ use Rattle.c25_meaning_objects.specs.Module.{IsModule, SectionBody, Uninitialise
 use Rattle.c25_meaning_objects.specs.Records.{section_payload, mark_payload, symbol_payload, relocation_payload, line_payload, block_payload, section_entry, mark_entry, symbol_entry, relocation_entry, file_entry, line_entry, block_entry, version_code, entry, body_bytes, records, last_entry, spelling, kind_section, base_index}
 use Rattle.c25_meaning_common.specs.Results.{◌>>=◌}
 use Rattle.c25_meaning_objects.specs.RecordReading.{checked, latest, is_in_order, with_section, with_mark, with_symbol, with_relocation, with_file, with_line, with_block, with_record, last_tag, Record, ended, read_from, read_all, nothing_read, version_of, module_of, section_of, mark_of, symbol_of, relocation_of, line_of, block_of}
-use Rattle.c25_obj.proofs.Texts.{both}
-use Rattle.c25_obj.proofs.Fitting.{and_true, ListsFit, lists_fit_each, section_small, symbol_small, file_short}
+use Rattle.c25_module.proofs.Texts.{both}
+use Rattle.c25_module.proofs.Fitting.{and_true, ListsFit, lists_fit_each, section_small, symbol_small, file_short}
 use Rattle.c25_records.proofs.Loop.{next_turn, after_record}
 use Rattle.c25_records.proofs.Taken.{mark_again, symbol_again, relocation_again, line_again, block_again, IsSmall}
 use Rattle.c25_records.proofs.Sections.{section_again, record_again, ok_is}

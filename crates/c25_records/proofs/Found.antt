@@ -15,8 +15,8 @@ use Rattle.c25_meaning_objects.specs.Module.{SectionData, SymbolData, Contents, 
 use Rattle.c25_meaning_objects.specs.Records.{section_payload, mark_payload, symbol_payload, relocation_payload, line_payload, block_payload, section_entry, mark_entry, symbol_entry, relocation_entry, file_entry, line_entry, block_entry, version_code, entry, records, last_entry, head, spelling}
 use Rattle.c25_meaning_common.specs.Results.{◌>>=◌}
 use Rattle.c25_meaning_objects.specs.RecordReading.{checked, latest, is_in_order, with_section, with_mark, with_symbol, with_relocation, with_file, with_line, with_block, with_record, last_tag, record_at, ended, read_from, read_all, nothing_read, version_of, module_of, has_magic, section_of, mark_of, symbol_of, relocation_of, line_of, block_of}
-use Rattle.c25_obj.proofs.Texts.{both}
-use Rattle.c25_obj.proofs.Fitting.{and_true, one_more, ListsFit, lists_fit_all}
+use Rattle.c25_module.proofs.Texts.{both}
+use Rattle.c25_module.proofs.Fitting.{and_true, one_more, ListsFit, lists_fit_all}
 use Rattle.c25_records.proofs.Loop.{next_turn, after_record}
 use Rattle.c25_records.proofs.Taken.{IsBytes, IsBytes-drop, mark_takes, symbol_takes, relocation_takes, line_takes, block_takes, some_is, not_false, one}
 use Rattle.c25_records.proofs.Sections.{section_takes, record_takes, done, ok_is, passed}

@@ -4,7 +4,7 @@ ghost use Rattle.std.specs.Prelude.{◌≡◌, ◌++◌, ℕ, List, [], true};
 ghost use Rattle.c25_meaning_objects.specs.Module.{Contents, IsSized, is_module};
 ghost use Rattle.c25_meaning_objects.specs.Records.{spelling};
 
-use c25_obj::Module;
+use c25_module::Module;
 
 /// No spelling of a module is a proper prefix of another: so bytes that were cut off are never read as some other module.
 pub fn no_spelling_begins_another()

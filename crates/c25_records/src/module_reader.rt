@@ -7,7 +7,7 @@ ghost use Rattle.c25_meaning_objects.specs.Records.{spelling};
 ghost use Rattle.c25_meaning_objects.specs.RecordReading as reading;
 ghost use Rattle.c25_records.specs.Names.{HasSame, Keeps};
 ghost use Rattle.c25_meaning_common.specs.Results.{Meets};
-ghost use Rattle.c25_obj.specs.View.{contents};
+ghost use Rattle.c25_module.specs.View.{contents};
 
 use crate::codes::version_of;
 use crate::fields::long_at;
@@ -15,7 +15,7 @@ use crate::named_payloads::{file_after, section_after, symbol_after};
 use crate::payloads::{block_after, line_after, mark_after, relocation_after};
 use c25_meaning_common::failure::Failure;
 use c25_meaning_objects::object::{ObjectFault, Version};
-use c25_obj::{Module, Parts, module, used_with};
+use c25_module::{Module, Parts, module, used_with};
 use std::alloc::Global;
 use std::collections::HashSet;
 

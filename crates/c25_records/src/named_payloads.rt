@@ -7,13 +7,13 @@ ghost use Rattle.c25_meaning_objects.specs.Module as spec;
 ghost use Rattle.c25_meaning_objects.specs.RecordReading as reading;
 ghost use Rattle.c25_records.specs.Names.{HasNames, HasFiles};
 ghost use Rattle.c25_meaning_common.specs.Results.{IsNoMemory, Meets};
-ghost use Rattle.c25_obj.specs.View.{body_data, section_data, symbol_data, sections_data, symbols_data, files_data};
+ghost use Rattle.c25_module.specs.View.{body_data, section_data, symbol_data, sections_data, symbols_data, files_data};
 
 use crate::codes::{kind_of, scope_of};
 use crate::fields::{long_at, short_at, signed_at};
 use c25_meaning_common::failure::Failure;
 use c25_meaning_objects::object::{ObjectFault, Scope, SymbolKind, Version};
-use c25_obj::{
+use c25_module::{
     Body, MAX_SYMBOLS, Section, Symbol, is_section_name, is_symbol_name, section_fits,
     symbol_stands,
 };

@@ -4,13 +4,13 @@ ghost use Rattle.std.specs.Prelude.{◌≡◌};
 ghost use Rattle.c25_meaning_objects.specs.Module as spec;
 ghost use Rattle.c25_meaning_objects.specs.RecordReading as reading;
 ghost use Rattle.c25_meaning_common.specs.Results.{Meets};
-ghost use Rattle.c25_obj.specs.View.{sections_data, symbols_data, files_data};
+ghost use Rattle.c25_module.specs.View.{sections_data, symbols_data, files_data};
 
 use crate::codes::{base_of, field_of};
 use crate::fields::{long_at, short_at, signed_at};
 use c25_meaning_common::failure::Failure;
 use c25_meaning_objects::object::{Block, LineMark, ModuleMark, ObjectFault, Relocation, Version};
-use c25_obj::{Section, Symbol, block_fits, line_fits, mark_fits, relocation_fits};
+use c25_module::{Section, Symbol, block_fits, line_fits, mark_fits, relocation_fits};
 
 #[tactic(auto, unfolding(c25_meaning_objects::specs::RecordReading::mark_of))]
 fn mark_of(bytes: &[u8]) -> Option<ModuleMark>

@@ -9,7 +9,7 @@ ghost use Rattle.c25_expr.specs.Pieces.{pieces_of};
 
 use c25_meaning_common::failure::Failure;
 use c25_meaning_language::statement::FaultKind;
-use c25_obj::is_section_name;
+use c25_module::is_section_name;
 use c25_expr::directive_operands::{is_string, string_in};
 use c25_text::tokens::Token;
 use std::alloc::Global;

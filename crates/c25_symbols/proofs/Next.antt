@@ -16,8 +16,8 @@ use Rattle.c25_meaning_linking.specs.MapText.{SectionPlace}
 use Rattle.c25_meaning_objects.specs.Module.{Contents, SectionData, body_size}
 use Rattle.c25_meaning_linking.specs.Place.{Place, all_sections, base_of, place_named, run_base, run_base_of, size_for}
 use Rattle.c25_meaning_linking.proofs.PlaceNames.{is_same, same_name}
-use Rattle.c25_obj.specs.View.{section_data, sections_data}
-use Rattle.c25_obj.specs.declared.parts.Section.{Section}
+use Rattle.c25_module.specs.View.{section_data, sections_data}
+use Rattle.c25_module.specs.declared.parts.Section.{Section}
 use Rattle.c25_symbols.specs.Parts.{AreAlike, BeginsAt, KnowsNext, at_zero, first_of, first_part, next_of, size_of_sections}
 use Rattle.c25_symbols.specs.View.{place_of, places_of, places_view}
 use Rattle.c25_symbols.specs.declared.parts.NextParts.{NextParts}

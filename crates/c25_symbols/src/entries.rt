@@ -7,7 +7,7 @@ ghost use Rattle.c25_meaning_linking.specs.Words.{is_defined, kind_value, sectio
 ghost use Rattle.c25_meaning_objects.specs.Module.{Contents};
 ghost use Rattle.c25_meaning_linking.specs.Place.{all_sections};
 ghost use Rattle.c25_meaning_linking.specs.Place as place;
-ghost use Rattle.c25_obj.specs.View.{contents, symbol_data};
+ghost use Rattle.c25_module.specs.View.{contents, symbol_data};
 ghost use Rattle.c25_symbols.specs.Parts.{AreAlike, BeginsAt, KnowsNext};
 ghost use Rattle.c25_symbols.specs.Symbols.{all_symbols, listed, module_symbols, section_of, source_of};
 ghost use Rattle.c25_symbols.specs.View.{entries_view, entry_view, places_view};
@@ -15,7 +15,7 @@ ghost use Rattle.c25_symbols.specs.View.{entries_view, entry_view, places_view};
 use crate::parts::{AT_ZERO, NextParts, PartBase};
 use c25_map::OutputSection;
 use c25_meaning_objects::object::SymbolKind;
-use c25_obj::{Module, Parts, Symbol};
+use c25_module::{Module, Parts, Symbol};
 use std::alloc::{AllocError, Global};
 
 /// A symbol of a program.

@@ -4,12 +4,12 @@ ghost use Rattle.std.specs.Prelude.{◌≡◌, ◌++◌, ◌∷◌, [], ℕ, Lis
 ghost use Rattle.std.specs.Option.{option_or};
 ghost use Rattle.c25_meaning_objects.specs.Module.{SectionData, body_size};
 ghost use Rattle.c25_meaning_linking.specs.Place as place;
-ghost use Rattle.c25_obj.specs.View.{body_data, section_data, sections_data};
+ghost use Rattle.c25_module.specs.View.{body_data, section_data, sections_data};
 ghost use Rattle.c25_symbols.specs.Parts.{AreAlike, KnowsNext, first_of, first_part, next_of};
 ghost use Rattle.c25_symbols.specs.View.{named, place_of, places_view};
 
 use c25_map::OutputSection;
-use c25_obj::{Body, Section};
+use c25_module::{Body, Section};
 use std::alloc::{AllocError, Global};
 use std::collections::HashMap;
 

@@ -19,7 +19,7 @@ use c25_cmd::Command;
 use c25_map::{Map, OutputSection};
 use c25_meaning_common::no_memory::NoMemory;
 use c25_meaning_objects::object::SymbolKind;
-use c25_obj::Module;
+use c25_module::Module;
 use std::alloc::{AllocError, Global};
 
 /// What a symbol's value is.

@@ -21,7 +21,7 @@ use c25_disk::disk::Disk;
 use c25_disk::work::Work;
 use c25_macro::files::Files;
 use c25_meaning_common::no_memory::NoMemory;
-use c25_obj::{Module, write_module};
+use c25_module::{Module, write_module};
 use std::alloc::Global;
 
 /// The file that is written of a module without a listing: its object.

@@ -23,7 +23,7 @@ use c25_link::{Misfit, SourceLine, first_misfit};
 use c25_macro::files::Files;
 use c25_meaning_common::no_memory::NoMemory;
 use c25_meaning_common::placed::FileLine;
-use c25_obj::Module;
+use c25_module::Module;
 use std::alloc::Global;
 
 /// What is told of a field, and the line where its instruction stands.

@@ -14,7 +14,7 @@ use c25_meaning_common::failure::Failure;
 use c25_meaning_common::no_memory::NoMemory;
 use c25_meaning_common::placed::Placed;
 use c25_meaning_objects::object::ObjectFault;
-use c25_obj::Module;
+use c25_module::Module;
 use c25_records::read_module;
 use std::alloc::Global;
 

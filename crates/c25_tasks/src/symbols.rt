@@ -25,7 +25,7 @@ use c25_disk::work::Work;
 use c25_macro::files::Files;
 use c25_meaning_common::failure::Failure;
 use c25_meaning_common::no_memory::NoMemory;
-use c25_obj::Module;
+use c25_module::Module;
 use c25_symbols::write_symbols;
 use std::alloc::Global;
 

@@ -1,7 +1,7 @@
 use Rattle.std.proofs.Common.{◌≤◌, length, Ok, ap, sym, subst, ◌∙◌}
 use Rattle.std.proofs.lemmas.Result.{err_from_is_err_and}
 use Rattle.c25_meaning_assembly.specs.Emission.{finished, lines_in}
-use Rattle.c25_obj.specs.View.{contents}
+use Rattle.c25_module.specs.View.{contents}
 use Rattle.c25_meaning_common.specs.Results.{FailsBy}
 use Rattle.c25_phases.specs.View.{fault_of, progress_of}
 use Rattle.c25_phases.specs.declared.progress.Progress.{Progress}

@@ -4,8 +4,8 @@ use Rattle.std.specs.Option.{option_map}
 use Rattle.std.proofs.lemmas.List.{length-map}
 use Rattle.std.proofs.lemmas.Option.{slice_get-map, slice_get_read}
 use Rattle.c25_meaning_objects.specs.Module.{Contents}
-use Rattle.c25_obj.specs.View.{contents, section_data}
-use Rattle.c25_obj.specs.declared.parts.Section.{Section}
+use Rattle.c25_module.specs.View.{contents, section_data}
+use Rattle.c25_module.specs.declared.parts.Section.{Section}
 use Rattle.c25_dis.specs.Sections.{AreTexts, IsModuleText, IsSectionAt}
 use Rattle.c25_dis.proofs.Passed.{section_at, texts_more}
 use Rattle.c25_dis.proofs.module.disassemble_module.Goals as goal

@@ -1,6 +1,6 @@
 -- the text is that of the sections so far
 use Rattle.std.proofs.Common.{string_bytes}
-use Rattle.c25_obj.specs.View.{contents}
+use Rattle.c25_module.specs.View.{contents}
 use Rattle.c25_dis.specs.Sections.{AreTexts, IsSectionAt}
 use Rattle.c25_dis.proofs.module.disassemble_module.Given as goal
 

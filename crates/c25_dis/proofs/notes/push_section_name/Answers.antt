@@ -4,8 +4,8 @@ use Rattle.std.specs.Option.{option_map}
 use Rattle.std.proofs.lemmas.List.{append-nil}
 use Rattle.std.proofs.lemmas.Option.{slice_get_past, slice_get_read, slice_get-map}
 use Rattle.c25_meaning_objects.specs.Module.{SectionData}
-use Rattle.c25_obj.specs.View.{section_data}
-use Rattle.c25_obj.specs.declared.parts.Section.{Section}
+use Rattle.c25_module.specs.View.{section_data}
+use Rattle.c25_module.specs.declared.parts.Section.{Section}
 use Rattle.c25_dis.proofs.notes.push_section_name.Goals as goal
 
 -- the name that a section has, if there is one

@@ -4,8 +4,8 @@ use Rattle.std.specs.Option.{option_map}
 use Rattle.std.proofs.lemmas.List.{append-nil}
 use Rattle.std.proofs.lemmas.Option.{slice_get_past, slice_get_read, slice_get-map}
 use Rattle.c25_meaning_objects.specs.Module.{SymbolData}
-use Rattle.c25_obj.specs.View.{symbol_data}
-use Rattle.c25_obj.specs.declared.parts.Symbol.{Symbol}
+use Rattle.c25_module.specs.View.{symbol_data}
+use Rattle.c25_module.specs.declared.parts.Symbol.{Symbol}
 use Rattle.c25_dis.proofs.notes.push_symbol_name.Goals as goal
 
 -- the name that a symbol has, if there is one

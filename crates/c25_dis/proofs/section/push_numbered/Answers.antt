@@ -2,7 +2,7 @@ use Rattle.std.proofs.Common.{◌≡◌, ◌++◌, List, length, Option, Some, N
 use Rattle.std.specs.List.{slice_get}
 use Rattle.std.proofs.lemmas.List.{append-nil}
 use Rattle.std.proofs.lemmas.Option.{slice_get_past, slice_get_read}
-use Rattle.c25_obj.specs.declared.parts.Symbol.{Symbol}
+use Rattle.c25_module.specs.declared.parts.Symbol.{Symbol}
 use Rattle.c25_dis.specs.Sections.{label_line}
 use Rattle.c25_dis.specs.View.{label_in}
 use Rattle.c25_dis.proofs.section.push_numbered.Goals as goal

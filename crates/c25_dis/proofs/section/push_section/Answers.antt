@@ -1,7 +1,7 @@
 use Rattle.std.proofs.Common.{◌+◌, ◌++◌, ℕ, refl, subst, string_bytes}
 use Rattle.c25_meaning_objects.specs.Module.{body_size}
-use Rattle.c25_obj.specs.View.{contents, section_data}
-use Rattle.c25_obj.specs.declared.parts.Parts.{Parts}
+use Rattle.c25_module.specs.View.{contents, section_data}
+use Rattle.c25_module.specs.declared.parts.Parts.{Parts}
 use Rattle.c25_dis.specs.Sections.{AreTexts, IsPlace, heading}
 use Rattle.c25_dis.proofs.Passed.{ok_then, two_behind}
 use Rattle.c25_dis.proofs.section.push_section.Goals as goal

@@ -2,8 +2,8 @@ use Rattle.std.proofs.Common.{◌≡◌, ◌<◌, ◌≤◌, ap, subst, ◌∙�
 use Rattle.std.proofs.lemmas.List.{length-map}
 use Rattle.c25_meaning_objects.specs.Module.{SectionData}
 use Rattle.c25_meaning_linking.specs.Place.{all_sections}
-use Rattle.c25_obj.specs.View.{contents, section_data, sections_data}
-use Rattle.c25_obj.specs.declared.parts.Section.{Section}
+use Rattle.c25_module.specs.View.{contents, section_data, sections_data}
+use Rattle.c25_module.specs.declared.parts.Section.{Section}
 use Rattle.c25_link.specs.Bases.{KnowsNext, part_of, parts_of}
 use Rattle.c25_link.proofs.Parted.{small_section, part_there, part_kept, sections_next, items_more, items_all, one_longer, module_whole}
 use Rattle.c25_link.proofs.bases.module_bases.Goals as goal

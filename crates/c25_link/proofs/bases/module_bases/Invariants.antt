@@ -4,7 +4,7 @@ use Rattle.std.specs.List.{slice_get}
 use Rattle.c25_meaning_objects.specs.Module.{Contents}
 use Rattle.c25_meaning_linking.specs.Place as place
 use Rattle.c25_meaning_linking.specs.Place.{all_sections}
-use Rattle.c25_obj.specs.View.{contents, sections_data}
+use Rattle.c25_module.specs.View.{contents, sections_data}
 use Rattle.c25_link.specs.Bases.{HasRoom, KnowsNext, parts_of}
 use Rattle.c25_link.proofs.bases.module_bases.Given as goal
 

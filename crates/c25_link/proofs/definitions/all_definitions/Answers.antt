@@ -2,7 +2,7 @@ use Rattle.std.proofs.Common.{List, take, ap, sym, ◌∙◌, ◌++◌}
 use Rattle.c25_meaning_objects.specs.Module.{Contents}
 use Rattle.c25_meaning_linking.specs.Place.{by_modules}
 use Rattle.c25_meaning_linking.specs.Words.{Definition, module_definitions}
-use Rattle.c25_obj.specs.View.{contents}
+use Rattle.c25_module.specs.View.{contents}
 use Rattle.c25_meaning_linking.proofs.ByModules.{by_modules_more, by_modules_all}
 use Rattle.c25_link.proofs.definitions.all_definitions.Goals as goal
 

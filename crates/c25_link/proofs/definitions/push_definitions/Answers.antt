@@ -1,8 +1,8 @@
 use Rattle.std.proofs.Common.{◌++◌, List, length, map, filter, ap, ◌∙◌, arith}
 use Rattle.std.proofs.lemmas.List.{take_all}
 use Rattle.c25_meaning_linking.specs.Words.{definition, is_definition}
-use Rattle.c25_obj.specs.View.{contents, symbols_data}
-use Rattle.c25_obj.specs.declared.parts.Symbol.{Symbol}
+use Rattle.c25_module.specs.View.{contents, symbols_data}
+use Rattle.c25_module.specs.declared.parts.Symbol.{Symbol}
 use Rattle.c25_link.specs.View.{definitions_view}
 use Rattle.c25_link.proofs.definitions.push_definitions.Goals as goal
 

@@ -1,7 +1,7 @@
 -- the definitions among the symbols so far stand there
 use Rattle.std.proofs.Common.{◌≡◌, ◌++◌, take, map, filter}
 use Rattle.c25_meaning_linking.specs.Words.{definition, is_definition}
-use Rattle.c25_obj.specs.View.{contents, symbols_data}
+use Rattle.c25_module.specs.View.{contents, symbols_data}
 use Rattle.c25_link.specs.View.{definitions_view}
 use Rattle.c25_link.proofs.definitions.push_definitions.Given as goal
 

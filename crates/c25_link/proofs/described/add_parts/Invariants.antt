@@ -2,7 +2,7 @@
 use Rattle.std.proofs.Common.{◌≡◌, ◌++◌, ℕ, List, take, map, filter}
 use Rattle.c25_meaning_linking.specs.Linking.{section_part}
 use Rattle.c25_meaning_linking.specs.Place.{is_section_named}
-use Rattle.c25_obj.specs.View.{sections_data}
+use Rattle.c25_module.specs.View.{sections_data}
 use Rattle.c25_link.specs.Described.{parts_named}
 use Rattle.c25_link.specs.Layout.{places_in}
 use Rattle.c25_link.proofs.described.add_parts.Given as goal

@@ -3,7 +3,7 @@ use Rattle.std.proofs.lemmas.Option.{slice_get_read}
 use Rattle.c25_meaning_objects.specs.Module.{Contents}
 use Rattle.c25_meaning_linking.proofs.ByModules.{by_modules_more, by_modules_all}
 use Rattle.c25_meaning_linking.specs.Place.{by_modules}
-use Rattle.c25_obj.specs.View.{contents}
+use Rattle.c25_module.specs.View.{contents}
 use Rattle.c25_link.specs.Layout.{places_in}
 use Rattle.c25_link.specs.Lines.{module_places}
 use Rattle.c25_link.specs.declared.lines.LinePlace.{LinePlace}

@@ -1,6 +1,6 @@
 -- the texts so far are copied
 use Rattle.std.proofs.Common.{◌≡◌, take}
-use Rattle.c25_obj.specs.View.{files_data}
+use Rattle.c25_module.specs.View.{files_data}
 use Rattle.c25_link.proofs.lines.copied.Given as goal
 
 abbrev pub invariant-loop-text : goal.invariant-loop-text

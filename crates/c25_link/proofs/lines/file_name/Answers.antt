@@ -5,7 +5,7 @@ use Rattle.std.specs.Prelude.{String, string_bytes, unwrap_or}
 use Rattle.std.specs.declared.alloc.Global.{Global}
 use Rattle.std.specs.declared.vec.Vec.{Vec}
 use Rattle.std.proofs.lemmas.Option.{slice_get_past, slice_get_read, slice_get-map}
-use Rattle.c25_obj.specs.View.{files_data}
+use Rattle.c25_module.specs.View.{files_data}
 use Rattle.c25_link.specs.Lines.{file_at, files_view}
 use Rattle.c25_link.proofs.lines.file_name.Goals as goal
 

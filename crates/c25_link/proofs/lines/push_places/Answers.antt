@@ -7,7 +7,7 @@ use Rattle.c25_meaning_image.specs.declared.mark.Mark.{Mark}
 use Rattle.c25_meaning_linking.specs.Words.{is_line_on_program, is_on_program}
 use Rattle.c25_meaning_objects.specs.declared.object.LineMark.{LineMark}
 use Rattle.c25_meaning_objects.specs.declared.object.ModuleMark.{ModuleMark}
-use Rattle.c25_obj.specs.View.{contents}
+use Rattle.c25_module.specs.View.{contents}
 use Rattle.c25_link.specs.Layout.{places_in}
 use Rattle.c25_link.specs.Lines.{line_place}
 use Rattle.c25_link.specs.declared.lines.LinePlace.{LinePlace}

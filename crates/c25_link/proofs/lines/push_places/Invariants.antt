@@ -2,7 +2,7 @@
 use Rattle.std.proofs.Common.{◌≡◌, ◌++◌, take, map, filter}
 use Rattle.std.specs.List.{zip}
 use Rattle.c25_meaning_linking.specs.Words.{is_line_on_program}
-use Rattle.c25_obj.specs.View.{contents}
+use Rattle.c25_module.specs.View.{contents}
 use Rattle.c25_link.specs.Layout.{places_in}
 use Rattle.c25_link.specs.Lines.{line_place}
 use Rattle.c25_link.proofs.lines.push_places.Given as goal

@@ -1,6 +1,6 @@
 use Rattle.std.proofs.Common.{arith}
 use Rattle.std.proofs.lemmas.List.{length-map}
-use Rattle.c25_obj.specs.View.{contents, section_data}
+use Rattle.c25_module.specs.View.{contents, section_data}
 use Rattle.c25_link.specs.Layout.{places_in}
 use Rattle.c25_link.proofs.Loaded.{pages_of_module}
 use Rattle.c25_link.proofs.loading.load_module.Goals as goal

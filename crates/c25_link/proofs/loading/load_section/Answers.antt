@@ -4,8 +4,8 @@ use Rattle.std.proofs.lemmas.List.{length-map}
 use Rattle.c25_meaning_objects.specs.Module.{Initialised, body_words}
 use Rattle.c25_meaning_linking.specs.Place.{IsPart}
 use Rattle.c25_meaning_image.specs.WordMap.{put_all}
-use Rattle.c25_obj.specs.View.{contents, body_data, section_data}
-use Rattle.c25_obj.specs.declared.parts.Body.{Body}
+use Rattle.c25_module.specs.View.{contents, body_data, section_data}
+use Rattle.c25_module.specs.declared.parts.Body.{Body}
 use Rattle.c25_link.specs.Layout.{places_in}
 use Rattle.c25_link.specs.Loading.{loaded, linked_at, HavePagesBefore}
 use Rattle.c25_link.specs.declared.loading.PageLists.{PageLists}

@@ -2,7 +2,7 @@ use Rattle.std.proofs.Common.{◌≡◌, ◌+◌, ℕ, Option, get_or, ap, refl,
 use Rattle.std.specs.Option.{option_map}
 use Rattle.c25_meaning_linking.specs.Words.{relocated, relocation_at}
 use Rattle.c25_meaning_objects.specs.declared.object.Relocation.{Relocation}
-use Rattle.c25_obj.specs.View.{contents}
+use Rattle.c25_module.specs.View.{contents}
 use Rattle.c25_link.specs.Layout.{places_in}
 use Rattle.c25_link.specs.Loading.{linked_at}
 use Rattle.c25_link.proofs.Loaded.{words_more, copied_mapped}

@@ -2,7 +2,7 @@
 use Rattle.std.proofs.Common.{◌≡◌, ℕ}
 use Rattle.std.specs.FinMap as finite
 use Rattle.c25_meaning_image.specs.WordMap.{put_all}
-use Rattle.c25_obj.specs.View.{contents}
+use Rattle.c25_module.specs.View.{contents}
 use Rattle.c25_link.specs.Layout.{places_in}
 use Rattle.c25_link.specs.Loading.{loaded, linked_at}
 use Rattle.c25_link.proofs.loading.load_words.Given as goal

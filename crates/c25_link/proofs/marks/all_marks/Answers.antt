@@ -4,7 +4,7 @@ use Rattle.c25_meaning_objects.specs.Module.{Contents}
 use Rattle.c25_meaning_linking.specs.Place.{by_modules}
 use Rattle.c25_meaning_linking.specs.Words.{module_marks}
 use Rattle.c25_meaning_image.specs.declared.mark.Mark.{Mark}
-use Rattle.c25_obj.specs.View.{contents}
+use Rattle.c25_module.specs.View.{contents}
 use Rattle.c25_link.specs.Layout.{places_in}
 use Rattle.c25_meaning_linking.proofs.ByModules.{by_modules_more, by_modules_all}
 use Rattle.c25_link.proofs.marks.all_marks.Goals as goal

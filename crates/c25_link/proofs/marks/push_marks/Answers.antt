@@ -4,7 +4,7 @@ use Rattle.std.specs.declared.vec.Vec.{Vec}
 use Rattle.c25_meaning_linking.specs.Words.{is_run_in_place, placed_mark}
 use Rattle.c25_meaning_image.specs.declared.mark.Mark.{Mark}
 use Rattle.c25_meaning_objects.specs.declared.object.ModuleMark.{ModuleMark}
-use Rattle.c25_obj.specs.View.{contents}
+use Rattle.c25_module.specs.View.{contents}
 use Rattle.c25_link.specs.Layout.{places_in}
 use Rattle.c25_link.proofs.Marked.{KnowsPart, knows_part, run_in_place, mark_made, in_place_0, mark_below, chosen_pushed, chosen_left}
 use Rattle.c25_link.proofs.marks.push_marks.Goals.{then-is_run_in_place+in_ok-push, else-is_run_in_place}

@@ -1,7 +1,7 @@
 -- the run marks of the module so far stand there
 use Rattle.std.proofs.Common.{◌≡◌, ◌++◌, take, map, filter}
 use Rattle.c25_meaning_linking.specs.Words.{placed_run_mark, is_copied}
-use Rattle.c25_obj.specs.View.{contents}
+use Rattle.c25_module.specs.View.{contents}
 use Rattle.c25_link.specs.Layout.{places_in}
 use Rattle.c25_link.proofs.marks.push_run_marks.Given as goal
 

@@ -1,6 +1,6 @@
 use Rattle.std.proofs.Common.{◌≡◌, ◌<◌, ◌≤◌, true, false, length, get_or, List, ap, sym, ◌∙◌, arith}
 use Rattle.c25_meaning_objects.specs.declared.object.ModuleMark.{ModuleMark}
-use Rattle.c25_obj.specs.View.{contents}
+use Rattle.c25_module.specs.View.{contents}
 use Rattle.c25_link.specs.Misfits.{has_word, line_in}
 use Rattle.c25_link.proofs.Misplaced.{found_beside, none_beside, none_beside_any}
 use Rattle.c25_link.proofs.misfits.instruction_line.Goals as goal

@@ -1,7 +1,7 @@
 -- each field so far takes its value
 use Rattle.std.proofs.Common.{◌≡◌, None, find, take, map}
 use Rattle.c25_meaning_linking.specs.Linking.{spills, use_of}
-use Rattle.c25_obj.specs.View.{contents}
+use Rattle.c25_module.specs.View.{contents}
 use Rattle.c25_link.specs.Layout.{places_in}
 use Rattle.c25_link.proofs.misfits.misfit_in.Given as goal
 

@@ -1,6 +1,6 @@
 use Rattle.std.proofs.Common.{◌≡◌, ◌+◌, ap, ◌∙◌, arith, rules, to_z, of_z, w32, w64}
 use Rattle.c25_meaning_linking.specs.Words.{relocated_value, section_base}
-use Rattle.c25_obj.specs.View.{contents}
+use Rattle.c25_module.specs.View.{contents}
 use Rattle.c25_link.specs.Layout.{places_in}
 use Rattle.c25_link.proofs.misfits.misfit_of.Goals as goal
 

@@ -5,7 +5,7 @@ use Rattle.c25_meaning_linking.specs.Words.{section_name, relocated_value}
 use Rattle.c25_meaning_objects.specs.declared.object.Relocation.{Relocation}
 use Rattle.c25_meaning_objects.specs.declared.object.RelocationBase.TheVariants as base
 use Rattle.c25_meaning_common.specs.declared.relocation.RelocationKind.TheVariants as kind
-use Rattle.c25_obj.specs.View.{contents}
+use Rattle.c25_module.specs.View.{contents}
 use Rattle.c25_link.specs.Layout.{places_in}
 use Rattle.c25_link.proofs.Search.{found_in_slice}
 use Rattle.c25_link.proofs.uses.spilled_in.Goals as goal

@@ -1,6 +1,6 @@
 use Rattle.std.proofs.Common.{length, ap, arith}
 use Rattle.c25_meaning_linking.specs.Linking.{Use, is_unresolved, base_name, use_of}
-use Rattle.c25_obj.specs.View.{contents}
+use Rattle.c25_module.specs.View.{contents}
 use Rattle.c25_link.proofs.Search.{found_in_slice, none_in_slice, none_whole}
 use Rattle.c25_link.proofs.uses.unresolved_in.Goals as goal
 

@@ -2,7 +2,7 @@
 use Rattle.std.proofs.Common.{◌≡◌, ℕ, List, None, find, take, map}
 use Rattle.c25_meaning_linking.specs.Linking.{is_unresolved, use_of}
 use Rattle.c25_meaning_linking.specs.Words as words
-use Rattle.c25_obj.specs.View.{contents}
+use Rattle.c25_module.specs.View.{contents}
 use Rattle.c25_link.specs.View.{HasDefinitions}
 use Rattle.c25_link.proofs.uses.unresolved_in.Given as goal
 

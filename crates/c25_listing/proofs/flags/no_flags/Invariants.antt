@@ -1,5 +1,5 @@
 use Rattle.std.proofs.Common.{◌≡◌, ◌++◌, drop}
-use Rattle.c25_obj.specs.View.{sections_data}
+use Rattle.c25_module.specs.View.{sections_data}
 use Rattle.c25_listing.specs.Flags.{no_flags}
 use Rattle.c25_listing.proofs.flags.no_flags.Given as goal
 

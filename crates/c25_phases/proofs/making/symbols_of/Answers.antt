@@ -1,6 +1,6 @@
 use Rattle.std.proofs.Common.{map, ap, ◌∙◌, arith}
 use Rattle.c25_meaning_assembly.specs.Emission.{symbol_of}
-use Rattle.c25_obj.specs.View.{symbol_data}
+use Rattle.c25_module.specs.View.{symbol_data}
 use Rattle.c25_phases.proofs.Listed.{entry_at, none_missing, seen_more}
 use Rattle.c25_phases.proofs.making.symbols_of.Goals.{in-Some+in_ok-symbol_of+in_ok-push, in_default}
 use Rattle.c25_phases.proofs.making.symbols_of.Goals as goal

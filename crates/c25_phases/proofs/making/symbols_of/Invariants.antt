@@ -1,6 +1,6 @@
 use Rattle.std.proofs.Common.{◌≡◌, ◌++◌, map, drop}
 use Rattle.c25_meaning_assembly.specs.Emission.{symbol_of}
-use Rattle.c25_obj.specs.View.{symbols_data}
+use Rattle.c25_module.specs.View.{symbols_data}
 use Rattle.c25_phases.proofs.making.symbols_of.Given as goal
 
 abbrev pub invariant-loop-number : goal.invariant-loop-number

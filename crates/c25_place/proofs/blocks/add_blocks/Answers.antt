@@ -2,7 +2,7 @@ use Rattle.std.proofs.Common.{◌≡◌, ◌<◌, ◌≤◌, ◌++◌, ◌+◌, 
 use Rattle.std.proofs.lemmas.List.{take_all}
 use Rattle.c25_meaning_objects.specs.declared.object.Block.{Block}
 use Rattle.c25_meaning_linking.specs.Place.{block_behind, is_block_named}
-use Rattle.c25_obj.specs.View.{contents, section_data}
+use Rattle.c25_module.specs.View.{contents, section_data}
 use Rattle.c25_place.specs.Blocks.{KnowsPaging, anywhere}
 use Rattle.c25_place.specs.View.{named}
 use Rattle.c25_place.proofs.Blocked.{block_next, block_skipped, section_at, no_section, so_far}

@@ -1,7 +1,7 @@
 -- the blocks so far are added
 use Rattle.std.proofs.Common.{◌++◌, ℕ, List, take, map, filter}
 use Rattle.c25_meaning_linking.specs.Place.{BlockData, block_behind, is_block_named}
-use Rattle.c25_obj.specs.View.{contents}
+use Rattle.c25_module.specs.View.{contents}
 use Rattle.c25_place.specs.Blocks.{KnowsFound}
 use Rattle.c25_place.proofs.blocks.add_blocks.Given as goal
 

@@ -2,8 +2,8 @@ use Rattle.std.proofs.Common.{◌+◌, List, unwrap_or, ap, subst, ◌∙◌}
 use Rattle.std.specs.List.{sum_by}
 use Rattle.std.proofs.lemmas.List.{take_all}
 use Rattle.c25_meaning_linking.specs.Place.{size_for}
-use Rattle.c25_obj.specs.View.{sections_data}
-use Rattle.c25_obj.specs.declared.parts.Section.{Section}
+use Rattle.c25_module.specs.View.{sections_data}
+use Rattle.c25_module.specs.declared.parts.Section.{Section}
 use Rattle.c25_place.specs.Blocks.{KnowsPaging, anywhere}
 use Rattle.c25_place.specs.View.{named}
 use Rattle.c25_place.proofs.Blocked.{words_next}

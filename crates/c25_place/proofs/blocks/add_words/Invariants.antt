@@ -2,7 +2,7 @@
 use Rattle.std.proofs.Common.{◌+◌, ℕ, List, take}
 use Rattle.std.specs.List.{sum_by}
 use Rattle.c25_meaning_linking.specs.Place.{BlockData, size_for}
-use Rattle.c25_obj.specs.View.{sections_data}
+use Rattle.c25_module.specs.View.{sections_data}
 use Rattle.c25_place.specs.Blocks.{KnowsFound}
 use Rattle.c25_place.proofs.blocks.add_words.Given as goal
 

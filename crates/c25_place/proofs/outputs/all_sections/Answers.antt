@@ -2,8 +2,8 @@ use Rattle.std.proofs.Common.{sym, ap, subst, List, All, ◌≤◌, ◌∙◌}
 use Rattle.std.proofs.lemmas.List.{take_all}
 use Rattle.c25_meaning_linking.specs.Place.{all_sections}
 use Rattle.c25_meaning_objects.specs.Module.{body_size}
-use Rattle.c25_obj.specs.View.{body_data}
-use Rattle.c25_obj.specs.declared.parts.Section.{Section}
+use Rattle.c25_module.specs.View.{body_data}
+use Rattle.c25_module.specs.declared.parts.Section.{Section}
 use Rattle.c25_meaning_objects.specs.Module.{Contents}
 use Rattle.c25_place.proofs.Listed.{small_sections}
 use Rattle.c25_place.proofs.outputs.all_sections.Goals as goal

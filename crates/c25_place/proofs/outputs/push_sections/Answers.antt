@@ -1,7 +1,7 @@
 use Rattle.std.proofs.Common.{◌++◌, List, ap, ◌∙◌}
 use Rattle.std.proofs.lemmas.List.{take_all}
-use Rattle.c25_obj.specs.View.{sections_data}
-use Rattle.c25_obj.specs.declared.parts.Section.{Section}
+use Rattle.c25_module.specs.View.{sections_data}
+use Rattle.c25_module.specs.declared.parts.Section.{Section}
 use Rattle.c25_place.specs.View.{sections_view}
 use Rattle.c25_place.proofs.outputs.push_sections.Goals as goal
 

@@ -1,6 +1,6 @@
 -- the sections so far stand there
 use Rattle.std.proofs.Common.{◌≡◌, ◌++◌, take}
-use Rattle.c25_obj.specs.View.{sections_data}
+use Rattle.c25_module.specs.View.{sections_data}
 use Rattle.c25_place.specs.Outputs.{AreSmall}
 use Rattle.c25_place.specs.View.{sections_view}
 use Rattle.c25_place.proofs.outputs.push_sections.Given as goal

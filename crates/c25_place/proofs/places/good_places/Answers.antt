@@ -5,7 +5,7 @@ use Rattle.c25_meaning_linking.specs.GoodMap.{placings_for, ranges_for, requests
 use Rattle.c25_meaning_linking.specs.GoodMap as good
 use Rattle.c25_meaning_linking.specs.Place.{all_sections}
 use Rattle.std.specs.Borrow.{Bor}
-use Rattle.c25_obj.specs.declared.parts.Section.{Section}
+use Rattle.c25_module.specs.declared.parts.Section.{Section}
 use Rattle.c25_place.specs.Outputs.{AreSmall, KnowsOutputs}
 use Rattle.c25_place.specs.Placement.{ArePlacedOrRefused}
 use Rattle.c25_place.specs.Requests.{HasPages}

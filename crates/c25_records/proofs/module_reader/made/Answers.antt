@@ -1,5 +1,5 @@
 use Rattle.std.proofs.Common.{arith}
-use Rattle.c25_obj.specs.View.{contents}
+use Rattle.c25_module.specs.View.{contents}
 use Rattle.c25_records.proofs.Found.{module_takes}
 use Rattle.c25_records.proofs.module_reader.made.Goals as goal
 

@@ -2,7 +2,7 @@ use Rattle.std.proofs.Common.{length, sym, ◌∙◌}
 use Rattle.std.proofs.lemmas.Result.{err_from_is_err_and}
 use Rattle.std.proofs.lemmas.Bool.{ne_eqb}
 use Rattle.c25_meaning_objects.specs.RecordReading.{read_from}
-use Rattle.c25_obj.specs.View.{contents}
+use Rattle.c25_module.specs.View.{contents}
 use Rattle.c25_records.proofs.Loop.{no_record, out_of_order, at_end, not_added, goes_on}
 use Rattle.c25_records.proofs.module_reader.read_records.Goals as goal
 

@@ -1,7 +1,7 @@
 use Rattle.std.proofs.Common.{◌≡◌, ◌-◌, length}
 use Rattle.c25_meaning_objects.specs.RecordReading.{read_from}
 use Rattle.c25_records.specs.Names.{Keeps}
-use Rattle.c25_obj.specs.View.{contents}
+use Rattle.c25_module.specs.View.{contents}
 use Rattle.c25_records.proofs.module_reader.read_records.Given as goal
 
 abbrev pub invariant-loop : goal.invariant-loop

@@ -1,6 +1,6 @@
 use Rattle.std.proofs.Common.{List, [], ◌∷◌, ◌++◌, ℕ, not, sym, ap, subst, ◌∙◌, arith}
 use Rattle.std.specs.Prelude.{string_bytes}
-use Rattle.c25_obj.specs.View.{files_data}
+use Rattle.c25_module.specs.View.{files_data}
 use Rattle.c25_records.specs.Names.{HasFiles}
 use Rattle.c25_records.proofs.Names.{HasFiles-push, file_given, not_text}
 use Rattle.c25_records.proofs.named_payloads.file_after.Goals as goal

@@ -1,5 +1,5 @@
 use Rattle.std.proofs.Common.{sym, ◌∙◌}
-use Rattle.c25_obj.proofs.Texts.{section_name_text}
+use Rattle.c25_module.proofs.Texts.{section_name_text}
 use Rattle.c25_records.proofs.named_payloads.section_after.Goals as goal
 
 pub text_of-requires : goal.text_of-requires

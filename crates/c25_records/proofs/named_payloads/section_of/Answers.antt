@@ -11,7 +11,7 @@ use Rattle.c25_meaning_objects.specs.declared.object.ObjectFault.{ObjectFault}
 use Rattle.c25_meaning_objects.specs.declared.object.ObjectFault.TheVariants.{BadField}
 use Rattle.c25_meaning_objects.specs.Module.{SectionBody, SectionData}
 use Rattle.c25_meaning_objects.specs.RecordReading.{body_of, section_of}
-use Rattle.c25_obj.specs.View.{body_data}
+use Rattle.c25_module.specs.View.{body_data}
 use Rattle.c25_records.proofs.named_payloads.section_of.Goals as goal
 
 -- a section of this name

@@ -1,5 +1,5 @@
 use Rattle.std.proofs.Common.{sym, ◌∙◌}
-use Rattle.c25_obj.proofs.Texts.{symbol_name_text}
+use Rattle.c25_module.proofs.Texts.{symbol_name_text}
 use Rattle.c25_records.proofs.named_payloads.symbol_after.Goals as goal
 
 pub text_of-name-requires : goal.text_of-name-requires

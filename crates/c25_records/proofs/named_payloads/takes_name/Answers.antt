@@ -1,4 +1,4 @@
-use Rattle.c25_obj.specs.View.{symbols_data}
+use Rattle.c25_module.specs.View.{symbols_data}
 use Rattle.c25_records.proofs.Names.{HasNames-push}
 use Rattle.c25_records.proofs.named_payloads.takes_name.Goals as goal
 

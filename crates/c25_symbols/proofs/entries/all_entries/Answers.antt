@@ -2,7 +2,7 @@ use Rattle.std.proofs.Common.{◌≡◌, ◌+◌, ◌++◌, List, ap, get_or, ma
 use Rattle.c25_meaning_objects.specs.Module.{SectionData}
 use Rattle.c25_meaning_linking.proofs.ByModules.{by_modules_more, by_modules_all}
 use Rattle.c25_meaning_linking.specs.Place.{all_sections}
-use Rattle.c25_obj.specs.View.{contents, sections_data}
+use Rattle.c25_module.specs.View.{contents, sections_data}
 use Rattle.c25_symbols.specs.Parts.{KnowsNext}
 use Rattle.c25_symbols.specs.Symbols.{Listed, module_symbols}
 use Rattle.c25_symbols.specs.View.{places_view}

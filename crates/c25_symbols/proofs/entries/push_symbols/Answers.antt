@@ -1,8 +1,8 @@
 use Rattle.std.proofs.Common.{◌++◌, List, length, filter, map, ap, ◌∙◌, arith}
 use Rattle.std.proofs.lemmas.List.{take_all}
 use Rattle.c25_meaning_linking.specs.Words.{is_defined}
-use Rattle.c25_obj.specs.View.{contents, symbols_data}
-use Rattle.c25_obj.specs.declared.parts.Symbol.{Symbol}
+use Rattle.c25_module.specs.View.{contents, symbols_data}
+use Rattle.c25_module.specs.declared.parts.Symbol.{Symbol}
 use Rattle.c25_symbols.specs.Symbols.{listed}
 use Rattle.c25_symbols.specs.View.{entries_view}
 use Rattle.c25_symbols.proofs.entries.push_symbols.Goals as goal

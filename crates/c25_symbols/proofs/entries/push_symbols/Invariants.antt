@@ -3,7 +3,7 @@ use Rattle.std.proofs.Common.{◌≡◌, ℕ, ◌++◌, List, filter, map, take}
 use Rattle.c25_meaning_linking.specs.Words.{is_defined}
 use Rattle.c25_meaning_objects.specs.Module.{Contents}
 use Rattle.c25_meaning_linking.specs.Place.{Place, all_sections}
-use Rattle.c25_obj.specs.View.{contents, symbols_data}
+use Rattle.c25_module.specs.View.{contents, symbols_data}
 use Rattle.c25_symbols.specs.Parts.{KnowsNext}
 use Rattle.c25_symbols.specs.Symbols.{listed, source_of}
 use Rattle.c25_symbols.specs.View.{entries_view}

@@ -2,7 +2,7 @@ use Rattle.std.proofs.Common.{◌≡◌, ℕ, true, false, List, [], ◌++◌, S
 use Rattle.std.specs.List.{slice_get}
 use Rattle.std.proofs.lemmas.List.{append-nil}
 use Rattle.c25_meaning_objects.specs.Module.{words_at}
-use Rattle.c25_obj.specs.View.{contents}
+use Rattle.c25_module.specs.View.{contents}
 use Rattle.c25_dis.specs.Sections.{labels_at}
 use Rattle.c25_dis.proofs.Passed.{ok_then, place_with, place_without, two_behind}
 use Rattle.c25_dis.proofs.section.Places.push_place.Goals as goal

@@ -1,5 +1,5 @@
 use Rattle.std.proofs.Common.{string_bytes}
-use Rattle.c25_obj.specs.View.{contents}
+use Rattle.c25_module.specs.View.{contents}
 use Rattle.c25_dis.specs.Sections.{IsPlace}
 use Rattle.c25_dis.proofs.Passed.{one_more}
 use Rattle.c25_dis.proofs.section.Places.push_places.Goals as goal

@@ -1,6 +1,6 @@
 -- what stands at the places so far stands there
 use Rattle.std.proofs.Common.{string_bytes}
-use Rattle.c25_obj.specs.View.{contents}
+use Rattle.c25_module.specs.View.{contents}
 use Rattle.c25_dis.specs.Sections.{IsPlace}
 use Rattle.c25_dis.proofs.Passed.{HasTexts}
 use Rattle.c25_dis.proofs.section.Places.push_places.Given as goal

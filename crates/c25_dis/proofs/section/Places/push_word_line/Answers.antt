@@ -1,6 +1,6 @@
 use Rattle.std.proofs.Common.{◌≡◌, ◌++◌, ℕ, Bool, List, Option, ap, subst, ◌∙◌, codes, string_bytes}
 use Rattle.c25_meaning_objects.specs.declared.object.ModuleMark.{ModuleMark}
-use Rattle.c25_obj.specs.View.{contents}
+use Rattle.c25_module.specs.View.{contents}
 use Rattle.c25_dis.specs.Lines.{line_text}
 use Rattle.c25_dis.specs.Sections.{IsReadBy, is_long, mark_at, notes_by, second_at, second_by}
 use Rattle.c25_dis.proofs.Passed.{ok_then, three_behind}

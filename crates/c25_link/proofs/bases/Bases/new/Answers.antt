@@ -1,7 +1,7 @@
 use Rattle.std.proofs.Common.{◌≡◌, ap, sym, ◌∙◌, length, refl, arith, Some}
 use Rattle.std.specs.List.{slice_get}
 use Rattle.std.proofs.lemmas.Option.{slice_get_read, slice_get_within}
-use Rattle.c25_obj.specs.View.{contents}
+use Rattle.c25_module.specs.View.{contents}
 use Rattle.c25_place.specs.View.{places_view}
 use Rattle.c25_link.proofs.Parted.{one_longer, module_parts}
 use Rattle.c25_link.proofs.bases.Bases.new.Goals as goal

@@ -3,7 +3,7 @@ use Rattle.std.specs.Prelude.{IfSome}
 use Rattle.std.specs.Option.{option_map}
 use Rattle.std.specs.Str.{bytes_eq}
 use Rattle.c25_meaning_objects.specs.Module.{body_size}
-use Rattle.c25_obj.specs.View.{section_data}
+use Rattle.c25_module.specs.View.{section_data}
 use Rattle.c25_place.specs.View.{named}
 use Rattle.c25_link.specs.Bases.{next_part}
 use Rattle.c25_link.specs.declared.bases.PartBase.{PartBase}

@@ -1,7 +1,7 @@
 use Rattle.std.proofs.Common.{◌≡◌, ◌++◌, [], drop}
 use Rattle.std.specs.String.{string_bytes}
 use Rattle.c25_meaning_assembly.specs.Listing.{listing_text}
-use Rattle.c25_obj.specs.View.{contents}
+use Rattle.c25_module.specs.View.{contents}
 use Rattle.c25_listing.specs.View.{entries_of}
 use Rattle.c25_listing.proofs.listing.Listing.text.Given as goal
 

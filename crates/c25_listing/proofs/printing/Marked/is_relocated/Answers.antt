@@ -1,5 +1,5 @@
 use Rattle.std.proofs.Common.{◌∙◌}
-use Rattle.c25_obj.specs.View.{contents}
+use Rattle.c25_module.specs.View.{contents}
 use Rattle.c25_listing.specs.Flags.{flags_of}
 use Rattle.c25_listing.proofs.Flagged.{flagged}
 use Rattle.c25_listing.proofs.printing.Marked.is_relocated.Goals as goal

@@ -3,7 +3,7 @@ use Rattle.std.specs.String.{string_bytes}
 use Rattle.c25_meaning_assembly.specs.Listing.{is_relocated, sign}
 use Rattle.c25_meaning_objects.specs.Module.{words_at}
 use Rattle.c25_meaning_common.specs.Digits.{four_digits}
-use Rattle.c25_obj.specs.View.{contents}
+use Rattle.c25_module.specs.View.{contents}
 use Rattle.c25_listing.proofs.Columns.{four_behind, low_digits}
 use Rattle.c25_listing.proofs.printing.Marked.push_column.Goals as goal
 

@@ -1,7 +1,7 @@
 use Rattle.std.proofs.Common.{◌≡◌, ◌-◌, ◌++◌, Result, Ok, Err, OnOk, refl, ap, ◌∙◌, arith}
 use Rattle.std.specs.String.{string_bytes}
 use Rattle.c25_meaning_assembly.specs.Listing.{number_column, word_line}
-use Rattle.c25_obj.specs.View.{contents}
+use Rattle.c25_module.specs.View.{contents}
 use Rattle.c25_listing.specs.View.{entry_of}
 use Rattle.c25_listing.proofs.Columns.{entry_words}
 use Rattle.c25_listing.proofs.printing.Marked.push_entry.Goals as goal

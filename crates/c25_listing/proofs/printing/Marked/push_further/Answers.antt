@@ -1,7 +1,7 @@
 use Rattle.std.proofs.Common.{◌≡◌, ◌+◌, ◌++◌, [], codes, ap, ◌∙◌, arith}
 use Rattle.std.specs.String.{string_bytes}
 use Rattle.c25_meaning_assembly.specs.Listing.{word_line, blanks}
-use Rattle.c25_obj.specs.View.{contents}
+use Rattle.c25_module.specs.View.{contents}
 use Rattle.c25_listing.proofs.Columns.{further_more}
 use Rattle.c25_listing.proofs.printing.Marked.push_further.Goals as goal
 

@@ -1,7 +1,7 @@
 use Rattle.std.proofs.Common.{◌≡◌, ◌+◌, ◌-◌, ◌++◌, []}
 use Rattle.std.specs.String.{string_bytes}
 use Rattle.c25_meaning_assembly.specs.Listing.{further}
-use Rattle.c25_obj.specs.View.{contents}
+use Rattle.c25_module.specs.View.{contents}
 use Rattle.c25_listing.proofs.printing.Marked.push_further.Given as goal
 
 abbrev pub invariant-loop-index : goal.invariant-loop-index

@@ -3,8 +3,8 @@ use Rattle.std.specs.Map.{lookup}
 use Rattle.std.specs.Str.{bytes_eq}
 use Rattle.c25_meaning_objects.specs.Module.{Contents, body_size}
 use Rattle.c25_meaning_linking.specs.Place.{BlockData, by_modules, part_blocks, size_of_parts}
-use Rattle.c25_obj.specs.View.{body_data, sections_data}
-use Rattle.c25_obj.specs.declared.parts.Section.{Section}
+use Rattle.c25_module.specs.View.{body_data, sections_data}
+use Rattle.c25_module.specs.declared.parts.Section.{Section}
 use Rattle.c25_place.specs.Blocks.{KnowsPaging, anywhere}
 use Rattle.c25_place.specs.View.{named}
 use Rattle.c25_place.proofs.Blocked.{module_next}

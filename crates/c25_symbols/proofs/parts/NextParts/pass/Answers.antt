@@ -2,7 +2,7 @@ use Rattle.std.proofs.Common.{◌≡◌, ◌+◌, ◌%◌, ◌^◌, sym, ap, sub
 use Rattle.std.specs.Prelude.{unwrap_or}
 use Rattle.std.specs.Str.{bytes_eq}
 use Rattle.c25_meaning_linking.specs.Place.{base_of, run_base_of}
-use Rattle.c25_obj.specs.View.{section_data}
+use Rattle.c25_module.specs.View.{section_data}
 use Rattle.c25_symbols.specs.Parts.{BeginsAt, at_zero, next_of, size_of_sections}
 use Rattle.c25_symbols.specs.View.{named}
 use Rattle.c25_symbols.specs.declared.parts.PartBase.{PartBase}

@@ -1,8 +1,8 @@
 use Rattle.std.proofs.Common.{◌++◌, List, subst, take}
 use Rattle.std.proofs.lemmas.List.{take_all}
 use Rattle.c25_meaning_objects.specs.Module.{SectionData}
-use Rattle.c25_obj.specs.View.{sections_data}
-use Rattle.c25_obj.specs.declared.parts.Section.{Section}
+use Rattle.c25_module.specs.View.{sections_data}
+use Rattle.c25_module.specs.declared.parts.Section.{Section}
 use Rattle.c25_symbols.specs.Parts.{KnowsNext}
 use Rattle.c25_symbols.proofs.Next.{sections_more}
 use Rattle.c25_symbols.proofs.parts.NextParts.pass_all.Goals as goal

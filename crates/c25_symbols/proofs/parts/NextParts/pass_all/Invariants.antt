@@ -2,7 +2,7 @@
 use Rattle.std.proofs.Common.{◌++◌, List, take}
 use Rattle.c25_meaning_objects.specs.Module.{SectionData}
 use Rattle.c25_meaning_linking.specs.Place.{Place}
-use Rattle.c25_obj.specs.View.{sections_data}
+use Rattle.c25_module.specs.View.{sections_data}
 use Rattle.c25_symbols.specs.Parts.{KnowsNext}
 use Rattle.c25_symbols.proofs.parts.NextParts.pass_all.Given as goal
 

@@ -1,7 +1,0 @@
-use Rattle.std.proofs.Common.{◌≡◌, [], take, drop}
-use Rattle.c25_meaning_objects.specs.Module.{each_fits, block_fits}
-use Rattle.c25_obj.specs.View.{sections_data}
-use Rattle.c25_obj.proofs.spelling.blocks_fit.Given as goal
-
-abbrev pub invariant-loop-i : goal.invariant-loop-i
-invariant-loop-i l = each_fits (block_fits (sections_data l.sections)) (take l.i l.blocks) (drop l.i l.blocks) ≡ each_fits (block_fits (sections_data l.sections)) [] (l.blocks)
