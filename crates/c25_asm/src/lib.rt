@@ -18,5 +18,6 @@ mod walk;
 
 pub use assembly::{assemble, assemble_module};
 pub use c25_listing::listing;
+pub use c25_listing::listing::Listing;
 pub use c25_phases::fault;
 pub use tracing::{Refused, Traced, trace};

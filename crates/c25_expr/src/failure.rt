@@ -5,9 +5,9 @@ ghost use Rattle.c25_meaning_language.specs.Operands.{line_fault};
 ghost use Rattle.c25_meaning_language.specs.Statement.{expression_fault, value_fault};
 
 use c25_meaning_language::expression::ExpressionFault;
+use c25_meaning_language::line::LineFault;
 use c25_meaning_language::statement::FaultKind;
 use c25_meaning_language::value::ValueFault;
-use c25_meaning_language::line::LineFault;
 
 /// A fault of a line's text as a fault of a source.
 pub fn line_fault(fault: LineFault) -> FaultKind

@@ -14,3 +14,6 @@ mod steps;
 pub mod symbols;
 pub mod tree;
 pub mod value;
+
+pub use expression_reader::read_expr;
+pub use symbols::Symbols;

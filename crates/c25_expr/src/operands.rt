@@ -7,8 +7,8 @@ ghost use Rattle.c25_expr.specs.Pieces.{pieces_of};
 
 use c25_meaning_common::no_memory::NoMemory;
 use c25_meaning_instructions::insn::Change;
-use c25_meaning_language::statement::Written;
 use c25_meaning_language::line::{Sign, TokenKind};
+use c25_meaning_language::statement::Written;
 use c25_text::line::Line;
 use c25_text::tokens::Token;
 use std::alloc::Global;

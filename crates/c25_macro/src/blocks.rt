@@ -20,12 +20,12 @@ use crate::state::{Mode, State};
 use crate::values::{is_zero, number};
 use c25_expr::symbols::Symbols;
 use c25_expr::tree::Expr;
-use c25_files::files::Files;
 use c25_files::Rows;
+use c25_files::files::Files;
+use c25_isa::mnemonic;
 use c25_meaning_common::failure::Failure;
 use c25_meaning_expansion::place::SourcePlace;
 use c25_meaning_language::statement::FaultKind;
-use c25_isa::mnemonic;
 use c25_substitution::parameters::Arguments;
 
 /// How many turns a loop without a count has.

@@ -28,3 +28,5 @@ mod tracing;
 mod values;
 
 pub use c25_files::files;
+pub use c25_files::files::Files;
+pub use expander::Expander;

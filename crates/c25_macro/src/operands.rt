@@ -12,10 +12,10 @@ ghost use Rattle.c25_meaning_common.specs.Results.{Meets};
 ghost use Rattle.c25_expr.specs.View.{tree_of};
 ghost use Rattle.c25_macro.specs.Acts.{bytes_of_names};
 
+use c25_expr::directive_operands::expression_in;
 use c25_expr::tree::Expr;
 use c25_meaning_common::failure::Failure;
 use c25_meaning_language::statement::FaultKind;
-use c25_expr::directive_operands::expression_in;
 use c25_text::tokens::Token;
 use std::alloc::Global;
 

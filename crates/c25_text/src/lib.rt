@@ -1,11 +1,12 @@
 //! Lines of a source, and their tokens. All parts borrow the line; nothing takes memory.
 #![tactic(auto)]
 
-pub use fields::{past_blanks, past_field};
-pub use lexemes::{constant_value, quoted_len};
-
 mod fields;
 pub mod laws;
 mod lexemes;
 pub mod line;
 pub mod tokens;
+
+pub use fields::{past_blanks, past_field};
+pub use lexemes::{constant_value, quoted_len};
+pub use line::{Line, first_word, split_line};
