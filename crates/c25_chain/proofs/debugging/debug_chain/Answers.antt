@@ -2,7 +2,7 @@ use Rattle.std.proofs.Common.{map, string_bytes}
 use Rattle.c25_chain.specs.Chain.{given_of}
 use Rattle.c25_chain.proofs.Agreed.{told_by_statements}
 use Rattle.c25_chain.proofs.Debugged.{debugged, told_on}
-use Rattle.c25_chain.proofs.chain.debug_chain.Goals as goal
+use Rattle.c25_chain.proofs.debugging.debug_chain.Goals as goal
 
 pub returns-in_err-built-clause-answer : goal.returns-in_err-built-clause-answer
 returns-in_err-built-clause-answer c =

@@ -1,6 +1,6 @@
 use Rattle.std.proofs.Common.{string_bytes}
 use Rattle.c25_chain.proofs.Debugged.{answers_linked}
-use Rattle.c25_chain.proofs.chain.debug_text.Goals as goal
+use Rattle.c25_chain.proofs.debugging.debug_text.Goals as goal
 
 pub returns-in-Ok : goal.returns-in-Ok
 returns-in-Ok c =

@@ -1,5 +1,5 @@
 use Rattle.c25_linking_laws.proofs.WordsFit.{program_fits, word_fits}
-use Rattle.c25_linking_laws.proofs.laws.program_words_have_16_bits.Goals as goal
+use Rattle.c25_linking_laws.proofs.linking.program_words_have_16_bits.Goals as goal
 
 pub returns-clause-each : goal.returns-clause-each
 returns-clause-each c = word_fits

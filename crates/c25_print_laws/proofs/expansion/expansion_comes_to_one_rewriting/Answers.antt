@@ -1,5 +1,5 @@
 use Rattle.c25_meaning_expansion.proofs.ExpansionFirst.{comes_to_first, first_reached, first_is_last}
-use Rattle.c25_print_laws.proofs.laws.expansion_comes_to_one_rewriting.Goals as goal
+use Rattle.c25_print_laws.proofs.expansion.expansion_comes_to_one_rewriting.Goals as goal
 
 pub returns-clause-ends : goal.returns-clause-ends
 returns-clause-ends c = λ files s at. (first_reached files s at, first_is_last files s at)

@@ -1,6 +1,6 @@
 use Rattle.c25_meaning_expansion.proofs.ExpansionBounded.{at_most_200_000_lines}
 use Rattle.c25_meaning_expansion.proofs.ExpansionFirst.{first_giving}
-use Rattle.c25_print_laws.proofs.laws.expansion_gives_at_most_200_000_lines.Goals as goal
+use Rattle.c25_print_laws.proofs.expansion.expansion_gives_at_most_200_000_lines.Goals as goal
 
 pub returns-clause-falls : goal.returns-clause-falls
 returns-clause-falls c = λ files s old new row e. (first_giving files s old new row e).1

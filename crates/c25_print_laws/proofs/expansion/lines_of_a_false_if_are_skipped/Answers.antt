@@ -1,5 +1,5 @@
 use Rattle.c25_print_laws.proofs.PlainLines.{lines_skipped}
-use Rattle.c25_print_laws.proofs.laws.lines_of_a_false_if_are_skipped.Goals as goal
+use Rattle.c25_print_laws.proofs.expansion.lines_of_a_false_if_are_skipped.Goals as goal
 
 pub returns : goal.returns
 returns c = lines_skipped

@@ -1,5 +1,5 @@
 use Rattle.c25_print_laws.proofs.DataWords.{one_word, two_words}
-use Rattle.c25_print_laws.proofs.laws.printed_words_read_back.Goals as goal
+use Rattle.c25_print_laws.proofs.instructions.printed_words_read_back.Goals as goal
 
 pub returns-clause-one : goal.returns-clause-one
 returns-clause-one c = one_word

@@ -1,5 +1,5 @@
 use Rattle.c25_run_laws.proofs.InB0.{held_runs, changed_stops, no_other_runs, else_plain, plain_stands, loads_are_code, loads_stop}
-use Rattle.c25_run_laws.proofs.laws.code_in_b0.Goals as goal
+use Rattle.c25_run_laws.proofs.runs.code_in_b0.Goals as goal
 
 pub returns-clause-held : goal.returns-clause-held
 returns-clause-held c = held_runs

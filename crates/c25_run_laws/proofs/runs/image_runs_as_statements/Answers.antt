@@ -1,5 +1,5 @@
 use Rattle.c25_run_laws.proofs.Image.{runs_alike, statements_stay}
-use Rattle.c25_run_laws.proofs.laws.image_runs_as_statements.Goals as goal
+use Rattle.c25_run_laws.proofs.runs.image_runs_as_statements.Goals as goal
 
 pub returns-clause-runs : goal.returns-clause-runs
 returns-clause-runs c = runs_alike

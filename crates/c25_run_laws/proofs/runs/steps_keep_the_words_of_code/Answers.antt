@@ -1,5 +1,5 @@
 use Rattle.c25_run_laws.proofs.KeptRuns.{statements_keep, step_keeps, words_keep}
-use Rattle.c25_run_laws.proofs.laws.steps_keep_the_words_of_code.Goals as goal
+use Rattle.c25_run_laws.proofs.runs.steps_keep_the_words_of_code.Goals as goal
 
 pub returns-clause-step : goal.returns-clause-step
 returns-clause-step c = step_keeps

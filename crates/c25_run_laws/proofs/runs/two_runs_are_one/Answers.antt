@@ -1,6 +1,6 @@
 use Rattle.c25_meaning_processor.specs.Statements.{statement_step}
 use Rattle.c25_run_laws.proofs.Joined.{words_join, run_of_joined}
-use Rattle.c25_run_laws.proofs.laws.two_runs_are_one.Goals as goal
+use Rattle.c25_run_laws.proofs.runs.two_runs_are_one.Goals as goal
 
 pub returns-clause-words : goal.returns-clause-words
 returns-clause-words c = words_join
