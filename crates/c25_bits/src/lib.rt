@@ -11,7 +11,7 @@ ghost use Rattle.c25_bits.specs.Reverse.{reverse_sum, reverse_difference};
 pub struct Field<const AT: u32, const WIDTH: u32>;
 
 impl<const AT: u32, const WIDTH: u32> Field<AT, WIDTH> {
-    /// The number in the field.
+    /// The number that the field of a word holds.
     pub fn get(word: u16) -> u16
         requires { AT + WIDTH ≤ 16 }
         ensures { result ≡ word / 2 ^ AT % 2 ^ WIDTH }
@@ -19,7 +19,7 @@ impl<const AT: u32, const WIDTH: u32> Field<AT, WIDTH> {
         ((u32::from(word) >> AT) % (1 << WIDTH)) as u16
     }
 
-    /// The word with another number in the field. The other bits stay.
+    /// The word with another number in the field. All other bits stay.
     pub fn put(word: u16, value: u16) -> u16
         requires inside { AT + WIDTH ≤ 16 }
         requires below { value < 2 ^ WIDTH }
@@ -32,7 +32,7 @@ impl<const AT: u32, const WIDTH: u32> Field<AT, WIDTH> {
         Self::replaced(u32::from(word), u32::from(value)) as u16
     }
 
-    /// The same in 32 bits, where no shift is as wide as the number.
+    /// What `put` gives, as 32 bits: there no shift is as wide as the number that is shifted.
     fn replaced(word: u32, value: u32) -> u32
         requires inside { AT + WIDTH ≤ 16 }
         requires word_below { word < 2 ^ 16 }

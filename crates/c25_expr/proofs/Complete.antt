@@ -27,7 +27,7 @@ binary_sign-of : (op : BinaryOperator) → binary_of (binary_sign op) ≡ Some o
 binary_sign-of binary.Multiply = refl
 binary_sign-of _ = refl
 
--- the tree may come as one operand behind these frames
+-- the tree may come as one operand after these frames
 abbrev Fits : List Frame → Tree → Type 0
 Fits [] e = Unit {0}
 Fits (Open ∷ fs) e = Unit {0}
@@ -37,7 +37,7 @@ Fits (After l op ∷ fs) e = level e < level_of op
 abbrev reading : List Frame → List PostfixItem → State
 reading fs is = record { frames = fs; current = None; items = is }
 
--- the state behind a tree: the operators of its right spine wait
+-- the state after a tree: the operators of its right spine wait
 abbrev pub spread : List Frame → Tree → List PostfixItem → State
 spread fs (Single l) is = settle fs (Single l) (Push l ∷ is)
 spread fs (Group e) is = settle fs (Group e) (Wrap ∷ (postfix e ++ is))
@@ -107,7 +107,7 @@ fits_left (After x o ∷ fs) op l r f h = omega arith
 none_some : (x : Tree) → (let o : Option Tree = None in o) ≡ Some x → ⊥
 none_some x h = cc
 
--- behind a tree that is whole again, an operator waits
+-- after a tree that is whole again, an operator waits
 after_operator : (op : BinaryOperator) (fs : List Frame) (c : Option Tree) (is : List PostfixItem) (gs : List Frame) (l : Tree) (js : List PostfixItem)
     → reduced_by (level_of op) fs c is ≡ record { frames = gs; current = Some l; items = js }
     → step_by fs c is (Signed (binary_sign op)) ≡ Some (record { frames = After l op ∷ gs; current = None; items = js })

@@ -30,14 +30,14 @@ room_found room n count i h enough some =
     shallow few (Apply op) = omega (arith, few)
     shallow few (Combine op) = omega (arith, few)
 
--- behind an item there is room for the items that are left
+-- after an item there is room for the items that are left
 pub room_left : (room n count : ℕ) (i : PostfixItem) → is_room room (n + (count + 1)) ≡ true → is_room room (height i n + count) ≡ true
 room_left room n count i enough =
     ⊎_elim (λ all. rw all refl)
     (λ few. ap (λ b. nat_le most_waiting room || b) (le-leb (height i n + count) room (omega (arith, height_most i n, leb-true (n + (count + 1)) room few))) ∙ or-true (nat_le most_waiting room))
     (or_cases (nat_le most_waiting room) (nat_le (n + (count + 1)) room) enough)
 
--- one item fewer is left behind an item
+-- one item fewer is left after an item
 pub one_more : {A : Type 0} (xs : List A) (i : ℕ) → i < length xs → length (drop i xs) ≡ length (drop (i + 1) xs) + 1
 one_more xs i h = omega (arith, h, length-drop i xs, length-drop (i + 1) xs)
 

@@ -32,7 +32,7 @@ pub some_of : {A : Type 0} (o : Option A) (x : A) → ok_or o BadExpression ≡ 
 some_of None x h = absurd (cc)
 some_of (Some y) x h = cc
 
--- behind one token more the state has its shape, and what is found from there on is what was to be found
+-- after one token more the state has its shape, and what is found from there on is what was to be found
 pub one_more : (ts : List Token) (i : ℕ) (d : Token) (s t : State) → i < length ts → HasShape s → run (marks_of (drop i ts)) s ≡ run (marks_of ts) start → ok_or (step s (mark_of (piece_of (get_or ts i d)))) BadExpression ≡ Ok t
     → HasShape t × (run (marks_of (drop (i + 1) ts)) t ≡ run (marks_of ts) start)
 one_more ts i d s t l shape told h = let e = some_of _ t h in (HasShape-step s t _ shape e, sym (run_more ts i d s _ l e) ∙ told)
@@ -63,7 +63,7 @@ completed ms rest s n shape told same more h =
     let f : Found = found.0 in
     (f.tree, run_tree f ms (sym told ∙ found.1), omega (arith, reach-depth rest s f found.1, nesting-reach s))
 
--- behind the last token
+-- after the last token
 pub run_end : (ts : List Token) (i : ℕ) (s : State) → length ts ≤ i → run (marks_of (drop i ts)) s ≡ finished s
 run_end ts i s l = ap (λ us. run (marks_of us) s) (drop_all i ts l)
 
@@ -80,7 +80,7 @@ ended ms s e told h shallow = by_found (finished s) refl h
         let same : f.tree ≡ e = tree_same f.tree e h in
         (subst (IsTreeOf ms) same (run_tree f ms (told ∙ is)), omega (arith, depth_ended s.frames s.current s.items f is, ap depth same, shallow))
 
--- and it runs
+-- the items of what is found run
 pub ended_runs : (ms : List Mark) (s : State) (f : Found) → run ms start ≡ finished s → reach s ≤ 64 → finished s ≡ Some f → runs (reverse f.items) 0 ≡ true
 ended_runs ms s f told shallow h =
     let tree = run_tree f ms (told ∙ h) in
@@ -108,7 +108,7 @@ failed (Some y) (NoMemory n) h = (λ bad. let e = err_same _ _ bad in absurd (cc
 failed None (Fault f) h = (λ bad. refl, λ deep. let e = fault_same _ _ deep in cc)
 failed (Some y) (Fault f) h = absurd (cc)
 
--- the same of an answer
+-- an answer is what is there; a fault says that nothing is there
 pub record Answered {A T : Type 0} (view : T → A) (o : Option A) (r : Result T (Failure ExpressionFault)) : Type 0 where
   pub ok : IfOk r (λ x. o ≡ Some (view x))
   pub bad : IsErrOf r (Fault BadExpression) → o ≡ None

@@ -37,7 +37,7 @@ opens_woven (Open ∷ fs) ts = ap (λ (n : ℕ). n + 1) (opens_woven fs ts)
 opens_woven (Pending op ∷ fs) ts = opens_woven fs ts
 opens_woven (After op ∷ fs) ts = opens_woven fs (other_trees ts)
 
--- no operand stands behind the frames where one has to come
+-- no operand stands after the frames where one has to come
 pub is_none_operand : (b : Bool) (ts : List Tree) → is_none (operand_by b ts) ≡ b
 is_none_operand true ts = refl
 is_none_operand false ts = refl

@@ -15,7 +15,7 @@ height (Open ∷ fs) = max (nesting fs + 1) (height fs)
 height (Pending op ∷ fs) = max (nesting fs + 1) (height fs)
 height (After l op ∷ fs) = max (nesting fs + depth l) (height fs)
 
--- so with the operand behind them
+-- how deep the frames nest with the operand after them
 abbrev pub reach_by : List Frame → Option Tree → ℕ
 reach_by fs None = height fs
 reach_by fs (Some e) = max (height fs) (nesting fs + depth e)

@@ -36,7 +36,7 @@ snoc x is rest = ap (λ (ks : List PostfixItem). ks ++ rest) (reverse-append (x 
 runs_apply : (x : PostfixItem) (rest : List PostfixItem) (n : ℕ) → fits x (n + 1) ≡ true → height x (n + 1) ≡ n + 1 → runs rest (n + 1) ≡ true → runs (x ∷ rest) (n + 1) ≡ true
 runs_apply x rest n room same h = rw (room, same, h) refl
 
--- it runs from any number of operands that leaves it room
+-- a tree runs from any number of operands that leaves it room
 runs_tree : (e : Tree) (rest : List PostfixItem) (n : ℕ) → n + need e ≤ most_waiting → runs rest (n + 1) ≡ true → runs (reverse (postfix e) ++ rest) n ≡ true
 runs_tree (Single l) rest n room h = rw (lt-ltb n 521 (omega (arith, room)), h) refl
 runs_tree (Group e) rest n room h =

@@ -19,7 +19,7 @@ before (Open ∷ fs) = before fs ++ Signed sign.OpenParenthesis ∷ []
 before (Pending op ∷ fs) = before fs ++ Signed (unary_sign op) ∷ []
 before (After l op ∷ fs) = before fs ++ (spelling l ++ Signed (binary_sign op) ∷ [])
 
--- the tokens of the operand behind it
+-- the tokens of the operand after what is open
 abbrev pub operand_marks : Option Tree → List Mark
 operand_marks None = []
 operand_marks (Some e) = spelling e
@@ -153,7 +153,7 @@ open_steps fs is s (Some op) b h q g = record { spelled = spelled_none (before f
 open_steps fs is s None true h q g = record { spelled = spelled_none (before fs) sign.OpenParenthesis s (sym (is_open-sign s q)); sound = (g, tt) }
 open_steps fs is s None false h q g = tt
 
--- an operator waits behind what is left
+-- an operator waits after what is left
 wait_steps : (s : State) (gs : List Frame) (c : Option Tree) (js : List PostfixItem) (o : Sign) (op : BinaryOperator) → o ≡ binary_sign op → ReducedBy (level_of op) gs c → before gs ++ operand_marks c ≡ so_far s → Stepped s (waiting_by op gs c js) (Signed o)
 wait_steps s gs None js o op q r e = absurd r
 wait_steps s gs (Some x) js o op q r e = record {
@@ -161,7 +161,7 @@ wait_steps s gs (Some x) js o op q r e = record {
   sound = ((r.1, r.2, r.3, r.0), tt);
 }
 
--- a group ends behind what is left
+-- a group ends after what is left
 close_steps : (s : State) (n : ℕ) (gs : List Frame) (c : Option Tree) (js : List PostfixItem) (o : Sign) → o ≡ sign.CloseParenthesis → ReducedBy n gs c → before gs ++ operand_marks c ≡ so_far s → Steps s (Signed o) (closed_by gs c js)
 close_steps s n [] None js o q r e = tt
 close_steps s n [] (Some x) js o q r e = tt
@@ -224,7 +224,7 @@ ended fs (Some e) is f g i h =
     (IsReduced-reduced loosest fs e is g i.0 (omega (arith, i.1)) (subst (IsReady fs) (sym i.1) i.2)) (so_far-reduced loosest fs e is) h in
     (r.0 ∙ sym (append-nil (before fs ++ spelling e)), r.1)
 
--- behind the first token, by what is read of the others
+-- after the first token, by what is read of the others
 behind : (ms : List Mark) (s : State) (m : Mark) (o : Option State) (f : Found) → ((t : State) → IsSound t → run ms t ≡ Some f → (spelling f.tree ≡ so_far t ++ ms) × IsGrouped f.tree) → Steps s m o → option_and_then (run ms) o ≡ Some f → (spelling f.tree ≡ so_far s ++ m ∷ ms) × IsGrouped f.tree
 behind ms s m None f more g h = cc
 behind ms s m (Some t) f more g h =

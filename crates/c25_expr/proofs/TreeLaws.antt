@@ -38,7 +38,7 @@ bad_by ms (Some f) e none = absurd (none f.tree (run_tree f ms e))
 bad : (ms : List Mark) → ((e : Tree) → IsTreeOf ms e → ⊥) → tree_in ms ≡ Err BadExpression
 bad ms none = bad_by ms (run ms start) refl none
 
--- what is told of a list of tokens is what its pieces read as
+-- what is answered to a list of tokens is what its pieces read as
 pub reads_tree : (ts : List Token) (r : Result Expr (Failure ExpressionFault))
     → IfOk r (λ e. IsTreeOf (marks_of ts) (tree_of e) × (depth (tree_of e) ≤ 64))
     → (IsErrOf r (Fault BadExpression) → (e : Tree) → IsTreeOf (marks_of ts) e → ⊥)

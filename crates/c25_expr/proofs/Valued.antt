@@ -104,7 +104,7 @@ err_many : (names : Names) (here : Value) (is js : List PostfixItem) (f : ValueF
 err_many names here [] js f h = h
 err_many names here (i ∷ is) js f h = err_one names here i (built (is ++ js)) f (err_many names here is js f h)
 
--- how many trees there are behind an item
+-- how many trees there are after an item
 pub length_built : (i : PostfixItem) (ts : List Tree) → fits i (length ts) ≡ true → length (built_one i ts) ≡ height i (length ts)
 length_built (Push l) ts room = omega arith
 length_built Wrap [] room = absurd (omega (arith, ltb-true 0 0 room))
@@ -159,7 +159,7 @@ made names here g xs i d vs l valued left =
     ap (λ (ks : List PostfixItem). values_of names here (built ks)) (reverse_pushed g (take i xs) (take (i + 1) xs) (get_or xs i d) (take_more xs i d l))
     ∙ values_built names here (g (get_or xs i d)) ts (reverse vs) valued room
 
--- behind an item that has values
+-- after an item that has values
 pub values_more : {A : Type 0} (names : Names) (here : Value) (g : A → PostfixItem) (xs : List A) (i : ℕ) (d : A) (vs ws : List Value) → i < length xs
     → values_of names here (built (reverse (map g (take i xs)))) ≡ Ok (reverse vs) → runs (map g (drop i xs)) (length vs) ≡ true
     → applied names here (g (get_or xs i d)) (reverse vs) ≡ Ok (reverse ws)

@@ -1,3 +1,4 @@
+-- What the types of expressions, symbols and operands stand for, and how expressions are read and valued.
 pub mod Completes
 pub mod Pieces
 pub mod Postfix

@@ -1,4 +1,4 @@
-//! How an expression is read, token by token.
+//! How an expression is read, token by token, with a stack of what is open.
 
 ghost use Rattle.std.specs.Prelude.{◌≡◌, ◌≢◌, ◌+◌, ◌<◌, ◌≤◌, ◌^◌, Some, None, Err, true, false, map, reverse, length, slice_index, OnOk, OnErr, IfOk, IsErrOf, is_none, vec_len};
 ghost use Rattle.std.specs.Option.{ok_or, option_map};
@@ -26,14 +26,14 @@ use std::alloc::Global;
 pub(crate) enum Frame {
     /// A parenthesis.
     Open,
-    /// An operator before its operand.
+    /// A unary operator before its operand.
     Pending(UnaryOperator),
-    /// An operator behind its left operand.
+    /// A binary operator after its left operand.
     After(BinaryOperator),
 }
 
-/// The expression so far: what is open, the innermost last, the steps in postfix order, and
-/// whether an operand has to come.
+/// The expression so far: what is open, the innermost last, the items in postfix order, and whether an
+/// operand has to come.
 #[derive(Drop)]
 pub(crate) struct Builder {
     alloc: Global,
@@ -45,7 +45,7 @@ pub(crate) struct Builder {
 impl Builder {
     ghost use Rattle.c25_expr.specs.View.{state_of, behind, trees_of, items_of};
 
-    /// Nothing so far, with room for so many steps.
+    /// An expression before its first token, with room for so many items.
     pub(crate) fn new(alloc: Global, room: usize) -> Result<Self, NoMemory>
         ensures { IfOk result (λ b. state_of b ≡ start) }
     {
@@ -58,7 +58,7 @@ impl Builder {
         })
     }
 
-    /// The last operand is whole: the unary operators right before it take it.
+    /// The last operand is complete: the unary operators right before it take it.
     fn settle(&mut self) -> Result<(), NoMemory>
         ensures ok { OnOk result (behind self.new
             ≡ settle (behind self.old).frames (last_tree (trees_of self.old)) (items_of self.old)) }
@@ -71,7 +71,7 @@ impl Builder {
         Ok(())
     }
 
-    /// The operators of this level or tighter that wait for the last operand take it.
+    /// The binary operators of this level or a tighter one, right before the last operand, take it.
     fn reduce(&mut self, level: u8) -> Result<(), NoMemory>
         ensures ok { OnOk result (behind self.new
             ≡ reduced level (behind self.old).frames (last_tree (trees_of self.old)) (items_of self.old)) }
@@ -116,7 +116,8 @@ impl Builder {
         count
     }
 
-    /// What is told where the nesting has passed the limit before the rest of the tokens.
+    /// The fault that is reported where the nesting has passed the limit before the rest of the tokens:
+    /// `TooDeep` where these complete the expression, else `BadExpression`.
     #[tactic(auto, using(crate::proofs::Frames::is_none_operand))]
     pub(crate) fn refusal(&self, rest: &[Token<'_>]) -> ExpressionFault
         requires { vec_len self.now.frames + length rest.now < 2 ^ 64 }
@@ -132,7 +133,7 @@ impl Builder {
         }
     }
 
-    /// A sign where an operand has to come.
+    /// Takes a sign where an operand has to come: a unary operator or an opening parenthesis.
     fn open(&mut self, sign: Sign) -> Result<(), Failure<ExpressionFault>>
         requires { self.old.expects ≡ true }
         ensures { Meets (λ _. state_of self.new) (ok_or (operand_begun (state_of self.old).frames (items_of self.old) (unary_of sign) (is_open sign)) ExpressionFault.BadExpression) result }
@@ -148,7 +149,7 @@ impl Builder {
         }
     }
 
-    /// The innermost group ends behind the last operand.
+    /// The innermost group ends after the last operand.
     fn close(&mut self) -> Result<(), Failure<ExpressionFault>>
         requires { self.old.expects ≡ false }
         ensures { Meets (λ _. state_of self.new) (ok_or (closed (behind self.old)) ExpressionFault.BadExpression) result }
@@ -160,7 +161,7 @@ impl Builder {
         self.settle().map_err(Failure::from)
     }
 
-    /// A sign behind an operand.
+    /// Takes a sign after an operand: a binary operator or a closing parenthesis.
     fn follow(&mut self, sign: Sign) -> Result<(), Failure<ExpressionFault>>
         requires { self.old.expects ≡ false }
         ensures { Meets (λ _. state_of self.new) (ok_or (followed (behind self.old).frames (last_tree (trees_of self.old)) (items_of self.old) (binary_of sign) (is_close sign)) ExpressionFault.BadExpression) result }
@@ -179,7 +180,7 @@ impl Builder {
         }
     }
 
-    /// One token.
+    /// Takes one more token.
     pub(crate) fn take(&mut self, token: &Token<'_>) -> Result<(), Failure<ExpressionFault>>
         ensures { Meets (λ _. state_of self.new) (ok_or (step (state_of self.old) (mark_of (piece_of token.now))) ExpressionFault.BadExpression) result }
     {
@@ -193,7 +194,7 @@ impl Builder {
         }
     }
 
-    /// An operand by itself.
+    /// Takes an operand that is one token.
     fn put(&mut self, leaf: PostfixItem) -> Result<(), Failure<ExpressionFault>>
         ensures { (mark : Mark) → leaf_item mark ≡ Some (item_of leaf) → Meets (λ _. state_of self.new) (ok_or (step (state_of self.old) mark) ExpressionFault.BadExpression) result }
     {
@@ -205,7 +206,7 @@ impl Builder {
         self.settle().map_err(Failure::from)
     }
 
-    /// The expression, where all is closed.
+    /// The expression, if nothing is open any more.
     pub(crate) fn finish(self) -> Result<Expr, Failure<ExpressionFault>>
         requires { (f : Found) → finished (state_of self) ≡ Some f → runs (reverse f.items) 0
             ≡ true }
@@ -225,7 +226,7 @@ impl Builder {
     }
 }
 
-/// What a token stands for that is an operand by itself.
+/// The item that a token becomes which is an operand by itself: a name, a constant, a character or `$`.
 fn leaf_of(alloc: Global, token: &Token<'_>) -> Result<Option<PostfixItem>, NoMemory>
     ensures { IfOk result (λ o. option_map item_of o ≡ leaf_item (mark_of (piece_of token.now))) }
 {
@@ -238,7 +239,7 @@ fn leaf_of(alloc: Global, token: &Token<'_>) -> Result<Option<PostfixItem>, NoMe
     })
 }
 
-/// The character of a character constant: what stands behind its quote.
+/// The character of a character constant: the byte after its first quote.
 fn second_byte(text: &str) -> u8
     ensures { result ≡ slice_index text.now 1 }
 {

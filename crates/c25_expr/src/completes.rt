@@ -1,4 +1,4 @@
-//! Whether tokens complete an expression, by the parentheses that are open alone.
+//! Whether tokens complete an expression, found without its tree.
 
 ghost use Rattle.std.specs.Prelude.{◌≡◌, ◌+◌, ◌-◌, ◌<◌, ◌≤◌, ◌^◌, Some, None, true, false, length, is_some, IfSome, if◌then◌else◌};
 ghost use Rattle.c25_meaning_language.specs.Tree.{mark_of};
@@ -11,7 +11,8 @@ use crate::signs::{binary_of, unary_of};
 use c25_meaning_language::line::{Sign, TokenKind};
 use c25_text::tokens::Token;
 
-/// Whether an operand has to come, and how many parentheses are open, behind one more token.
+/// Whether an operand has to come, and how many parentheses are open, after one more token; None where the
+/// token may not stand there.
 fn behind(expects: bool, groups: usize, token: &Token<'_>) -> Option<(bool, usize)>
     requires { groups < 2 ^ 64 - 1 }
     ensures value { result ≡ behind expects groups (mark_of (piece_of token.now)) }
@@ -64,7 +65,8 @@ fn behind_follow(groups: usize, sign: Sign) -> Option<(bool, usize)>
     }
 }
 
-/// Whether tokens complete an expression, where so many parentheses are open.
+/// Whether tokens complete an expression of which the front was read: `expects` says whether an operand has
+/// to come, `groups` how many parentheses are open.
 pub(crate) fn completes(tokens: &[Token<'_>], expects: bool, groups: usize) -> bool
     requires { groups + length tokens.now < 2 ^ 64 }
     ensures { result ≡ completes (marks_of tokens.now) expects groups }

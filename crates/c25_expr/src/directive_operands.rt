@@ -23,8 +23,8 @@ use c25_substitution::strings::string_text;
 use c25_text::tokens::Token;
 use std::alloc::Global;
 
-/// The tree of tokens (SPRU018, expressions). It is refused with 20 where there is none, and with
-/// 21 where it nests too deep.
+/// The expression that tokens are (SPRU018, "Expressions"): `BadExpression` (20) where they are none,
+/// `TooDeep` (21) where it nests too deep.
 pub fn tree_in(alloc: Global, tokens: &[Token<'_>]) -> Result<Expr, Failure<FaultKind>>
     ensures { Meets tree_of (told expression_fault (tree_in (map mark_of (pieces_of tokens.now)))) result }
 {
@@ -73,7 +73,7 @@ fn is_quoted(kind: TokenKind) -> bool
     }
 }
 
-/// Whether an operand is one string (SPRU018, character strings).
+/// Whether an operand is one string (SPRU018, "Character Strings").
 pub fn is_string(operand: &[Token<'_>]) -> bool
     ensures { result ≡ is_string (pieces_of operand.now) }
 {
@@ -83,7 +83,7 @@ pub fn is_string(operand: &[Token<'_>]) -> bool
     }
 }
 
-/// An operand that is one string: what it says; 52 where it is none.
+/// The text of an operand that is one string, without its quotes; 52 where it is something else.
 pub fn string_in(alloc: Global, operand: &[Token<'_>]) -> Result<String, Failure<FaultKind>>
     ensures { Meets string_bytes (string_in (pieces_of operand.now)) result }
 {

@@ -1,4 +1,4 @@
-//! Reading expressions.
+//! Reading an expression from tokens.
 
 ghost use Rattle.std.specs.Prelude.{◌<◌, ◌≤◌, IfOk, IsErrOf, map};
 ghost use Rattle.c25_meaning_language.specs.Reading.{tree_in};
@@ -17,19 +17,18 @@ use std::alloc::Global;
 /// How deep parentheses and unary operators may nest.
 const MOST_NESTED: usize = 64;
 
-/// The expression that tokens are: the operands of a line, or those between two of its commas. It
-/// owns its names and borrows nothing. Tokens that are no expression are `BadExpression` however
-/// deep they nest.
+/// The expression that tokens are: all operands of a line, or what stands between two of its commas. It owns
+/// its names and borrows nothing. Tokens that are no expression are `BadExpression` however deep they nest.
 pub fn read_expr(alloc: Global, tokens: &[Token<'_>]) -> Result<Expr, Failure<ExpressionFault>>
     ensures ok { IfOk result (λ e. IsTreeOf (marks_of tokens.now) (tree_of e)
         × (depth (tree_of e) ≤ 64)) }
     // No tree has these tokens.
     ensures bad { IsErrOf result (Failure.Fault ExpressionFault.BadExpression) → (e : Tree)
         → ¬ IsTreeOf (marks_of tokens.now) e }
-    // Their tree is too deep.
+    // The tree of these tokens is too deep.
     ensures deep { IsErrOf result (Failure.Fault ExpressionFault.TooDeep) → (e : Tree)
         × IsTreeOf (marks_of tokens.now) e × (64 < depth e) }
-    // The same as the result of a function of the tokens.
+    // The result is that of the function `tree_in` of the definition, too.
     ensures told { Meets tree_of (tree_in (map mark_of (pieces_of tokens.now))) result }
 {
     let mut builder = Builder::new(alloc, tokens.len())?;

@@ -1,4 +1,4 @@
-//! Faults of lines, expressions and values as faults of a source.
+//! Faults of lines, expressions and values, as faults of a source.
 
 ghost use Rattle.std.specs.Prelude.{◌≡◌};
 ghost use Rattle.c25_meaning_language.specs.Operands.{line_fault};

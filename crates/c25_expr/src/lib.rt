@@ -1,4 +1,5 @@
-//! Expressions: their trees, the symbols of a module, values; operands of directives.
+//! Expressions: reading them from tokens, the symbols of a module, values; and the operands of a line and of
+//! directives.
 #![tactic(auto)]
 
 mod builder;

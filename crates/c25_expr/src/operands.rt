@@ -29,8 +29,8 @@ fn is_comma(kind: TokenKind) -> bool
     }
 }
 
-/// What stands between the commas of a line's tokens. No tokens are no operand; where there are some,
-/// one that is empty counts.
+/// What stands between the commas of a line's tokens. Where there are no tokens there is no operand; else an
+/// empty operand counts.
 pub fn operands_of<'a, 'b>(
     alloc: Global,
     tokens: &'b [Token<'a>],
@@ -114,7 +114,7 @@ fn by_two(token: &Token<'_>, sign: TokenKind) -> Option<Change>
     }
 }
 
-/// What the tokens behind `*` ask for.
+/// The change of the auxiliary register that the tokens after `*` ask for.
 fn change_behind(tokens: &[Token<'_>]) -> Option<Change>
     ensures { result ≡ change_behind (pieces_of tokens.now) }
 {
@@ -126,7 +126,7 @@ fn change_behind(tokens: &[Token<'_>]) -> Option<Change>
     }
 }
 
-/// The change of one of the seven indirect forms.
+/// The change of the auxiliary register, if the tokens are one of the seven indirect forms.
 fn indirect(tokens: &[Token<'_>]) -> Option<Change>
     ensures { result ≡ indirect (pieces_of tokens.now) }
 {
@@ -154,8 +154,8 @@ fn is_string(tokens: &[Token<'_>]) -> bool
     }
 }
 
-/// What an operand is by its tokens: one of the seven indirect forms, one string, or else an
-/// expression, whether or not the tokens are one.
+/// What an operand is by its tokens: one of the seven indirect forms, one string, or else an expression,
+/// whether or not the tokens are a valid one.
 pub fn written_of(tokens: &[Token<'_>]) -> Written
     ensures { result ≡ written_of (pieces_of tokens.now) }
 {

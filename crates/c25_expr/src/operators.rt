@@ -1,4 +1,4 @@
-//! Operators on values.
+//! What operators do with values.
 
 ghost use Rattle.std.specs.Prelude.{◌≡◌, ◌<◌, ◌≤◌, ◌^◌, ◌*ℤ◌, IfSome, MatchResult, Ok, Err};
 ghost use Rattle.c25_meaning_language.specs.declared.value.Base.TheVariants.{Absolute};
@@ -7,7 +7,7 @@ ghost use Rattle.c25_meaning_language.specs.Value.{in_range, shift_count, number
 use c25_meaning_language::expression::{BinaryOperator, UnaryOperator};
 use c25_meaning_language::value::{Base, Value, ValueFault};
 
-/// A number of 32 signed bits.
+/// A number, if it fits in 32 bits with its sign.
 fn in_range(number: i64) -> Result<i32, ValueFault>
     ensures { result ≡ in_range number }
 {
@@ -18,7 +18,7 @@ fn in_range(number: i64) -> Result<i32, ValueFault>
     }
 }
 
-/// A shift count, 0 to 31.
+/// A number as a shift count, if it is 0 to 31.
 fn shift_count(number: i32) -> Option<u32>
     ensures value { result ≡ shift_count number }
     ensures small { IfSome result (λ n. n < 32) }
@@ -98,7 +98,7 @@ fn truth(holds: bool) -> i32
     if holds { 1 } else { 0 }
 }
 
-/// An operator on numbers.
+/// What a binary operator makes of two numbers.
 fn number_of(operator: BinaryOperator, x: i32, y: i32) -> Result<i32, ValueFault>
     ensures { result ≡ number_of operator x y }
 {
@@ -122,7 +122,7 @@ fn number_of(operator: BinaryOperator, x: i32, y: i32) -> Result<i32, ValueFault
     }
 }
 
-/// The base of a result, where the operator takes these bases.
+/// The base of a result, if the operator may have operands of these bases.
 fn base_of(operator: BinaryOperator, x: Base, y: Base) -> Result<Base, ValueFault>
     ensures { result ≡ base_of operator x y }
 {
@@ -153,7 +153,7 @@ pub(crate) fn binary_value(
     Ok(Value { base, offset })
 }
 
-/// A plain number, as a value.
+/// The value of a number by itself, if it fits in 32 bits with its sign.
 fn absolute_value(number: i64) -> Result<Value, ValueFault>
     ensures { MatchResult (in_range number) (λ z. result ≡ Ok (record { base = Absolute; offset = z })) (λ f. result ≡ Err f) }
 {

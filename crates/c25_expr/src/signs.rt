@@ -1,4 +1,4 @@
-//! The operators that signs are.
+//! Which operators the signs are, and how tight the operators bind.
 
 ghost use Rattle.std.specs.Prelude.{◌≡◌};
 ghost use Rattle.c25_meaning_language.specs.Tree.{level_of};
@@ -7,10 +7,10 @@ ghost use Rattle.c25_meaning_language.specs.Reading.{unary_of, binary_of};
 use c25_meaning_language::expression::{BinaryOperator, UnaryOperator};
 use c25_meaning_language::line::Sign;
 
-/// The loosest level of operators.
+/// The level of the operators that bind loosest.
 pub(crate) const LOOSEST: u8 = 8;
 
-/// The level of an operator; 1 is the tightest.
+/// The level of an operator; 1 binds tightest.
 pub(crate) fn level_of(operator: BinaryOperator) -> u8
     ensures { result ≡ level_of operator }
 {

@@ -1,4 +1,4 @@
-//! The steps of an expression.
+//! The items of an expression, kept as one or as several.
 
 ghost use Rattle.std.specs.Prelude.{◌≡◌, length};
 ghost use Rattle.c25_expr.specs.Steps.{steps_of};
@@ -7,7 +7,7 @@ use crate::tree::{PostfixItem, Steps};
 use std::slice;
 
 impl Steps {
-    /// These steps.
+    /// Keeps items, in order; where there is one, it takes no memory of its own.
     pub(crate) fn of(items: Vec<PostfixItem>) -> Steps
         ensures { steps_of result ≡ items.items }
     {

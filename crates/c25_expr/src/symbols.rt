@@ -11,7 +11,7 @@ use std::alloc::Global;
 use std::marker::Model;
 use thiserror::Error;
 
-/// A name stands for something already (26).
+/// The fault of a name that stands for something already (26).
 #[derive(Clone, Copy, PartialEq, Debug, Error)]
 #[error("{}", self.name())]
 pub struct Defined;
@@ -19,7 +19,7 @@ pub struct Defined;
 impl Defined {
     ghost use Rattle.std.specs.Prelude.{◌≡◌, codes};
 
-    /// The name that it is told by.
+    /// The name of the fault shown to the user.
     pub fn name(&self) -> &'static str
         ensures { result.now ≡ codes "Defined" }
     {
@@ -62,8 +62,8 @@ impl Symbols {
         }
     }
 
-    /// What a name stands for: an AR or PA name, in either case, for its number; another for what it
-    /// was defined as.
+    /// What a name stands for: an AR or PA name, in upper or lower case, for its number, another name for the
+    /// value that it was defined as.
     pub fn get(&self, name: &str) -> Option<Value>
         ensures { result ≡ value_named self.now name.now }
     {
@@ -83,7 +83,7 @@ impl Symbols {
         self.entries.len()
     }
 
-    /// The name and the value of a number, from 0 in order of definition.
+    /// The name and the value of the symbol with this number, from 0 in order of definition.
     pub fn entry(&self, number: usize) -> Option<(&str, Value)>
         ensures { option_map (λ e. (e.0.now, e.1)) result ≡ slice_get self.now.entries number }
     {
@@ -93,7 +93,7 @@ impl Symbols {
         }
     }
 
-    /// The current place.
+    /// The current place, which `$` stands for.
     pub(crate) fn here(&self) -> Value
         ensures { result ≡ self.now.here }
     {
@@ -107,9 +107,8 @@ impl Symbols {
         self.here = here;
     }
 
-    /// Defines a name that stands for nothing yet. It comes last in the order of definition. `Defined`
-    /// (26) where the name stands for something, AR and PA names among them; where memory is refused
-    /// nothing is defined.
+    /// Defines a name that stands for nothing yet; it comes last in the order of definition. `Defined` (26)
+    /// where the name stands for something, AR and PA names among them. Out of memory nothing is defined.
     pub fn define(&mut self, name: &str, value: Value) -> Result<(), Failure<Defined>>
         ensures defined { IsErrOf result (Failure.Fault (record {}))
             ↔ IsSome (value_named self.old name.now) }
@@ -126,14 +125,14 @@ impl Symbols {
     }
 }
 
-/// Whether a name is one of the AR and PA names, in either case.
+/// Whether a name is one of the AR and PA names, in upper or lower case.
 pub fn is_predefined(name: &str) -> bool
     ensures { result ≡ is_some (predefined name.now) }
 {
     predefined(name.as_bytes()).is_some()
 }
 
-/// The number of a predefined name.
+/// The number of an AR or PA name, in upper or lower case.
 fn predefined(name: &[u8]) -> Option<u8>
     ensures { result ≡ predefined name.now }
 {

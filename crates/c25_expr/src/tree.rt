@@ -1,4 +1,4 @@
-//! Expressions that were read.
+//! Expressions in postfix order.
 
 ghost use Rattle.std.specs.Prelude.{◌≡◌, true, map};
 ghost use Rattle.c25_expr.specs.Postfix.{item_of, runs};
@@ -6,10 +6,10 @@ ghost use Rattle.c25_expr.specs.Steps.{steps_of};
 
 use c25_meaning_language::expression::{BinaryOperator, UnaryOperator};
 
-/// One step of an expression in postfix order.
+/// One item of an expression in postfix order.
 #[derive(Drop)]
 pub(crate) enum PostfixItem {
-    /// A constant. One above 2,147,483,647 stands as 2,147,483,648, which has no value.
+    /// A constant. One above 2,147,483,647 is kept as 2,147,483,648, which has no value.
     Constant(u32),
     /// A name.
     Name(String),
@@ -23,15 +23,15 @@ pub(crate) enum PostfixItem {
     Binary(BinaryOperator),
 }
 
-/// The steps of an expression. Most have one, which takes no memory of its own.
+/// The items of an expression. Most have one, which takes no memory of its own.
 #[derive(Drop)]
 pub(crate) enum Steps {
     One(PostfixItem),
     Several(Vec<PostfixItem>),
 }
 
-/// An expression. It is kept in postfix order, so that neither its value nor its end takes a
-/// recursion that is as deep as the expression is long.
+/// An expression. It is kept in postfix order, so that neither valuing nor dropping it recurses as deep as
+/// the expression is long.
 #[derive(Drop)]
 pub struct Expr {
     pub(crate) steps: Steps,

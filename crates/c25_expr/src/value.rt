@@ -14,15 +14,15 @@ use crate::tree::{Expr, PostfixItem};
 use arrayvec::ArrayVec;
 use c25_meaning_language::value::{Value, ValueFault};
 
-/// How many operands wait at most, in the deepest expression.
+/// How many operands wait at most while an expression is valued.
 const DEEPEST: usize = 521;
 
-/// How many items an expression has at most for which less room is enough. Most have one or three, and room
-/// costs time.
+/// An expression of at most so many items is valued with less room. Most have one or three, and filling the
+/// room costs time.
 const FEW: usize = 8;
 
-/// The value of an expression under symbols: the left operand is valued before the right one, and
-/// both before the operator; kinds are looked at before numbers. It takes no memory.
+/// The value of an expression under symbols: the left operand is valued before the right one, and both before
+/// the operator; bases are looked at before numbers. It takes no memory.
 pub fn value(expr: &Expr, symbols: &Symbols) -> Result<Value, ValueFault>
     ensures { result ≡ value_of (value_named symbols.now) symbols.now.here (tree_of expr.now) }
 {
@@ -34,8 +34,8 @@ pub fn value(expr: &Expr, symbols: &Symbols) -> Result<Value, ValueFault>
     }
 }
 
-/// The same of an expression of any number of items. A function of its own, whose room is filled only
-/// where it is called: inlined, it would be filled for each expression.
+/// The value of an expression of any number of items. It is a function of its own, so that its room is filled
+/// only where it is called: inlined, it would be filled for each expression.
 #[inline(never)]
 fn value_of_many(expr: &Expr, symbols: &Symbols) -> Result<Value, ValueFault>
     ensures { result ≡ value_of (value_named symbols.now) symbols.now.here (tree_of expr.now) }
@@ -43,7 +43,7 @@ fn value_of_many(expr: &Expr, symbols: &Symbols) -> Result<Value, ValueFault>
     value_over(expr, symbols, &mut ArrayVec::<Value, DEEPEST>::new())
 }
 
-/// The same, over room for the operands that wait, the last last.
+/// The value of an expression, item by item, with room for the operands that wait, the last one last.
 fn value_over<const ROOM: usize>(
     expr: &Expr,
     symbols: &Symbols,
@@ -59,7 +59,7 @@ fn value_over<const ROOM: usize>(
     Ok(last_of(waiting))
 }
 
-/// Values an item of an expression over the operands that wait.
+/// Values one item of an expression with the operands that wait.
 fn apply<const ROOM: usize>(
     item: &PostfixItem,
     waiting: &mut ArrayVec<Value, ROOM>,
@@ -91,7 +91,7 @@ fn apply<const ROOM: usize>(
     }
 }
 
-/// Puts a value, if there is one, behind the operands that wait.
+/// Puts a value, if there is one, after the operands that wait.
 #[inline]
 fn put_onto<const ROOM: usize>(
     waiting: &mut ArrayVec<Value, ROOM>,
@@ -106,7 +106,7 @@ fn put_onto<const ROOM: usize>(
     Ok(())
 }
 
-/// Takes the last operand that waits off.
+/// Takes away the last operand that waits.
 fn last_of<const ROOM: usize>(waiting: &mut ArrayVec<Value, ROOM>) -> Value
     requires { 0 < array_vec_len waiting.old }
     ensures value { reverse waiting.old.items ≡ result ∷ reverse waiting.new.items }

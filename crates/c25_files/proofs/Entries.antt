@@ -37,7 +37,7 @@ pub none_there : {A : Type 0} (o : Option A) → is_some o ≡ false → o ≡ N
 none_there None h = refl
 none_there (Some x) h = absurd (cc)
 
--- an option that is none is none behind a function
+-- an option that is None is None after a function
 pub is_some_mapped : {A B : Type 0} (f : A → B) (o : Option A) (p : Option B) → option_map f o ≡ p → is_some o ≡ false → is_some p ≡ false
 is_some_mapped f None p e h = ap is_some (sym e)
 is_some_mapped f (Some x) p e h = absurd (cc)

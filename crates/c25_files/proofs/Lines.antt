@@ -1,4 +1,4 @@
--- The lines of a text are the first one and those behind it; so are lines with their places.
+-- The lines of a text are the first one and those after it; so are lines with their places.
 use Rattle.std.proofs.Common.{◌≡◌, ℕ, ◌+◌, ◌-◌, ◌<◌, ◌≤◌, zero, suc, Bool, not, true, false, cond, List, [], ◌∷◌, ◌++◌, length, take, drop, refl, ap, sym, ◌∙◌, arith, eqb, get_or, length-append, Some, None}
 use Rattle.std.proofs.lemmas.List.{drop-drop, take-take, take_at, length-take-le}
 use Rattle.std.specs.List.{position_or_len, before_first, after_first, slice_split, onto_first, slice_get}
@@ -75,7 +75,7 @@ pub length-rows : (file line : ℕ) (texts : List (List ℕ)) → length (rows_f
 length-rows file line [] = refl
 length-rows file line (x ∷ texts) = ap suc (length-rows file (line + 1) texts)
 
--- the line behind so many
+-- the line after so many
 pub one_more : (file line n : ℕ) (texts ys : List (List ℕ)) (x : List ℕ) → drop n texts ≡ x ∷ ys
     → take (suc n) (rows_from file line texts) ≡ take n (rows_from file line texts) ++ record { place = record { file = file; line = line + n }; text = x } ∷ []
 one_more file line zero [] ys x e = absurd (omega (arith, ap length e))
@@ -89,7 +89,7 @@ one_more file line (suc n) (t ∷ texts) ys x e =
     ap (λ rows. record { place = record { file = file; line = line }; text = t } ∷ rows) (one_more file (line + 1) n texts ys x e)
     ∙ ap (λ k. record { place = record { file = file; line = line }; text = t } ∷ (take n (rows_from file (line + 1) texts) ++ record { place = record { file = file; line = k }; text = x } ∷ [])) z
 
--- what stands behind one more
+-- what stands after one more
 pub drop_next : {A : Type 0} (xs ys : List A) (x : A) (n : ℕ) → drop n xs ≡ x ∷ ys → drop (n + 1) xs ≡ ys
 drop_next xs ys x n e = sym (drop-drop 1 n xs) ∙ ap (drop 1) e
 

@@ -1,8 +1,8 @@
--- Texts whose lines are counted.
+-- How many lines a text has.
 use Rattle.std.specs.Prelude.{◌≡◌, ℕ, ◌≤◌, List, length}
 use Rattle.std.specs.Str.Lines.{lines}
 
--- so many are its lines; each has a byte of its own at least
+-- a text has so many lines; each of them has at least a byte of its own
 pub record IsCounted (count : ℕ) (text : List ℕ) : Type 0 where
   pub counted : count ≡ length (lines text)
   pub few : count ≤ length text

@@ -1,3 +1,4 @@
+-- What files, their lines and the texts of readers stand for.
 pub mod Whole
 pub mod Passages
 pub mod Added

@@ -1,4 +1,4 @@
-//! The texts of sources by their names.
+//! The texts of sources, by their names.
 
 ghost use Rattle.std.specs.Prelude.{◌≡◌, ◌↔◌, [], ◌∷◌, ◌++◌, IsSome, IfSome, IsErrOf, OnOk, OnErr, is_some, false, length, take, string_bytes};
 ghost use Rattle.std.specs.Option.{option_map};
@@ -18,7 +18,7 @@ use std::io::Read;
 use std::marker::Model;
 use thiserror::Error;
 
-/// The name is there already (37).
+/// The fault of a name under which there is a text already (37).
 #[derive(Clone, Copy, PartialEq, Debug, Error)]
 #[error("{}", self.name())]
 pub struct FileTwice;
@@ -26,7 +26,7 @@ pub struct FileTwice;
 impl FileTwice {
     ghost use Rattle.std.specs.Prelude.{◌≡◌, codes};
 
-    /// The name that it is told by.
+    /// The name of the fault shown to the user.
     pub fn name(&self) -> &'static str
         ensures { result.now ≡ codes "FileTwice" }
     {
@@ -38,9 +38,9 @@ impl FileTwice {
 #[derive(Clone, Copy, PartialEq, Debug, Error)]
 #[error("{}", self.name())]
 pub enum AddFault {
-    /// The name is there already (37).
+    /// There is a text under this name already (37).
     FileTwice,
-    /// The reader's rest cannot be read, is too long or is not UTF-8 (8).
+    /// What the reader has left cannot be read, is too long or is not UTF-8 (8).
     CannotRead,
 }
 
@@ -48,7 +48,7 @@ impl AddFault {
     ghost use Rattle.std.specs.Prelude.{◌≡◌};
     ghost use Rattle.c25_files.specs.FaultNames.{fault_name};
 
-    /// The name that it is told by.
+    /// The name of the fault shown to the user.
     pub fn name(&self) -> &'static str
         ensures { result.now ≡ fault_name self.now }
     {
@@ -66,7 +66,7 @@ pub struct Files {
     texts: IndexMap<String, Text>,
 }
 
-/// Files are seen as the list of their names and texts.
+/// `Files` stands for the list of its names and texts.
 impl Model for Files {
     ghost use Rattle.std.specs.Prelude.{ℕ, List};
     ghost use Rattle.c25_files.specs.Entries.{named_texts};
@@ -87,21 +87,21 @@ impl Files {
         }
     }
 
-    /// How many there are.
+    /// How many files there are.
     pub fn len(&self) -> usize
         ensures { result ≡ length self.now }
     {
         self.texts.len()
     }
 
-    /// Keeps so many of the first ones.
+    /// Keeps only the first `count` files.
     pub fn truncate(&mut self, count: usize)
         ensures { self.new ≡ take count self.old }
     {
         self.texts.truncate(count);
     }
 
-    /// The text of a name, where there is one.
+    /// The text of the file with this name, if there is one.
     pub fn text(&self, name: &str) -> Option<&str>
         ensures { option_map (λ text. text.now) result ≡ text_named self.now name.now }
     {
@@ -111,7 +111,7 @@ impl Files {
         }
     }
 
-    /// The number and the text of the file of a name, where there is one.
+    /// The number and the text of the file with this name, if there is one.
     pub fn find(&self, name: &str) -> Option<(usize, &Text)>
         ensures text { option_map (λ f. f.1.now) result ≡ text_named self.now name.now }
         ensures number { IfSome result (λ f. f.0 ≡ file_number self.now name.now) }
@@ -122,7 +122,7 @@ impl Files {
         }
     }
 
-    /// The name of the file of a number, or nothing where there is none.
+    /// The name of the file with this number, or an empty text where there is none.
     pub fn name(&self, number: usize) -> &str
         ensures { result.now ≡ file_name self.now number }
     {
@@ -132,7 +132,7 @@ impl Files {
         }
     }
 
-    /// Puts a text behind the others, under a name that none of them has.
+    /// Puts a text after the others, under a name that none of them has.
     fn put(&mut self, name: &str, text: String) -> Result<(), NoMemory>
         requires { is_some (text_named self.old name.now) ≡ false }
         ensures ok { OnOk result (self.new ≡ self.old ++ (name.now, string_bytes text) ∷ []) }
@@ -143,7 +143,8 @@ impl Files {
         Ok(())
     }
 
-    /// Adds a text under a new name. After a refusal the files are as before.
+    /// Adds a text under a new name. `FileTwice` (37) where there is a text under this name. After a refusal
+    /// the files are as before.
     pub fn add(&mut self, name: &str, text: &str) -> Result<(), Failure<FileTwice>>
         ensures twice { IsErrOf result (Failure.Fault (record {})) ↔ IsSome (text_named self.old name.now) }
         ensures ok { OnOk result (self.new ≡ self.old ++ (name.now, text.now) ∷ []) }
@@ -157,10 +158,10 @@ impl Files {
         Ok(())
     }
 
-    /// Adds all that a reader has left, under a new name: what `add` makes of that text, however the
-    /// reads cut it. A name that is there is refused before anything is read (37). The text is refused
-    /// (8) where a read fails, where it is not UTF-8, where 33,554,432 reads bring no end, and where it
-    /// has more than 16,777,216 bytes. After a refusal the files are as before.
+    /// Adds all that a reader has left, under a new name: the text that `add` would add, however the reads
+    /// cut it. A name that is there is refused before anything is read (37). The text is refused (8) where a
+    /// read fails, where it is not UTF-8, where 33,554,432 reads bring no end, and where it has more than
+    /// 16,777,216 bytes. After a refusal the files are as before.
     pub fn add_from<R: Read>(&mut self, name: &str, reader: &mut R) -> Result<(), Failure<AddFault>>
         ensures twice { IsErrOf result (Failure.Fault fault.FileTwice) ↔ IsSome (text_named self.old name.now) }
         ensures unread { IsErrOf result (Failure.Fault fault.FileTwice) → reader.new ≡ reader.old }

@@ -1,4 +1,5 @@
-//! The texts of sources by their names, given or read from readers; lines of texts where they stand.
+//! The texts of sources by their names, given or read from readers; and the lines of these texts with their
+//! places.
 #![tactic(auto)]
 
 pub mod files;

@@ -9,20 +9,20 @@ use crate::rows::{Row, Rows};
 use c25_meaning_expansion::place::SourcePlace;
 use std::marker::Model;
 
-/// Lines that are read one after another. Those since the mark are lines of the text too, so that a body
-/// is collected without a copy.
+/// Lines of a file that are read one after another. Those read since the mark are kept as a part of the text,
+/// so that a macro's body is collected without a copy.
 #[derive(Drop)]
 pub struct Passage<'a> {
-    /// What stands from the next line on.
+    /// The text from the next line on.
     rest: &'a str,
     file: usize,
     /// The number of the next line.
     line: usize,
     /// How many lines are still to come.
     count: usize,
-    /// What stands from the mark on.
+    /// The text from the mark on.
     begun: &'a str,
-    /// How many lines were read since.
+    /// How many lines were read since the mark.
     passed: usize,
 }
 
@@ -39,7 +39,7 @@ impl<'a> Model for Passage<'a> {
 }
 
 impl<'a> Passage<'a> {
-    /// So many lines from the front of a text on, the first of them at this line of a file.
+    /// The first `count` lines of a text, of which the first is line `line` of a file.
     pub(crate) fn new(text: &'a str, file: usize, line: usize, count: usize) -> Passage<'a>
         requires { IsRange line count text.now }
         ensures rest { result.rest ≡ rows_in file line count text.now }
@@ -76,7 +76,7 @@ impl<'a> Passage<'a> {
         Some(Row::new(place, text))
     }
 
-    /// Where the next line stands, if one comes.
+    /// The place of the next line, if there is one.
     pub fn next_place(&self) -> Option<SourcePlace>
         ensures { result ≡ option_map (λ row. row.place) (slice_get self.now.rest 0) }
     {
@@ -88,7 +88,7 @@ impl<'a> Passage<'a> {
         Some(SourcePlace { file, line })
     }
 
-    /// The mark stands here.
+    /// Sets the mark before the next line.
     pub fn mark(&mut self)
         ensures passed { self.new.passed ≡ [] }
         ensures rest { self.new.rest ≡ self.old.rest }
@@ -97,7 +97,7 @@ impl<'a> Passage<'a> {
         self.passed = 0;
     }
 
-    /// The lines since the mark without the last one.
+    /// The lines read since the mark, without the last one.
     pub fn body(&self) -> Rows<'a>
         ensures { (body : List Row) → (last : Row) → self.now.passed ≡ body ++ last ∷ [] → result ≡ body }
     {

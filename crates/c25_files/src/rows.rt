@@ -9,7 +9,7 @@ use crate::passage::Passage;
 use c25_meaning_expansion::place::SourcePlace;
 use std::marker::Model;
 
-/// A line of a file: where it stands, and its text without its end.
+/// A line of a file: its place, and its text without its end.
 #[derive(Drop)]
 pub struct Row<'a> {
     place: SourcePlace,
@@ -31,14 +31,14 @@ impl<'a> Row<'a> {
         Row { place, text }
     }
 
-    /// Where it stands.
+    /// The place of the line.
     pub fn place(&self) -> SourcePlace
         ensures { result ≡ self.now.place }
     {
         self.place
     }
 
-    /// Its text, which is borrowed from the file's.
+    /// The text of the line, borrowed from that of the file.
     pub fn text(&self) -> &'a str
         ensures { result.now ≡ self.now.text }
     {
@@ -46,12 +46,12 @@ impl<'a> Row<'a> {
     }
 }
 
-/// Lines still to come, the next one first: so many from the front of a text on.
+/// Lines of a file, in order: the first `count` lines of a text.
 #[derive(Drop)]
 pub struct Rows<'a> {
     text: &'a str,
     file: usize,
-    /// The number of the next line.
+    /// The number of the first of these lines in the file.
     line: usize,
     count: usize,
 }
@@ -69,7 +69,7 @@ impl<'a> Model for Rows<'a> {
 }
 
 impl<'a> Rows<'a> {
-    /// So many lines from the front of a text on, the first of them at this line of a file.
+    /// The first `count` lines of a text, of which the first is line `line` of a file.
     pub(crate) fn new(text: &'a str, file: usize, line: usize, count: usize) -> Rows<'a>
         requires { IsRange line count text.now }
         ensures { result ≡ rows_in file line count text.now }
@@ -82,7 +82,7 @@ impl<'a> Rows<'a> {
         }
     }
 
-    /// The lines of a file with this text, which are so many.
+    /// All lines of a file with this text, of which there are `count`.
     pub fn of_file(file: usize, text: &'a str, count: usize) -> Rows<'a>
         requires counted { count ≡ length (lines text.now) }
         requires few { count ≤ length text.now }
@@ -108,7 +108,7 @@ impl<'a> Rows<'a> {
         }
     }
 
-    /// The same lines.
+    /// A second list of these lines. The text is not copied.
     pub fn copy(&self) -> Rows<'a>
         ensures { result ≡ self.now }
     {
@@ -120,7 +120,7 @@ impl<'a> Rows<'a> {
         }
     }
 
-    /// The same lines, to be read one after another.
+    /// Makes a passage of the lines, which are then read one after another.
     pub fn into_passage(self) -> Passage<'a>
         ensures rest { result.rest ≡ self.entry }
         ensures passed { result.passed ≡ [] }
@@ -128,14 +128,14 @@ impl<'a> Rows<'a> {
         Passage::new(self.text, self.file, self.line, self.count)
     }
 
-    /// Whether no line is to come.
+    /// Whether there are no lines.
     pub fn is_empty(&self) -> bool
         ensures { result ≡ is_empty self.now }
     {
         self.count == 0
     }
 
-    /// Where the last line stands, or this place where there is none.
+    /// The place of the last line, or `place` where there are no lines.
     pub fn last_place(&self, place: SourcePlace) -> SourcePlace
         ensures { result ≡ last_place place self.now }
     {

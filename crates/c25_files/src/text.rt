@@ -1,4 +1,4 @@
-//! Texts whose lines are counted.
+//! The text of a file, with the number of its lines.
 
 ghost use Rattle.std.specs.Prelude.{◌≡◌, string_bytes};
 ghost use Rattle.c25_meaning_expansion.specs.Rows.{rows_of};
@@ -13,7 +13,7 @@ pub struct Text {
     count: usize,
 }
 
-/// It is seen as its bytes.
+/// A `Text` stands for its bytes.
 impl Model for Text {
     ghost use Rattle.std.specs.Prelude.{ℕ, List};
     ghost use Rattle.std.specs.String.{string_bytes};
@@ -40,7 +40,8 @@ impl Text {
         self.text.as_str()
     }
 
-    /// Its lines, as those of the file of this number. They are not copied, and it takes no memory.
+    /// The lines of the text, as those of the file of this number. They are not copied, and it takes no
+    /// memory.
     pub fn rows(&self, file: usize) -> Rows<'_>
         ensures { result ≡ rows_of file self.now }
     {

@@ -1,4 +1,4 @@
-//! What readers have left.
+//! Reading all that a reader has left.
 
 ghost use Rattle.std.specs.Prelude.{◌≡◌, ◌≤◌, IfOk, IfSome, OnOk, length, string_bytes};
 ghost use Rattle.std.specs.Io.KnownBytes.{IsAtEnd};
@@ -9,11 +9,11 @@ use std::alloc::Global;
 use std::io::Read;
 use thiserror::Error;
 
-/// A text may have so many bytes.
+/// How many bytes a text may have.
 const LIMIT: usize = 16_777_216;
 
-/// A text that cannot be had: a read failed or there were too many, a byte past the limit came, or
-/// the bytes are not UTF-8 (8).
+/// The fault of a text that cannot be read: a read failed or there were too many, a byte past the limit came,
+/// or the bytes are not UTF-8 (8).
 #[derive(Clone, Copy, Debug, Error)]
 #[error("{}", self.name())]
 pub struct CannotRead;
@@ -21,7 +21,7 @@ pub struct CannotRead;
 impl CannotRead {
     ghost use Rattle.std.specs.Prelude.{◌≡◌, codes};
 
-    /// The name that it is told by.
+    /// The name of the fault shown to the user.
     pub fn name(&self) -> &'static str
         ensures { result.now ≡ codes "CannotRead" }
     {
@@ -29,8 +29,8 @@ impl CannotRead {
     }
 }
 
-/// All that a reader has left, however its reads cut it. It is refused (8) where a read fails, where
-/// 33,554,432 reads bring no end, and where there are more than 16,777,216 bytes.
+/// All bytes that a reader has left, however its reads cut them. They are refused (8) where a read fails,
+/// where 33,554,432 reads bring no end, and where there are more than 16,777,216 of them.
 pub fn read_bytes<R: Read>(alloc: Global, reader: &mut R) -> Result<Vec<u8>, Failure<CannotRead>>
     ensures ok { IfOk result (λ bytes. IsAllOf (R.remaining reader.old) bytes.items) }
     ensures end { OnOk result (IsAtEnd (R.remaining reader.new)) }
@@ -52,8 +52,8 @@ pub fn read_bytes<R: Read>(alloc: Global, reader: &mut R) -> Result<Vec<u8>, Fai
     Err(Failure::Fault(CannotRead))
 }
 
-/// A reader's rest as a text. It is refused (8) where the bytes cannot be had, and where they are not
-/// UTF-8.
+/// All that a reader has left, as a text. It is refused (8) where the bytes cannot be read, and where they
+/// are not UTF-8.
 pub fn read_text<R: Read>(alloc: Global, reader: &mut R) -> Result<String, Failure<CannotRead>>
     ensures ok { IfOk result (λ text. IsAllOf (R.remaining reader.old) (string_bytes text)) }
     ensures end { OnOk result (IsAtEnd (R.remaining reader.new)) }

@@ -1,4 +1,4 @@
-//! Lines, from outside.
+//! Tests of lines and their tokens, as a caller sees them.
 
 use crate::values::equal;
 use c25_meaning_common::bytes::{begins_name, byte_at, is_blank, is_digit};

@@ -1,4 +1,4 @@
-//! Operands, from outside.
+//! Tests of operands, as a caller sees them.
 
 use crate::values::equal;
 use c25_expr::operands::{operands_of, tokens_of, written_of};
@@ -10,7 +10,7 @@ use c25_text::tokens::Token;
 use std::alloc::Global;
 use std::test::Fail;
 
-/// What the operands of tokens are, where there are five.
+/// What each of the operands of tokens is, if there are five.
 fn five_written(alloc: Global, tokens: &[Token<'_>]) -> Result<Option<[Written; 5]>, NoMemory> {
     let operands = operands_of(alloc, tokens)?;
     match operands.as_slice() {
@@ -25,7 +25,7 @@ fn five_written(alloc: Global, tokens: &[Token<'_>]) -> Result<Option<[Written; 
     }
 }
 
-/// The same of a line.
+/// What each of the operands of a line is, if there are five.
 fn written_in(alloc: Global, line: &Line<'_>) -> Result<Option<[Written; 5]>, NoMemory> {
     let tokens = tokens_of(alloc, line)?;
     five_written(alloc, &tokens)

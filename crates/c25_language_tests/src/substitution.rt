@@ -1,4 +1,5 @@
-//! Substitution in lines that no source may have, as an independent model of the expander answers.
+//! Tests of substitution in lines that no source may have; the answers are those of an independent model of
+//! the expander.
 
 use crate::values::equal;
 use c25_meaning_common::no_memory::NoMemory;
@@ -11,19 +12,19 @@ use c25_substitution::visible::Visible;
 use std::alloc::{AllocError, Global};
 use std::test::Fail;
 
-/// A row for each line: what it becomes where the text of `k` is 1, `|`, and the line.
+/// One row for each line: what the line becomes where `k` stands for `1`, then a bar, then the line.
 const LINES: &str = r#":u1|:u:k:
 :u:1|:u::k:
  é1é 1| é:k:é k
  "k| "k
 a.b 1.k .k|a.b k.k .k"#;
 
-/// The same for lines of `.asg` and `.eval`.
+/// One row for each line of `.asg` and `.eval`, as in `LINES`.
 const ASSIGNMENTS: &str = r#" .eval 1,1,k ; ",| .eval k,k,k ; ",
  .asg 1| .asg k
 L .asg 1;,k|L .asg k;,k"#;
 
-/// How the names in a line are replaced.
+/// Where in a line names are replaced.
 #[derive(Clone, Copy)]
 enum Replaced {
     Everywhere,
@@ -45,7 +46,7 @@ fn is_as_told(alloc: Global, names: &Visible<'_>, replaced: Replaced, row: &str)
     }
 }
 
-/// The first row whose line becomes something else.
+/// The first row whose line becomes something else than the row says.
 fn first_other<'a>(
     alloc: Global,
     names: &Visible<'_>,
@@ -60,7 +61,7 @@ fn first_other<'a>(
     None
 }
 
-/// The text of `k` is 1.
+/// Lets `k` stand for `1`.
 fn put_text(alloc: Global, texts: &mut SubstitutionTexts) -> Result<(), NoMemory> {
     let text = String::from_str(alloc, "1")?;
     texts.put("k", text)
@@ -81,7 +82,7 @@ fn lines_that_no_source_may_have_are_substituted(rt: HostRuntime) {
     equal(&rt, others, [None, None]);
 }
 
-/// Whether a line of a macro is kept.
+/// Whether a line of `.macro` stays as it is.
 fn is_kept(line: &str) -> bool {
     match unsubstituted(line) {
         Ok(kept) => kept.as_str() == line,
@@ -89,7 +90,7 @@ fn is_kept(line: &str) -> bool {
     }
 }
 
-/// Whether this is the text of a string.
+/// Whether a string token stands for this text.
 fn is_text_of(alloc: Global, text: &str, string: &str) -> bool {
     match string_text(alloc, string) {
         Ok(found) => found.as_str() == text,

@@ -1,4 +1,4 @@
--- A line that is given was read, so fewer may be read behind it.
+-- A line that is given was read, so fewer may be read after it.
 use Rattle.std.proofs.Common.{◌≡◌, ℕ, ◌<◌, List, Option, Some, None, Result, Ok, Err, IfOk, IfSome, refl, ap, subst}
 use Rattle.c25_meaning_expansion.specs.Files.{Files}
 use Rattle.c25_meaning_language.specs.Value.{Table}

@@ -17,7 +17,7 @@ use Rattle.c25_macro.specs.declared.scope.Source.{Source}
 use Rattle.c25_macro.specs.declared.refusal.Refusal.{Refusal}
 use Rattle.c25_macro.specs.declared.refusal.Refusal.TheVariants.{Faulty, Missing}
 
--- a refusal, which may be want of memory
+-- a refusal, which may be that memory ran out
 pub first_refusing : (files : Files) (s : Table) (n : ℕ) (old mid : Config) (failure : Failure Refusal) → Leads files s n old mid → Refuses (rewrite files s mid) failure → Refuses (first files s old) failure
 first_refusing files s n old mid (NoMemory e) leads h = tt
 first_refusing files s n old mid (Fault (Faulty place kind)) leads h = comes_to_first files s old (Faults place kind) (n, mid, leads, h) tt

@@ -1,4 +1,4 @@
--- What a rewriting comes to, as the step of a trace.
+-- What a rewriting gives, as the step of a trace.
 use Rattle.std.proofs.Common.{◌≡◌, Some, Result, Ok, Err, IsErrAnd, ap, sym, ◌∙◌}
 use Rattle.c25_meaning_common.specs.Results.{IsNoMemory}
 use Rattle.c25_meaning_common.specs.declared.failure.Failure.{Failure}
@@ -38,7 +38,7 @@ module _ (s : Table) (old new : Trace) (files : new.files ≡ old.files) where
     bounded = bounded_giving old.files s old.at new.at row bounded e;
   }
 
-  -- it comes to something
+  -- the rewriting gives a step
   pub steps : (p : Progress) (answer : Step) → IsBounded old.at → new.trail ≡ trail_after old.at new.at old.trail → Follows (rewrite old.files s old.at) (Ok p) new.at
       → Shows old.files p answer → Steps s old (Ok answer) new
   steps (progress.Given row) (step.Given line) bounded trail e is = (ap (given_by old.files) e ∙ ap (λ l. Some (l, new.at)) (sym is), gave row bounded trail e)
@@ -51,7 +51,7 @@ module _ (s : Table) (old new : Trace) (files : new.files ≡ old.files) where
   steps progress.Finished step.Went bounded trail e is = absurd is
   steps progress.Finished step.Finished bounded trail e is = (new.at, e)
 
-  -- it comes to nothing
+  -- the rewriting fails
   pub stops : (refusal : Failure Refusal) (answer : Failure StepFault) → new.trail ≡ old.trail → Refuses (rewrite old.files s old.at) refusal
       → IsToldAs old.files refusal answer → Steps s old (Err answer) new
   stops (NoMemory n) (NoMemory m) trail e is = tt
@@ -59,7 +59,7 @@ module _ (s : Table) (old new : Trace) (files : new.files ≡ old.files) where
   stops (Fault r) (NoMemory m) trail e is = absurd is
   stops (Fault r) (Fault f) trail e is = (ap (fault_by old.files) e ∙ is, trail)
 
--- a growth was refused
+-- memory ran out
 pub short : (s : Table) (old new : Trace) (answer : Result Step (Failure StepFault)) → IsErrAnd answer IsNoMemory → Steps s old answer new
 short s old new (Ok x) h = absurd h
 short s old new (Err (NoMemory n)) h = tt

@@ -23,7 +23,7 @@ pub found : (rows : List Row) (sources : List Source) (last place : SourcePlace)
 found [] sources last place e = absurd (cc)
 found (row ∷ rows) sources last place e = cc
 
--- and of one that has none
+-- the next line of a source that has none
 pub missed : (rows : List Row) (sources : List Source) (last : SourcePlace) → None ≡ option_map (λ row. row.place) (slice_get rows 0)
     → last ≡ next_place (map Read rows ++ after sources) last
 missed [] [] last e = refl

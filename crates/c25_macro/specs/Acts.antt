@@ -1,4 +1,4 @@
--- What the types of macros and orders stand for.
+-- What the macros of an expander, and what a line asks of it, stand for in the definition of expansion.
 use Rattle.std.specs.Prelude.{ℕ, List, map, String}
 use Rattle.std.specs.Option.{option_map}
 use Rattle.std.specs.String.{string_bytes}
@@ -10,15 +10,15 @@ use Rattle.c25_macro.specs.declared.act.ExpansionAct.TheVariants as act
 use Rattle.c25_macro.specs.declared.act.Order.{Order}
 use Rattle.c25_macro.specs.declared.macros.Macro.{Macro}
 
--- names
+-- names as bytes
 abbrev pub bytes_of_names : List (String Global) → List (List ℕ)
 bytes_of_names names = map string_bytes names
 
--- a macro
+-- the macro of the definition that a macro stands for
 abbrev pub macro_of : Macro → acts.Macro
 macro_of m = record { parameters = bytes_of_names m.parameters.items; body = m.body }
 
--- what a line asks for
+-- the act of the definition that a line asks for
 abbrev pub act_of : ExpansionAct → acts.ExpansionAct
 act_of (act.If e) = acts.If (tree_of e)
 act_of (act.ElseIf e) = acts.ElseIf (tree_of e)
@@ -35,6 +35,6 @@ act_of (act.Copy name) = acts.Copy (string_bytes name)
 act_of act.End = acts.End
 act_of (act.Call body arguments) = acts.Call body arguments
 
--- what a line asks for, and its label
+-- the order of the definition that a line gives: its label, and what it asks for
 abbrev pub order_of : Order → acts.Order
 order_of o = record { label = option_map string_bytes o.label; act = act_of o.act }

@@ -1,4 +1,5 @@
--- The configuration that an expander stands for, and what its rules say of their answers.
+-- The configuration that the state of an expander stands for, and when the answers of its methods are a
+-- rewriting of the definition.
 use Rattle.std.specs.Prelude.{◌≡◌, ◌==◌, ◌-◌, List, [], ◌∷◌, ◌++◌, true, false, Option, Some, None, Result, Ok, Err, map}
 use Rattle.std.specs.String.{string_bytes}
 use Rattle.c25_meaning_expansion.specs.Rows.{Row}
@@ -18,18 +19,18 @@ use Rattle.c25_macro.specs.declared.state.Progress.TheVariants as progress
 use Rattle.c25_macro.specs.declared.refusal.Refusal.{Refusal}
 use Rattle.c25_macro.specs.declared.refusal.Refusal.TheVariants.{Faulty, Missing}
 
--- how the next line is looked at, where these lines were read since the mark
+-- the mode that an expander's mode stands for; `body` is the lines that were read since the mark
 abbrev pub mode_of : Mode → List Row → exp.Mode
 mode_of mode.Reading body = exp.Reading
 mode_of (mode.Acting place act) body = exp.Acting place (act_of act)
 mode_of (mode.InMacro name parameters nested) body = exp.InMacro (string_bytes name) (bytes_of_names parameters.items) body nested
 mode_of (mode.InLoop turns nested) body = exp.InLoop turns body nested
 
--- this holds of the lines before the one that was read last
+-- something holds of the lines that were read since the mark, without the last one, which is this row
 abbrev pub ForBody : List Row → Row → (List Row → Type 0) → Type 0
 ForBody passed row holds = (body : List Row) → passed ≡ body ++ row ∷ [] → holds body
 
--- all that stands at a line
+-- the configuration that a state stands for
 abbrev pub config : State → Config
 config s = record {
   lines = map Read s.top.lines.rest ++ after s.below;
@@ -40,36 +41,38 @@ config s = record {
   left = s.left;
 }
 
--- the rewriting that a refusal is
+-- the rewriting that a refusal stands for
 abbrev pub refused_by : Refusal → Rewriting
 refused_by (Faulty place kind) = Faults place kind
 refused_by (Missing place name) = Misses place (string_bytes name)
 
--- what is refused is the rewriting, unless memory ran out
+-- a failure is this rewriting, or memory ran out
 abbrev pub Refuses : Rewriting → Failure Refusal → Type 0
 Refuses r (NoMemory n) = Unit {0}
 Refuses r (Fault refusal) = r ≡ refused_by refusal
 
--- the next line was taken and counted, there was none, or it is one too many
+-- the answer is the next line, which is read and counted, or that no line is left, or the refusal of one line
+-- too many
 abbrev pub IsNextRow : State → Result (Option Row) (Failure Refusal) → State → Type 0
 IsNextRow old (Ok (Some row)) new =
     (old.top.lines.rest ≡ row ∷ new.top.lines.rest) × (new.top.lines.passed ≡ old.top.lines.passed ++ row ∷ []) × ((old.left == 0) ≡ false) × (new.left ≡ old.left - 1)
 IsNextRow old (Ok None) new = (old.top.lines.rest ≡ []) × (new.top.lines.rest ≡ []) × (new.left ≡ old.left)
 IsNextRow old (Err failure) new = (row : Row) × (rest : List Row) × (old.top.lines.rest ≡ row ∷ rest) × ((old.left == 0) ≡ true) × (failure ≡ Fault (Faulty row.place fault.Lines))
 
--- what is answered is the rewriting
+-- the answer of one rewriting is this one, and leads to this configuration
 abbrev pub Follows : Rewriting → Result Progress (Failure Refusal) → Config → Type 0
 Follows r (Ok (progress.Given row)) new = r ≡ Gives row new
 Follows r (Ok progress.Went) new = r ≡ Goes new
 Follows r (Ok progress.Finished) new = r ≡ Finishes new
 Follows r (Err failure) new = Refuses r failure
 
--- the same of what gives no line
+-- the answer of a part of a rewriting that gives no line is this rewriting, and leads to this configuration
 abbrev pub GoesOn : {A : Type 0} → Rewriting → Result A (Failure Refusal) → Config → Type 0
 GoesOn r (Ok x) new = r ≡ Goes new
 GoesOn r (Err failure) new = Refuses r failure
 
--- the first rewriting that does not merely go on is what is answered
+-- the answer of a call for the next line is this rewriting, the first that does not merely go on, and leads
+-- to this configuration
 abbrev pub Answers : Rewriting → Result (Option Row) (Failure Refusal) → Config → Type 0
 Answers r (Ok (Some row)) new = r ≡ Gives row new
 Answers r (Ok None) new = r ≡ Finishes new

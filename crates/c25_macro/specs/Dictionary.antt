@@ -1,7 +1,8 @@
--- What the names of an expander stand for.
+-- What the names that an expander knows stand for.
 use Rattle.c25_meaning_expansion.specs.Expansion as exp
 use Rattle.c25_macro.specs.declared.dictionary.Dictionary.{Dictionary}
 
--- what names stand for
+-- the dictionary of the definition: macros, substitution symbols, open expansions, and how many expansions
+-- there were
 abbrev pub dictionary_of : Dictionary → exp.Dictionary
 dictionary_of d = record { macros = d.macros; texts = d.texts; expansions = d.expansions; count = d.count }

@@ -1,3 +1,4 @@
+-- What an expander and a tracer, and the types that they are made of, stand for.
 pub mod Acts
 pub mod Config
 pub mod Dictionary

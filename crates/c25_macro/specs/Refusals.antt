@@ -1,4 +1,4 @@
--- Why no line is given.
+-- Refusals: why no line is given, with the place of the line that is refused.
 use Rattle.c25_meaning_expansion.specs.declared.place.SourcePlace.{SourcePlace}
 use Rattle.c25_meaning_common.specs.declared.failure.Failure.{Failure}
 use Rattle.c25_meaning_common.specs.declared.failure.Failure.TheVariants.{NoMemory, Fault}
@@ -6,7 +6,7 @@ use Rattle.c25_meaning_language.specs.declared.statement.FaultKind.{FaultKind}
 use Rattle.c25_macro.specs.declared.refusal.Refusal.{Refusal}
 use Rattle.c25_macro.specs.declared.refusal.Refusal.TheVariants.{Faulty}
 
--- why the line that stands there is refused
+-- the refusal of the line at this place
 abbrev pub at_place : SourcePlace → Failure FaultKind → Failure Refusal
 at_place place (NoMemory n) = NoMemory n
 at_place place (Fault kind) = Fault (Faulty place kind)

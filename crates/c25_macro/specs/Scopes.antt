@@ -1,4 +1,4 @@
--- What the open sources of an expander stand for.
+-- What the open files, expansions and turns of an expander stand for.
 use Rattle.c25_macro.specs.declared.scope.Block.{Block}
 use Rattle.c25_macro.specs.declared.scope.Block.TheVariants as blocks
 use Rattle.std.specs.Prelude.{Bool, List, [], ◌∷◌, ◌++◌, map}
@@ -10,27 +10,28 @@ use Rattle.c25_macro.specs.declared.scope.Kind.TheVariants as kinds
 use Rattle.c25_macro.specs.declared.scope.Scope.{Scope}
 use Rattle.c25_macro.specs.declared.scope.Source.{Source}
 
--- what the lines of a source are
+-- what the lines of a source are: those of a copied file, of an expansion or of a turn
 abbrev pub kind_of : Kind → exp.Kind
 kind_of kinds.Copied = exp.Copied
 kind_of kinds.Expanded = exp.Expanded
 kind_of (kinds.Turn body more) = exp.Turn body more
 
--- what is open
+-- the scope of the definition that an open file, expansion or turn stands for
 abbrev pub scope_of : Scope → exp.Scope
 scope_of f = record { kind = kind_of f.kind; last = f.last; branches = f.branches }
 
--- what the sources outside the current one still give, each after an end
+-- the lines still to come from the sources outside the current one, the innermost first, each source after an
+-- end
 abbrev pub after : List Source → List LineOrEnd
 after [] = []
 after (s ∷ ss) = Close ∷ (map Read s.lines.rest ++ after ss)
 
--- the sources outside the current one
+-- the scopes of the sources outside the current one, the innermost first
 abbrev pub scopes : List Source → List exp.Scope
 scopes [] = []
 scopes (s ∷ ss) = scope_of s.scope ∷ scopes ss
 
--- whether it is such a block
+-- the test for blocks of this kind: expansions, or turns
 abbrev pub test_of : Block → exp.Kind → Bool
 test_of blocks.Expansion = exp.is_expansion
 test_of blocks.Turn = exp.is_turn

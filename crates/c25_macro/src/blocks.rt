@@ -31,14 +31,14 @@ use c25_substitution::parameters::Arguments;
 /// How many turns a loop without a count has.
 const TURNS: usize = 1024;
 
-/// How many turns a count asks for.
+/// How many turns a count asks for; none where it is negative.
 fn turns_of(count: i32) -> usize
     ensures { result ≡ rule.turns_of count }
 {
     if count < 0 { 0 } else { count as usize }
 }
 
-/// Whether a mnemonic has this name, in either case.
+/// Whether a name is that of a mnemonic, in upper or lower case.
 fn is_mnemonic(name: &str) -> bool
     ensures { result ≡ is_some (spelling_of name.now) }
 {
@@ -46,7 +46,7 @@ fn is_mnemonic(name: &str) -> bool
 }
 
 impl<'a> State<'a> {
-    /// Whether a macro or a mnemonic has this name.
+    /// Whether a name is that of a macro or of a mnemonic.
     fn is_taken(&self, name: &str) -> bool
         ensures { result ≡ (is_some (exp.macro_named (config self.now).names name.now) || is_some (spelling_of name.now)) }
     {
@@ -95,7 +95,8 @@ impl<'a> State<'a> {
         self.open(Kind::Expanded, last, body)
     }
 
-    /// The lines through the end of the innermost such block are dropped.
+    /// Leaves the innermost expansion or the innermost loop: its lines still to come are dropped, with all
+    /// that it opened.
     pub(crate) fn leave_block(
         &mut self,
         block: Block,
@@ -111,7 +112,7 @@ impl<'a> State<'a> {
         }
     }
 
-    /// The lines of a loop of so many turns follow.
+    /// Collects the lines that follow, as the body of a loop of so many turns.
     fn collect(&mut self, place: SourcePlace, turns: usize) -> Result<(), Failure<Refusal>>
         ensures { GoesOn (rule.collects place turns (config self.old)) result (config self.new) }
     {
@@ -142,7 +143,7 @@ impl<'a> State<'a> {
         }
     }
 
-    /// `.break` whose condition holds or not.
+    /// `.break`, given whether its condition holds.
     fn break_if(&mut self, holds: bool, place: SourcePlace) -> Result<(), Failure<Refusal>>
         requires reading { self.old.mode ≡ modes.Reading }
         ensures { GoesOn (rule.breaks_if holds place (config self.old)) result (config self.new) }

@@ -1,4 +1,4 @@
-//! Lines that go into the body of a macro or of a loop.
+//! Lines that are collected as the body of a macro or of a loop.
 //!
 //! `State` and its other methods: `state.rt` says where they are.
 
@@ -21,7 +21,7 @@ use c25_meaning_expansion::expansion::Directive;
 use c25_meaning_expansion::place::SourcePlace;
 
 impl<'a> State<'a> {
-    /// A line of a macro's body, or its end.
+    /// Takes one line while a macro is collected: a line of the body, or the `.endm` that ends it.
     #[tactic(auto, unfolding(c25_meaning_expansion::specs::ExpansionRules::in_macro))]
     pub(crate) fn collect_macro(
         &mut self,
@@ -57,7 +57,7 @@ impl<'a> State<'a> {
         Ok(())
     }
 
-    /// The turns of a loop whose lines were collected.
+    /// Begins the turns of a loop whose lines were collected.
     fn begin_turns(
         &mut self,
         place: SourcePlace,
@@ -76,7 +76,7 @@ impl<'a> State<'a> {
         self.open(Kind::Turn { body, more }, last, rows)
     }
 
-    /// A line of a loop's body, or its end.
+    /// Takes one line while a loop is collected: a line of the body, or the `.endloop` that ends it.
     #[tactic(auto, unfolding(c25_meaning_expansion::specs::ExpansionRules::in_loop))]
     pub(crate) fn collect_loop(
         &mut self,

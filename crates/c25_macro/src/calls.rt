@@ -15,8 +15,8 @@ use std::alloc::Global;
 use std::mem;
 
 impl<'a> Expander<'a> {
-    /// The expansion of the module of a name among these files. It takes no memory; a module that is
-    /// not there is told by the first call of `next_line`.
+    /// The expansion of the module of a name among these files. It takes no memory; a module that is not
+    /// there is reported by the first call of `next_line`.
     pub fn new(alloc: Global, files: &'a Files, name: &'a str) -> Expander<'a>
         ensures { expansion_of result ≡ begun files.now name.now }
     {
@@ -28,14 +28,14 @@ impl<'a> Expander<'a> {
         }
     }
 
-    /// The next line under the symbols that the lines before it have defined, or None where none comes
-    /// any more. The first error ends the expansion: every further call answers the same, and takes no
-    /// memory.
+    /// The next line under the symbols that the lines before it have defined, or None where no line is left.
+    /// The first failure ends the expansion: every further call answers the same, and takes no memory.
     ///
-    /// In one line the first of these is told: 34 (it is the 200,001st that is read), 38 (it is longer
-    /// than 1,024 bytes, or takes more than 1,024 replacements), and where expansion consumes it 10 to
-    /// 13, 51, 52, 20, 21, then 22 to 25, then 30 to 33, 35, 36. The label of a consumed line is given as a line
-    /// of its own behind 21, so that the caller can define it first.
+    /// Of several faults in one line the first of these is reported: 34 (it is the 200,001st that is read),
+    /// 38 (it is longer than 1,024 bytes, or takes more than 1,024 replacements), and where expansion
+    /// consumes it 10 to 13, 51, 52, 20, 21, then 22 to 25, then 30 to 33, 35, 36. The label of a consumed
+    /// line is given as a line of its own after the faults up to 21 and before the others, so that the caller
+    /// can define it first.
     pub fn next_line(
         &mut self,
         symbols: &Symbols,
@@ -54,7 +54,7 @@ impl<'a> Expander<'a> {
         answer
     }
 
-    /// The name of the file that is missing, after a 30.
+    /// The name of the file that is not there, after a 30.
     pub fn missing(&self) -> Option<&str>
         ensures { option_map (λ name. name.now) result ≡ missing_of (expansion_of self.now).stage }
     {

@@ -18,7 +18,7 @@ use c25_meaning_expansion::expansion::{Branch, Phase};
 use c25_meaning_expansion::place::SourcePlace;
 use c25_meaning_language::statement::FaultKind;
 
-/// Whether the lines of an `.if` are taken.
+/// Whether an `.if` in this phase takes its lines.
 pub(crate) fn takes_lines(phase: Phase) -> bool
     ensures { result ≡ rule.takes_lines phase }
 {
@@ -28,7 +28,7 @@ pub(crate) fn takes_lines(phase: Phase) -> bool
     }
 }
 
-/// The phase behind a condition.
+/// The phase after a condition with this number: 0 does not hold.
 fn phase_of(number: i32) -> Phase
     ensures { result ≡ rule.phase_of number }
 {
@@ -65,7 +65,7 @@ impl State<'_> {
         branches.push(branch).map_err(Failure::NoMemory)
     }
 
-    /// The innermost `.if` goes on in this phase.
+    /// Lets the innermost `.if` go on in this phase.
     pub(crate) fn enter(&mut self, branch: Branch, phase: Phase) -> Result<(), Failure<Refusal>>
         ensures { GoesOn (rule.enters branch (other_branches (config self.old).scope.branches) (config self.old) phase) result (config self.new) }
     {
@@ -75,7 +75,7 @@ impl State<'_> {
             .map_err(Failure::NoMemory)
     }
 
-    /// `.elseif` where a condition is still sought.
+    /// `.elseif` where no condition has held so far.
     fn seek(
         &mut self,
         place: SourcePlace,
@@ -99,7 +99,8 @@ impl State<'_> {
     ) -> Result<(), Failure<Refusal>>
         ensures { GoesOn (rule.elseif_by symbols.now place (tree_of condition) (config self.old).scope.branches (config self.old)) result (config self.new) }
     {
-        // It is told of only where a condition is still sought, or no `.if` is open.
+        // A fault of the condition is reported only where no condition has held so far, or where no `.if` is
+        // open.
         let number = number(symbols, condition);
         let Some(branch) = self.top.scope.branches.innermost() else {
             return match number {

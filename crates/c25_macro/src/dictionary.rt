@@ -1,4 +1,4 @@
-//! What names stand for in expansion.
+//! The names that expansion knows.
 
 ghost use Rattle.std.specs.Prelude.{◌≡◌, ◌<◌, ◌^◌, ◌∷◌, [], is_some, OnOk};
 ghost use Rattle.std.specs.Option.{option_map};
@@ -23,15 +23,15 @@ use c25_text::line::first_word;
 use std::alloc::Global;
 use std::mem;
 
-/// What names stand for: macros, the names of `.asg` and `.eval`, and the parameters of the expansions
-/// that are open.
+/// The names that expansion knows: macros, the symbols of `.asg` and `.eval`, and the parameters of the
+/// expansions that are open.
 #[derive(Drop)]
 pub(crate) struct Dictionary<'a> {
     alloc: Global,
     macros: Macros<'a>,
     texts: SubstitutionTexts,
     expansions: Expansions,
-    /// How many expansions there have been.
+    /// How many expansions there have been so far.
     count: u32,
 }
 
@@ -49,7 +49,7 @@ impl<'a> Dictionary<'a> {
         }
     }
 
-    /// The macro that the first word of a line names.
+    /// The macro that a line calls: its mnemonic field is the macro's name.
     pub(crate) fn macro_called(&self, text: &str) -> Option<&Macro<'a>>
         ensures { option_map (λ m. macro_of m.now) result ≡ rule.macro_of (first_word text.now) (dictionary_of self.now) }
     {
@@ -66,14 +66,14 @@ impl<'a> Dictionary<'a> {
         self.macros.get(name).is_some()
     }
 
-    /// A macro of a new name.
+    /// Defines a macro under a new name.
     pub(crate) fn define(&mut self, name: String, definition: Macro<'a>) -> Result<(), NoMemory>
         ensures { OnOk result (dictionary_of self.new ≡ record (dictionary_of self.old) { macros = with_name (dictionary_of self.old).macros (string_bytes name) (macro_of definition.entry) }) }
     {
         self.macros.put(name, definition)
     }
 
-    /// What names stand for at a line.
+    /// The names that can be replaced at a line.
     pub(crate) fn visible(&self) -> Visible<'_>
         ensures { names_of result ≡ exp.seen (dictionary_of self.now) }
     {
@@ -89,7 +89,7 @@ impl<'a> Dictionary<'a> {
         }
     }
 
-    /// The number of the innermost expansion, 0 outside.
+    /// The number of the innermost expansion, 0 outside expansions.
     pub(crate) fn number(&self) -> u32
         ensures { result ≡ exp.number_of (dictionary_of self.now).expansions }
     {
@@ -99,7 +99,8 @@ impl<'a> Dictionary<'a> {
         }
     }
 
-    /// From now on a name stands for a text: a parameter of the innermost expansion, where it is one.
+    /// Sets the text that a name stands for from now on: that of a parameter of the innermost expansion,
+    /// where it is one, else that of a substitution symbol.
     pub(crate) fn assign(&mut self, name: &str, text: String) -> Result<(), NoMemory>
         ensures { OnOk result (dictionary_of self.new ≡ exp.assigned name.now (string_bytes text) (dictionary_of self.old)) }
     {
@@ -109,7 +110,8 @@ impl<'a> Dictionary<'a> {
         }
     }
 
-    /// The same in this expansion, which is the innermost again.
+    /// Sets the text that a name stands for, where this expansion, which was taken off, is the innermost; it
+    /// is put back.
     fn assign_in(&mut self, expansion: Expansion, name: &str, text: String) -> Result<(), NoMemory>
         ensures { OnOk result (dictionary_of self.new ≡ exp.assigned name.now (string_bytes text) (record (dictionary_of self.old) { expansions = expansion ∷ (dictionary_of self.old).expansions })) }
     {
@@ -123,7 +125,7 @@ impl<'a> Dictionary<'a> {
         }
     }
 
-    /// An expansion begins.
+    /// Begins an expansion with these arguments.
     pub(crate) fn begin(&mut self, arguments: Arguments) -> Result<(), NoMemory>
         requires { self.old.count < 2 ^ 31 }
         ensures { OnOk result (dictionary_of self.new ≡ exp.called arguments (dictionary_of self.old)) }
@@ -132,7 +134,7 @@ impl<'a> Dictionary<'a> {
         self.expansions.push(Expansion::new(self.count, arguments))
     }
 
-    /// A file, expansion or turn has ended.
+    /// Forgets the innermost expansion, if what has ended is one.
     pub(crate) fn end(&mut self, kind: &Kind<'_>)
         ensures { dictionary_of self.new ≡ exp.without_ended (kind_of kind.now) (dictionary_of self.old) }
     {
@@ -141,7 +143,7 @@ impl<'a> Dictionary<'a> {
         }
     }
 
-    /// No expansion is open any more.
+    /// Forgets all expansions.
     pub(crate) fn end_all(&mut self)
         ensures { dictionary_of self.new ≡ record (dictionary_of self.old) { expansions = [] } }
     {

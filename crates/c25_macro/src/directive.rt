@@ -16,19 +16,19 @@ fn is_dotted(word: &str) -> bool
     byte_at(word.as_bytes(), 0) == b'.'
 }
 
-/// Whether a word is this name, in either case. Most are of another length.
+/// Whether a text is this name, in upper or lower case. Most texts are of another length.
 fn is_named(word: &str, name: &str) -> bool
     ensures { result ≡ str_eq_ignore_ascii_case word.now name.now }
 {
     word.len() == name.len() && word.eq_ignore_ascii_case(name)
 }
 
-/// The directive that a word is, if it is one that expansion takes, in either case.
+/// The directive of expansion with this name, in upper or lower case, if there is one.
 #[tactic(auto, unfolding(c25_meaning_expansion::specs::Acts::directive_of))]
 pub(crate) fn find_directive(word: &str) -> Option<Directive>
     ensures { result ≡ directive_of word.now }
 {
-    // Most words are mnemonics.
+    // Most names are mnemonics, which have no dot.
     if !is_dotted(word) {
         None
     } else if is_named(word, ".if") {
@@ -64,7 +64,7 @@ pub(crate) fn find_directive(word: &str) -> Option<Directive>
     }
 }
 
-/// The directive that the first word of a line is.
+/// The directive of expansion that a line has, if it has one.
 pub(crate) fn directive_in(text: &str) -> Option<Directive>
     ensures { result ≡ directive_in (first_word text.now) }
 {

@@ -1,4 +1,4 @@
-//! Expansions of macros that are open.
+//! The expansions of macros that are open.
 
 ghost use Rattle.std.specs.Prelude.{◌≡◌, ◌∷◌, ◌++◌, [], true, false, OnOk, OnErr, IfErr, is_some, option_to_list, IfNone};
 ghost use Rattle.std.specs.Map.{lookup};
@@ -13,7 +13,7 @@ use c25_substitution::parameters::Arguments;
 use std::alloc::Global;
 use std::marker::Model;
 
-/// An expansion that is open: its number, counted from 1, and what its parameters stand for.
+/// An open expansion: its number, counted from 1, and the texts that its parameters stand for.
 #[derive(Drop)]
 pub(crate) struct Expansion {
     number: u32,
@@ -47,7 +47,8 @@ impl Expansion {
         &self.arguments
     }
 
-    /// A parameter stands for this text from now on. The text comes back where none has this name.
+    /// Sets the text that a parameter stands for from now on. Where no parameter has this name, the text is
+    /// given back.
     pub(crate) fn set(&mut self, name: &str, text: String) -> Result<(), String>
         ensures ok { OnOk result (self.new ≡ record self.old { arguments = with_name self.old.arguments name.now (string_bytes text) }) }
         ensures known { OnOk result (is_some (lookup (bytes_eq name.now) self.old.arguments) ≡ true) }
@@ -83,14 +84,14 @@ impl Expansions {
         }
     }
 
-    /// One more, inside the others.
+    /// Opens an expansion inside the others.
     pub(crate) fn push(&mut self, expansion: Expansion) -> Result<(), NoMemory>
         ensures { OnOk result (self.new ≡ expansion ∷ self.old) }
     {
         self.open.push(expansion).map_err(NoMemory::from)
     }
 
-    /// Takes the innermost.
+    /// Takes the innermost expansion off, if one is open.
     pub(crate) fn pop(&mut self) -> Option<Expansion>
         ensures taken { self.old ≡ option_to_list result ++ self.new }
         ensures none { IfNone result (self.old ≡ []) }

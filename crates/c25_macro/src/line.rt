@@ -1,4 +1,4 @@
-//! Lines that are given.
+//! Lines that expansion gives.
 
 ghost use Rattle.std.specs.Prelude.{◌≡◌};
 ghost use Rattle.std.specs.Cow.{cow_str_bytes};
@@ -7,8 +7,8 @@ use c25_meaning_expansion::place::SourcePlace;
 use std::borrow::CowStr;
 use std::marker::Model;
 
-/// A line that was substituted, or a label that becomes a line: where it stands, and its text without
-/// its end, which is borrowed from the file's where nothing was replaced in it.
+/// A line after substitution, or a label that becomes a line: its place, and its text without its end, which
+/// is borrowed from the file's text where nothing was replaced.
 #[derive(Drop)]
 pub(crate) struct Line<'a> {
     place: SourcePlace,
@@ -43,7 +43,7 @@ impl<'a> Line<'a> {
         self.text.as_str()
     }
 
-    /// Its text alone.
+    /// The text of the line alone.
     pub(crate) fn into_text(self) -> CowStr<'a>
         ensures { cow_str_bytes result ≡ self.entry.text }
     {

@@ -1,4 +1,4 @@
-//! Lines as they are read: skipped, taken, substituted, and given or consumed.
+//! What is done with a line that is read: it is skipped or substituted, and then given or consumed.
 //!
 //! `State` and its other methods: `state.rt` says where they are.
 
@@ -36,7 +36,7 @@ use c25_substitution::substitution::{substitute, substitute_before_comma, unsubs
 use std::borrow::CowStr;
 
 impl<'a> State<'a> {
-    /// What a line asks for is done.
+    /// Does what a line asks for.
     #[tactic(auto, unfolding(c25_meaning_expansion::specs::ExpansionRules::acts))]
     pub(crate) fn act(
         &mut self,
@@ -69,7 +69,7 @@ impl<'a> State<'a> {
         }
     }
 
-    /// The label of a consumed line is given, or else what the line asks for is done.
+    /// Gives the label of a consumed line, if it has one, or else does what the line asks for.
     fn label(
         &mut self,
         files: &'a Files,
@@ -91,7 +91,7 @@ impl<'a> State<'a> {
         }
     }
 
-    /// A line that is consumed, or its fault.
+    /// Consumes a line that asks for this, or reports its fault.
     fn consume(
         &mut self,
         files: &'a Files,
@@ -110,8 +110,7 @@ impl<'a> State<'a> {
         }
     }
 
-    /// A line whose first word is no directive of expansion: a macro is called, or else the line is
-    /// given.
+    /// A substituted line without a directive of expansion: a macro is called, or else the line is given.
     fn call(
         &mut self,
         files: &'a Files,
@@ -132,7 +131,7 @@ impl<'a> State<'a> {
         }
     }
 
-    /// A line that was substituted.
+    /// A substituted line: it has a directive, calls a macro, or is given.
     fn use_substituted(
         &mut self,
         files: &'a Files,
@@ -149,7 +148,7 @@ impl<'a> State<'a> {
         }
     }
 
-    /// A line substituted, as its first word asks for.
+    /// A line with its names replaced, as far as its directive lets them be.
     fn substituted<'b>(
         &self,
         directive: Option<Directive>,
@@ -167,7 +166,7 @@ impl<'a> State<'a> {
         }
     }
 
-    /// A line that is used, with this first word: neither skipped nor collected.
+    /// A line with this directive, or none, that is neither skipped nor collected.
     #[tactic(auto, unfolding(c25_meaning_expansion::specs::ExpansionRules::used))]
     fn use_line(
         &mut self,
@@ -187,7 +186,7 @@ impl<'a> State<'a> {
         }
     }
 
-    /// A substituted line of this directive.
+    /// A substituted line with this directive.
     fn obey(
         &mut self,
         files: &'a Files,
@@ -204,7 +203,7 @@ impl<'a> State<'a> {
         self.consume(files, symbols, place, order)
     }
 
-    /// A line that ends or goes on with an `.if` whose lines are skipped.
+    /// A line that ends an `.if` whose lines are skipped, or goes on with it: it is substituted and consumed.
     #[tactic(auto, unfolding(c25_meaning_expansion::specs::ExpansionRules::resumes))]
     fn resume(
         &mut self,
@@ -224,7 +223,7 @@ impl<'a> State<'a> {
         }
     }
 
-    /// The innermost `.if` has so many more nested in its skipped lines.
+    /// Sets how many `.if`s are nested in the skipped lines of the innermost `.if`.
     fn nest(&mut self, branch: Branch, nested: usize) -> Result<Progress<'a>, Failure<Refusal>>
         ensures { Follows (rule.nests nested branch (other_branches (config self.old).scope.branches) (config self.old)) result (config self.new) }
     {
@@ -233,7 +232,7 @@ impl<'a> State<'a> {
         went(replaced.map_err(Failure::NoMemory))
     }
 
-    /// A line whose first word is `.elseif` before substitution.
+    /// A line that is `.elseif` before substitution.
     fn read_elseif(
         &mut self,
         files: &'a Files,
@@ -252,7 +251,7 @@ impl<'a> State<'a> {
         }
     }
 
-    /// A line whose first word is `.else` before substitution, in lines that are skipped.
+    /// A line that is `.else` before substitution, among lines that are skipped.
     fn skip_else(
         &mut self,
         files: &'a Files,
@@ -272,7 +271,7 @@ impl<'a> State<'a> {
         }
     }
 
-    /// A line that is skipped, in no nested `.if`.
+    /// A line that is skipped, and not in a nested `.if`.
     fn skip_outer(
         &mut self,
         files: &'a Files,
@@ -333,7 +332,7 @@ impl<'a> State<'a> {
         }
     }
 
-    /// A line in lines that are taken by an `.if`.
+    /// A line among those that an `.if` takes.
     fn take(
         &mut self,
         files: &'a Files,
@@ -352,7 +351,7 @@ impl<'a> State<'a> {
         }
     }
 
-    /// A line that is neither part of a macro's body nor of a loop's.
+    /// A line that is not collected for a body, of a macro or of a loop.
     pub(crate) fn read_line(
         &mut self,
         files: &'a Files,

@@ -1,4 +1,4 @@
-//! Macros.
+//! The macros of a module.
 
 ghost use Rattle.std.specs.Prelude.{◌≡◌, [], OnOk};
 ghost use Rattle.std.specs.Map.{lookup};
@@ -14,7 +14,7 @@ use indexmap::IndexMap;
 use std::alloc::Global;
 use std::marker::Model;
 
-/// A macro: the names of its parameters, at most 32, and its lines where they were written.
+/// A macro: the names of its parameters, at most 32, and its body, whose lines stand where they were written.
 #[derive(Drop)]
 pub(crate) struct Macro<'a> {
     pub(crate) parameters: Vec<String>,
@@ -46,7 +46,7 @@ impl<'a> Macros<'a> {
         }
     }
 
-    /// The macro of a name. Where there are no macros, no hash is taken.
+    /// The macro with this name, if there is one. Where there are no macros, no hash is taken.
     pub(crate) fn get(&self, name: &str) -> Option<&Macro<'a>>
         ensures { option_map (λ m. macro_of m.now) result ≡ lookup (bytes_eq name.now) self.now }
     {

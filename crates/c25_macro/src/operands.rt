@@ -43,7 +43,7 @@ pub(crate) fn names_in(
     Ok(names)
 }
 
-/// One operand, an expression, whatever is asked by it.
+/// One operand, which is an expression. The contract holds for any directive that takes it.
 pub(crate) fn condition_in(
     alloc: Global,
     operands: &[&[Token<'_>]],
@@ -57,7 +57,7 @@ pub(crate) fn condition_in(
     }
 }
 
-/// No operand, or one that is an expression, whatever is asked by it.
+/// No operand, or one that is an expression. The contract holds for any directive that takes it.
 pub(crate) fn option_in(
     alloc: Global,
     operands: &[&[Token<'_>]],

@@ -1,4 +1,4 @@
-//! What lines ask of expansion.
+//! What a line with a directive of expansion, or with a macro's name, asks for.
 
 ghost use Rattle.std.specs.Prelude.{◌≡◌, [], ◌∷◌, IfOk};
 ghost use Rattle.std.specs.Option.{option_map};
@@ -30,7 +30,7 @@ use std::alloc::Global;
 /// How many parameters a macro can have.
 const MOST_PARAMETERS: usize = 32;
 
-/// A directive that takes no operand.
+/// What a directive without operands asks for; 51 where there are some.
 fn without<'a>(
     act: ExpansionAct<'a>,
     operands: &[&[Token<'_>]],
@@ -87,7 +87,7 @@ fn assignment_in<'a>(
     }
 }
 
-/// The operands of `.eval` in their order, the first being one that is read as an expression.
+/// What `.eval` asks for with these two operands; the first must be written as an expression.
 fn evaluation_of<'a>(
     alloc: Global,
     first: &[Token<'_>],
@@ -131,7 +131,7 @@ fn copy_in<'a>(
     }
 }
 
-/// What a directive with these operands asks for.
+/// What a directive asks for with these operands.
 #[tactic(auto, unfolding(c25_meaning_expansion::specs::Acts::act_of))]
 fn act_of<'a>(
     alloc: Global,
@@ -159,7 +159,7 @@ fn act_of<'a>(
     }
 }
 
-/// What a line with a directive and these parts asks for.
+/// What a directive asks for in a line of these parts.
 fn act_in<'a>(
     alloc: Global,
     directive: Directive,
@@ -205,7 +205,7 @@ fn text_of(alloc: Global, label: Option<&str>) -> Result<Option<String>, NoMemor
     }
 }
 
-/// The label that becomes a line.
+/// The label that becomes a line of its own; that of `.macro` does not.
 fn label_for(
     alloc: Global,
     directive: Directive,
@@ -219,7 +219,7 @@ fn label_for(
     }
 }
 
-/// What a line with a directive asks for.
+/// What a line with a directive asks for, and its label.
 #[tactic(auto, unfolding(c25_meaning_expansion::specs::Acts::order_of))]
 pub(crate) fn read_order<'a>(
     alloc: Global,
@@ -234,7 +234,7 @@ pub(crate) fn read_order<'a>(
     Ok(Order { label, act })
 }
 
-/// What a line that calls a macro asks for.
+/// What a line that calls a macro asks for, and its label.
 #[tactic(auto, unfolding(c25_meaning_expansion::specs::Acts::call_of))]
 pub(crate) fn read_call<'a>(
     alloc: Global,

@@ -1,4 +1,4 @@
-//! Why no line is given.
+//! Refusals: why no line is given.
 
 ghost use Rattle.std.specs.Prelude.{◌≡◌};
 ghost use Rattle.c25_macro.specs.Refusals.{at_place};
@@ -10,20 +10,20 @@ use c25_meaning_language::statement::FaultKind;
 /// Why no line is given.
 #[derive(Drop)]
 pub(crate) enum Refusal {
-    /// The line that stands there is wrong.
+    /// The line at this place has a fault.
     Faulty { place: SourcePlace, kind: FaultKind },
-    /// The file of this name, that the line there asks for, is not there.
+    /// The line at this place asks for the file with this name, which is not there.
     Missing { place: SourcePlace, name: String },
 }
 
-/// A fault of the line that stands there.
+/// The refusal of the line at this place, for this fault.
 pub(crate) fn fault(kind: FaultKind, place: SourcePlace) -> Failure<Refusal>
     ensures { result ≡ Failure.Fault (Refusal.Faulty place kind) }
 {
     Failure::Fault(Refusal::Faulty { place, kind })
 }
 
-/// Why the line that stands there is refused.
+/// The refusal of the line at this place, for this failure.
 pub(crate) fn at_place(failure: Failure<FaultKind>, place: SourcePlace) -> Failure<Refusal>
     ensures { result ≡ at_place place failure }
 {

@@ -48,21 +48,21 @@ impl Branches {
         self.branches.is_empty()
     }
 
-    /// One more, inside the others.
+    /// Opens an `.if` inside the others.
     pub(crate) fn push(&mut self, branch: Branch) -> Result<(), NoMemory>
         ensures { OnOk result (self.new ≡ branch ∷ self.old) }
     {
         self.branches.push(branch).map_err(NoMemory::from)
     }
 
-    /// The innermost.
+    /// The innermost `.if`, if one is open.
     pub(crate) fn innermost(&self) -> Option<Branch>
         ensures { MatchOption result (self.now ≡ []) (λ b. self.now ≡ b ∷ other_branches self.now) }
     {
         self.branches.last().copied()
     }
 
-    /// The innermost is this one from now on.
+    /// Puts an `.if` in the place of the innermost.
     pub(crate) fn replace(&mut self, branch: Branch) -> Result<(), NoMemory>
         ensures { OnOk result (self.new ≡ branch ∷ other_branches self.old) }
     {
@@ -70,7 +70,7 @@ impl Branches {
         self.branches.push(branch).map_err(NoMemory::from)
     }
 
-    /// Takes the innermost.
+    /// Takes the innermost `.if` off, if one is open.
     pub(crate) fn pop(&mut self) -> Option<Branch>
         ensures taken { self.old ≡ option_to_list result ++ self.new }
         ensures none { IfNone result (self.old ≡ []) }
@@ -90,7 +90,7 @@ pub(crate) enum Kind<'a> {
     Turn { body: Rows<'a>, more: usize },
 }
 
-/// What may be left before its end.
+/// A kind of block that can be left before its end, by `.mexit` or `.break`.
 #[derive(Clone, Copy)]
 pub(crate) enum Block {
     Expansion,
@@ -113,20 +113,20 @@ impl Kind<'_> {
 #[derive(Drop)]
 pub(crate) struct Scope<'a> {
     pub(crate) kind: Kind<'a>,
-    /// Where its last line stands.
+    /// The place of its last line.
     pub(crate) last: SourcePlace,
-    /// The `.if`s begun in it.
+    /// The open `.if`s that began in it, the innermost first.
     pub(crate) branches: Branches,
 }
 
-/// The lines still to come of a file, an expansion or a turn.
+/// The lines still to come of an open file, expansion or turn.
 #[derive(Drop)]
 pub(crate) struct Source<'a> {
     pub(crate) lines: Passage<'a>,
     pub(crate) scope: Scope<'a>,
 }
 
-/// The sources in which the current one stands, the innermost first.
+/// The sources outside the current one, the innermost first.
 #[derive(Drop)]
 pub(crate) struct Stack<'a> {
     sources: Vec<Source<'a>>,
@@ -163,21 +163,22 @@ impl<'a> Stack<'a> {
         self.sources.len()
     }
 
-    /// Whether one of them is such a block.
+    /// Whether one of the sources is a block of this kind.
     pub(crate) fn has(&self, block: Block) -> bool
         ensures { result ≡ list_any (λ f. test_of block f.kind) (scopes self.now) }
     {
         has(self.sources.as_slice(), block)
     }
 
-    /// One more, inside the others.
+    /// Puts a source inside the others.
     pub(crate) fn push(&mut self, source: Source<'a>) -> Result<(), NoMemory>
         ensures { OnOk result (self.new ≡ source.entry ∷ self.old) }
     {
         self.sources.push(source).map_err(NoMemory::from)
     }
 
-    /// How many blocks the sources are and have open, or 32 where they are more.
+    /// How many blocks are open in the sources: each source is one, and each of its `.if`s; 32 where there
+    /// are more.
     #[tactic(auto, using(crate::proofs::Lists::sum_scopes))]
     pub(crate) fn count(&self) -> usize
         ensures { result ≡ min 32 (sum_by (λ f. length f.branches + 1) (scopes self.now)) }
@@ -185,14 +186,14 @@ impl<'a> Stack<'a> {
         count(self.sources.as_slice())
     }
 
-    /// None is left.
+    /// Drops all sources.
     pub(crate) fn clear(&mut self)
         ensures { self.new ≡ [] }
     {
         self.sources.clear();
     }
 
-    /// Takes the innermost.
+    /// Takes the innermost source off, if there is one.
     pub(crate) fn pop(&mut self) -> Option<Source<'a>>
         ensures taken { self.old ≡ option_to_list result ++ self.new }
         ensures none { IfNone result (self.old ≡ []) }

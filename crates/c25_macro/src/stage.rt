@@ -27,15 +27,15 @@ use std::alloc::Global;
 pub(crate) enum Stage<'a> {
     /// Before the first line.
     Before,
-    /// Behind a line.
+    /// After a line was given, or after the end.
     Standing(Standing<'a>),
     /// The module is not there.
     NoModule,
-    /// A growth was refused.
+    /// Memory ran out.
     NoMemory(NoMemory),
-    /// A line is wrong.
+    /// A line has a fault.
     Faulty(ExpandFault<'a>),
-    /// The file of this name, that a line asks for, is not there.
+    /// A line asks for the file with this name, which is not there.
     Missing {
         file: &'a str,
         line: usize,
@@ -43,7 +43,7 @@ pub(crate) enum Stage<'a> {
     },
 }
 
-/// The answer at a stage.
+/// The answer of a call for the next line.
 type Answer<'a> = Result<Option<ExpLine<'a>>, Failure<ExpandFault<'a>>>;
 
 /// A line with the name of its file.
@@ -58,7 +58,7 @@ pub(crate) fn show<'a>(files: &'a Files, given: Line<'a>) -> ExpLine<'a>
     }
 }
 
-/// A file that the line of this number in this file asks for is not there.
+/// The fault of a line that asks for a file which is not there.
 fn no_file(file: &str, line: usize) -> ExpandFault<'_>
     ensures { result ≡ record { place = record { file = file.entry; line = line }; fault = FaultKind.NoFile } }
 {
@@ -68,7 +68,7 @@ fn no_file(file: &str, line: usize) -> ExpandFault<'_>
     }
 }
 
-/// The stage behind a refusal, and what is told of it.
+/// The stage after a refusal, and the answer that reports it.
 fn refuse<'a>(files: &'a Files, name: &'a str, failure: Failure<Refusal>) -> (Stage<'a>, Answer<'a>)
     ensures { IsRefused files.now name.now failure result.0 result.1 }
 {
@@ -93,7 +93,7 @@ fn refuse<'a>(files: &'a Files, name: &'a str, failure: Failure<Refusal>) -> (St
     }
 }
 
-/// The next line behind a line, and the stage behind that.
+/// The next line from this state on, and the stage after it.
 fn go_on<'a>(
     files: &'a Files,
     name: &'a str,
@@ -115,7 +115,7 @@ fn go_on<'a>(
     }
 }
 
-/// The first line of the module of a name, and the stage behind it.
+/// The first line of the module of a name, and the stage after it.
 fn begin<'a>(
     alloc: Global,
     files: &'a Files,
@@ -134,7 +134,7 @@ fn begin<'a>(
     }
 }
 
-/// The next line of the module of a name, and the stage behind it.
+/// The next line of the module of a name, and the stage after it.
 pub(crate) fn advance<'a>(
     alloc: Global,
     files: &'a Files,

@@ -5,8 +5,8 @@ ghost use Rattle.c25_macro.specs.Config.{config};
 
 use crate::state::State;
 
-/// A state in which no more blocks are open, and no more lines and expansions counted, than may be. It
-/// is boxed, since it is handed on from line to line.
+/// A state in which at most 32 blocks are open and at most 200,000 lines and expansions counted. It is boxed,
+/// since it is handed on from line to line.
 #[derive(Drop)]
 pub(crate) struct Standing<'a> {
     pub(crate) state: Box<State<'a>>,

@@ -1,6 +1,7 @@
-//! What an expander works on: the sources that are open, and how the next line is looked at. Methods of
-//! `State` for one rule each: `conditions.rt` `.if`, `blocks.rt` macros, loops and copied files,
-//! `bodies.rt` their bodies, `lines.rt` a line that is read; `step.rt` goes on until a line is given.
+//! What an expander works on: the sources that are open, and how the next line is looked at. The methods of
+//! `State` are in one file for each rule: `conditions.rt` has `.if`, `blocks.rt` macros, loops and copied
+//! files, `bodies.rt` their bodies, `lines.rt` what is done with a line that is read; `step.rt` goes on until
+//! a line is given.
 
 ghost use Rattle.std.specs.Prelude.{◌≡◌, ◌<◌, ◌^◌, ◌++◌, Some, None, MatchBool};
 ghost use Rattle.c25_meaning_expansion.specs.Expansion as exp;
@@ -21,42 +22,42 @@ use c25_meaning_expansion::place::SourcePlace;
 use std::alloc::Global;
 use std::mem;
 
-/// How the next line is looked at. The lines of a body that is collected are those that the innermost
-/// source has passed since its mark.
+/// How the next line is looked at. The lines of a body that is collected are those that the innermost source
+/// has read since its mark.
 #[derive(Drop)]
 pub(crate) enum Mode<'a> {
-    /// It is read.
+    /// The next line is read.
     Reading,
-    /// The label of the line that stands there was given, and what the line asks for is still to be done.
+    /// The label of the line at this place was given, and what the line asks for is still to be done.
     Acting {
         place: SourcePlace,
         act: ExpansionAct<'a>,
     },
-    /// It goes into the body of a macro, in which so many macros are nested.
+    /// The next line is collected for the body of a macro, in which so many macros are nested.
     InMacro {
         name: String,
         parameters: Vec<String>,
         nested: usize,
     },
-    /// It goes into the body of a loop of so many turns, in which so many loops are nested.
+    /// The next line is collected for the body of a loop of so many turns, in which so many loops are nested.
     InLoop {
         turns: usize,
         nested: usize,
     },
 }
 
-/// What one line comes to.
+/// What one rewriting gives.
 #[derive(Drop)]
 pub(crate) enum Progress<'a> {
     /// A line is given.
     Given(Line<'a>),
-    /// The line did its work.
+    /// No line is given, and expansion goes on.
     Went,
-    /// No line comes any more.
+    /// No line is left.
     Finished,
 }
 
-/// What a line that gives none comes to.
+/// The progress of a rewriting that gives no line.
 pub(crate) fn went<'a>(done: Result<(), Failure<Refusal>>) -> Result<Progress<'a>, Failure<Refusal>>
     ensures { (r : exp.Rewriting) (new : exp.Config) → GoesOn r done new → Follows r result new }
 {
@@ -66,13 +67,13 @@ pub(crate) fn went<'a>(done: Result<(), Failure<Refusal>>) -> Result<Progress<'a
     }
 }
 
-/// All that stands at a line.
+/// The state of an expansion before its next line.
 #[derive(Drop)]
 pub(crate) struct State<'a> {
     pub(crate) alloc: Global,
-    /// The innermost file, expansion or turn.
+    /// The innermost open file, expansion or turn.
     pub(crate) top: Source<'a>,
-    /// Those in which it stands.
+    /// The files, expansions and turns outside the innermost one.
     pub(crate) below: Stack<'a>,
     pub(crate) mode: Mode<'a>,
     pub(crate) names: Dictionary<'a>,
@@ -80,14 +81,14 @@ pub(crate) struct State<'a> {
     pub(crate) left: usize,
 }
 
-/// How many lines may be read.
+/// How many lines an expansion may read.
 const MOST_LINES: usize = 200_000;
 
-/// How many blocks may be open.
+/// How many blocks may be open at once.
 pub(crate) const MOST_OPEN: usize = 32;
 
 impl<'a> State<'a> {
-    /// Before the first line of a file with this text.
+    /// The state before the first line of a file with this text.
     pub(crate) fn new(alloc: Global, file: usize, text: &'a Text) -> State<'a>
         ensures { config result ≡ start file text.now }
     {
@@ -110,11 +111,11 @@ impl<'a> State<'a> {
         }
     }
 
-    /// The next line is looked at in this way.
+    /// Sets how the next line is looked at.
     pub(crate) fn look(&mut self, mode: Mode<'a>)
         ensures { self.new ≡ record self.old { mode = mode.entry } }
     {
-        // An assignment would take the mode before apart here, form by form, which is dear to prove.
+        // An assignment would drop the old mode here, case by case, which costs much in proofs.
         mem::drop(mem::replace(&mut self.mode, mode));
     }
 
@@ -140,22 +141,22 @@ impl<'a> State<'a> {
         self.below.push(outer).map_err(Failure::NoMemory)
     }
 
-    /// Whether no block may be opened any more.
+    /// Whether as many blocks are open as may be.
     pub(crate) fn is_full(&self) -> bool
         ensures { result ≡ exp.is_full (config self.now) }
     {
         self.top.scope.branches.len().min(MOST_OPEN) + self.below.count() >= MOST_OPEN
     }
 
-    /// Whether such a block is open.
+    /// Whether a block of this kind is open.
     pub(crate) fn stands_in(&self, block: Block) -> bool
         ensures { result ≡ exp.stands_in (test_of block) (config self.now) }
     {
         self.top.scope.kind.is(block) || self.below.has(block)
     }
 
-    /// The source in which the innermost such block stands is the current one again; all that it
-    /// opened is closed.
+    /// Makes the source current in which the innermost block of this kind was opened, and closes all that was
+    /// opened after it. False where no such block is open.
     #[tactic(auto, using(crate::proofs::Lists::after_closes))]
     pub(crate) fn leave(&mut self, block: Block) -> bool
         requires reading { self.old.mode ≡ modes.Reading }

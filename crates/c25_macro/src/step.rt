@@ -25,7 +25,8 @@ use c25_meaning_language::statement::FaultKind;
 use std::mem;
 
 impl<'a> State<'a> {
-    /// The next line of the innermost file, expansion or turn, if it has one: one less may be read.
+    /// The next line of the innermost file, expansion or turn, if it has one. It counts among the lines that
+    /// may be read.
     fn next_row(&mut self) -> Result<Option<Row<'a>>, Failure<Refusal>>
         ensures next { IsNextRow self.old result self.new }
         ensures scope { self.new.top.scope ≡ self.old.top.scope }
@@ -43,7 +44,8 @@ impl<'a> State<'a> {
         Ok(Some(row))
     }
 
-    /// The next turn of a loop, or what stood behind the file, expansion or turn that ends here.
+    /// Begins the next turn of a loop, or goes back to what stands after the file, expansion or turn that
+    /// ends here.
     fn end_source(&mut self) -> Result<Progress<'a>, Failure<Refusal>>
         requires ended { self.old.top.lines.rest ≡ [] }
         requires reading { self.old.mode ≡ modes.Reading }
@@ -75,7 +77,7 @@ impl<'a> State<'a> {
         }
     }
 
-    /// The next line does what it asks for, or else the innermost file, expansion or turn ends.
+    /// Reads the next line and does what it asks for, or else ends the innermost file, expansion or turn.
     fn read(
         &mut self,
         files: &'a Files,
@@ -92,7 +94,8 @@ impl<'a> State<'a> {
         }
     }
 
-    /// The next line goes into the body of this macro, which is open where there is none.
+    /// Collects the next line for the body of this macro. Where there is no line, the block is left open
+    /// (31).
     fn read_into_macro(
         &mut self,
         name: String,
@@ -110,7 +113,7 @@ impl<'a> State<'a> {
         }
     }
 
-    /// The next line goes into the body of this loop, which is open where there is none.
+    /// Collects the next line for the body of this loop. Where there is no line, the block is left open (31).
     fn read_into_loop(
         &mut self,
         turns: usize,
@@ -127,7 +130,7 @@ impl<'a> State<'a> {
         }
     }
 
-    /// One rewriting.
+    /// Does one rewriting.
     #[tactic(auto, unfolding(c25_meaning_expansion::specs::ExpansionRuns::rewrite))]
     pub(crate) fn step(
         &mut self,
@@ -149,7 +152,7 @@ impl<'a> State<'a> {
         }
     }
 
-    /// The next line, or None where none comes any more.
+    /// The next line, or None where no line is left.
     pub(crate) fn next(
         &mut self,
         files: &'a Files,

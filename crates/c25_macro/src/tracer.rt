@@ -1,37 +1,37 @@
-//! An expansion that tells which lines opened what is open.
+//! An expansion that says which lines opened what is open.
 
 use crate::answer::{ExpLine, ExpandFault};
 use crate::state::State;
 use c25_files::files::Files;
 use c25_meaning_expansion::place::SourcePlace;
 
-/// The expansion of a module, one rewriting after another, and the lines that opened the files,
-/// expansions and turns that are open.
+/// The expansion of a module, one rewriting after another, with the lines that opened the files, expansions
+/// and turns that are open.
 #[derive(Drop)]
 pub struct Tracer<'a> {
     pub(crate) files: &'a Files,
     pub(crate) state: Box<State<'a>>,
-    /// The outermost first.
+    /// The places of these lines, the outermost first.
     pub(crate) trail: Vec<SourcePlace>,
 }
 
-/// What one rewriting comes to.
+/// What one rewriting gives.
 #[derive(Drop)]
 pub enum Step<'a> {
     /// A line is given.
     Given(ExpLine<'a>),
-    /// More is to be rewritten.
+    /// No line is given, and expansion goes on.
     Went,
-    /// No line comes any more.
+    /// No line is left.
     Finished,
 }
 
-/// Why a rewriting comes to nothing.
+/// Why a rewriting fails.
 #[derive(Drop)]
 pub enum StepFault<'a> {
-    /// A line is wrong.
+    /// A line has a fault.
     Faulty(ExpandFault<'a>),
-    /// The file of this name, that the line asks for, is not there.
+    /// A line asks for the file with this name, which is not there.
     Missing {
         file: &'a str,
         line: usize,

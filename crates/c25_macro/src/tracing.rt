@@ -1,4 +1,4 @@
-//! Expansion, one rewriting after another.
+//! Expansion, one rewriting after another, with its trail.
 
 ghost use Rattle.std.specs.Prelude.{◌≡◌, ◌∷◌, ◌-◌, [], IfOk, OnErr, OnOk, Some, drop, length, nat_lt, reverse, if◌then◌else◌};
 ghost use Rattle.c25_meaning_expansion.specs.ExpansionAnswers.{fault_by};
@@ -20,7 +20,7 @@ use c25_meaning_expansion::place::SourcePlace;
 use std::alloc::Global;
 
 impl State<'_> {
-    /// The next line, or else the last one of what ends.
+    /// The place of the next line, or of the last one where the source ends.
     fn next_place(&self) -> SourcePlace
         ensures { result ≡ next_place (config self.now).lines (config self.now).scope.last }
     {
@@ -30,7 +30,7 @@ impl State<'_> {
         }
     }
 
-    /// The line that the next rewriting is of.
+    /// The place of the line that the next rewriting is about.
     fn line(&self) -> SourcePlace
         ensures { result ≡ line_of (config self.now) }
     {
@@ -43,7 +43,7 @@ impl State<'_> {
     }
 }
 
-/// Why a rewriting comes to nothing, with the name of the line's file.
+/// The fault that reports a refusal, with the name of the line's file.
 fn told(files: &Files, refusal: Refusal) -> StepFault<'_>
     ensures { fault_by files.now (refused_by refusal) ≡ Some (fault_in result) }
 {
@@ -63,7 +63,7 @@ fn told(files: &Files, refusal: Refusal) -> StepFault<'_>
     }
 }
 
-/// The same of a failure.
+/// The failure that reports a refusal, or that memory ran out, with the name of the line's file.
 fn told_failure(files: &Files, failure: Failure<Refusal>) -> Failure<StepFault<'_>>
     ensures { IsToldAs files.now failure result }
 {
@@ -73,7 +73,7 @@ fn told_failure(files: &Files, failure: Failure<Refusal>) -> Failure<StepFault<'
     }
 }
 
-/// What a rewriting comes to, with the name of the line's file.
+/// The step that a rewriting gives, with the name of the line's file.
 fn shown<'a>(files: &'a Files, progress: Progress<'a>) -> Step<'a>
     ensures { Shows files.now progress.entry result }
 {
@@ -84,8 +84,8 @@ fn shown<'a>(files: &'a Files, progress: Progress<'a>) -> Step<'a>
     }
 }
 
-/// The lines that opened what is open, the outermost first, behind a rewriting of this line before and
-/// after which so many are.
+/// Brings the trail up to date after a rewriting of this line: `before` and `after` are how many files,
+/// expansions and turns were open outside the innermost one.
 fn follow(
     trail: &mut Vec<SourcePlace>,
     line: SourcePlace,
@@ -104,7 +104,7 @@ fn follow(
 }
 
 impl<'a> Tracer<'a> {
-    /// Before the first line of the module of a name, if there is one.
+    /// A tracer before the first line of the module of a name. None where there is no such module.
     pub fn new(alloc: Global, files: &'a Files, name: &str) -> Result<Option<Tracer<'a>>, NoMemory>
         ensures { IfOk result (Begins files.now name.now) }
     {
@@ -120,7 +120,7 @@ impl<'a> Tracer<'a> {
         }))
     }
 
-    /// One rewriting, under the symbols that the lines before it have defined.
+    /// Does one rewriting, under the symbols that the lines before it have defined.
     pub fn step(&mut self, symbols: &Symbols) -> Result<Step<'a>, Failure<StepFault<'a>>>
         requires { IsBounded (trace_of self.old).at }
         ensures { Steps symbols.now (trace_of self.old) result (trace_of self.new) }
@@ -138,7 +138,7 @@ impl<'a> Tracer<'a> {
         }
     }
 
-    /// The lines that opened what is open, the innermost first.
+    /// The places of the lines that opened what is open, the innermost first.
     pub fn into_trail(self) -> Vec<SourcePlace>
         ensures { result.items ≡ (trace_of self.entry).trail }
     {

@@ -1,4 +1,4 @@
-//! Values that are needed now.
+//! Values that expansion needs at once.
 
 ghost use Rattle.std.specs.Prelude.{◌≡◌};
 ghost use Rattle.c25_meaning_language.specs.Statement.{valued};
@@ -14,12 +14,12 @@ use c25_meaning_language::statement::FaultKind;
 use c25_meaning_language::value::Base;
 use std::mem;
 
-/// The number that an expression stands for under the symbols so far.
+/// The number that an expression stands for under the symbols so far; `NotAbsolute` where it is an address.
 pub(crate) fn number(symbols: &Symbols, expr: Expr) -> Result<i32, FaultKind>
     ensures { result ≡ absolute_number (valued symbols.now (tree_of expr)) }
 {
     let value = value(&expr, symbols);
-    // It is not needed any more.
+    // The expression is not needed any more.
     mem::drop(expr);
     match value {
         Ok(value) => match value.base {

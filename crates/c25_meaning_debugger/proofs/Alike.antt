@@ -1,4 +1,5 @@
--- Two kinds of step that come to the same wherever the words are those of the statements: a debugger over the one answers as over the other.
+-- Two kinds of step that have the same results wherever the words are an image of the statements: a debugger
+-- over the one answers as over the other.
 use Rattle.std.proofs.Common.{◌≡◌, ◌↔◌, ℕ, zero, suc, ◌+◌, Bool, List, [], ◌∷◌, Ok, Err, refl, sym, ap, subst, arith}
 use Rattle.c25_meaning_processor.specs.Goes.{Goes, Halting, Left, Met, Passes, Ran}
 use Rattle.c25_meaning_debugger.specs.Debugger.{Answers, AnswersAll, AnswersScript, Point, Steps, tried}
@@ -20,7 +21,7 @@ use Rattle.c25_run_laws.proofs.Image.{runs_alike, statements_stay}
 abbrev pub Turns : Statements → Stepping → Stepping → Type 0
 Turns ss one other = (lines : Lines) (bio : Bool) (s : State) (o : StepResult) → IsImageOf ss s.world → one lines bio s o → other lines bio s o
 
--- and behind it they still are
+-- after a step of this kind the words still are an image of the statements
 abbrev pub Stays : Statements → Stepping → Type 0
 Stays ss one = (lines : Lines) (bio : Bool) (s t : State) → IsImageOf ss s.world → one lines bio s (Ok t) → IsImageOf ss t.world
 
@@ -98,7 +99,7 @@ StatementStep ss lines bio s o = o ≡ statement_step ss lines bio s
 abbrev steady : Lines → Bool → Signals
 steady lines bio = record { lines = λ _. lines; bio = λ _. bio }
 
--- one step's end tells its outcome
+-- the end of a run of one step says the result of the step
 told_ok : (j : ℕ) (s t : State) (o : StepResult) → run.Ran t ≡ ending_after j s o → Ok t ≡ o
 told_ok j s t (Ok u) e = cc
 told_ok j s t (Err stop) e = absurd (cc)

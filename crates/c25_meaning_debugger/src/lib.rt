@@ -1,4 +1,5 @@
-//! What a debugger answers to the commands of a script; and the law that it answers alike over words and statements.
+//! What a debugger answers to the commands of a script; and the law that it gives the same answers over words
+//! and over statements.
 #![tactic(auto)]
 
 pub mod laws;

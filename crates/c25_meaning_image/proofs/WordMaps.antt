@@ -84,7 +84,7 @@ pub listed_view : (m : BTreeMap ℕ ℕ) (seen : map.FinMap nat_cmp ℕ) (listed
 listed_view m seen listed all ordered view =
     all ∙ entries_view m ordered ∙ ap (λ (n : map.FinMap nat_cmp ℕ). map.entries n) view
 
--- ---- words that are put one behind another
+-- ---- words that are put one after another
 
 abbrev put : map.FinMap nat_cmp ℕ → ℕ × ℕ → map.FinMap nat_cmp ℕ
 put words entry = map.insert words entry.0 entry.1
@@ -96,7 +96,7 @@ all_put (e ∷ es) m f same q =
     all_put es (put m e) (update (eq_by_cmp nat_cmp) f e.0 (Some e.1))
     (λ p. ap (λ b. cond b (Some e.1) (f p)) (turned p e.0) ∙ ap (cond (eq_by_cmp nat_cmp p e.0) (Some e.1)) (same p) ∙ sym (get-insert nat_cmp_total m e.0 e.1 p)) q
 
--- what is collected of a list is the map of its words put one behind another
+-- what is collected of a list is the map of its words put one after another
 pub collected_view : (m : BTreeMap ℕ ℕ) (es : List (ℕ × ℕ)) → tree.IsFromIterResult nat_cmp es m → map.from_entries {R = nat_cmp} m.entries ≡ put_all es
 collected_view m es made =
     same_map nat_cmp_total nat_cmp-IsAntisymmetric (map.from_entries {R = nat_cmp} m.entries) (put_all es)
@@ -120,6 +120,6 @@ put_behind : (es : List (ℕ × ℕ)) (e : ℕ × ℕ) (m : map.FinMap nat_cmp �
 put_behind [] e m = refl
 put_behind (x ∷ es) e m = put_behind es e (put m x)
 
--- one word more behind others
+-- one word more after others
 pub put_more : (es : List (ℕ × ℕ)) (e : ℕ × ℕ) → put_all (es ++ e ∷ []) ≡ map.insert (put_all es) e.0 e.1
 put_more es e = put_behind es e map.empty

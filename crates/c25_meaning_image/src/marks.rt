@@ -1,12 +1,12 @@
-//! Lists of marks: which are those of a program, and what one says of an address.
+//! Lists of marks: which are those of one image, and what they say of an address.
 
 ghost use Rattle.std.specs.Prelude.{◌≡◌, ◌+◌, ◌≤◌};
 ghost use Rattle.c25_meaning_image.specs.Marks.{fit_from, is_code, is_load, load_is_free, run_at, run_fit, run_fits_behind, size_at, with_loads};
 
 use crate::mark::{Mark, RunMark};
 
-/// Whether marks may be the instructions of one image: each has one or two words, they ascend, no
-/// two share a word, and each ends below address 65,536. It holds of no marks.
+/// Whether marks may be the instructions of one image: each has one or two words, they ascend, no two share a
+/// word, and each ends below address 65,536. An empty list passes.
 pub fn marks_fit(marks: &[Mark]) -> bool
     ensures { result ≡ fit_from 0 marks.now }
 {
@@ -65,8 +65,8 @@ pub fn is_load(run_marks: &[RunMark], address: u16) -> bool
     })
 }
 
-/// Whether a program word belongs to an instruction where its words are loaded: to one that runs in block
-/// B0, or to one that runs where it stands.
+/// Whether a program word is a loaded word of an instruction, of one that runs in block B0 or of one that
+/// runs where it stands.
 pub fn is_loaded_code(run_marks: &[RunMark], marks: &[Mark], address: u16) -> bool
     ensures { result ≡ is_code (with_loads run_marks.now marks.now) address }
 {
@@ -85,7 +85,7 @@ fn run_fits_behind(end: u32, mark: &RunMark) -> bool
         && u32::from(mark.load) + u32::from(mark.size) <= 65_536
 }
 
-/// Whether its loaded words are words of none of these instructions.
+/// Whether the loaded words of a run mark belong to none of the other instructions.
 fn load_is_free(run_marks: &[RunMark], marks: &[Mark], mark: &RunMark) -> bool
     requires some { 1 ≤ mark.now.size }
     requires room { mark.now.load + mark.now.size ≤ 65536 }
@@ -95,10 +95,10 @@ fn load_is_free(run_marks: &[RunMark], marks: &[Mark], mark: &RunMark) -> bool
     !is_loaded_code(run_marks, marks, mark.load) && !is_loaded_code(run_marks, marks, last)
 }
 
-/// Whether such marks may be the instructions of one image that run in block B0, beside these marks of
-/// those that run where they stand: each has one or two words, they ascend by the addresses that they
-/// run at, from FF00h on, where no two share a word, each ends below address 65,536 there and where it
-/// is loaded, and its loaded words belong to no other instruction. It holds of no run marks.
+/// Whether run marks may be the instructions of one image that run in block B0, next to the marks of those
+/// that run where they stand: each has one or two words, they ascend by the addresses at which they run, from
+/// FF00h on, where no two share a word, each ends below address 65,536 there and where it is loaded, and the
+/// loaded words of each belong to no other instruction. An empty list of run marks passes.
 pub fn run_marks_fit(marks: &[Mark], run_marks: &[RunMark]) -> bool
     ensures { result ≡ run_fit marks.now run_marks.now }
 {

@@ -1,4 +1,4 @@
-//! Words with their addresses, one behind another.
+//! Words with their addresses, one after another.
 
 ghost use Rattle.std.specs.Prelude.{◌≡◌, ◌++◌, ◌∷◌, [], IfOk, OnErr, OnOk};
 ghost use Rattle.c25_meaning_image.specs.WordMap.{put_all};
@@ -8,14 +8,14 @@ use c25_meaning_common::no_memory::NoMemory;
 use std::alloc::Global;
 use std::marker::Model;
 
-/// Words with their addresses, in the order in which they were put: a map of them is made at once, which
-/// takes less time than to put them into one by one.
+/// Words with their addresses, in the order in which they were put. A map of all of them is made at once,
+/// which takes less time than to put them into one by one.
 #[derive(Drop)]
 pub struct WordList {
     words: Vec<(u16, u16)>,
 }
 
-/// It is seen as the list of addresses and words.
+/// A `WordList` stands for the list of its addresses and words.
 impl Model for WordList {
     ghost use Rattle.std.specs.Prelude.{ℕ, List};
     ghost use Rattle.c25_meaning_image.specs.WordMap.{AreWords};
@@ -28,7 +28,7 @@ impl Model for WordList {
 }
 
 impl WordList {
-    /// No words. It takes no memory.
+    /// An empty list. It takes no memory.
     pub fn new(alloc: Global) -> Self
         ensures { result ≡ [] }
     {
@@ -37,7 +37,7 @@ impl WordList {
         }
     }
 
-    /// Puts a word behind the others. Where memory is refused the list stays as it is.
+    /// Puts a word after the others. Out of memory the list stays as it is.
     pub fn push(&mut self, address: u16, word: u16) -> Result<(), NoMemory>
         ensures ok { OnOk result (self.new ≡ self.old ++ (address, word) ∷ []) }
         ensures err { OnErr result (self.new ≡ self.old) }
@@ -46,7 +46,7 @@ impl WordList {
         Ok(())
     }
 
-    /// The map of the words: at an address that stands twice the last one.
+    /// The map of the words. Of two words at one address the later one stays.
     pub fn into_map(self, alloc: Global) -> Result<WordMap, NoMemory>
         ensures { IfOk result (λ m. m ≡ put_all self) }
     {

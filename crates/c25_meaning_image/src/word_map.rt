@@ -34,7 +34,7 @@ impl Model for WordMap {
     ghost invariant = { λ m. IsWordMap (map.from_entries m.words.entries) };
 }
 
-/// A map of words with their addresses: at an address that stands twice it has the last one.
+/// A map of words with their addresses. Of two words at one address the later one stays.
 fn collected(alloc: Global, words: Vec<(u16, u16)>) -> Result<BTreeMap<u16, u16>, AllocError>
     ensures { IfOk result (tree.IsFromIterResult nat_cmp words.items) }
 {
@@ -51,7 +51,7 @@ impl WordMap {
         }
     }
 
-    /// The words with their addresses, put into a map without words one behind another.
+    /// The map of these words: they are put in order, so of two words at one address the later one stays.
     pub(crate) fn from_words(alloc: Global, words: Vec<(u16, u16)>) -> Result<Self, NoMemory>
         requires { AreWords words.items }
         ensures { IfOk result (λ m. m ≡ put_all words.items) }
@@ -60,8 +60,7 @@ impl WordMap {
         Ok(Self { words })
     }
 
-    /// Sets the word at one address, whether or not there was one. Where memory is refused the
-    /// map stays as it is.
+    /// Sets the word at an address, whether or not there was one. Out of memory the map stays as it is.
     pub fn insert(&mut self, address: u16, word: u16) -> Result<(), NoMemory>
         ensures ok { OnOk result (self.new ≡ map.insert self.old address word) }
         ensures err { OnErr result (self.new ≡ self.old) }
@@ -70,14 +69,14 @@ impl WordMap {
         Ok(())
     }
 
-    /// The word at an address, where there is one.
+    /// The word at an address, if there is one.
     pub fn get(&self, address: u16) -> Option<u16>
         ensures { result ≡ map.get self.now address }
     {
         self.words.get(&address).copied()
     }
 
-    /// The addresses and their words, ascending.
+    /// The addresses with their words, in ascending order.
     #[tactic(auto, using(crate::proofs::WordMaps::listed_view))]
     pub fn iter(&self) -> Iter<'_, u16, u16>
         ensures entries { result ≡ map.entries self.now }

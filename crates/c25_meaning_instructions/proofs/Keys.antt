@@ -1,4 +1,5 @@
--- Values told apart by a key that computes: where a list of all of them finds each by its key, one key is one value's.
+-- Values with a key that computes: where a list of all values finds each by its key, each key belongs to one
+-- value.
 use Rattle.std.proofs.Common.{◌≡◌, ℕ, suc, Bool, true, false, Option, Some, None, List, [], ◌∷◌, cond, eqb, sym, ap, ◌∙◌, arith}
 use Rattle.std.specs.List.{Contains}
 

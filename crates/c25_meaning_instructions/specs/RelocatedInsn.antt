@@ -1,4 +1,5 @@
--- The instructions whose words have a field that is filled when modules are linked (SPRU014, instruction set).
+-- Which instructions have a field that is filled when modules are linked, and the instruction with a number
+-- in that field (SPRU014, "Assembly Language Instructions").
 use Rattle.std.specs.Prelude.{◌≡◌, ℕ, pos}
 use Rattle.c25_meaning_common.specs.declared.relocation.RelocationKind.{RelocationKind}
 use Rattle.c25_meaning_common.specs.declared.relocation.RelocationKind.TheVariants.{Word16, Low7, Page9}
@@ -7,7 +8,8 @@ use Rattle.c25_meaning_instructions.specs.declared.insn.Insn.TheVariants as insn
 use Rattle.c25_meaning_instructions.specs.declared.insn.Addr.TheVariants.{Direct}
 use Rattle.c25_meaning_instructions.specs.declared.mnemonic.ShortName.TheVariants as short
 
--- the instruction has such a field, and it holds 0: a direct address, the page of LDPK, or a second word
+-- an instruction has a field of this kind, and the field holds 0: a direct address (Low7), the page of LDPK
+-- (Page9), or the second word (Word16)
 abbrev pub HasField : RelocationKind → Insn → Type 0
 HasField Low7 (insn.Mem name addr) = addr ≡ Direct 0
 HasField Low7 (insn.Shifted name addr shift) = addr ≡ Direct 0
@@ -21,7 +23,7 @@ HasField Word16 (insn.LongMem name word addr) = word ≡ 0
 HasField Word16 (insn.Jump name word change next) = word ≡ 0
 HasField _ _ = ⊥
 
--- the instruction with a number in its field
+-- an instruction with a number in its field of this kind; one without such a field stays as it is
 abbrev pub with_field : RelocationKind → ℕ → Insn → Insn
 with_field Low7 n (insn.Mem name addr) = insn.Mem name (Direct n)
 with_field Low7 n (insn.Shifted name addr shift) = insn.Shifted name (Direct n) shift

@@ -15,11 +15,11 @@ use Rattle.c25_meaning_instructions.specs.declared.mnemonic.LongName.TheVariants
 use Rattle.c25_meaning_instructions.specs.Table.{mem_row, shifted_row, ar_mem_row, port_row, bit_row, short_row, long_row, long_mem_row, jump_row, plain_row}
 use Rattle.c25_meaning_common.specs.Digits.{two_digits, four_digits}
 
--- a second word, a hexadecimal constant of the assembler (SPRU018, "Constants")
+-- a second word, as a hexadecimal constant of the assembler (SPRU018, "Constants")
 abbrev pub long_text : ℕ → List ℕ
 long_text n = codes "0" ++ four_digits n ++ codes "h"
 
--- the seven indirect forms ("Indirect Addressing Mode")
+-- the text of each of the seven indirect forms ("Indirect Addressing Mode")
 abbrev pub change_text : Change → List ℕ
 change_text change.Keep = codes "*"
 change_text change.Decrement = codes "*-"
@@ -29,22 +29,22 @@ change_text change.Subtract = codes "*0-"
 change_text change.Add = codes "*0+"
 change_text change.ReverseAdd = codes "*BR0+"
 
--- a direct address, or the change of an indirect one
+-- the text of an operand in memory: its direct address, or its indirect form
 abbrev pub place_text : Addr → List ℕ
 place_text (Direct low) = codes "0" ++ two_digits low ++ codes "h"
 place_text (Indirect change next) = change_text change
 
--- a next register, behind a comma
+-- the text of a next register, after a comma; none where no next register is given
 abbrev pub next_text : Option ℕ → List ℕ
 next_text None = []
 next_text (Some next) = codes ",AR" ++ decimal next
 
--- the next register of an indirect operand
+-- the next register of an operand in memory; a direct operand has none
 abbrev pub tail_text : Addr → List ℕ
 tail_text (Direct low) = []
 tail_text (Indirect change next) = next_text next
 
--- an instruction, by families
+-- the text of an instruction, by families
 abbrev pub show : Insn → List ℕ
 show (insn.Mem name addr) = (mem_row name).name ++ codes " " ++ place_text addr ++ tail_text addr
 show (insn.Shifted name addr shift) = (shifted_row name).name ++ codes " " ++ place_text addr ++ codes "," ++ decimal shift ++ tail_text addr

@@ -1,5 +1,5 @@
--- The names of the instructions, and what a word spells (SPRU014, instruction set; ZAC, NOP and LARP are
--- other spellings of LACK, MAR and MAR).
+-- The names of the instructions, by families, and which instruction a mnemonic spells (SPRU014, "Instruction
+-- Set Summary"; ZAC, NOP and LARP are other spellings of LACK, MAR and MAR).
 use Rattle.std.specs.Prelude.{ℕ, List, [], ◌∷◌, ◌++◌, Option, map, find}
 use Rattle.std.specs.Str.{str_eq_ignore_ascii_case}
 use Rattle.c25_meaning_instructions.specs.Table.{spelling_text}
@@ -28,7 +28,7 @@ use Rattle.c25_meaning_instructions.specs.declared.mnemonic.JumpName.TheVariants
 use Rattle.c25_meaning_instructions.specs.declared.mnemonic.PlainName.{PlainName}
 use Rattle.c25_meaning_instructions.specs.declared.mnemonic.PlainName.TheVariants as plain
 
--- the instructions with an operand byte alone
+-- the instructions with a data word alone
 abbrev pub mem_names : List MemName
 mem_names = mem.Mpy ∷ mem.Sqra ∷ mem.Mpya ∷ mem.Mpys ∷ mem.Lt ∷ mem.Lta ∷ mem.Ltp ∷ mem.Ltd ∷ mem.Zalh ∷
     mem.Zals ∷ mem.Lact ∷ mem.Addc ∷ mem.Subh ∷ mem.Subs ∷ mem.Subt ∷ mem.Subc ∷ mem.Addh ∷ mem.Adds ∷
@@ -36,32 +36,32 @@ mem_names = mem.Mpy ∷ mem.Sqra ∷ mem.Mpya ∷ mem.Mpys ∷ mem.Lt ∷ mem.Lt
     mem.Pshd ∷ mem.Mar ∷ mem.Dmov ∷ mem.Bitt ∷ mem.Tblr ∷ mem.Tblw ∷ mem.Sqrs ∷ mem.Lts ∷ mem.Sst ∷ mem.Sst1 ∷
     mem.Popd ∷ mem.Zalr ∷ mem.Spl ∷ mem.Sph ∷ mem.Mpyu ∷ []
 
--- the instructions with an operand byte and a shift
+-- the instructions with a data word and a shift
 abbrev pub shifted_names : List ShiftedName
 shifted_names = shifted.Add ∷ shifted.Sub ∷ shifted.Lac ∷ shifted.Sacl ∷ shifted.Sach ∷ []
 
--- the instructions with an auxiliary register and an operand byte
+-- the instructions with an auxiliary register and a data word
 abbrev pub ar_mem_names : List ArMemName
 ar_mem_names = ar_mem.Lar ∷ ar_mem.Sar ∷ []
 
--- the instructions with an operand byte and a port
+-- the instructions with a data word and a port
 abbrev pub port_names : List PortName
 port_names = port.In ∷ port.Out ∷ []
 
--- the instructions with an operand byte and a bit code
+-- the instruction with a data word and a bit code
 abbrev pub bit_names : List BitName
 bit_names = bit.Bit ∷ []
 
--- the instructions with a short constant
+-- the instructions with a short immediate number
 abbrev pub short_names : List ShortName
 short_names = short.Adrk ∷ short.Sbrk ∷ short.Lark ∷ short.Lack ∷ short.Rptk ∷ short.Addk ∷ short.Subk ∷
     short.Ldpk ∷ short.Mpyk ∷ []
 
--- the instructions with a long constant
+-- the instructions with a long immediate number
 abbrev pub long_names : List LongName
 long_names = long.Lrlk ∷ long.Lalk ∷ long.Adlk ∷ long.Sblk ∷ long.Andk ∷ long.Ork ∷ long.Xork ∷ []
 
--- the instructions with a second word and an operand byte
+-- the instructions with an address in a second word and a data word
 abbrev pub long_mem_names : List LongMemName
 long_mem_names = long_mem.Macd ∷ long_mem.Mac ∷ long_mem.Blkp ∷ long_mem.Blkd ∷ []
 
@@ -70,7 +70,7 @@ abbrev pub jump_names : List JumpName
 jump_names = jump.Bc ∷ jump.Bnc ∷ jump.Bv ∷ jump.Bgz ∷ jump.Blez ∷ jump.Blz ∷ jump.Bgez ∷ jump.Bnz ∷ jump.Bz ∷
     jump.Bnv ∷ jump.Bbz ∷ jump.Bbnz ∷ jump.Bioz ∷ jump.Banz ∷ jump.Call ∷ jump.B ∷ []
 
--- the instructions with neither an operand byte nor a second word
+-- the instructions with neither a data word nor a second word
 abbrev pub plain_names : List PlainName
 plain_names = plain.Eint ∷ plain.Dint ∷ plain.Rovm ∷ plain.Sovm ∷ plain.Cnfd ∷ plain.Cnfp ∷ plain.Rsxm ∷
     plain.Ssxm ∷ plain.Rxf ∷ plain.Sxf ∷ plain.Pac ∷ plain.Apac ∷ plain.Spac ∷ plain.Sfl ∷ plain.Sfr ∷
@@ -79,7 +79,7 @@ plain_names = plain.Eint ∷ plain.Dint ∷ plain.Rovm ∷ plain.Sovm ∷ plain.
     plain.Rol ∷ plain.Ror ∷ plain.Rfsm ∷ plain.Sfsm ∷ plain.Rhm ∷ plain.Shm ∷ plain.Spm ∷ plain.Fort ∷
     plain.Cmpr ∷ plain.Norm ∷ []
 
--- the 130 rows of the opcode table
+-- all 130 rows of the opcode table
 abbrev pub rows : List Mnemonic
 rows =
     map family.Mem mem_names
@@ -93,10 +93,10 @@ rows =
     ++ map family.Jump jump_names
     ++ map family.Plain plain_names
 
--- the rows and the three other spellings
+-- all spellings: the rows of the table, and the three others
 unfoldable pub spellings : List Spelling
 spellings = map Row rows ++ Zac ∷ Nop ∷ Larp ∷ []
 
--- what a word spells, in either case
+-- the spelling that a mnemonic is, in upper or lower case, if it is one
 unfoldable pub spelling_of : List ℕ → Option Spelling
 spelling_of word = find (λ s. str_eq_ignore_ascii_case word (spelling_text s)) spellings

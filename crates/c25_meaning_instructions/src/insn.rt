@@ -4,36 +4,36 @@ ghost use Rattle.std.specs.Prelude.{◌≡◌};
 
 use crate::mnemonic::*;
 
-/// What an indirect operand does to the current auxiliary register ("Indirect Addressing Mode").
+/// What an indirect operand does to the current auxiliary register (SPRU014, "Indirect Addressing Mode").
 #[derive(Clone, Copy, PartialEq, Debug)]
 pub enum Change {
-    /// `*`: nothing.
+    /// `*`: the register stays.
     Keep,
-    /// `*-`: one less.
+    /// `*-`: 1 is subtracted.
     Decrement,
-    /// `*+`: one more.
+    /// `*+`: 1 is added.
     Increment,
-    /// `*BR0-`: AR0 less, with reversed carry.
+    /// `*BR0-`: AR0 is subtracted, with reversed borrow.
     ReverseSubtract,
-    /// `*0-`: AR0 less.
+    /// `*0-`: AR0 is subtracted.
     Subtract,
-    /// `*0+`: AR0 more.
+    /// `*0+`: AR0 is added.
     Add,
-    /// `*BR0+`: AR0 more, with reversed carry.
+    /// `*BR0+`: AR0 is added, with reversed carry.
     ReverseAdd,
 }
 
-/// Where an instruction finds its data word ("Memory Addressing Modes").
+/// Where an instruction finds its data word (SPRU014, "Memory Addressing Modes").
 #[derive(Clone, Copy)]
 pub enum Addr {
     /// The low seven bits of an address on the current data page.
     Direct(u16),
-    /// The address in the current auxiliary register: how that changes, and the number of the
+    /// The address in the current auxiliary register: the change of that register, and the number of the
     /// register that is current from then on, where one is given.
     Indirect(Change, Option<u16>),
 }
 
-/// What an instruction without a data word takes.
+/// The operand of an instruction without a data word.
 #[derive(Clone, Copy)]
 pub enum PlainOperand {
     Nothing,
@@ -43,8 +43,8 @@ pub enum PlainOperand {
     Change(Change),
 }
 
-/// An instruction, by families. Its operands are in the order of the syntax; which numbers they may
-/// be is `InRange` of specs/Table.antt.
+/// An instruction, by families. The operands are in the order of the syntax; which numbers they may be is
+/// `InRange` of specs/Table.antt.
 #[derive(Clone, Copy)]
 pub enum Insn {
     /// A data word: `MPY *-,AR2`.

@@ -9,13 +9,13 @@ ghost use Rattle.c25_meaning_instructions.specs.RelocatedInsn.{HasField, with_fi
 ghost use Rattle.c25_meaning_common.specs.declared.relocation.RelocationKind.{RelocationKind};
 ghost use Rattle.c25_meaning_common.specs.declared.relocation.RelocationKind.TheVariants as kind;
 
-/// Two words read as one instruction at most, whatever numbers they are.
+/// Two words in a row read as one instruction at most, whatever numbers they are.
 pub fn words_have_one_reading()
     ensures { (first second : ℕ) (i j : Insn) → Reads first second i → Reads first second j → i ≡ j }
 {}
 
-/// A field has room for the number of any value. The number that is put into it is read there, all
-/// other bits stay, and where the field was 0 the number is added to the word.
+/// The number that linking puts into a field fits the field, whatever value it is of. After it was put there
+/// it is read there, all other bits stay, and where the field was 0 the number was added to the word.
 pub fn fields_keep_their_number()
     ensures fits { (kind : RelocationKind) (value : ℤ) → field_number kind value < field_values kind }
     ensures read { (kind : RelocationKind) (number word : ℕ) → number < field_values kind → read_field kind (filled kind number word) ≡ number }

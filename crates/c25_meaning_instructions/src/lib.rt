@@ -1,4 +1,5 @@
-//! The instruction set: mnemonics and instructions, the opcode table, spellings and printed texts; and laws of it.
+//! The instruction set: mnemonics and instructions, the opcode table, spellings and printed texts; and laws
+//! of the instruction set.
 #![tactic(auto)]
 
 pub mod insn;

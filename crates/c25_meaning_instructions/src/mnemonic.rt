@@ -198,7 +198,7 @@ pub enum Mnemonic {
 /// What a mnemonic stands for: a row of the table, or one of three other spellings.
 #[derive(Clone, Copy, PartialEq, Debug)]
 pub enum Spelling {
-    /// The row of that name.
+    /// The row whose name the mnemonic is.
     Row(Mnemonic),
     /// `ZAC` is `LACK 0`.
     Zac,

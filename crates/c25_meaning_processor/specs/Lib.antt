@@ -1,3 +1,5 @@
+-- The processor: its data path, registers and memories, what each instruction and each step does, and runs; and what drives a
+-- simulation: samples, schedules, scripts and breakpoints.
 pub mod Arithmetic
 pub mod Effect
 pub mod FirstState

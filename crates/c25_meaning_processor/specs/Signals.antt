@@ -5,23 +5,24 @@ use Rattle.c25_meaning_processor.specs.declared.schedule.Event.TheVariants.{Latc
 use Rattle.c25_meaning_processor.specs.declared.schedule.Entry.{Entry}
 use Rattle.c25_meaning_processor.specs.Run.{Signals}
 
--- the events at some of the steps
+-- the events of those entries whose step passes a test, in order
 abbrev pub events_at : (ℕ → Bool) → List Entry → List Event
 events_at is_meant entries = map (λ entry. entry.event) (filter (λ entry. is_meant entry.step) entries)
 
--- these lines and those that some events latch
+-- a set of interrupt lines, with the lines that some events latch
 abbrev pub lines_after : ℕ → List Event → ℕ
 lines_after lines [] = lines
 lines_after lines (Latch more ∷ events) = lines_after (bit_or lines more.0) events
 lines_after lines (Bio level ∷ events) = lines_after lines events
 
--- the BIO level after some events: that of the last one, or the one before them
+-- the BIO level after some events: that of the last one, or else the level before them
 abbrev pub level_after : Bool → List Event → Bool
 level_after level [] = level
 level_after level (Latch lines ∷ events) = level_after level events
 level_after level (Bio next ∷ events) = level_after next events
 
--- in step k the lines that its events latch, and the BIO level of the last event up to it, 1 before the first
+-- the signals of a schedule: in step k the interrupt lines that events of step k latch, and the BIO level of
+-- the last event up to step k, 1 before the first
 abbrev pub signals_of : List Entry → Signals
 signals_of entries =
     record {

@@ -3,23 +3,23 @@
 /// The accumulator with the two flags that its arithmetic sets.
 #[derive(Clone, Copy, PartialEq, Debug)]
 pub struct Acc {
-    /// Its 32 bits.
+    /// The accumulator's 32 bits.
     pub value: u32,
-    /// OV: a result has left 32 signed bits. It stays set.
+    /// OV: a result did not fit in 32 signed bits. It stays set until an instruction clears it.
     pub ov: bool,
-    /// C: the carry, or no borrow.
+    /// C: the carry of a sum; after a difference 0 stands for a borrow.
     pub c: bool,
 }
 
-/// PM: how the product is shifted where it is used.
+/// PM: how the product is shifted where it is used (SPRU014, "Status Registers").
 #[derive(Clone, Copy)]
 pub enum ProductShift {
-    /// Not at all (0).
+    /// PM 0: no shift.
     None,
-    /// Left by 1 (1).
+    /// PM 1: left by 1.
     Left1,
-    /// Left by 4 (2).
+    /// PM 2: left by 4.
     Left4,
-    /// Right by 6, with its sign (3).
+    /// PM 3: right by 6, with the sign.
     Right6,
 }

@@ -1,5 +1,5 @@
-//! The processor: the data path in whole numbers, registers, memories, what each instruction and each step does,
-//! runs; what drives a simulation (samples, schedules, scripts), and breakpoints.
+//! The processor: the data path in whole numbers, registers and memories, what each instruction and each step
+//! does, runs; the samples, schedules and scripts that drive a simulation; and breakpoints.
 #![tactic(auto)]
 
 pub mod accumulator;

@@ -2,8 +2,7 @@
 
 use bitflags::{Flag, Flags, bitflag_items};
 
-/// A set of interrupt lines. Its bits stand where the mask register IMR has them (SPRU014,
-/// "External Interrupts").
+/// A set of interrupt lines. Its bits are those of the mask register IMR (SPRU014, "External Interrupts").
 #[derive(Clone, Copy)]
 pub struct Lines(u8);
 

@@ -1,4 +1,4 @@
-//! What the processor itself holds.
+//! The processor's registers.
 
 ghost use Rattle.std.specs.Prelude.{◌≡◌, ◌<◌};
 
@@ -33,7 +33,7 @@ impl ArNumber {
         ArNumber { number }
     }
 
-    /// Its number.
+    /// The number of the register.
     pub fn number(self) -> u16
         ensures value { result ≡ self }
         ensures small { result < 8 }
@@ -42,7 +42,7 @@ impl ArNumber {
     }
 }
 
-/// A data page of 128 words, 0 to 511.
+/// The number of a data page of 128 words, 0 to 511.
 #[derive(Clone, Copy)]
 pub struct DataPage {
     page_number: u16,
@@ -71,7 +71,7 @@ impl DataPage {
         }
     }
 
-    /// Its number.
+    /// The number of the page.
     pub fn number(self) -> u16
         ensures value { result ≡ self }
         ensures small { result < 512 }
@@ -80,64 +80,63 @@ impl DataPage {
     }
 }
 
-/// All that the processor itself holds (SPRU014, "Central Arithmetic Logic Unit" and
-/// "Status Registers").
+/// All that the processor itself holds (SPRU014, "Central Arithmetic Logic Unit", "Status Registers").
 #[derive(Clone, Copy)]
 pub struct Registers {
     /// The accumulator, with OV and C.
     pub acc: Acc,
     /// P, the product.
     pub p: u32,
-    /// T, a factor.
+    /// T, one factor of a product.
     pub t: u16,
     /// AR0 to AR7.
     pub ar: [u16; 8],
     /// The program counter.
     pub pc: u16,
-    /// RPTC, the repetitions still to come after the next.
+    /// RPTC, how many repetitions come after the next one.
     pub rptc: u8,
-    /// The hardware stack, its top first.
+    /// The hardware stack, the top first.
     pub stack: [u16; 8],
-    /// The current auxiliary register.
+    /// ARP, the current auxiliary register.
     pub arp: ArNumber,
-    /// The auxiliary register that was current before.
+    /// ARB, the buffer of ARP: the auxiliary register that was current before.
     pub arb: ArNumber,
-    /// DP, the page of direct addresses.
+    /// DP, the data page of direct addresses.
     pub dp: DataPage,
     pub pm: ProductShift,
     /// OVM: overflows saturate.
     pub ovm: bool,
-    /// INTM: no interrupt is taken.
+    /// INTM: no interrupt is taken while it is 1.
     pub intm: bool,
     /// CNF: block B0 is program memory.
     pub cnf: bool,
-    /// SXM: memory words are read with their sign.
+    /// SXM: memory words are taken with their sign.
     pub sxm: bool,
-    /// TC: the result of a test.
+    /// TC: the result of the last test.
     pub tc: bool,
-    /// HM: a hold stops the processor. It is kept alone, since nothing here holds it.
+    /// HM: whether a hold stops the processor. The bit is only kept, since nothing here holds the processor.
     pub hm: bool,
-    /// FSM: the serial port goes by frame pulses. Kept alone.
+    /// FSM: whether the serial port needs frame pulses. The bit is only kept.
     pub fsm: bool,
-    /// XF: the level of the pin XF. Kept alone.
+    /// XF: the level of the pin XF. The bit is only kept.
     pub xf: bool,
-    /// FO: the serial port has words of 8 bits. Kept alone.
+    /// FO: whether the serial port has words of 8 bits. The bit is only kept.
     pub fo: bool,
-    /// TXM: the serial port makes the frame pulses itself. Kept alone.
+    /// TXM: whether the serial port makes the frame pulses itself. The bit is only kept.
     pub txm: bool,
-    /// The interrupt lines that wait.
+    /// The interrupt lines that are latched.
     pub latched: Lines,
-    /// `IDLE` waits for an interrupt.
+    /// Whether `IDLE` waits for an interrupt.
     pub asleep: bool,
-    /// `EINT` was the last instruction.
+    /// Whether `EINT` was the last instruction: no interrupt is taken before the next one.
     pub shadowed: bool,
-    /// The next instruction is one of a repeat.
+    /// Whether the next instruction is one of a repeat.
     pub repeating: bool,
-    /// The repetitions that are done.
+    /// How many repetitions are done.
     pub repeated: u16,
 }
 
-/// The registers as a debugger shows them.
+/// The registers that a debugger shows.
 #[derive(Clone, Copy, PartialEq, Debug)]
 pub struct Regs {
     pub acc: u32,
@@ -145,11 +144,11 @@ pub struct Regs {
     pub t: u16,
     pub ar: [u16; 8],
     pub pc: u16,
-    /// ARP 15-13, OV 12, OVM 11, one 10, INTM 9, DP 8-0.
+    /// ST0: ARP in bits 15-13, OV 12, OVM 11, a one 10, INTM 9, DP 8-0.
     pub st0: u16,
-    /// ARB 15-13, CNF 12, TC 11, SXM 10, C 9, ones 8-7, HM 6, FSM 5, XF 4, FO 3, TXM 2, PM 1-0.
+    /// ST1: ARB in bits 15-13, CNF 12, TC 11, SXM 10, C 9, ones 8-7, HM 6, FSM 5, XF 4, FO 3, TXM 2, PM 1-0.
     pub st1: u16,
     pub rptc: u8,
-    /// Its top first.
+    /// The hardware stack, the top first.
     pub stack: [u16; 8],
 }

@@ -1,8 +1,8 @@
-//! Samples.
+//! Samples: what the input ports read.
 
 use thiserror::Error;
 
-/// A word that an input port reads.
+/// A word that `IN` reads at a port.
 #[derive(Clone, Copy)]
 pub struct Sample {
     /// The port, 0 to 15.
@@ -10,7 +10,7 @@ pub struct Sample {
     pub word: u16,
 }
 
-/// A line's words are no sample (91). It is placed at the number of the line, counted from 1.
+/// A line is no sample (91). It is reported with the number of the line, counted from 1.
 #[derive(Clone, Copy, Debug, Error)]
 #[error("{}", self.name())]
 pub struct BadSamples;
@@ -18,14 +18,14 @@ pub struct BadSamples;
 impl BadSamples {
     ghost use Rattle.std.specs.Prelude.{◌≡◌, codes};
 
-    /// The number that it is told by.
+    /// The fault number shown to the user.
     pub fn number(&self) -> u8
         ensures { result ≡ 91 }
     {
         91
     }
 
-    /// The name that it is told by.
+    /// The name of the fault shown to the user.
     pub fn name(&self) -> &'static str
         ensures { result.now ≡ codes "BadSamples" }
     {

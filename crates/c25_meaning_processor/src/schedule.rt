@@ -1,18 +1,18 @@
-//! Scheduled events.
+//! Schedules: what happens from outside, and before which step.
 
 use crate::lines::Lines;
 use thiserror::Error;
 
-/// What happens before a step.
+/// What happens before a step (SPRU014, "External Interrupts" and the page of BIOZ).
 #[derive(Clone, Copy)]
 pub enum Event {
-    /// These interrupt lines are latched.
+    /// Interrupt lines are latched.
     Latch(Lines),
-    /// The BIO level from this step on.
+    /// The level of BIO from this step on.
     Bio(bool),
 }
 
-/// An event and its step.
+/// An event, and the step before which it happens.
 #[derive(Clone, Copy)]
 pub struct Entry {
     /// The step, counted from 0.
@@ -20,7 +20,8 @@ pub struct Entry {
     pub event: Event,
 }
 
-/// A line's words are no entry, or its step is less than the one before (90). It is placed at the number of the line, counted from 1.
+/// A line is no entry, or its step is less than that of the entry before (90). It is reported with the number
+/// of the line, counted from 1.
 #[derive(Clone, Copy, Debug, Error)]
 #[error("{}", self.name())]
 pub struct BadSchedule;
@@ -28,14 +29,14 @@ pub struct BadSchedule;
 impl BadSchedule {
     ghost use Rattle.std.specs.Prelude.{◌≡◌, codes};
 
-    /// The number that it is told by.
+    /// The fault number shown to the user.
     pub fn number(&self) -> u8
         ensures { result ≡ 90 }
     {
         90
     }
 
-    /// The name that it is told by.
+    /// The name of the fault shown to the user.
     pub fn name(&self) -> &'static str
         ensures { result.now ≡ codes "BadSchedule" }
     {

@@ -2,12 +2,12 @@
 
 use thiserror::Error;
 
-/// A command of a script.
+/// A command of a script. Counts are in decimal, addresses in hexadecimal.
 #[derive(Clone, Copy)]
 pub enum Cmd {
     /// Do so many steps.
     Step(u32),
-    /// Do so many steps, but none past a breakpoint.
+    /// Do so many steps, but end at the first breakpoint.
     Run(u32),
     /// Set a breakpoint at a program address.
     Break(u16),
@@ -23,13 +23,13 @@ pub enum Cmd {
     Stack,
     /// Show the instruction at PC.
     Where,
-    /// Show so many instructions from PC on.
+    /// Show at most so many instructions of the image, from PC on.
     List(u32),
     /// Show the symbols.
     Symbols,
 }
 
-/// A line's words are no command (95). It is placed at the number of the line, counted from 1.
+/// A line is no command (95). It is reported with the number of the line, counted from 1.
 #[derive(Clone, Copy, Debug, Error)]
 #[error("{}", self.name())]
 pub struct BadCommand;
@@ -37,14 +37,14 @@ pub struct BadCommand;
 impl BadCommand {
     ghost use Rattle.std.specs.Prelude.{◌≡◌, codes};
 
-    /// The number that it is told by.
+    /// The fault number shown to the user.
     pub fn number(&self) -> u8
         ensures { result ≡ 95 }
     {
         95
     }
 
-    /// The name that it is told by.
+    /// The name of the fault shown to the user.
     pub fn name(&self) -> &'static str
         ensures { result.now ≡ codes "BadCommand" }
     {

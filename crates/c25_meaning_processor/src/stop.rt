@@ -1,4 +1,4 @@
-//! Where a run leaves the code.
+//! Why a step stops.
 
 use thiserror::Error;
 
@@ -6,13 +6,13 @@ use thiserror::Error;
 #[derive(Clone, Copy, PartialEq, Debug, Error)]
 #[error("{}", self.name())]
 pub enum Stop {
-    /// No instruction can be fetched at PC (1).
+    /// No instruction can be fetched at PC.
     OutOfCode,
-    /// `TBLW` would change a word of an instruction (2).
+    /// `TBLW` would change a loaded word of an instruction.
     CodeWrite,
-    /// An instruction that may not be repeated stands under a repeat (3).
+    /// The instruction at PC may not be repeated, and a repeat is running.
     BadRepeat,
-    /// `IN` found no sample left at its port (4).
+    /// `IN` found no sample left at its port.
     PortDry,
 }
 
@@ -20,7 +20,7 @@ impl Stop {
     ghost use Rattle.std.specs.Prelude.{◌≡◌, ◌≤◌, length};
     ghost use Rattle.c25_meaning_processor.specs.RunText.{stop_name};
 
-    /// The name that it is told by.
+    /// The name of the stop shown to the user.
     pub fn name(&self) -> &'static str
         ensures name { result.now ≡ stop_name self.now }
         ensures short { length result.now ≤ 9 }

@@ -27,7 +27,7 @@ use Rattle.c25_meaning_processor.specs.Step.{advanced, begun, executed, is_unrep
 use Rattle.c25_meaning_processor.specs.WordStep.{WordStep}
 use Rattle.c25_meaning_processor.specs.Effect.{ar_mem_effect, effect, input, long_mem_effect, mem_address, mem_effect, mem_operand, operand_word, port_effect, settle, shifted_effect, store_program, to}
 
--- outputs, and at most so many behind them
+-- outputs, and at most so many after them
 abbrev pub Grows : ℕ → List (ℕ × ℕ) → List (ℕ × ℕ) → Type 0
 Grows n old new = (more : List (ℕ × ℕ)) × (new ≡ old ++ more) × (length more ≤ n)
 

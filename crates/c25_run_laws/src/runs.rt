@@ -22,10 +22,10 @@ pub fn started_words_are_code()
         address ≤ word → word < address + size → is_code marks word ≡ true }
 {}
 
-/// A step that does not stop leaves the words of instructions and their places as they are, whatever
-/// instruction it acts by, from all registers, in every world and so with every list of marks. So does
-/// each run that has not stopped, of the words and of the statements, whether or not the words are
-/// theirs.
+/// A step that does not stop leaves the words of instructions and their marks as they are, whatever
+/// instruction it acts by, from all registers, in every world and so with every list of marks. Each run that
+/// has not stopped leaves them, too: a run of the words, and a run of any statements, whether or not the
+/// words are an image of these.
 pub fn steps_keep_the_words_of_code()
     ensures step { (bio : Bool) (i : Option Insn) (r : Registers) (w : World) (t : State) → stepped bio i r w ≡ Ok t → KeepsCode w t.world }
     ensures words { (signals : Signals) (k n : ℕ) (s t : State) → Reaches WordStep signals k n s t → KeepsCode s.world t.world }
@@ -33,18 +33,19 @@ pub fn steps_keep_the_words_of_code()
         run_of (statement_step statements) signals k n s ≡ Ran t → KeepsCode s.world t.world }
 {}
 
-/// From any state whose words are those of the statements, under all samples, interrupt lines and
-/// levels and for every number of steps, the run of the words ends as the run of the statements,
-/// and the words of the statements stay.
+/// From any state whose words are an image of the statements, under all samples, interrupt lines and BIO
+/// levels and for every number of steps, the run of the words ends as the run of the statements, and the
+/// words stay an image of the statements.
 pub fn image_runs_as_statements()
     ensures runs { (statements : Statements) (s : State) → IsImageOf statements s.world → RunsAsStatements statements s }
     ensures words { (statements : Statements) (s : State) → IsImageOf statements s.world → KeepsStatements statements s }
 {}
 
-/// Under CNF 1 a statement whose section runs in block B0 acts at the address that it runs at, where B0 holds
-/// its words; where B0 differs, and at each other address of B0, nothing does, so that the code is left. At
-/// all other addresses, and everywhere under CNF 0, it is the statement that stands there which acts. The words
-/// of such a statement are code where they are loaded, and no instruction begins at them there.
+/// Under CNF 1 a statement whose section runs in block B0 acts at the address at which it runs, where B0
+/// holds its words; where B0 holds others, and at each other address of B0, no statement acts, so that the
+/// run stops there. At all other addresses, and everywhere under CNF 0, it is the statement that stands there
+/// which acts. The words of a statement that runs in B0 are code where they are loaded, and no instruction is
+/// fetched from them there.
 pub fn code_in_b0()
     ensures held { (ss : Statements) (w : World) (pc : ℕ) (c : Copied) → copied_at ss.copied pc ≡ Some c →
         holds w c.run (words c.insn) ≡ true → standing ss true w pc ≡ Some c.insn }
@@ -61,8 +62,8 @@ pub fn code_in_b0()
         is_load w.run_marks pc ≡ true → IsFetchedBy cnf w pc None i → i ≡ None }
 {}
 
-/// A program of which nothing runs in block B0 steps by the statements that stand where they run, and so
-/// do its words: what runs in B0 adds nothing to it.
+/// A program of which nothing runs in block B0 steps by the statements that stand where they run, and so do
+/// its words: the definitions for B0 change nothing in it.
 pub fn programs_outside_b0_step_plainly()
     ensures statements { (statements : List Statement) (lines : Lines) (bio : Bool) (s : State) →
         statement_step (plainly statements) lines bio s
@@ -72,14 +73,14 @@ pub fn programs_outside_b0_step_plainly()
         IsFetched cnf w pc i ↔ IsFetchedBy cnf w pc None i }
 {}
 
-/// From any state, under all interrupt lines and levels, a run of the words has one end at most.
+/// From any state, under all interrupt lines and BIO levels, a run of the words has one end at most.
 pub fn words_end_once()
     ensures { (signals : Signals) (k n : ℕ) (s : State) (e f : Ending) →
         Runs WordStep signals k n s e → Runs WordStep signals k n s f → e ≡ f }
 {}
 
-/// A run of m steps that does not stop, and then a run of n steps from where it led, are one run of
-/// m + n steps: for the words of any state, and for the statements.
+/// A run of m steps that does not stop, and then a run of n steps from where it led, are one run of m + n
+/// steps: for the words from any state, and for the statements.
 pub fn two_runs_are_one()
     ensures words { (signals : Signals) (k m n : ℕ) (s t : State) (e : Ending) →
         Runs WordStep signals k m s (Ran t) →

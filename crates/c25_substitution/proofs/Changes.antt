@@ -82,7 +82,7 @@ module _ (names : Replacements) (begins : Quoting) (text : List ℕ) where
       changes before b number =
           goes number ∙ ap (λ t. joined (as_is t) (joined (part names number 0 [] p) (rewritten names number (behind first q) after))) (sym (b ∙ taken))
 
-    -- behind a blank
+    -- after a blank
     pub keeps_blank : (after : List ℕ) → 0 < length rest → 32 ≡ get_or rest 0 0 → after ≡ drop 1 rest → length after < length rest → IsKeptTo (behind 32 q) after
     keeps_blank after more is cut shorter =
         let blank = blank_front (without [] names) q rest more is in

@@ -1,4 +1,4 @@
--- Where a text may be cut: behind or before an ASCII byte.
+-- Where a text may be cut: after or before an ASCII byte.
 use Rattle.std.proofs.Common.{◌≡◌, ℕ, ◌+◌, ◌-◌, ◌<◌, ◌≤◌, max, Bool, true, false, List, length, get_or, drop, reverse, sym, subst, ◌∙◌, ap, inl, inr, arith}
 use Rattle.std.specs.List.{prefix_len, suffix_len}
 use Rattle.std.specs.Str.{IsUtf8, IsCharBoundary}
@@ -10,7 +10,7 @@ use Rattle.std.proofs.lemmas.List.Sums.{prefix_len_passes, prefix_len_stops, pre
 use Rattle.c25_meaning_common.specs.Bytes.{is_blank, is_letter_or_digit, goes_on_name}
 use Rattle.c25_meaning_language.specs.Fragments.{is_beyond_ascii}
 
--- behind a run of ASCII bytes of one kind
+-- after a run of ASCII bytes of one kind
 run_cut : (p : ℕ → Bool) → ((b : ℕ) → p b ≡ true → b < 128) → (text : List ℕ) → IsUtf8 text → IsCharBoundary text (prefix_len p text)
 run_cut p ascii text u =
     let n : ℕ = prefix_len p text in
@@ -37,7 +37,7 @@ name_cut = run_cut goes_on_name name_ascii
 beyond_ends : (b : ℕ) → is_beyond_ascii b ≡ false → b < 128
 beyond_ends b h = grind (arith, nat_tests)
 
--- behind a character, or some beyond ASCII
+-- after a character, or some beyond ASCII
 pub character_cut : (text : List ℕ) → IsUtf8 text → 0 < length text → IsCharBoundary text (max (prefix_len is_beyond_ascii text) 1)
 character_cut text u h =
     let n : ℕ = prefix_len is_beyond_ascii text in
@@ -56,7 +56,7 @@ character_cut text u h =
           subst (IsCharBoundary text) same (IsCharBoundary-after_ascii text 0 u h (beyond_ends _ first))
     ]
 
--- behind an ASCII byte and a name
+-- after an ASCII byte and a name
 pub behind_cut : (text : List ℕ) → IsUtf8 text → 0 < length text → get_or text 0 0 < 128 → IsCharBoundary text (prefix_len goes_on_name (drop 1 text) + 1)
 behind_cut text u h ascii =
     let n : ℕ = prefix_len goes_on_name (drop 1 text) in

@@ -36,7 +36,7 @@ first_refused old a b e h = subst (λ w. Refuses w e) (joined_assoc old a b) (Re
 pub second_refused : (old so_far a b c : Draft) (e : Failure LongLine) → so_far ≡ joined old a → Refuses (joined so_far b) e → Refuses (joined old (joined a (joined b c))) e
 second_refused old so_far a b c e is h = subst (λ w. Refuses w e) (joined_assoc old a (joined b c)) (first_refused (joined old a) b c e (subst (λ o. Refuses (joined o b) e) is h))
 
--- what is written behind a text is written with that text
+-- what is written after a text is written with that text
 pub written_behind : {A : Type 0} (old so_far a b new : Draft) (r : Result A (Failure LongLine)) → so_far ≡ joined old a → Writes so_far b r new → Writes old (joined a b) r new
 written_behind old so_far a b new (Ok x) is h = (h.0 ∙ ap (λ o. joined o b) is ∙ joined_assoc old a b, h.1)
 written_behind old so_far a b new (Err e) is h = subst (λ w. Refuses w e) (joined_assoc old a b) (subst (λ o. Refuses (joined o b) e) is h)

@@ -1,4 +1,4 @@
--- Texts in which nothing is replaced.
+-- Texts in which substitution replaces nothing.
 use Rattle.std.specs.Prelude.{◌≡◌, ℕ, ◌==◌, false, List, drop, slice_index, None}
 use Rattle.std.specs.List.{take_while}
 use Rattle.c25_meaning_common.specs.Bytes.{goes_on_name}

@@ -1,4 +1,4 @@
--- What the types of substitution stand for.
+-- What the types of substitution stand for, and what is written for a line.
 use Rattle.std.specs.Prelude.{◌≡◌, ◌<◌, ◌≤◌, ℕ, max, List, [], ◌∷◌, length, Option, Some, None, Result, Ok, Err}
 use Rattle.std.specs.String.{string_bytes}
 use Rattle.c25_meaning_language.specs.Fragments.{Replacements, visible, without}
@@ -14,50 +14,51 @@ use Rattle.c25_substitution.specs.declared.output.Output.{Output}
 use Rattle.c25_substitution.specs.declared.change.Change.{Change}
 use Rattle.c25_meaning_language.specs.declared.quoting.Quoting.{Quoting}
 
--- what names stand for
+-- the texts that names stand for at a line
 abbrev pub names_of : Visible → Replacements
 names_of v = visible (elim v.arguments [ None ↦ [] | Some arguments ↦ arguments.now ]) v.texts.now
 
--- a fragment of a text
+-- the fragment of the definition that a fragment of the code stands for
 abbrev pub fragment_of : Fragment → meaning.Fragment
 fragment_of (Kept text) = meaning.Kept text.now
 fragment_of (Numbered name) = meaning.Numbered name.now
 fragment_of (Replaced name text quoting) = meaning.Replaced name.now text.now quoting
 
--- what a text becomes that is first changed so: what stands before stays, and no name is set aside
+-- what a text becomes of which this is the first change: the front before it stays, the fragment is replaced
+-- with no other name set aside, and the rest is rewritten
 abbrev pub changed : Replacements → ℕ → Change → Draft
 changed names number c =
     joined (as_is c.front.now)
     (joined (drafted_by (λ name inner begins. drafted 1024 names number (name ∷ []) begins inner) number (fragment_of c.fragment)) (rewritten names number c.quoting c.rest.now))
 
--- where a text that begins in this quoting is first changed, if it is at all
+-- the first change of a text that begins in this quoting; None where all of it stays as it is
 abbrev pub IsFirstChange : Replacements → Quoting → List ℕ → Option Change → Type 0
 IsFirstChange names quoting text None = (number : ℕ) → rewritten names number quoting text ≡ as_is text
 IsFirstChange names quoting text (Some c) = (number : ℕ) → rewritten names number quoting text ≡ changed names number c
 
--- what is written so far
+-- the text that is written so far, and how many replacements that took
 abbrev pub written_so_far : Output → Draft
 written_so_far o = record { text = string_bytes o.text; replacements = o.replacements }
 
--- what is written is no longer than a line
+-- what is written has at most 1,024 bytes and took at most 1,024 replacements
 abbrev pub IsWithin : Draft → Type 0
 IsWithin d = (length d.text ≤ 1024) × (d.replacements ≤ 1024)
 
--- it is too long for a line
+-- what is written has more than 1,024 bytes or took more than 1,024 replacements
 abbrev pub IsBeyond : Draft → Type 0
 IsBeyond d = 1024 < max (length d.text) d.replacements
 
--- why nothing more is written
+-- why nothing more is written: memory ran out, or there would be too much
 abbrev pub Refuses : Draft → Failure LongLine → Type 0
 Refuses d (NoMemory e) = Unit {0}
 Refuses d (Fault f) = IsBeyond d
 
--- more is written behind what was, or that is too long
+-- more was written after what was there, or all of it would be too much
 abbrev pub Writes : {A : Type 0} → Draft → Draft → Result A (Failure LongLine) → Draft → Type 0
 Writes old more (Ok x) new = (new ≡ joined old more) × IsWithin new
 Writes old more (Err e) new = Refuses (joined old more) e
 
--- all is written, or it is too long
+-- all of it was written, or it would be too much
 abbrev pub IsAll : Draft → Result Output (Failure LongLine) → Type 0
 IsAll all (Ok out) = (written_so_far out ≡ all) × IsWithin all
 IsAll all (Err e) = Refuses all e

@@ -11,7 +11,7 @@ use c25_meaning_common::no_memory::NoMemory;
 use c25_text::{past_blanks, past_field};
 use std::alloc::Global;
 
-/// The operands of a line: what stands behind its first word, up to the comment.
+/// The operands of a line: the text after its mnemonic, directive or macro name, up to the comment.
 fn operand_text(line: &str) -> &str
     ensures { result.now ≡ operand_text line.now }
 {
@@ -24,7 +24,7 @@ fn operand_text(line: &str) -> &str
     &behind[..end]
 }
 
-/// The next argument as it is written, and what stands behind its comma.
+/// The next argument as it is written, and the text after its comma. The last argument goes on to the end.
 fn split_argument(text: &str, is_last: bool) -> (&str, &str)
     ensures argument { result.0.now ≡ take (argument_len is_last text.now) text.now }
     ensures rest { result.1.now ≡ drop (argument_len is_last text.now + 1) text.now }
@@ -40,7 +40,7 @@ fn split_argument(text: &str, is_last: bool) -> (&str, &str)
     }
 }
 
-/// One parameter more, with its argument as it is written.
+/// Adds a parameter with its argument as it is written.
 fn bind(
     alloc: Global,
     found: &mut Arguments,
@@ -54,7 +54,8 @@ fn bind(
     found.push(name, text)
 }
 
-/// The arguments of the line that calls a macro of these parameters, with its names replaced.
+/// The arguments of a line that calls a macro with these parameters; the names in the line are replaced
+/// already.
 pub fn arguments(alloc: Global, parameters: &[String], line: &str) -> Result<Arguments, NoMemory>
     ensures { IfOk result (λ found. found ≡ arguments (map (λ p. string_bytes p) parameters.now) line.now) }
 {
@@ -70,7 +71,7 @@ pub fn arguments(alloc: Global, parameters: &[String], line: &str) -> Result<Arg
     Ok(found)
 }
 
-/// The text of a line `.asg text,name`.
+/// The text that a line `.asg text,name` assigns.
 pub fn assigned_text(alloc: Global, line: &str) -> Result<String, NoMemory>
     ensures { IfOk result (λ out. string_bytes out ≡ assigned_text line.now) }
 {

@@ -1,4 +1,5 @@
-//! Names that are set aside.
+//! Names that are set aside: those whose texts are being replaced, so that they are not replaced in these
+//! again.
 
 ghost use Rattle.std.specs.Prelude.{◌≡◌, ◌∷◌, ◌++◌, [], false, List, ℕ, OnOk, map};
 ghost use Rattle.std.specs.List.{list_any};
@@ -9,11 +10,11 @@ use indexmap::IndexSet;
 use std::alloc::Global;
 use std::marker::Model;
 
-/// How many names are looked for one by one.
+/// How many names are compared one by one.
 const FEW: usize = 8;
 
-/// Names that are set aside, the innermost last. Few are looked for one by one, those behind them by
-/// their hash, so that a long chain of names costs no more for each of them than a short one.
+/// The names that are set aside, the innermost last. A few are compared one by one, those after them are
+/// found by their hash, so that a long chain of names costs no more for each name than a short one.
 #[derive(Drop)]
 pub(crate) struct Aside<'a> {
     few: Vec<&'a str>,
@@ -29,7 +30,7 @@ impl<'a> Model for Aside<'a> {
 }
 
 impl<'a> Aside<'a> {
-    /// No names.
+    /// No names, with no memory taken.
     pub(crate) fn new(alloc: Global) -> Aside<'a>
         ensures { result ≡ [] }
     {
@@ -39,14 +40,14 @@ impl<'a> Aside<'a> {
         }
     }
 
-    /// Whether a name is among them.
+    /// Whether a name is set aside.
     pub(crate) fn has(&self, name: &str) -> bool
         ensures { result ≡ list_any (bytes_eq name.now) self.now }
     {
         is_among(self.few.as_slice(), name) || is_hashed(&self.others, name)
     }
 
-    /// One more, which is not among them.
+    /// Sets one more name aside, which is not set aside yet.
     pub(crate) fn push(&mut self, name: &'a str) -> Result<(), NoMemory>
         requires { list_any (bytes_eq name.now) self.old ≡ false }
         ensures { OnOk result (self.new ≡ self.old ++ name.entry.now ∷ []) }
@@ -59,7 +60,7 @@ impl<'a> Aside<'a> {
         }
     }
 
-    /// The innermost is set aside no more.
+    /// Sets the innermost name aside no more.
     pub(crate) fn pop(&mut self)
         ensures { (names : List (List ℕ)) → (last : List ℕ) → self.old ≡ names ++ last ∷ [] → self.new ≡ names }
     {
@@ -69,7 +70,7 @@ impl<'a> Aside<'a> {
     }
 }
 
-/// Whether a name is one of these. Where there are none, no hash is taken.
+/// Whether a set of names has a name. Where the set is empty, no hash is taken.
 fn is_hashed(names: &IndexSet<&str>, name: &str) -> bool
     ensures { result ≡ list_any (λ other. bytes_eq name.now other.now) names.now.keys }
 {
@@ -79,7 +80,7 @@ fn is_hashed(names: &IndexSet<&str>, name: &str) -> bool
     names.contains(name)
 }
 
-/// Whether a name is one of these.
+/// Whether a list of names has a name.
 fn is_among(names: &[&str], name: &str) -> bool
     ensures { result ≡ list_any (bytes_eq name.now) (map (λ s. s.now) names.now) }
 {

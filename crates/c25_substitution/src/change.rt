@@ -1,4 +1,4 @@
-//! Where a text is first changed.
+//! The first place of a text that substitution changes.
 
 ghost use Rattle.std.specs.Prelude.{◌≡◌, []};
 ghost use Rattle.c25_substitution.specs.View.{names_of, IsFirstChange};
@@ -10,13 +10,13 @@ use crate::visible::Visible;
 use c25_meaning_language::quoting::Quoting;
 use std::alloc::Global;
 
-/// A text at its first fragment that is not kept as it is.
+/// A text, parted at its first fragment that is not kept as it is.
 #[derive(Clone, Copy)]
 pub(crate) struct Change<'a> {
-    /// What stands before it.
+    /// The text before the fragment.
     pub(crate) front: &'a str,
     pub(crate) fragment: Fragment<'a>,
-    /// The quoting of what stands behind it.
+    /// The quoting in which the text after the fragment begins.
     pub(crate) quoting: Quoting,
     pub(crate) rest: &'a str,
 }
@@ -34,7 +34,7 @@ pub(crate) fn first_change<'a>(
     first_change_without(names, &Aside::new(alloc), quoting, text)
 }
 
-/// The same, with the names that are set aside: none.
+/// The first change of a text that begins in this quoting, with no names set aside.
 fn first_change_without<'a>(
     names: &Visible<'a>,
     aside: &Aside<'_>,

@@ -1,4 +1,4 @@
-//! A text in fragments.
+//! A text in fragments: what is kept, and what is replaced.
 
 ghost use Rattle.std.specs.Prelude.{◌≡◌, ◌+◌, ◌<◌, ◌≤◌, ◌==◌, max, length, map, slice_index, take, drop, Some, None, IfSome};
 ghost use Rattle.std.specs.List.{prefix_len, take_while, list_any};
@@ -20,15 +20,15 @@ use c25_meaning_language::quoting::Quoting;
 /// A fragment of a text.
 #[derive(Clone, Copy)]
 pub(crate) enum Fragment<'a> {
-    /// It is kept as it is.
+    /// A text that is kept as it is.
     Kept(&'a str),
-    /// `name?`.
+    /// The name of `name?`, a label that gets the number of the expansion.
     Numbered(&'a str),
-    /// A name, the text that replaces it, and the quoting in which that begins.
+    /// A name, the text that replaces it, and the quoting in which that text begins.
     Replaced(&'a str, &'a str, Quoting),
 }
 
-/// What a name stands for that is not set aside.
+/// The text that a name stands for; None where the name is set aside.
 fn text_of<'a>(names: &Visible<'a>, aside: &Aside<'_>, name: &str) -> Option<&'a str>
     ensures { option_map (λ s. s.now) result ≡ without aside.now (names_of names.now) name.now }
 {
@@ -39,14 +39,14 @@ fn text_of<'a>(names: &Visible<'a>, aside: &Aside<'_>, name: &str) -> Option<&'a
     }
 }
 
-/// Whether a byte is part of no ASCII character.
+/// Whether a byte is beyond ASCII: 128 or more.
 fn is_beyond_ascii(b: u8) -> bool
     ensures { result ≡ is_beyond_ascii b }
 {
     b >= 128
 }
 
-/// How many bytes beyond ASCII stand in front.
+/// How many bytes beyond ASCII a text begins with.
 fn beyond_run(text: &[u8]) -> usize
     ensures value { result ≡ prefix_len is_beyond_ascii text.now }
     ensures bound { result ≤ length text.now }
@@ -54,7 +54,7 @@ fn beyond_run(text: &[u8]) -> usize
     text.iter().take_while(|b| is_beyond_ascii(**b)).count()
 }
 
-/// The front of a text as it is, and the rest.
+/// The first bytes of a text, kept as they are, and the rest of the text.
 fn kept(text: &str, size: usize) -> (Fragment<'_>, &str)
     requires cut { IsCharBoundary text.now size }
     ensures fragment { fragment_of result.0 ≡ (kept size text.now).fragment }
@@ -64,7 +64,7 @@ fn kept(text: &str, size: usize) -> (Fragment<'_>, &str)
     (Fragment::Kept(front), rest)
 }
 
-/// A character, or some beyond ASCII, and the rest.
+/// One ASCII character, or a run of bytes beyond ASCII, kept as it is, and the rest of the text.
 fn character(text: &str) -> (Fragment<'_>, &str)
     requires { 0 < length text.now }
     ensures fragment { fragment_of result.0 ≡ (character text.now).fragment }
@@ -74,7 +74,7 @@ fn character(text: &str) -> (Fragment<'_>, &str)
     kept(text, beyond_run(text.as_bytes()).max(1))
 }
 
-/// What stands behind a blank, which is a fragment of its own.
+/// The text after a blank, which is a fragment of its own.
 #[inline]
 pub(crate) fn behind_blank(text: &str) -> &str
     requires { slice_index text.now 0 ≡ 32 }
@@ -84,7 +84,7 @@ pub(crate) fn behind_blank(text: &str) -> &str
     &text[1..]
 }
 
-/// The name between two colons at the front of a text.
+/// The name between two colons at the front of a text, if the text begins so.
 fn between_colons(text: &str) -> Option<&str>
     ensures value { option_map (λ s. s.now) result ≡ between_colons text.now }
     ensures within { IfSome result (λ name. length name.now + 2 ≤ length text.now) }
@@ -102,7 +102,7 @@ fn between_colons(text: &str) -> Option<&str>
     }
 }
 
-/// A whole name of this length, and the rest.
+/// The fragment of a name of this length at the front of a text, and the rest of the text.
 fn whole_name<'a>(
     names: &Visible<'a>,
     aside: &Aside<'_>,
@@ -125,7 +125,7 @@ fn whole_name<'a>(
     }
 }
 
-/// A dot and the name behind it, and the rest.
+/// A dot and the name after it, kept as they are, and the rest of the text.
 fn dotted_name(text: &str) -> (Fragment<'_>, &str)
     requires { slice_index text.now 0 ≡ 46 }
     ensures fragment { fragment_of result.0 ≡ (kept (prefix_len goes_on_name (drop 1 text.now) + 1) text.now).fragment }
@@ -136,7 +136,8 @@ fn dotted_name(text: &str) -> (Fragment<'_>, &str)
     kept(text, size)
 }
 
-/// The unit at the front of a text outside quotes, and the rest.
+/// The fragment at the front of a text outside quotes, and the rest of the text: a constant, a dot with a
+/// name, a name, or a character.
 fn unit<'a>(names: &Visible<'a>, aside: &Aside<'_>, text: &'a str) -> (Fragment<'a>, &'a str)
     requires { 0 < length text.now }
     ensures fragment { fragment_of result.0 ≡ (unit (without aside.now (names_of names.now)) text.now).fragment }
@@ -156,7 +157,8 @@ fn unit<'a>(names: &Visible<'a>, aside: &Aside<'_>, text: &'a str) -> (Fragment<
     }
 }
 
-/// The fragment at the front of a text that no forced substitution begins, and the rest.
+/// The fragment at the front of a text that does not begin with a forced substitution, and the rest of the
+/// text.
 fn unforced<'a>(
     names: &Visible<'a>,
     aside: &Aside<'_>,
@@ -174,7 +176,8 @@ fn unforced<'a>(
     }
 }
 
-/// The name between two colons at the front of a text, and the text that it stands for.
+/// The forced substitution at the front of a text, if there is one: the name between two colons, and the text
+/// that it stands for.
 fn forced<'a>(
     names: &Visible<'a>,
     aside: &Aside<'_>,
@@ -193,7 +196,7 @@ fn forced<'a>(
     Some((name, inner))
 }
 
-/// The fragment at the front of a text, and the rest.
+/// The fragment at the front of a text, and the rest of the text.
 #[tactic(auto, unfolding(c25_meaning_language::specs::Fragments::front))]
 pub(crate) fn first_fragment<'a>(
     names: &Visible<'a>,

@@ -1,4 +1,5 @@
-//! Names of a line replaced by their texts; arguments of macro calls; a law of lines in which nothing is replaced.
+//! Substitution: names of a line replaced by their texts, the arguments of macro calls, and a law of lines in
+//! which nothing is replaced (SPRU018, "Macro Language").
 #![tactic(auto)]
 
 pub mod arguments;

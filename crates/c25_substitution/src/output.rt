@@ -1,4 +1,4 @@
-//! What is written for a line.
+//! The line that substitution writes.
 
 ghost use Rattle.std.specs.Prelude.{◌≡◌, ◌++◌, ◌∷◌, []};
 ghost use Rattle.std.specs.Fmt.{decimal};
@@ -10,10 +10,10 @@ use c25_meaning_common::failure::Failure;
 use c25_meaning_language::long_line::LongLine;
 use std::alloc::Global;
 
-/// The bytes that a line has at most, and the replacements.
+/// How many bytes a line may have, and how many replacements it may take.
 pub(crate) const LIMIT: usize = 1024;
 
-/// What is written so far.
+/// The text that is written so far, and how many replacements it took.
 #[derive(Drop)]
 pub(crate) struct Output {
     alloc: Global,
@@ -22,7 +22,7 @@ pub(crate) struct Output {
 }
 
 impl Output {
-    /// Nothing, with room for so many bytes, or for those of the longest line.
+    /// An empty output with room for `room` bytes, or for the longest line if that is less.
     pub(crate) fn with_room(alloc: Global, room: usize) -> Result<Self, Failure<LongLine>>
         ensures { IsAll (as_is []) result }
     {
@@ -66,7 +66,7 @@ impl Output {
         Ok(())
     }
 
-    /// The text that is written.
+    /// The whole text that was written.
     pub(crate) fn into_text(self) -> String
         ensures { string_bytes result ≡ (written_so_far self).text }
     {

@@ -1,4 +1,4 @@
-//! The arguments of an expansion.
+//! The parameters of a macro with their arguments in an expansion.
 
 ghost use Rattle.std.specs.Prelude.{◌≡◌, ◌∷◌, ◌++◌, [], IfErr, IsSome, IsTrue, None, OnOk, OnErr};
 ghost use Rattle.std.specs.Map.{lookup};
@@ -12,8 +12,8 @@ use c25_meaning_common::no_memory::NoMemory;
 use std::alloc::Global;
 use std::marker::Model;
 
-/// The parameters of a macro with the texts that they stand for in an expansion, in the order of the
-/// `.macro` line. Of two parameters of one name the first is seen.
+/// The parameters of a macro with the texts that they stand for in an expansion, in the order of the `.macro`
+/// line. Of two parameters with one name the first is found.
 #[derive(Drop)]
 pub struct Arguments {
     entries: Vec<(String, String)>,
@@ -38,14 +38,14 @@ impl Arguments {
         }
     }
 
-    /// Whether there are none.
+    /// Whether there are no parameters.
     pub(crate) fn is_empty(&self) -> bool
         ensures { IsTrue result → self.now ≡ [] }
     {
         self.entries.is_empty()
     }
 
-    /// One parameter more.
+    /// Adds a parameter with its text.
     pub(crate) fn push(&mut self, name: String, text: String) -> Result<(), NoMemory>
         ensures ok { OnOk result (self.new ≡ self.old ++ (string_bytes name, string_bytes text) ∷ []) }
         ensures err { OnErr result (self.new ≡ self.old) }
@@ -53,14 +53,15 @@ impl Arguments {
         self.entries.push((name, text)).map_err(NoMemory::from)
     }
 
-    /// What a name stands for.
+    /// The text that a parameter stands for, if there is one of this name.
     pub fn get(&self, name: &str) -> Option<&str>
         ensures { option_map (λ s. s.now) result ≡ lookup (bytes_eq name.now) self.now }
     {
         find(self.entries.as_slice(), name)
     }
 
-    /// A parameter stands for this text from now on. The text comes back where none has this name.
+    /// Sets the text that a parameter stands for from now on. Where no parameter has this name, the text is
+    /// given back.
     pub fn set(&mut self, name: &str, text: String) -> Result<(), String>
         ensures ok { OnOk result (self.new ≡ with_name self.old name.now (string_bytes text)) }
         ensures known { OnOk result (IsSome (lookup (bytes_eq name.now) self.old)) }
@@ -78,7 +79,7 @@ impl Arguments {
     }
 }
 
-/// The place of the first of this name.
+/// The place of the first entry of a name.
 fn position(entries: &[(String, String)], name: &str) -> Option<usize>
     ensures { IsPlaceOf name.now entries.now result }
 {
@@ -90,7 +91,7 @@ fn position(entries: &[(String, String)], name: &str) -> Option<usize>
     None
 }
 
-/// The text of the first of this name.
+/// The text of the first entry of a name.
 fn find<'a>(entries: &'a [(String, String)], name: &str) -> Option<&'a str>
     ensures { option_map (λ s. s.now) result ≡ lookup (bytes_eq name.now) (pairs entries.now) }
 {

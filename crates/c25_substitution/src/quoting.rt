@@ -1,4 +1,4 @@
-//! Which bytes of a line stand outside quotes and comment.
+//! Which bytes of a line lie outside quotes and the comment.
 
 ghost use Rattle.std.specs.Prelude.{◌≡◌, IsTrue, ◌<◌, ◌≤◌, length, slice_index};
 ghost use Rattle.c25_meaning_language.specs.Quoting.{behind, is_outer, outer_len, last_comma_len};
@@ -7,7 +7,7 @@ ghost use Rattle.c25_meaning_language.specs.declared.quoting.Quoting.TheVariants
 
 use c25_meaning_language::quoting::Quoting;
 
-/// Where the byte behind this one stands.
+/// The quoting of the byte after this one, which has this quoting.
 pub(crate) fn behind(b: u8, quoting: Quoting) -> Quoting
     ensures { result ≡ behind b quoting }
 {
@@ -19,14 +19,14 @@ pub(crate) fn behind(b: u8, quoting: Quoting) -> Quoting
     }
 }
 
-/// Whether all that follows is a comment.
+/// Whether the rest of the line is a comment.
 pub(crate) fn is_comment(quoting: Quoting) -> bool
     ensures { IsTrue result → quoting ≡ Comment }
 {
     matches!(quoting, Quoting::Comment)
 }
 
-/// Where a text begins that replaces a name here.
+/// The quoting in which a text begins that replaces a name in this quoting.
 pub(crate) fn inside(quoting: Quoting) -> Quoting
     ensures { result ≡ inside quoting }
 {
@@ -46,7 +46,8 @@ fn is_outer(sought: u8, b: u8, quoting: Quoting) -> bool
 }
 
 #[tactic(auto, using(crate::proofs::Quotings::outer_lens))]
-/// How many bytes stand before the first such byte outside quotes and comment; all where there is none.
+/// How many bytes a text has before the first `sought` byte outside quotes and the comment; all of them where
+/// there is none.
 pub(crate) fn outer_len(sought: u8, text: &[u8]) -> usize
     ensures value { result ≡ outer_len sought Outside text.now }
     ensures bound { result ≤ length text.now }
@@ -63,7 +64,8 @@ pub(crate) fn outer_len(sought: u8, text: &[u8]) -> usize
 }
 
 #[tactic(auto, using(crate::proofs::Quotings::last_commas))]
-/// How many bytes stand before the last comma outside quotes and comment; all where there is none.
+/// How many bytes a text has before its last comma outside quotes and the comment; all of them where there is
+/// none.
 pub(crate) fn last_comma_len(text: &[u8]) -> usize
     ensures value { result ≡ last_comma_len text.now }
     ensures bound { result ≤ length text.now }

@@ -1,4 +1,4 @@
-//! Strings, and the texts that may be one.
+//! Strings in quotes, and arguments that may be one string.
 
 ghost use Rattle.std.specs.Prelude.{◌≡◌, ◌≤◌, ◌==◌, ◌&&◌, false, length, IfOk};
 ghost use Rattle.std.specs.List.{suffix_len};
@@ -17,7 +17,7 @@ fn trimmed_start(text: &str) -> &str
     &text[past_blanks(text.as_bytes(), 0)..]
 }
 
-/// How many blanks and tabs stand at the end.
+/// How many blanks and tabs a text ends with.
 fn blank_tail(text: &[u8]) -> usize
     ensures value { result ≡ suffix_len is_blank text.now }
     ensures bound { result ≤ length text.now }
@@ -39,7 +39,7 @@ fn trimmed(text: &str) -> &str
     trimmed_end(trimmed_start(text))
 }
 
-/// Whether a text is exactly one string.
+/// Whether a text is one string and nothing else.
 fn is_one_string(text: &[u8]) -> bool
     ensures { result ≡ is_one_string text.now }
 {
@@ -52,7 +52,7 @@ fn is_one_string(text: &[u8]) -> bool
     }
 }
 
-/// A text without a quote in front.
+/// A text without the quote that it may begin with.
 fn past_quote(text: &str) -> &str
     ensures { result.now ≡ past_quote text.now }
 {
@@ -63,7 +63,7 @@ fn past_quote(text: &str) -> &str
     }
 }
 
-/// A text without a quote at the end.
+/// A text without the quote that it may end with.
 fn before_quote(text: &str) -> &str
     ensures { result.now ≡ before_quote text.now }
 {
@@ -73,14 +73,14 @@ fn before_quote(text: &str) -> &str
     }
 }
 
-/// Whether a byte is the second of two quotes.
+/// Whether a byte is the second of two quotes in a row.
 fn is_second(again: bool, b: u8) -> bool
     ensures { result ≡ (again && b == 34) }
 {
     again && b == b'"'
 }
 
-/// A text in which two quotes are one.
+/// A text in which each two quotes in a row have become one.
 fn folded(alloc: Global, text: &str) -> Result<String, NoMemory>
     ensures { IfOk result (λ out. string_bytes out ≡ folded false text.now) }
 {
@@ -100,15 +100,15 @@ fn folded(alloc: Global, text: &str) -> Result<String, NoMemory>
     Ok(out)
 }
 
-/// What a string token says.
+/// The text that a string token stands for: without its quotes, two quotes within it as one.
 pub fn string_text(alloc: Global, token: &str) -> Result<String, NoMemory>
     ensures { IfOk result (λ out. string_bytes out ≡ string_text token.now) }
 {
     folded(alloc, before_quote(past_quote(token)))
 }
 
-/// An argument of a macro, or the text of `.asg`: trimmed, and if it is exactly one string, what that
-/// says.
+/// An argument of a macro, or the text of `.asg`, without the blanks around it; if that is one string, the
+/// text that the string stands for.
 pub(crate) fn unquoted(alloc: Global, text: &str) -> Result<String, NoMemory>
     ensures { IfOk result (λ out. string_bytes out ≡ unquoted text.now) }
 {

@@ -1,4 +1,4 @@
-//! Names replaced by their texts in a line.
+//! Substitution: names in a line replaced by their texts.
 
 ghost use Rattle.std.specs.Prelude.{◌≡◌, ◌-◌, ◌≤◌, ◌++◌, ◌∷◌, [], ℕ, IsTrue, OnOk, length};
 ghost use Rattle.std.specs.Cow.{cow_str_bytes};
@@ -21,8 +21,8 @@ use c25_meaning_language::quoting::Quoting;
 use std::alloc::Global;
 use std::borrow::CowStr;
 
-/// Writes what a text becomes that begins in this quoting. The names set aside are those that are
-/// being replaced around it: as many as it is deep.
+/// Writes a text that begins in this quoting, with its names replaced. The names set aside are those whose
+/// texts this text is part of: as many as it is deep.
 #[cycle(writing)]
 fn write<'a>(
     names: &Visible<'a>,
@@ -50,7 +50,7 @@ fn write<'a>(
     Ok(())
 }
 
-/// Writes what a fragment becomes.
+/// Writes a fragment, with its name replaced.
 #[cycle(writing)]
 fn write_fragment<'a>(
     names: &Visible<'a>,
@@ -80,7 +80,7 @@ fn write_fragment<'a>(
     }
 }
 
-/// Writes what a text becomes whose first change is this one. No name is set aside.
+/// Writes a text of which this is the first change, with its names replaced. No name is set aside.
 fn write_change<'a>(
     names: &Visible<'a>,
     number: u32,
@@ -103,7 +103,8 @@ fn write_change<'a>(
     write(names, number, aside, quoting, rest, out)
 }
 
-/// What a text becomes whose first change is this one. There is room for so many bytes at once.
+/// The text of which this is the first change, with its names replaced; room is taken for so many bytes at
+/// once.
 fn rewrite<'a>(
     alloc: Global,
     names: &Visible<'a>,
@@ -118,7 +119,7 @@ fn rewrite<'a>(
     Ok(out)
 }
 
-/// Where a line begins.
+/// The quoting in which a line begins: a comment line is a comment from its first byte on.
 fn line_quoting(line: &str) -> Quoting
     ensures { result ≡ line_quoting line.now }
 {
@@ -135,17 +136,18 @@ fn has_no_mark(line: &[u8]) -> bool
     !line.contains(&b'?')
 }
 
-/// Whether a line stays as it is: no name stands for anything, and no name in it is numbered. Most lines
-/// outside macros are such.
+/// Whether a line certainly stays as it is: no name stands for anything, and no name in the line gets a
+/// number. Most lines outside macros stay.
 fn stays(names: &Visible<'_>, line: &str) -> bool
     ensures { IsTrue result → (number : ℕ) → substituted (names_of names.now) number line.now ≡ unsubstituted line.now }
 {
     names.are_none() && has_no_mark(line.as_bytes())
 }
 
-/// A line with its names replaced. The number is that of the innermost expansion, 0 outside of all. A
-/// comment line is left as it is, and a line in which nothing is replaced is borrowed. It is a fault
-/// where it gets more than 1,024 bytes, its comment among them, or takes more than 1,024 replacements.
+/// A line with its names replaced (SPRU018, "Macro Language"). `number` is that of the innermost expansion, 0
+/// outside expansions. A comment line stays as it is, and a line in which nothing is replaced is borrowed.
+/// `LongLine` (38) where the line gets more than 1,024 bytes, its comment among them, or takes more than
+/// 1,024 replacements.
 pub fn substitute<'a>(
     alloc: Global,
     names: &Visible<'_>,
@@ -166,8 +168,8 @@ pub fn substitute<'a>(
     }
 }
 
-/// The same for a line of `.asg` or `.eval`, in which nothing is replaced from the last comma outside
-/// quotes and comment on.
+/// A line of `.asg` or `.eval` with its names replaced, but for those from the last comma outside quotes and
+/// the comment on. `LongLine` (38) as for other lines.
 pub fn substitute_before_comma<'a>(
     alloc: Global,
     names: &Visible<'_>,
@@ -187,7 +189,8 @@ pub fn substitute_before_comma<'a>(
     }
 }
 
-/// The same for a line of `.macro`, in which nothing is replaced: it is borrowed.
+/// A line of `.macro`, in which nothing is replaced: it is borrowed. `LongLine` (38) where it has more than
+/// 1,024 bytes.
 pub fn unsubstituted(line: &str) -> Result<CowStr<'_>, Failure<LongLine>>
     ensures { Meets cow_str_bytes (unsubstituted line.now) result }
 {

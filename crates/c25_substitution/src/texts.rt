@@ -1,4 +1,4 @@
-//! The names of `.asg` and `.eval`.
+//! The substitution symbols of `.asg` and `.eval`.
 
 ghost use Rattle.std.specs.Prelude.{◌≡◌, [], IsTrue, OnOk, OnErr};
 ghost use Rattle.std.specs.Map.{lookup};
@@ -12,7 +12,8 @@ use indexmap::IndexMap;
 use std::alloc::Global;
 use std::marker::Model;
 
-/// Names and the texts that they stand for, in order of first sight.
+/// Substitution symbols: names and the texts that they stand for, in the order in which the names were first
+/// assigned.
 #[derive(Drop)]
 pub struct SubstitutionTexts {
     alloc: Global,
@@ -39,14 +40,14 @@ impl SubstitutionTexts {
         }
     }
 
-    /// Whether there are none.
+    /// Whether there are no names.
     pub(crate) fn is_empty(&self) -> bool
         ensures { IsTrue result → self.now ≡ [] }
     {
         self.entries.is_empty()
     }
 
-    /// What a name stands for. Where there are no names, no hash is taken.
+    /// The text that a name stands for. Where there are no names, no hash is taken.
     pub fn get(&self, name: &str) -> Option<&str>
         ensures { option_map (λ s. s.now) result ≡ lookup (bytes_eq name.now) self.now }
     {
@@ -59,7 +60,7 @@ impl SubstitutionTexts {
         }
     }
 
-    /// From now on a name stands for this text. A new name comes last.
+    /// Sets the text that a name stands for from now on. A new name comes last.
     pub fn put(&mut self, name: &str, text: String) -> Result<(), NoMemory>
         ensures ok { OnOk result (self.new ≡ with_name self.old name.now (string_bytes text)) }
         ensures err { OnErr result (self.new ≡ self.old) }

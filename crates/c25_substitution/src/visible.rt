@@ -1,4 +1,4 @@
-//! What names stand for at a line.
+//! The names that can be replaced at a line.
 
 ghost use Rattle.std.specs.Prelude.{◌≡◌, List, ℕ, None, IsTrue};
 ghost use Rattle.std.specs.Option.{option_map};
@@ -7,8 +7,8 @@ ghost use Rattle.c25_substitution.specs.View.{names_of};
 use crate::parameters::Arguments;
 use crate::texts::SubstitutionTexts;
 
-/// What names stand for at a line: the arguments of the innermost expansion are seen first, if there
-/// is one, then the names of `.asg` and `.eval`.
+/// The names that can be replaced at a line: the parameters of the innermost expansion, if there is one, and
+/// the names of `.asg` and `.eval`; a parameter hides a symbol of its name.
 #[derive(Clone, Copy)]
 pub struct Visible<'a> {
     pub arguments: Option<&'a Arguments>,
@@ -16,7 +16,7 @@ pub struct Visible<'a> {
 }
 
 impl<'a> Visible<'a> {
-    /// What a name stands for.
+    /// The text that a name stands for.
     pub(crate) fn get(&self, name: &str) -> Option<&'a str>
         ensures { option_map (λ s. s.now) result ≡ names_of self.now name.now }
     {

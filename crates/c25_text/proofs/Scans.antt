@@ -85,7 +85,7 @@ first_token from at text k n l e same =
       pieces = sym same ∙ ap (λ (s : Scan). s.pieces) (scan_token at text k n l e) ∙ ap (λ (m : ℕ). record { kind = k; start = at; text = take m (drop at text) } ∷ (scan_from (at + n) text).pieces) len;
     }
 
--- it is cut between characters
+-- a first token is cut between characters
 pub first_token-start : (text : List ℕ) (from : ℕ) (k : TokenKind) (start end : ℕ) → IsFirstToken text from k start end → IsCharBoundary text start
 first_token-start text from k start end f = IsCharBoundary-before_ascii text start (omega (arith, f.some, f.within)) f.first
 

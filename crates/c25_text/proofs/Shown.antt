@@ -17,7 +17,7 @@ use Rattle.c25_meaning_language.specs.declared.line.TokenKind.TheVariants as kin
 use Rattle.c25_meaning_language.specs.declared.line.Sign.{Sign}
 use Rattle.c25_text.proofs.Scans.{scan_blank, scan_comment, scan_fault, scan_token, scan_end, token_within}
 
--- it is no blank
+-- a lexeme is no blank
 abbrev pub NoBlank : Lexeme → Type 0
 NoBlank l = l ≡ Blank → ⊥
 
@@ -126,6 +126,6 @@ within (suc n) at text h = elim (cases_lt at (length text)) [
   | inr l ↦ at_end text at l
 ]
 
--- a scan gives the text's tokens, and the comment, the end or the first fault behind them
+-- a scan gives the text's tokens, and the comment, the end or the first fault after them
 pub operands_shown : (text : List ℕ) (at : ℕ) → Operands text at (scan_from at text) (scan_from at text).fault
 operands_shown text at = within (length text) at text (omega arith)

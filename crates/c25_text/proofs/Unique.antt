@@ -32,7 +32,7 @@ past at text = past_within (length text) at text (omega arith)
 piece_is : (p : Piece) (text : List ℕ) → p.text ≡ text → (let q : Piece = record { kind = p.kind; start = p.start; text = text } in q) ≡ p
 piece_is p text h = ap (λ (t : List ℕ). let q : Piece = record { kind = p.kind; start = p.start; text = t } in q) (sym h)
 
--- what a text shows behind its tokens, whatever the end is
+-- what a text shows after its tokens, whatever the end is
 scan_rest : (text : List ℕ) (at stop : ℕ) (ps : List Piece) (f : Option LineFault) → AreTokens text at ps stop
     → scan_from stop text ≡ record { pieces = []; fault = f; stop = stop } → scan_from at text ≡ record { pieces = ps; fault = f; stop = stop }
 scan_rest text at stop [] f h e = past at text ∙ ap (λ (a : ℕ). scan_from a text) (sym h) ∙ e

@@ -1,4 +1,4 @@
-//! Where blanks and fields of a line end.
+//! Where the blanks and the fields of a line end.
 
 ghost use Rattle.std.specs.Prelude.{◌≡◌, ◌≤◌, length};
 ghost use Rattle.std.specs.List.{prefix_len};
@@ -28,7 +28,7 @@ fn field_run(text: &[u8]) -> usize
     text.iter().take_while(|b| is_field(**b)).count()
 }
 
-/// Where the blanks at a place end.
+/// Where the blanks that begin at a place end.
 pub fn past_blanks(text: &[u8], from: usize) -> usize
     requires { from ≤ length text.now }
     ensures value { result ≡ past_blanks from text.now }
@@ -38,7 +38,7 @@ pub fn past_blanks(text: &[u8], from: usize) -> usize
     from + blank_run(&text[from..])
 }
 
-/// Where the field at a place ends.
+/// Where the field that begins at a place ends.
 pub fn past_field(text: &[u8], from: usize) -> usize
     requires { from ≤ length text.now }
     ensures value { result ≡ past_field from text.now }

@@ -1,4 +1,4 @@
-//! What stands at the front of a text.
+//! Lexemes: the token, blank, comment or fault at the front of a text.
 
 ghost use Rattle.std.specs.Prelude.{◌≡◌, ◌<◌, ◌≤◌, length, true, slice_index, IfSome, min, ◌^◌};
 ghost use Rattle.std.specs.List.{list_all};
@@ -50,8 +50,8 @@ fn is_constant(text: &[u8]) -> bool
     all_digits(base, digits)
 }
 
-/// The number that the text of a constant token stands for; 2,147,483,648, which is no value, where it
-/// stands for more than that.
+/// The number that the text of a constant token stands for; 2,147,483,648, which is not a valid value, where
+/// it stands for more than that.
 pub fn constant_value(text: &[u8]) -> u32
     ensures { result ≡ min (constant_value text.now) (2 ^ 31) }
 {
@@ -92,7 +92,7 @@ fn all_plain(text: &[u8]) -> bool
     text.iter().all(|b| is_plain(*b))
 }
 
-/// A character behind its quote, by the next three bytes.
+/// The character constant at the front of a text, by the three bytes after its first quote.
 fn character_of(c: u8, d: u8, e: u8) -> Lexeme
     ensures { result ≡ character_of c d e }
 {
@@ -105,8 +105,8 @@ fn character_of(c: u8, d: u8, e: u8) -> Lexeme
     }
 }
 
-/// How many bytes a string goes on behind its first quote, the closing one with them; None where no
-/// quote closes it.
+/// How many bytes of the text after a string's first quote belong to the string, its closing quote among
+/// them; None where no quote closes it.
 pub fn quoted_len(rest: &[u8]) -> Option<usize>
     ensures value { result ≡ quoted_len true rest.now }
     ensures bound { IfSome result (λ n. n ≤ length rest.now) }
@@ -132,7 +132,7 @@ fn quoted_of(rest: &[u8]) -> Lexeme
     }
 }
 
-/// A name behind its dot, by what stands there.
+/// The name that begins with a dot, by the text after the dot.
 fn dotted_of(rest: &[u8]) -> Lexeme
     ensures { result ≡ dotted_of rest.now }
 {
@@ -193,7 +193,7 @@ fn sign_of(b: u8, c: u8) -> Lexeme
     }
 }
 
-/// What stands at the front of a text that is not empty.
+/// The lexeme at the front of a text that is not empty.
 #[tactic(auto, unfolding(c25_meaning_language::specs::Lexeme::lexeme))]
 pub(crate) fn lexeme(text: &[u8]) -> Lexeme
     requires { 0 < length text.now }

@@ -1,4 +1,5 @@
-//! Lines of a source, and their tokens. All parts borrow the line; nothing takes memory.
+//! Lines of a source and their tokens (SPRU018, "Source Statement Format"). All parts borrow the line;
+//! nothing takes memory.
 #![tactic(auto)]
 
 mod fields;

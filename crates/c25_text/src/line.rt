@@ -1,4 +1,4 @@
-//! The parts of a line.
+//! A line in its parts.
 
 ghost use Rattle.std.specs.Prelude.{◌≡◌, ℕ, List, Ok, Err, length, slice_index, drop, nat_le, ◌&&◌, ◌<◌, ◌≤◌, MatchResult};
 ghost use Rattle.std.specs.List.{list_all};
@@ -21,21 +21,21 @@ pub struct Word<'a> {
     pub text: &'a str,
 }
 
-/// A line in its parts. They borrow the line.
+/// A line in its parts, which borrow the text of the line.
 #[derive(Clone, Copy)]
 pub struct Line<'a> {
     /// The label in column 1, without the colon that may end it.
     pub label: Option<&'a str>,
-    /// The mnemonic, directive or macro name, as written: any run up to a blank or `;`.
+    /// The mnemonic, directive or macro name, as written: any text up to a blank or `;`.
     pub word: Option<Word<'a>>,
-    /// The comment from its `;` on; of a comment line all of it.
+    /// The comment from its `;` on; for a comment line the whole line.
     pub comment: Option<Word<'a>>,
     pub(crate) text: &'a str,
     pub(crate) operands: usize,
 }
 
 impl<'a> Line<'a> {
-    /// The tokens of the operands, in order. The commas are among them, the first word is not. Each is
+    /// The tokens of the operands, in order. The commas are among them, the mnemonic is not. Each token is
     /// read where it is asked for, so a second walk costs as much as the first; none takes memory.
     pub fn tokens(&self) -> Tokens<'a>
         ensures { pieces_left result ≡ (parts_of self.now).pieces }
@@ -47,10 +47,10 @@ impl<'a> Line<'a> {
     }
 }
 
-/// The parts of a line without its end (LF or CRLF), or its leftmost fault: `BadLabel` where the run in
-/// column 1 is no label or a name among the operands is too long, `BadConstant` for a run that
-/// begins with a digit and is no constant, `OpenQuote` for a string that is not closed and a `'`
-/// that begins no character, `StrayText` for a character of no token.
+/// The parts of a line without its end (LF or CR LF), or its leftmost fault: `BadLabel` where the text in
+/// column 1 is no label or a name among the operands is too long, `BadConstant` for a text that begins with a
+/// digit and is no constant, `OpenQuote` for a string that is not closed and a `'` that begins no character,
+/// `StrayText` for a character of no token.
 pub fn split_line(text: &str) -> Result<Line<'_>, LineFault>
     ensures { MatchResult result (λ l. line_of text.now ≡ Ok (parts_of l)) (λ f. line_of text.now ≡ Err f) }
 {
@@ -85,7 +85,7 @@ fn is_comment_line(text: &[u8]) -> bool
     byte_at(text, 0) == b'*' || byte_at(text, 0) == b';'
 }
 
-/// The text from a place on, if there is any.
+/// The text from a place on, or None where the text ends there.
 fn part_from(text: &str, start: usize) -> Option<Word<'_>>
     requires within { start ≤ length text.now }
     requires cut { start < length text.now → slice_index text.now start < 128 }
@@ -101,7 +101,7 @@ fn part_from(text: &str, start: usize) -> Option<Word<'_>>
     }
 }
 
-/// The label of the field in column 1.
+/// The label in column 1; the field there ends at the first blank or `;`.
 fn label_of(field: &str) -> Result<Option<&str>, LineFault>
     ensures { MatchResult result (λ o. label_of field.now ≡ Ok (option_map (λ s. s.now) o)) (λ f. label_of field.now ≡ Err f) }
 {
@@ -148,7 +148,7 @@ fn all_visible(text: &[u8]) -> bool
     text.iter().all(|b| is_visible(*b))
 }
 
-/// The mnemonic or directive.
+/// The mnemonic, directive or macro name.
 fn word_of(start: usize, text: &str) -> Result<Option<Word<'_>>, LineFault>
     ensures { MatchResult result (λ o. word_of start text.now ≡ Ok (option_map part_of o)) (λ f. word_of start text.now ≡ Err f) }
 {
@@ -161,9 +161,9 @@ fn word_of(start: usize, text: &str) -> Result<Option<Word<'_>>, LineFault>
     }
 }
 
-/// The first word of any text, whether it can be split or not: the run from column 1 up to a blank or
-/// `;`, which may be empty, and the blanks behind it are passed over, and the next such run is given.
-/// A comment line has none.
+/// The mnemonic, directive or macro name of any text, whether or not it can be split into parts: the field
+/// after that in column 1, which is empty where the text begins with a blank. A field ends at a blank or `;`.
+/// None where there is no such field, and for a comment line.
 pub fn first_word(text: &str) -> Option<&str>
     ensures { option_map (λ s. s.now) result ≡ first_word text.now }
 {

@@ -1,4 +1,4 @@
-//! The tokens of a text, one at a time. They borrow the text.
+//! The tokens of a text, one at a time.
 
 ghost use Rattle.std.specs.Prelude.{◌≡◌, ◌+◌, ◌<◌, ◌≤◌, [], ◌∷◌, length, slice_index, IfOk, IfSome, MatchOption, Ok, Err};
 ghost use Rattle.std.specs.Iterator.{YieldsFirstBy, item_count};
@@ -8,14 +8,14 @@ ghost use Rattle.c25_text.specs.View.{piece_of, end_of, pieces_left, IsFirstToke
 use crate::lexemes::lexeme;
 use c25_meaning_language::line::{Lexeme, LineFault, TokenKind};
 
-/// A token.
+/// A token, which borrows the text.
 #[derive(Clone, Copy)]
 pub struct Token<'a> {
-    /// What it is.
+    /// What the token is.
     pub kind: TokenKind,
-    /// The place of its first byte in the line.
+    /// The place of the token's first byte in the line.
     pub start: usize,
-    /// Its text, which is the slice of the line there; quotes are part of it.
+    /// The token's text, which is the slice of the line there; quotes are part of it.
     pub text: &'a str,
 }
 
@@ -71,7 +71,7 @@ fn find_token(text: &[u8], from: usize) -> Option<(TokenKind, usize, usize)>
     None
 }
 
-/// Where the comment or the end is, or the first fault from a place on.
+/// Where the comment begins, or where the text ends, from a place on; or the first fault before that.
 pub(crate) fn comment_from(text: &[u8], from: usize) -> Result<usize, LineFault>
     requires { from ≤ length text.now }
     ensures value { result ≡ stop_of (scan_from from text.now) }

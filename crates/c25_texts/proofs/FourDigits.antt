@@ -4,7 +4,7 @@ use Rattle.std.specs.List.{list_all}
 use Rattle.std.proofs.lemmas.Bool.{and_parts, ltb-true}
 use Rattle.c25_meaning_common.specs.Digits.{digit, value_in}
 
--- what digits behind a number up to m are at most
+-- what digits after a number up to m are at most
 most_behind : ℕ → List ℕ → ℕ
 most_behind m [] = m
 most_behind m (b ∷ word) = most_behind (m * 16 + 15) word

@@ -1,4 +1,4 @@
-//! Numbers in hexadecimal digits of upper case, made without memory.
+//! Bytes and words in hexadecimal digits of upper case, made without memory.
 
 ghost use Rattle.std.specs.Prelude.{◌≡◌, ◌+◌, ◌<◌, ◌≤◌, ◌∷◌, [], ◌++◌};
 ghost use Rattle.arrayvec.specs.ArrayString.{array_string_len};
@@ -6,7 +6,7 @@ ghost use Rattle.c25_meaning_common.specs.Digits.{four_digits, hex_digit, two_di
 
 use arrayvec::ArrayString;
 
-/// A hexadecimal digit.
+/// The hexadecimal digit of a number below 16.
 #[inline(always)]
 fn hex_digit(number: u16) -> u8
     requires { number < 16 }
@@ -33,7 +33,7 @@ fn hex_digit(number: u16) -> u8
     }
 }
 
-/// Appends a digit.
+/// Appends the digit of a number below 16.
 #[tactic(auto, using(std::proofs::lemmas::Str::encode_ascii))]
 fn add_digit<const N: usize>(digits: &mut ArrayString<N>, number: u16)
     requires small { number < 16 }
@@ -52,7 +52,7 @@ fn add_byte<const N: usize>(digits: &mut ArrayString<N>, number: u16)
     add_digit(digits, number % 16);
 }
 
-/// The two digits of a byte.
+/// A byte in two hexadecimal digits.
 pub fn two(byte: u8) -> ArrayString<2>
     ensures { result.bytes ≡ two_digits byte }
 {
@@ -61,7 +61,7 @@ pub fn two(byte: u8) -> ArrayString<2>
     digits
 }
 
-/// The four digits of a word.
+/// A word in four hexadecimal digits.
 pub fn four(word: u16) -> ArrayString<4>
     ensures { result.bytes ≡ four_digits word }
 {
@@ -71,7 +71,7 @@ pub fn four(word: u16) -> ArrayString<4>
     digits
 }
 
-/// The bytes of the four digits of a word.
+/// A word in four hexadecimal digits, as bytes of ASCII.
 #[inline(always)]
 pub fn four_bytes(word: u16) -> [u8; 4]
     ensures { result ≡ four_digits word }

@@ -1,4 +1,4 @@
-//! Items, one a line.
+//! Texts of one item a line, as samples, schedules and scripts are.
 
 ghost use Rattle.std.specs.Prelude.{◌≡◌, List, [], Some, None, map, IfOk, if◌then◌else◌};
 ghost use Rattle.c25_meaning_common.specs.Items.{ItemOf, items, items_of, with_line, line_words};
@@ -10,25 +10,24 @@ use c25_meaning_common::no_memory::NoMemory;
 use c25_meaning_common::placed::Placed;
 use std::alloc::Global;
 
-/// What the lines of a text are read as.
+/// What one kind of text has on its lines: how an item is read, and the fault of a line that is no item.
 pub trait LineFormat {
     type Item: Copy;
-    /// What is told of a line that is faulty.
+    /// The fault that is reported for a line that is no item.
     type Fault;
 
-    /// The item that the words of a line are behind the items before it, if they are one.
+    /// The item of a line after the items before it, if its parts are one.
     ghost item_of: { ItemOf Self.Item };
 
-    /// The item that the words of a line are behind the items before it. It is None where they are
-    /// no item.
+    /// The item of a line after the items before it, or None where its parts are no item.
     fn item(before: &[Self::Item], words: &[&[u8]]) -> Option<Self::Item>
         ensures { result ≡ item_of before.now (map (λ w. w.now) words.now) };
 
-    /// What is told of a line that is faulty.
+    /// The fault that is reported for a line that is no item.
     fn fault() -> Self::Fault;
 }
 
-/// Adds the item of a line that is not blank, and tells whether it was one.
+/// Adds the item of a line; a blank line has none. False where the line is no item.
 fn add_line<F: LineFormat>(
     alloc: Global,
     items: &mut Vec<F::Item>,
@@ -49,7 +48,7 @@ fn add_line<F: LineFormat>(
     }
 }
 
-/// The items of lines.
+/// The items of lines, or the first line that is no item, counted from 1.
 fn items_in<F: LineFormat>(
     alloc: Global,
     lines: &[&str],
@@ -69,7 +68,8 @@ fn items_in<F: LineFormat>(
     Ok(items)
 }
 
-/// The items of a text, one a line that is not blank, or its first faulty line, counted from 1.
+/// The items of a text, one on each line that is not blank, or its first line that is no item, counted from
+/// 1.
 pub fn read_items<F: LineFormat>(
     alloc: Global,
     text: &str,

@@ -1,4 +1,5 @@
-//! Texts: items, one a line, read; numbers, written in hexadecimal digits.
+//! Small texts: items read one a line, numbers read in decimal and hexadecimal, and bytes and words written
+//! in hexadecimal digits (`digits`).
 #![tactic(auto)]
 
 pub mod digits;

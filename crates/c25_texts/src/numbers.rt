@@ -1,15 +1,15 @@
-//! Words that are numbers.
+//! Numbers read from text.
 
 ghost use Rattle.std.specs.Prelude.{◌≡◌, ◌≤◌, IfSome};
 ghost use Rattle.c25_meaning_common.specs.Digits.{decimal_of, hexadecimal_of};
 
 use c25_meaning_common::digits::{are_digits, value_in};
 
-/// The digits of the largest 16-bit word.
+/// How many hexadecimal digits the largest word has.
 const MOST_DIGITS: usize = 4;
 
-/// The number that a word of decimal digits is, where it is at most this large. Leading zeros are
-/// free.
+/// The number that a text of decimal digits stands for, if it is at most `most`. It may have any number of
+/// leading zeros.
 #[tactic(auto, unfolding(c25_meaning_common::specs::Digits::decimal_of))]
 pub fn decimal_of(most: u32, word: &[u8]) -> Option<u32>
     ensures value { result ≡ decimal_of most word.now }
@@ -23,7 +23,8 @@ pub fn decimal_of(most: u32, word: &[u8]) -> Option<u32>
     }
 }
 
-/// The number that a word of at least so many hexadecimal digits, and at most four, is.
+/// The number that a text of hexadecimal digits stands for, if it has at least `least` digits and at most
+/// four.
 #[tactic(auto, unfolding(c25_meaning_common::specs::Digits::hexadecimal_of))]
 pub fn hexadecimal_of(least: usize, word: &[u8]) -> Option<u16>
     ensures { result ≡ hexadecimal_of least word.now }

@@ -1,4 +1,4 @@
-//! The lines of a text and the words of a line.
+//! The lines of a text, and the parts of a line.
 
 ghost use Rattle.std.specs.Prelude.{◌≡◌, IfOk, map};
 ghost use Rattle.std.specs.Str.{str_eq_ignore_ascii_case};
@@ -15,7 +15,7 @@ pub(crate) fn lines_of(alloc: Global, text: &str) -> Result<Vec<&str>, AllocErro
     text.lines().collect(alloc)
 }
 
-/// The words of a line.
+/// The parts of a line: what its blanks and tabs part.
 pub(crate) fn line_words(alloc: Global, line: &[u8]) -> Result<Vec<&[u8]>, AllocError>
     ensures { IfOk result (λ v. map (λ w. w.now) v.items ≡ line_words line.now) }
 {
@@ -24,7 +24,7 @@ pub(crate) fn line_words(alloc: Global, line: &[u8]) -> Result<Vec<&[u8]>, Alloc
         .collect(alloc)
 }
 
-/// Whether a word of a line is this one, in either case.
+/// Whether a part of a line is this name, in upper or lower case.
 pub fn is_word(word: &[u8], name: &str) -> bool
     ensures { result ≡ str_eq_ignore_ascii_case word.now name.now }
 {

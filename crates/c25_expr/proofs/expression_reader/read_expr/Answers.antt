@@ -13,11 +13,11 @@ use Rattle.c25_expr.proofs.TreeLaws.{reads_tree}
 use Rattle.c25_expr.proofs.Reach.{reach-step}
 use Rattle.c25_expr.proofs.expression_reader.read_expr.Goals as goal
 
--- the tokens behind a place complete what the slice from there on does
+-- the tokens after a place complete what the slice from there on does
 rest_completes : (ts : List Token) (i : ℕ) (t : State) → completes (marks_of (drop i ts)) (is_none t.current) (opens t.frames) ≡ completes (marks_of (take (length ts - i) (drop i ts))) (is_none t.current) (opens t.frames)
 rest_completes ts i t = ap (λ us. completes (marks_of us) (is_none t.current) (opens t.frames)) (sym (take_rest ts i))
 
--- the token has no place behind those before it
+-- the token has no place after those before it
 pub returns-in_err-take-clause-bad : goal.returns-in_err-take-clause-bad
 returns-in_err-take-clause-bad c =
     let p = err_from_is_err_and c.from_residual-in_err-take.result c.from_residual-in_err-take.ensures.1 in

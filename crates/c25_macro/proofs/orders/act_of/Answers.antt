@@ -1,4 +1,4 @@
--- A fault among the operands is told whatever would be asked under them.
+-- A fault among the operands is reported whatever would be asked with them.
 use Rattle.std.proofs.lemmas.Result.{err_from_is_err_and}
 use Rattle.c25_meaning_expansion.specs.Acts as acts
 use Rattle.c25_macro.proofs.orders.act_of.Goals as goal

@@ -1,4 +1,4 @@
--- the string goes on behind the bytes so far as it does from the first
+-- the string goes on after the bytes so far as it does from the first
 use Rattle.std.proofs.Common.{◌≡◌, ◌+◌, true, drop}
 use Rattle.std.specs.Option.{option_map}
 use Rattle.c25_meaning_language.specs.Lexeme.{quoted_len}
