@@ -9,9 +9,9 @@ ghost use Rattle.c25_files.specs.Added.{AddsAll};
 ghost use Rattle.c25_files.specs.declared.files.AddFault.TheVariants as fault;
 
 use crate::text::Text;
+use crate::{CannotRead, read_text};
 use c25_meaning_common::failure::Failure;
 use c25_meaning_common::no_memory::NoMemory;
-use crate::{CannotRead, read_text};
 use indexmap::IndexMap;
 use std::alloc::Global;
 use std::io::Read;

@@ -2,8 +2,8 @@
 
 ghost use Rattle.std.specs.Prelude.{◌≡◌, ◌<◌};
 
-use crate::lines::Lines;
 use crate::accumulator::{Acc, ProductShift};
+use crate::lines::Lines;
 use std::marker::Model;
 
 /// The number of an auxiliary register, 0 to 7.
