@@ -42,7 +42,7 @@ pub(crate) fn goes_on_name(b: u8) -> bool
     is_letter_or_digit(b) || b == b'_' || b == b'$'
 }
 
-/// The byte at a place, 0 past the end.
+/// The byte at a place of a text, or 0 past its end.
 pub fn byte_at(text: &[u8], place: usize) -> u8
     ensures value { result ≡ slice_index text.now place }
     ensures within { result ≢ 0 → place < length text.now }

@@ -1,4 +1,4 @@
-//! Why a call that takes memory refuses.
+//! Why a call that allocates memory fails.
 
 ghost use Rattle.c25_meaning_common.specs.Results.{IsNoMemory};
 
@@ -7,15 +7,15 @@ use std::alloc::{AllocError, AllocFailed};
 use std::fmt;
 use thiserror::Error;
 
-/// A refused growth, or a fault of what the call was given. Each crate's faults are its own; `?`
-/// turns the allocator's refusals into this, whatever the fault is.
+/// Out of memory, or a fault of what the call was given. Each crate has a fault type of its own; `?` turns
+/// the allocator's errors into this type, whatever the fault type is.
 #[derive(PartialEq, Debug, Drop, Error)]
 #[error_bound(F: fmt::Display)]
 pub enum Failure<F> {
-    /// A growth was refused (9).
+    /// The allocator refused to give more memory (9).
     #[error(transparent)]
     NoMemory(NoMemory),
-    /// What was given is faulty.
+    /// The call's input is faulty.
     #[error(transparent)]
     Fault(F),
 }

@@ -1,6 +1,6 @@
-//! What all subjects share: want of memory and failures, results, kinds of byte, digits, texts of one item a
-//! line, and the fields of words that are filled when modules are linked; and what a byte or a text of bytes is
-//! of these, which all readers of texts ask.
+//! What all subjects share: failures (out of memory, or a fault), results of definitions, the kinds of byte,
+//! digits, texts of one item a line, and the fields of words that are filled when modules are linked; with
+//! the functions on bytes and digits that every reader of a text calls.
 #![tactic(auto)]
 
 pub mod bytes;

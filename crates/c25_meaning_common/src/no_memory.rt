@@ -1,12 +1,12 @@
-//! Want of memory.
+//! Out of memory.
 
 use std::alloc::{AllocError, AllocFailed};
 use thiserror::Error;
 
-/// A growth was refused: the one cause for which every call of the workspace that allocates may
-/// refuse, whatever else it refuses for (9). It is made from std's own refusals and from nothing else,
-/// so whoever holds one was told of one. std tells of one with ample memory too, where more is asked
-/// for than there can be, or where a `Display` fails that is written into a `String`.
+/// Out of memory: the allocator refused to give more (9). Every call of the workspace that allocates may fail
+/// so. A value of this type is made from std's own errors and from nothing else, so it shows that std
+/// reported one. std also reports one with ample memory left, where a call asks for more than there can be,
+/// or where a `Display` that is written into a `String` fails.
 #[derive(Clone, Copy, PartialEq, Debug, Error)]
 #[error("{}", self.name())]
 pub struct NoMemory {
@@ -16,7 +16,7 @@ pub struct NoMemory {
 impl NoMemory {
     ghost use Rattle.std.specs.Prelude.{◌≡◌, codes};
 
-    /// The name that it is told by.
+    /// The name shown to the user.
     pub fn name(&self) -> &'static str
         ensures { result.now ≡ codes "NoMemory" }
     {

@@ -3,8 +3,8 @@
 use std::fmt;
 use thiserror::Error;
 
-/// A fault, and where it is: the number of a line, a name, or a line of a file. The code has names
-/// as texts, the definitions as lists of bytes.
+/// A fault with its place: the number of a line, a name, or a line of a file. A name is a text in code and a
+/// list of bytes in definitions.
 #[derive(Clone, Copy, PartialEq, Debug, Drop, Error)]
 #[error_bound(Place: fmt::Display, Fault: fmt::Display)]
 #[error("{place}: {fault}")]
@@ -13,7 +13,8 @@ pub struct Placed<Place, Fault> {
     pub fault: Fault,
 }
 
-/// The line of this number, counted from 1, in the file of this name; line 0 is the file itself.
+/// A line of a file: the file's name and the line's number, counted from 1; line 0 stands for the file
+/// itself.
 #[derive(Clone, Copy, PartialEq, Debug, Drop)]
 pub struct FileLine<Name> {
     pub file: Name,

@@ -1,6 +1,6 @@
 //! How an address goes into a field of a word.
 
-/// Which bits of a word an address fills, and with what of its value.
+/// Which bits of a word an address fills, and which part of its value goes there.
 #[derive(Clone, Copy, PartialEq, Debug)]
 pub enum RelocationKind {
     /// All sixteen bits, with the low sixteen of the value.
