@@ -22,7 +22,7 @@ use Rattle.c25_meaning_language.specs.declared.statement.Form.{Form}
 use Rattle.c25_meaning_language.specs.declared.statement.Form.TheVariants as form
 use Rattle.c25_bits.proofs.Cuts.{cut_below}
 
--- a fact of each index stays, where one number comes behind the list
+-- what holds of each index stays true where one more number comes after the list
 pub each_push : (P : ℕ → ℕ → Type 0) (ns : List ℕ) (n : ℕ) → ((k : ℕ) → P k (slice_index ns k)) → P (length ns) n → ((k : ℕ) → P k 0) → (k : ℕ) → P k (slice_index (ns ++ n ∷ []) k)
 each_push P [] n each last none zero = last
 each_push P [] n each last none (suc k) = none (suc k)

@@ -9,58 +9,60 @@ use Rattle.c25_meaning_language.specs.Line.{word_end}
 use Rattle.c25_meaning_language.specs.Quoting.{outer_len, last_comma_len}
 use Rattle.c25_meaning_language.specs.declared.quoting.Quoting.TheVariants.{Outside}
 
--- without the blanks and tabs in front
+-- the text without the blanks and tabs at its front
 abbrev pub trimmed_start : List ℕ → List ℕ
 trimmed_start text = drop (prefix_len is_blank text) text
 
--- without those at the end
+-- the text without the blanks and tabs at its end
 abbrev pub trimmed_end : List ℕ → List ℕ
 trimmed_end text = take (length text - suffix_len is_blank text) text
 
--- without those at both ends
+-- the text without the blanks and tabs at both ends
 abbrev pub trimmed : List ℕ → List ℕ
 trimmed text = trimmed_end (trimmed_start text)
 
--- two quotes are one: `again` where the byte before was a quote that stays
+-- the text with each pair of double quotes made one; `again` says that the byte before was a quote that was
+-- kept
 unfoldable pub folded : Bool → List ℕ → List ℕ
 folded again [] = []
 folded again (b ∷ rest) = if again && b == 34 then folded false rest else b ∷ folded (b == 34) rest
 
--- without a quote in front
+-- the text without a double quote at its front
 abbrev pub past_quote : List ℕ → List ℕ
 past_quote text = if slice_index text 0 == 34 then drop 1 text else text
 
--- without a quote at the end
+-- the text without a double quote at its end
 abbrev pub before_quote : List ℕ → List ℕ
 before_quote text = if slice_index text (length text - 1) == 34 then take (length text - 1) text else text
 
--- what a string token says: its quotes are off, and two quotes in it are one
+-- what a string token says: without its outer quotes, and with each pair of quotes in it made one
 abbrev pub string_text : List ℕ → List ℕ
 string_text token = folded false (before_quote (past_quote token))
 
--- whether a text is exactly one string: behind its first quote it goes on to the end
+-- whether a text is exactly one string: the string that its first quote opens ends at the end of the text
 abbrev pub is_one_string : List ℕ → Bool
 is_one_string text = slice_index text 0 == 34 && option_map_or (λ n. n == length text - 1) (quoted_len true (drop 1 text)) false
 
--- an argument or the text of `.asg`: trimmed, and if it is exactly one string, what that says
+-- the text of an argument or of `.asg`: trimmed, and if it is exactly one string, what that string says
 abbrev pub unquoted : List ℕ → List ℕ
 unquoted text = if is_one_string (trimmed text) then string_text (trimmed text) else trimmed text
 
--- the operands of a line: what stands behind its first word, up to the comment
+-- the operand field of a line: the text after the mnemonic field, up to the comment
 abbrev pub operand_text : List ℕ → List ℕ
 operand_text line = take (outer_len 59 Outside (drop (word_end line) line)) (drop (word_end line) line)
 
--- how many bytes the next argument has: those before the first comma outside quotes, and as the last one all
+-- how many bytes the next argument has: those before the first comma outside quotes; the last argument has
+-- all that are left
 abbrev pub argument_len : Bool → List ℕ → ℕ
 argument_len is_last text = if is_last then length text else outer_len 44 Outside text
 
--- parameters with their arguments; one that is missing is empty
+-- the parameters with their arguments; a missing argument is empty
 unfoldable pub bound : List (List ℕ) → List ℕ → List (List ℕ × List ℕ)
 bound [] text = []
 bound (p ∷ ps) text =
     (p, unquoted (take (argument_len (length ps == 0) text) text)) ∷ bound ps (drop (argument_len (length ps == 0) text + 1) text)
 
--- the parameters of a macro with the arguments of the line that calls it
+-- the parameters of a macro with the arguments in the line that calls it
 abbrev pub arguments : List (List ℕ) → List ℕ → List (List ℕ × List ℕ)
 arguments parameters line = bound parameters (operand_text line)
 

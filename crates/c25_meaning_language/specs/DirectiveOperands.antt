@@ -1,5 +1,5 @@
--- The operands of directives, of expansion and of the assembler alike, or their first fault of 10 to 13, 52, 20, 21 (SPRU018, assembler
--- directives).
+-- The operands of directives, as expansion and the assembler both read them, or their first fault of 10 to
+-- 13, 20, 21 and 52 (SPRU018, assembler directives).
 use Rattle.std.specs.Prelude.{ℕ, Bool, true, false, List, [], ◌∷◌, map, if◌then◌else◌, Result, Ok, Err}
 use Rattle.c25_meaning_language.specs.Line.{Piece, Parts, line_of}
 use Rattle.c25_meaning_language.specs.Operands.{written_of, is_quoted, line_fault}
@@ -14,7 +14,7 @@ use Rattle.c25_meaning_language.specs.declared.line.TokenKind.TheVariants as kin
 use Rattle.c25_meaning_language.specs.declared.statement.FaultKind.{FaultKind}
 use Rattle.c25_meaning_language.specs.declared.statement.FaultKind.TheVariants as fault
 
--- an operand that is an expression: its tree
+-- the tree of an operand that must be an expression
 abbrev pub expression_in : List Piece → Result Tree FaultKind
 expression_in operand =
     if is_expression (written_of operand) then told expression_fault (tree_in (map mark_of operand)) else Err fault.OperandForm
@@ -24,21 +24,21 @@ abbrev pub is_name : TokenKind → Bool
 is_name kind.Name = true
 is_name _ = false
 
--- an operand that is one name
+-- the text of an operand that must be one name
 abbrev pub name_in : List Piece → Result (List ℕ) FaultKind
 name_in (p ∷ []) = if is_name p.kind then Ok p.text else Err fault.OperandForm
 name_in _ = Err fault.OperandForm
 
--- an operand that is one string: its text
+-- what the string says in an operand that must be one string
 abbrev pub string_in : List Piece → Result (List ℕ) FaultKind
 string_in (p ∷ []) = if is_quoted p.kind then Ok (string_text p.text) else Err fault.OperandForm
 string_in _ = Err fault.OperandForm
 
--- operands that are names
+-- the texts of operands that must each be one name
 abbrev pub names_in : List (List Piece) → Result (List (List ℕ)) FaultKind
 names_in [] = Ok []
 names_in (o ∷ os) = name_in o >>= λ name. names_in os >>= λ names. Ok (name ∷ names)
 
--- the parts of a line, or its fault of 10 to 13
+-- the parts of a line, or its first fault of 10 to 13
 abbrev pub parts_in : List ℕ → Result Parts FaultKind
 parts_in text = told line_fault (line_of text)

@@ -1,4 +1,4 @@
--- Why a source gives no lines, with the name of the file.
+-- Why the expansion of a source fails, and in which file.
 use Rattle.std.specs.Prelude.{ℕ, List}
 use Rattle.c25_meaning_language.specs.declared.statement.FaultKind.{FaultKind}
 

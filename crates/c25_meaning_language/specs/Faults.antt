@@ -1,4 +1,4 @@
--- The numbers and names of a source's faults.
+-- The numbers and names of the faults of a source.
 use Rattle.std.specs.Prelude.{ℕ, List, codes}
 use Rattle.c25_meaning_common.specs.Faults.{numbered}
 use Rattle.c25_meaning_language.specs.declared.statement.FaultKind.{FaultKind}
@@ -64,6 +64,6 @@ fault_name fault.TooLarge = codes "TooLarge"
 fault_name fault.NotRelocatable = codes "NotRelocatable"
 fault_name fault.BadBlock = codes "BadBlock"
 
--- the number of a fault and its name, as a fault's line has them
+-- a source fault's number and name, as a report shows them
 abbrev pub numbered_name : FaultKind → List ℕ
 numbered_name kind = numbered (fault_number kind) (fault_name kind)

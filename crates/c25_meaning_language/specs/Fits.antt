@@ -1,10 +1,10 @@
--- Which numbers fields hold (SPRU014, instruction set).
+-- Which numbers fit the fields of instructions and data (SPRU014, instruction set).
 use Rattle.std.specs.Prelude.{ℕ, ◌^◌, ◌<◌, pos, negsuc, ◌≤ℤ◌}
 use Rattle.std.specs.Int.{w16, cast_signed}
 use Rattle.c25_meaning_language.specs.declared.statement.Field.{Field}
 use Rattle.c25_meaning_language.specs.declared.statement.Field.TheVariants as field
 
--- a field holds a number
+-- a number fits a field; the factor of MPYK is the number taken as 16 signed bits
 abbrev pub Holds : Field → ℕ → Type 0
 Holds field.Low7 n = n < 2 ^ 7
 Holds field.Page9 n = n < 512

@@ -1,6 +1,7 @@
--- What stands at the front of a text: a blank, a comment, the longest token there, or a fault (SPRU018, assembler
--- description, source statement format, constants, character strings, symbols and operators; character constants
--- of one character, names of at most 128 and names behind a dot are this project's own).
+-- What stands at the front of a text: a blank, a comment, the longest token there, or a fault (SPRU018,
+-- assembler description, source statement format, constants, character strings, symbols and operators; that a
+-- character constant has one character, a name at most 128, and a dot is one token with the name after it,
+-- are this project's own).
 use Rattle.std.specs.Prelude.{ℕ, ◌+◌, Bool, true, false, ◌&&◌, ◌==◌, not, nat_le, slice_index, if◌then◌else◌, List, [], ◌∷◌, length, take, drop, Option, Some, None}
 use Rattle.std.specs.List.{prefix_len, take_while, list_all}
 use Rattle.std.specs.Option.{option_map}
@@ -13,30 +14,32 @@ use Rattle.c25_meaning_language.specs.declared.line.Sign.TheVariants as sign
 use Rattle.c25_meaning_language.specs.declared.line.Lexeme.{Lexeme}
 use Rattle.c25_meaning_language.specs.declared.line.Lexeme.TheVariants.{Blank, Comment, Token, Fault}
 
--- a name of this many bytes; it has at most 128
+-- a name of this many bytes, at most 128
 abbrev pub name_of : ℕ → Lexeme
 name_of len = if nat_le len 128 then Token kind.Name len else Fault BadLabel
 
--- a run of letters and digits behind a digit is a constant, or none
+-- a run of letters and digits that begins with a digit: a constant, or a fault
 abbrev pub constant_of : List ℕ → Lexeme
 constant_of run = if is_constant run then Token kind.Constant (length run) else Fault BadConstant
 
--- behind a `'`: a plain character and a `'`, or `'''` for the quote itself
+-- a character constant, by the three bytes after its first `'`: a plain character and a `'`, or `'''` for the
+-- quote itself
 abbrev pub character_of : ℕ → ℕ → ℕ → Lexeme
 character_of c d e =
     if c == 39 && d == 39 && e == 39 then Token kind.Character 4
     else (if is_plain c && not (c == 39) && d == 39 then Token kind.Character 3
     else Fault OpenQuote)
 
--- how many bytes a string goes on, its last quote among them, if it ends: a quote ends it, and a further quote
--- right there goes on with it (so it is tracked whether the last byte was such a quote)
+-- how many bytes of a text belong to a string that is open before it, the last quote included, if the string
+-- ends; two quotes in a row do not end it. The flag is false where the byte before was a quote that may have
+-- ended the string
 abbrev pub quoted_len : Bool → List ℕ → Option ℕ
 quoted_len true [] = None
 quoted_len false [] = Some 0
 quoted_len true (b ∷ rest) = option_map (λ n. n + 1) (quoted_len (not (b == 34)) rest)
 quoted_len false (b ∷ rest) = if b == 34 then option_map (λ n. n + 1) (quoted_len true rest) else Some 0
 
--- a string of this many bytes behind its first quote, all of them plain
+-- a string with this many bytes after its first quote, all of which must be plain
 abbrev pub quoted_by : Option ℕ → List ℕ → Lexeme
 quoted_by None rest = Fault OpenQuote
 quoted_by (Some n) rest = if list_all is_plain (take n rest) then Token kind.Quoted (n + 1) else Fault StrayText
@@ -73,13 +76,13 @@ single_sign b =
     else (if b == 124 then Some sign.Bar
     else None)))))))))))))))
 
--- the longer sign, or no token
+-- the sign of two characters if there is one, else the sign of one, else a fault
 abbrev pub sign_by : Option Sign → Option Sign → Lexeme
 sign_by (Some two) one = Token (kind.Sign two) 2
 sign_by None (Some one) = Token (kind.Sign one) 1
 sign_by None None = Fault StrayText
 
--- behind a `.`: a name right there is one token with it
+-- what begins with a `.`: a name must follow directly, and is one token with it
 abbrev pub dotted_of : List ℕ → Lexeme
 dotted_of rest = if begins_name (slice_index rest 0) then Token kind.DottedName (prefix_len goes_on_name rest + 1) else Fault StrayText
 

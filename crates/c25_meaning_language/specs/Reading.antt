@@ -1,6 +1,6 @@
--- The tree of tokens as a function, token by token with one stack (own: C's order; the language tools' guide,
--- SPRU018, assembler description, expressions). That it gives the trees of `Tree.IsTreeOf` and no others is a law of the crate that reads
--- expressions.
+-- The tree of tokens as a function, token by token with one stack (SPRU018, assembler description,
+-- expressions; C's order is this project's own). That it gives the trees of `Tree.IsTreeOf` and no others is
+-- a law of the crate that reads expressions.
 use Rattle.std.specs.Prelude.{ℕ, Bool, true, false, nat_le, if◌then◌else◌, List, [], ◌∷◌, Option, Some, None, option_and_then, Result, Ok, Err}
 use Rattle.c25_meaning_language.specs.declared.line.Sign.{Sign}
 use Rattle.c25_meaning_language.specs.declared.line.Sign.TheVariants as sign
@@ -12,28 +12,28 @@ use Rattle.c25_meaning_language.specs.declared.expression.ExpressionFault.{Expre
 use Rattle.c25_meaning_language.specs.declared.expression.ExpressionFault.TheVariants.{BadExpression, TooDeep}
 use Rattle.c25_meaning_language.specs.Tree.{Leaf, Tree, Single, Group, Unary, Binary, Mark, Operand, Signed, Stray, level_of, depth}
 
--- a tree in postfix order is a list of these: a leaf, a pair of parentheses round the last tree, an operator
--- before the last tree, an operator between the last two
+-- an item of a tree in postfix order: a leaf, parentheses round the last tree, an operator before the last
+-- tree, an operator between the last two
 pub data PostfixItem : Type 0 where
   Push : Leaf → PostfixItem
   Wrap : PostfixItem
   Apply : UnaryOperator → PostfixItem
   Combine : BinaryOperator → PostfixItem
 
--- what is open before an operand: a parenthesis, a unary operator, or a left operand with its operator
+-- what waits for an operand: an open parenthesis, an operator before it, or a left operand with its operator
 pub data Frame : Type 0 where
   Open : Frame
   Pending : UnaryOperator → Frame
   After : Tree → BinaryOperator → Frame
 
--- the frames, the innermost first; the operand behind them, if one stands there; and the items of all these
+-- the frames, the innermost first; the operand after them, if it has been read; and the items of all their
 -- trees in postfix order, the last first
 pub record State : Type 0 where
   pub frames : List Frame
   pub current : Option Tree
   pub items : List PostfixItem
 
--- before the first token
+-- the state before the first token
 abbrev pub start : State
 start = record { frames = []; current = None; items = [] }
 
@@ -74,14 +74,15 @@ abbrev pub is_close : Sign → Bool
 is_close sign.CloseParenthesis = true
 is_close _ = false
 
--- an operand is whole: the unary operators right before it take it
+-- the state after a whole operand: the operators directly before it take it
 abbrev pub settle : List Frame → Tree → List PostfixItem → State
 settle [] e is = record { frames = []; current = Some e; items = is }
 settle (Open ∷ fs) e is = record { frames = Open ∷ fs; current = Some e; items = is }
 settle (Pending op ∷ fs) e is = settle fs (Unary op e) (Apply op ∷ is)
 settle (After l op ∷ fs) e is = record { frames = After l op ∷ fs; current = Some e; items = is }
 
--- the operators of this level or tighter that wait for their right operand take it, the innermost first
+-- the state once the operators of level `n` or tighter that wait for a right operand have taken it, the
+-- innermost first
 abbrev pub reduced : ℕ → List Frame → Tree → List PostfixItem → State
 reduced n [] e is = record { frames = []; current = Some e; items = is }
 reduced n (Open ∷ fs) e is = record { frames = Open ∷ fs; current = Some e; items = is }
@@ -94,37 +95,39 @@ reduced n (After l op ∷ fs) e is =
 abbrev pub loosest : ℕ
 loosest = 8
 
--- a sign where an operand has to come, by what it is
+-- the state after a sign where an operand has to come: an operator before it, or an open parenthesis; other
+-- signs are not allowed
 abbrev pub operand_begun : List Frame → List PostfixItem → Option UnaryOperator → Bool → Option State
 operand_begun fs is (Some op) b = Some (record { frames = Pending op ∷ fs; current = None; items = is })
 operand_begun fs is None true = Some (record { frames = Open ∷ fs; current = None; items = is })
 operand_begun fs is None false = None
 
--- an operator waits for its right operand
+-- the state in which the last operand is the left one of an operator, which waits for its right one
 abbrev pub waiting_by : BinaryOperator → List Frame → Option Tree → List PostfixItem → State
 waiting_by op fs (Some e) is = record { frames = After e op ∷ fs; current = None; items = is }
 waiting_by op fs None is = record { frames = fs; current = None; items = is }
 
--- the same of a state
+-- `waiting_by` on the parts of a state
 abbrev pub waiting : BinaryOperator → State → State
 waiting op s = waiting_by op s.frames s.current s.items
 
--- the innermost group ends
+-- the state after a closing parenthesis, if the innermost frame is an open one
 abbrev pub closed_by : List Frame → Option Tree → List PostfixItem → Option State
 closed_by (Open ∷ fs) (Some e) is = Some (settle fs (Group e) (Wrap ∷ is))
 closed_by _ _ is = None
 
--- the same of a state
+-- `closed_by` on the parts of a state
 abbrev pub closed : State → Option State
 closed s = closed_by s.frames s.current s.items
 
--- a sign behind an operand, by what it is
+-- the state after a sign that follows an operand: an operator, or a closing parenthesis; other signs are not
+-- allowed
 abbrev pub followed : List Frame → Tree → List PostfixItem → Option BinaryOperator → Bool → Option State
 followed fs e is (Some op) b = Some (waiting op (reduced (level_of op) fs e is))
 followed fs e is None true = closed (reduced loosest fs e is)
 followed fs e is None false = None
 
--- one token
+-- the state after one more token, if the token may stand there
 abbrev pub step_by : List Frame → Option Tree → List PostfixItem → Mark → Option State
 step_by fs None is (Operand l) = Some (settle fs (Single l) (Push l ∷ is))
 step_by fs None is (Signed s) = operand_begun fs is (unary_of s) (is_open s)
@@ -133,7 +136,7 @@ step_by fs (Some e) is (Operand l) = None
 step_by fs (Some e) is (Signed s) = followed fs e is (binary_of s) (is_close s)
 step_by fs (Some e) is Stray = None
 
--- the same of a state
+-- `step_by` on the parts of a state
 abbrev pub step : State → Mark → Option State
 step s m = step_by s.frames s.current s.items m
 
@@ -142,25 +145,25 @@ pub record Found : Type 0 where
   pub tree : Tree
   pub items : List PostfixItem
 
--- the tree, where nothing is open before it
+-- the tree, if no frame is left
 abbrev pub whole_by : List Frame → Option Tree → List PostfixItem → Option Found
 whole_by [] (Some e) is = Some (record { tree = e; items = is })
 whole_by _ _ is = None
 
--- the same of a state
+-- `whole_by` on the parts of a state
 abbrev pub whole : State → Option Found
 whole s = whole_by s.frames s.current s.items
 
--- the tree behind the last token
+-- the tree after the last token: all operators that wait take their operands
 abbrev pub finished_by : List Frame → Option Tree → List PostfixItem → Option Found
 finished_by fs None is = None
 finished_by fs (Some e) is = whole (reduced loosest fs e is)
 
--- the same of a state
+-- `finished_by` on the parts of a state
 abbrev pub finished : State → Option Found
 finished s = finished_by s.frames s.current s.items
 
--- the tree behind all tokens
+-- the tree after these tokens, from a state on
 abbrev pub run : List Mark → State → Option Found
 run [] s = finished s
 run (m ∷ ms) s = option_and_then (run ms) (step s m)
@@ -169,11 +172,11 @@ run (m ∷ ms) s = option_and_then (run ms) (step s m)
 abbrev pub most_nested : ℕ
 most_nested = 64
 
--- a tree that may be too deep, if there is one
+-- the tree, if there is one and it does not nest too deep
 abbrev pub tree_within : Option Found → Result Tree ExpressionFault
 tree_within None = Err BadExpression
 tree_within (Some f) = if nat_le (depth f.tree) most_nested then Ok f.tree else Err TooDeep
 
--- the tree of tokens
+-- the tree of tokens, or why they have none
 abbrev pub tree_in : List Mark → Result Tree ExpressionFault
 tree_in marks = tree_within (run marks start)

@@ -1,5 +1,6 @@
--- Substitution: names that stand for texts are replaced in a line (SPRU018, macro language: substitution symbols,
--- recursive substitution; that the number of the expansion follows `name_`, and the limits, are this project's own).
+-- Substitution: names that stand for texts are replaced in a line (SPRU018, macro language: substitution
+-- symbols, recursive substitution; that `name?` becomes `name_` and the number of the expansion, and the
+-- limits, are this project's own).
 use Rattle.std.specs.Prelude.{ℕ, zero, suc, ◌+◌, max, nat_le, if◌then◌else◌, List, [], ◌∷◌, ◌++◌, length, take, drop, Result, Ok, Err}
 use Rattle.std.specs.Fmt.{decimal}
 use Rattle.c25_meaning_language.specs.Line.{is_comment_line}
@@ -11,32 +12,33 @@ use Rattle.c25_meaning_language.specs.declared.quoting.Quoting.TheVariants.{Outs
 
 -- ---- what a text becomes
 
--- what is written for a text, and how many replacements that took
+-- the text that comes out, and how many replacements it took
 pub record Draft : Type 0 where
   pub text : List ℕ
   pub replacements : ℕ
 
--- a text as it is
+-- a text as it is, without replacements
 abbrev pub as_is : List ℕ → Draft
 as_is text = record { text = text; replacements = 0 }
 
--- one behind the other
+-- the first with the second after it
 abbrev pub joined : Draft → Draft → Draft
 joined a b = record { text = a.text ++ b.text; replacements = a.replacements + b.replacements }
 
--- all, one behind the other
+-- what comes out of each fragment, one after the other
 abbrev pub all_joined : (Fragment → Draft) → List Fragment → Draft
 all_joined write [] = as_is []
 all_joined write (p ∷ ps) = joined (write p) (all_joined write ps)
 
--- a fragment in the expansion of this number, where `replace` says what the text of a name becomes
+-- what comes out of a fragment in the expansion of this number; `replace` gives what comes out of the text
+-- that a name stands for
 abbrev pub drafted_by : (List ℕ → List ℕ → Quoting → Draft) → ℕ → Fragment → Draft
 drafted_by replace number (Kept text) = as_is text
 drafted_by replace number (Numbered name) = as_is (name ++ 95 ∷ decimal number)
 drafted_by replace number (Replaced name text quoting) = joined (record { text = []; replacements = 1 }) (replace name text quoting)
 
--- a text that begins in this quoting: each text that replaces a name is substituted by itself with that name set
--- aside, `depth` deep at most
+-- what comes out of a text that begins in this quoting: each text that replaces a name is substituted in
+-- turn, with that name set aside, to a depth of at most `depth`
 unfoldable pub drafted : ℕ → Replacements → ℕ → List (List ℕ) → Quoting → List ℕ → Draft
 drafted zero names number aside quoting text = as_is []
 drafted (suc depth) names number aside quoting text =
@@ -45,27 +47,28 @@ drafted (suc depth) names number aside quoting text =
 
 -- ---- lines
 
--- it is longer than a line may be, or takes more replacements
+-- the fault of a line that has too many bytes or takes too many replacements
 abbrev pub too_long : LongLine
 too_long = record {}
 
--- a line has at most 1,024 bytes and replacements
+-- the text, if it has at most 1,024 bytes and took at most 1,024 replacements
 abbrev pub measured : Draft → Result (List ℕ) LongLine
 measured d = if nat_le (max (length d.text) d.replacements) 1024 then Ok d.text else Err too_long
 
--- a text of a line with all its replacements: each goes one deeper, so that deeper ones are too many
+-- what comes out of a text of a line; a depth of 1,025 limits nothing, since what nests deeper takes more
+-- than 1,024 replacements
 abbrev pub rewritten : Replacements → ℕ → Quoting → List ℕ → Draft
 rewritten names number quoting text = drafted 1025 names number [] quoting text
 
--- a comment line is a comment from its first byte on
+-- the quoting in which a line begins: a comment line is a comment from its first byte on
 abbrev pub line_quoting : List ℕ → Quoting
 line_quoting line = if is_comment_line line then Comment else Outside
 
--- a line with its names replaced in the expansion of this number (0 outside expansions), or LongLine where it gets too long
+-- a line with its names replaced, in the expansion of this number (0 outside expansions); or LongLine
 abbrev pub substituted : Replacements → ℕ → List ℕ → Result (List ℕ) LongLine
 substituted names number line = measured (rewritten names number (line_quoting line) line)
 
--- a line of `.asg` or `.eval`: nothing is replaced from the last comma outside quotes and comment on
+-- a line of `.asg` or `.eval`: nothing is replaced from the last comma outside quotes and the comment on
 abbrev pub substituted_before_comma : Replacements → ℕ → List ℕ → Result (List ℕ) LongLine
 substituted_before_comma names number line =
     measured (joined (rewritten names number Outside (take (last_comma_len line) line)) (as_is (drop (last_comma_len line) line)))

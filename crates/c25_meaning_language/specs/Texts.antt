@@ -1,8 +1,8 @@
--- What names stand for, in order of first sight.
+-- Names with what they stand for, in the order in which they were first defined.
 use Rattle.std.specs.Prelude.{ℕ, List, [], ◌∷◌, if◌then◌else◌}
 use Rattle.std.specs.Str.{bytes_eq}
 
--- names that stand for something
+-- a list of names, each with what it stands for
 abbrev pub Named : Type 0 → Type 0
 Named A = List (List ℕ × A)
 
@@ -10,7 +10,7 @@ Named A = List (List ℕ × A)
 abbrev pub SubstitutionTexts : Type 0
 SubstitutionTexts = Named (List ℕ)
 
--- a name stands for something from now on: in the place of what it stood for, or as the last
+-- the list once a name stands for something new: at its old place in the list, or else as the last
 abbrev pub with_name : {A : Type 0} → Named A → List ℕ → A → Named A
 with_name [] name x = (name, x) ∷ []
 with_name (n ∷ ns) name x = if bytes_eq name n.0 then (n.0, x) ∷ ns else n ∷ with_name ns name x

@@ -1,5 +1,5 @@
--- The tree of an expression, by levels (own: C's order; SPRU018, assembler description, expressions, has the
--- operators).
+-- The tree of an expression (SPRU018, assembler description, expressions, has the operators; the levels are
+-- this project's own: C's order).
 use Rattle.std.specs.Prelude.{◌≡◌, ℕ, ◌+◌, ◌^◌, ◌<◌, ◌≤◌, min, max, List, [], ◌∷◌, ◌++◌, slice_index}
 use Rattle.c25_meaning_language.specs.Constant.{constant_value}
 use Rattle.c25_meaning_language.specs.Line.{Piece}
@@ -12,26 +12,28 @@ use Rattle.c25_meaning_language.specs.declared.expression.UnaryOperator.TheVaria
 use Rattle.c25_meaning_language.specs.declared.expression.BinaryOperator.{BinaryOperator}
 use Rattle.c25_meaning_language.specs.declared.expression.BinaryOperator.TheVariants as binary
 
--- what stands for itself; a constant above 2,147,483,647 stands as 2,147,483,648, which has no value
+-- an operand without operators: a constant, a name, or `$`; a constant above 2,147,483,647 is kept as
+-- 2,147,483,648, which has no value
 pub data Leaf : Type 0 where
   Constant : ℕ → Leaf
   Name : List ℕ → Leaf
   Here : Leaf
 
--- an expression: a leaf, another one in parentheses, an operator before one, an operator between two
+-- an expression: a leaf, an expression in parentheses, an operator before an expression, an operator between
+-- two
 pub data Tree : Type 0 where
   Single : Leaf → Tree
   Group : Tree → Tree
   Unary : UnaryOperator → Tree → Tree
   Binary : BinaryOperator → Tree → Tree → Tree
 
--- what a token can be to an expression: an operand by itself, another sign, or nothing
+-- what a token is to an expression: an operand, a sign, or nothing that belongs there
 pub data Mark : Type 0 where
   Operand : Leaf → Mark
   Signed : Sign → Mark
   Stray : Mark
 
--- the same of a token's kind and text
+-- what a token of this kind and text is to an expression
 abbrev pub mark_by : TokenKind → List ℕ → Mark
 mark_by kind.Name text = Operand (Name text)
 mark_by kind.Constant text = Operand (Constant (min (constant_value text) (2 ^ 31)))
@@ -51,7 +53,7 @@ unary_sign unary.Plus = sign.Plus
 unary_sign unary.Minus = sign.Minus
 unary_sign unary.Complement = sign.Tilde
 
--- the sign of an operator between operands; `==` is read as `=` is
+-- the sign of an operator between operands; the tokens `=` and `==` are one sign
 abbrev pub binary_sign : BinaryOperator → Sign
 binary_sign binary.Multiply = sign.Star
 binary_sign binary.Divide = sign.Slash
@@ -70,7 +72,7 @@ binary_sign binary.And = sign.Ampersand
 binary_sign binary.ExclusiveOr = sign.Caret
 binary_sign binary.Or = sign.Bar
 
--- the levels, tightest first
+-- the levels of the operators, the tightest first
 abbrev pub level_of : BinaryOperator → ℕ
 level_of binary.Multiply = 1
 level_of binary.Divide = 1
@@ -89,21 +91,22 @@ level_of binary.And = 6
 level_of binary.ExclusiveOr = 7
 level_of binary.Or = 8
 
--- the level of a tree's outermost operator, 0 where it is no binary one
+-- the level of a tree's outermost operator; 0 where it is not one between two operands
 abbrev pub level : Tree → ℕ
 level (Single l) = 0
 level (Group e) = 0
 level (Unary op e) = 0
 level (Binary op l r) = level_of op
 
--- the tokens of a tree
+-- the tokens of a tree, from left to right
 abbrev pub spelling : Tree → List Mark
 spelling (Single l) = Operand l ∷ []
 spelling (Group e) = Signed sign.OpenParenthesis ∷ (spelling e ++ Signed sign.CloseParenthesis ∷ [])
 spelling (Unary op e) = Signed (unary_sign op) ∷ spelling e
 spelling (Binary op l r) = spelling l ++ Signed (binary_sign op) ∷ spelling r
 
--- the operand of a unary operator is no binary one; those of a binary operator are of its level or tighter, the right one tighter
+-- a tree is grouped as the levels say: the operand of an operator before it has level 0; the left operand of
+-- an operator between two has its level or a tighter one, the right operand a tighter one
 abbrev pub IsGrouped : Tree → Type 0
 IsGrouped (Single l) = Unit {0}
 IsGrouped (Group e) = IsGrouped e
@@ -117,7 +120,7 @@ depth (Group e) = depth e + 1
 depth (Unary op e) = depth e + 1
 depth (Binary op l r) = max (depth l) (depth r)
 
--- the tokens are an expression with this tree
+-- these tokens are an expression, and this is its tree
 pub record IsTreeOf (marks : List Mark) (e : Tree) : Type 0 where
   pub spelled : spelling e ≡ marks
   pub grouped : IsGrouped e

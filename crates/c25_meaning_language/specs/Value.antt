@@ -1,5 +1,5 @@
--- The value of an expression (SPRU018, assembler description, expressions; own: C's order, 32 signed bits, and which
--- kinds an operator takes).
+-- The value of an expression (SPRU018, assembler description, expressions; C's order, 32 signed bits, and
+-- which bases an operator takes are this project's own).
 use Rattle.std.specs.Prelude.{ℕ, ◌^◌, Bool, false, not, ◌==◌, nat_lt, nat_le, if◌then◌else◌, List, Option, Some, None, ok_or, Result, Ok, Err, ℤ, pos, negsuc, ◌+ℤ◌, ◌-ℤ◌, ◌*ℤ◌, neg_ℤ, int_lt, ◌&&◌, ◌-◌, [], ◌∷◌}
 use Rattle.std.specs.Int.{w32, int_bit_and, int_bit_or, int_bit_xor, int_shr}
 use Rattle.std.specs.Char.{to_ascii_uppercase}
@@ -19,7 +19,7 @@ use Rattle.c25_meaning_language.specs.declared.value.Base.{Base}
 use Rattle.c25_meaning_language.specs.declared.value.Base.TheVariants.{Absolute, Section, Loaded}
 use Rattle.c25_meaning_language.specs.declared.value.Value.{Value}
 
--- a number, if it has 32 signed bits
+-- the number, if 32 signed bits hold it
 abbrev pub in_range : ℤ → Result ℤ ValueFault
 in_range z = if fits32 z then Ok z else Err ValueRange
 
@@ -28,16 +28,17 @@ abbrev pub is_zero : ℤ → Bool
 is_zero (pos n) = n == 0
 is_zero (negsuc n) = false
 
--- a shift count, 0 to 31
+-- the shift count, if it is 0 to 31
 abbrev pub shift_count : ℤ → Option ℕ
 shift_count (pos n) = if nat_lt n 32 then Some n else None
 shift_count (negsuc n) = None
 
--- what a comparison gives
+-- the result of a comparison: 1 or 0
 abbrev pub truth : Bool → ℤ
 truth b = if b then pos 1 else pos 0
 
--- an operator on numbers
+-- the number that an operator makes of two; division rounds toward zero, and a shift to the right keeps the
+-- sign
 abbrev pub number_of : BinaryOperator → ℤ → ℤ → Result ℤ ValueFault
 number_of binary.Multiply x y = in_range (x *ℤ y)
 number_of binary.Divide x y = if is_zero y then Err DivideByZero else in_range (int_div x y)
@@ -56,7 +57,8 @@ number_of binary.And x y = Ok (int_bit_and w32 x y)
 number_of binary.ExclusiveOr x y = Ok (int_bit_xor w32 x y)
 number_of binary.Or x y = Ok (int_bit_or w32 x y)
 
--- the base of a result, where the operator takes these bases
+-- the base of a result: absolute where both values are; an address where a number is added to an address or
+-- taken from one; absolute for the difference of two addresses of one section
 abbrev pub base_of : BinaryOperator → Base → Base → Result Base ValueFault
 base_of op Absolute Absolute = Ok Absolute
 base_of binary.Add b Absolute = Ok b
@@ -66,19 +68,19 @@ base_of binary.Subtract (Section s) (Section t) = if s == t then Ok Absolute els
 base_of binary.Subtract (Loaded s) (Loaded t) = if s == t then Ok Absolute else Err NotAbsolute
 base_of _ a b = Err NotAbsolute
 
--- an operator between values: first their kinds, then their numbers
+-- an operator between two values: a fault of their bases comes before one of their numbers
 abbrev pub binary_value : BinaryOperator → Value → Value → Result Value ValueFault
 binary_value op x y = do
   base ← base_of op x.base y.base
   offset ← number_of op x.offset y.offset
   Ok (record { base = base; offset = offset })
 
--- the base, if it is that of a plain number
+-- the base, if it is absolute
 abbrev pub absolute_base : Base → Result Base ValueFault
 absolute_base Absolute = Ok Absolute
 absolute_base _ = Err NotAbsolute
 
--- an operator before a value
+-- an operator before a value: `+` takes any value, `-` and `~` an absolute one
 abbrev pub unary_value : UnaryOperator → Value → Result Value ValueFault
 unary_value unary.Plus x = Ok x
 unary_value unary.Minus x = do
@@ -89,17 +91,17 @@ unary_value unary.Complement x = do
   base ← absolute_base x.base
   Ok (record { base = base; offset = neg_ℤ x.offset -ℤ pos 1 })
 
--- a constant
+-- the value of a constant, if 32 signed bits hold it
 abbrev pub plain_value : ℕ → Result Value ValueFault
 plain_value n = in_range (pos n) >>= λ z. Ok (record { base = Absolute; offset = z })
 
--- what stands for itself, under what names stand for and the current place
+-- the value of a leaf: `names` has what names stand for, `here` is the value of `$`
 abbrev pub leaf_value : (List ℕ → Option Value) → Value → Leaf → Result Value ValueFault
 leaf_value names here (Constant n) = plain_value n
 leaf_value names here (Name text) = ok_or (names text) Undefined
 leaf_value names here Here = Ok here
 
--- the value of an expression: the left operand, the right operand, the operator
+-- the value of an expression, or its first fault: that of the left operand, the right operand, the operator
 abbrev pub value_of : (List ℕ → Option Value) → Value → Tree → Result Value ValueFault
 value_of names here (Single l) = leaf_value names here l
 value_of names here (Group e) = value_of names here e
@@ -108,7 +110,7 @@ value_of names here (Binary op l r) = value_of names here l >>= λ x. value_of n
 
 -- ---- symbols
 
--- the names in order of definition, and the current place
+-- a symbol table: the names in order of definition, and the current place, which `$` stands for
 pub record Table : Type 0 where
   pub entries : List (List ℕ × Value)
   pub here : Value
@@ -117,7 +119,7 @@ pub record Table : Type 0 where
 abbrev pub upper : ℕ → ℕ
 upper b = to_ascii_uppercase b
 
--- the number of `AR0` to `AR7`, `PA0` to `PA15`, in either case
+-- the number of a predefined name: `AR0` to `AR7` and `PA0` to `PA15`, letters in either case
 abbrev pub predefined : List ℕ → Option ℕ
 predefined (a ∷ b ∷ d ∷ []) =
     if upper a == 65 && upper b == 82 && nat_le 48 d && nat_le d 55 then Some (d - 48)
@@ -128,19 +130,19 @@ predefined (a ∷ b ∷ c ∷ d ∷ []) =
     else None
 predefined _ = None
 
--- what a name was defined as
+-- the value with which a name was first defined, if it was
 abbrev pub defined : List (List ℕ × Value) → List ℕ → Option Value
 defined entries name = lookup (bytes_eq name) entries
 
--- a predefined number, or else what was defined
+-- the number of a predefined name, or else the defined value
 abbrev pub named_by : Option ℕ → Option Value → Option Value
 named_by (Some n) o = Some (record { base = Absolute; offset = pos n })
 named_by None o = o
 
--- what a name stands for
+-- the value that a name stands for, if it does
 abbrev pub value_named : Table → List ℕ → Option Value
 value_named table name = named_by (predefined name) (defined table.entries name)
 
--- the start of `.text`, the first section
+-- the start of `.text`, which is section 0
 abbrev pub start_of_text : Value
 start_of_text = record { base = Section 0; offset = pos 0 }

@@ -1,8 +1,8 @@
-//! Operators of expressions.
+//! Operators of expressions, and why tokens are not an expression.
 
 use thiserror::Error;
 
-/// An operator before its operand.
+/// An operator before its one operand.
 #[derive(Clone, Copy)]
 pub enum UnaryOperator {
     Plus,
@@ -10,7 +10,7 @@ pub enum UnaryOperator {
     Complement,
 }
 
-/// An operator between its operands.
+/// An operator between its two operands.
 #[derive(Clone, Copy)]
 pub enum BinaryOperator {
     Multiply,
@@ -31,11 +31,11 @@ pub enum BinaryOperator {
     Or,
 }
 
-/// Why tokens are no expression that is read.
+/// Why tokens are not an expression.
 #[derive(Clone, Copy, PartialEq, Debug, Error)]
 #[error("{}", self.name())]
 pub enum ExpressionFault {
-    /// The tokens are no expression (20).
+    /// The tokens do not form an expression (20).
     BadExpression,
     /// Parentheses and unary operators nest more than 64 deep (21).
     TooDeep,
@@ -46,7 +46,7 @@ impl ExpressionFault {
     ghost use Rattle.c25_meaning_language.specs.Faults.{fault_name};
     ghost use Rattle.c25_meaning_language.specs.Statement.{expression_fault};
 
-    /// The name that it is told by.
+    /// The fault's name, as shown to the user.
     pub fn name(&self) -> &'static str
         ensures { result.now ≡ fault_name (expression_fault self.now) }
     {

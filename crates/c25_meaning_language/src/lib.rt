@@ -1,5 +1,5 @@
-//! The assembler's language, line by line: fields, tokens, constants; substitution, operands, expressions and their
-//! values, the forms and fields of instructions, and the faults of a source.
+//! The assembler's language, line by line: fields, tokens and constants; substitution; operands, expressions
+//! and their values; the forms and fields of instructions; and the faults of a source.
 #![tactic(auto)]
 
 pub mod expression;

@@ -1,18 +1,18 @@
-//! Lines of a source and their tokens.
+//! Tokens of a line of a source, and the faults of a line's text.
 
 use thiserror::Error;
 
-/// What is wrong with a line.
+/// What is wrong with the text of a line.
 #[derive(Clone, Copy, PartialEq, Debug, Error)]
 #[error("{}", self.name())]
 pub enum LineFault {
-    /// A label, or a name among the operands, is no name or has more than 128 characters (10).
+    /// A label is not a name, or a name has more than 128 characters (10).
     BadLabel,
-    /// A run of letters and digits that begins with a digit is no constant (11).
+    /// A run of letters and digits that begins with a digit is not a constant (11).
     BadConstant,
-    /// A quote is not closed, or no character (12).
+    /// A quote is not closed, or single quotes do not hold exactly one character (12).
     OpenQuote,
-    /// A character belongs to no token (13).
+    /// A character that is part of no token (13).
     StrayText,
 }
 
@@ -20,7 +20,7 @@ impl LineFault {
     ghost use Rattle.std.specs.Prelude.{◌≡◌};
     ghost use Rattle.c25_meaning_language.specs.LineFaults.{line_fault_name};
 
-    /// The name that it is told by.
+    /// The fault's name, as shown to the user.
     pub fn name(&self) -> &'static str
         ensures { result.now ≡ line_fault_name self.now }
     {
@@ -33,7 +33,7 @@ impl LineFault {
     }
 }
 
-/// A sign of one or two characters.
+/// A sign: one or two characters.
 #[derive(Clone, Copy, PartialEq, Debug)]
 pub enum Sign {
     Comma,
@@ -59,12 +59,12 @@ pub enum Sign {
     Bar,
 }
 
-/// What a token is.
+/// The kind of a token.
 #[derive(Clone, Copy, PartialEq, Debug)]
 pub enum TokenKind {
-    /// A letter or `_`, and letters, digits, `_` and `$`.
+    /// A name: a letter or `_`, then letters, digits, `_` and `$`.
     Name,
-    /// A `.` and a name directly behind it.
+    /// A `.` with a name directly after it.
     DottedName,
     /// A number.
     Constant,
@@ -76,15 +76,15 @@ pub enum TokenKind {
     Sign(Sign),
 }
 
-/// What stands at the front of a text: a token and how many bytes it has, or something else.
+/// What stands at the front of a text: a blank, a comment, a token, or a fault.
 #[derive(Clone, Copy)]
 pub enum Lexeme {
     /// A blank or a tab.
     Blank,
     /// The `;` of a comment.
     Comment,
-    /// A token of so many bytes.
+    /// A token of this kind, and how many bytes it has.
     Token(TokenKind, usize),
-    /// No token.
+    /// A fault: no token begins here.
     Fault(LineFault),
 }

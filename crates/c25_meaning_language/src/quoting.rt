@@ -1,13 +1,13 @@
-//! Where a byte of a line stands, as to quotes and comment.
+//! Whether a byte of a line stands in quotes or in the comment.
 
-/// Where a byte stands: what it may be part of goes by this.
+/// Where a byte of a line stands: substitution depends on it.
 #[derive(Clone, Copy)]
 pub enum Quoting {
-    /// Outside quotes and comment.
+    /// Outside quotes and the comment.
     Outside,
-    /// Inside quotes, which the next such quote closes.
+    /// Inside quotes; the next byte that is this quote closes them.
     Within(u8),
-    /// In a text that is quoted throughout: its own quotes close nothing.
+    /// In a text that replaces a name inside quotes: all of it is quoted, and a quote in it closes nothing.
     Throughout,
     /// In a comment.
     Comment,

@@ -1,5 +1,5 @@
-//! Instruction statements as they are written: an instruction without its numbers, what its operands
-//! fill, and what is wrong with a line.
+//! Instruction statements as they are written: an instruction without its numbers, the fields that its
+//! operands fill, and the faults of a source.
 
 use c25_meaning_instructions::insn::Change;
 use c25_meaning_instructions::mnemonic::{
@@ -11,9 +11,10 @@ use thiserror::Error;
 /// How the memory operand of an instruction is written.
 #[derive(Clone, Copy)]
 pub enum AddrForm {
-    /// By an expression.
+    /// Direct: an expression.
     Direct,
-    /// By the current auxiliary register; a next one may follow.
+    /// Indirect, by the current auxiliary register, with this change of it; the next auxiliary register may
+    /// follow.
     Indirect(Change),
 }
 
@@ -29,18 +30,18 @@ pub enum Form {
     Long(LongName),
     LongMem(LongMemName, AddrForm),
     Jump(JumpName, Change),
-    /// The change is that of `NORM`.
+    /// The change is that of `NORM`, and has no meaning for the others.
     Plain(PlainName, Change),
 }
 
-/// What an operand's number fills.
+/// The field that the number of an operand fills.
 #[derive(Clone, Copy)]
 pub enum Field {
-    /// The low seven bits of an operand byte.
+    /// The low seven bits of the instruction word: a direct address.
     Low7,
     /// The page of `LDPK`.
     Page9,
-    /// A second word.
+    /// The second word of an instruction.
     Word16,
     /// A number below a limit: a shift, a register, a port, a bit code or a short constant.
     Number(u16),
@@ -52,37 +53,39 @@ pub enum Field {
     Byte,
 }
 
-/// What is wrong with a line.
+/// What is wrong with a line of a source.
 #[derive(Clone, Copy, Debug, Error)]
 #[error("{}", self.name())]
 pub enum FaultKind {
-    /// A label or name that is none, or is longer than 128 characters (10).
+    /// A label that is not a name, a name longer than 128 characters, or no label where a directive needs one
+    /// (10).
     BadLabel,
     /// A constant with a digit that its base does not have (11).
     BadConstant,
-    /// A quote that is not closed (12).
+    /// A quote that is not closed, or single quotes that do not hold exactly one character (12).
     OpenQuote,
-    /// A character that begins no token (13).
+    /// A character that is part of no token (13).
     StrayText,
-    /// An operand that is no expression (20).
+    /// An operand that is not an expression (20).
     BadExpression,
     /// An expression that nests more than 64 deep (21).
     TooDeep,
-    /// A name that stands for nothing (22).
+    /// A name that is not defined (22).
     Undefined,
-    /// A place where an absolute value is asked for (23).
+    /// An address where an absolute value is asked for (23).
     NotAbsolute,
     /// A division by zero (24).
     DivideByZero,
     /// A value outside 32 signed bits, or a shift count outside 0 to 31 (25).
     ValueRange,
-    /// A name that stands for something already (26).
+    /// A name that is defined already (26).
     Defined,
     /// A file that is not there (30).
     NoFile,
     /// A block that is not closed in the file or body where it began (31).
     OpenBlock,
-    /// The end or a part of a block that is not open (32).
+    /// A directive that ends, goes on with or leaves a block that is not open, or that goes on after `.else`
+    /// (32).
     StrayEnd,
     /// A 33rd open expansion, copied file, loop or `.if` (33).
     Depth,
@@ -94,7 +97,7 @@ pub enum FaultKind {
     Redefined,
     /// A line of more than 1,024 bytes or replacements (38).
     LongLine,
-    /// A first word that is no mnemonic (50).
+    /// A mnemonic field that holds no mnemonic (50).
     UnknownMnemonic,
     /// Too few operands, or too many (51).
     OperandCount,
@@ -102,11 +105,12 @@ pub enum FaultKind {
     OperandForm,
     /// A number that its field does not take (53).
     FieldRange,
-    /// More than 65,536 words, or more than 65,535 names or files (54).
+    /// More than 65,536 words in a section, or more than 255 sections, 65,535 names or 65,535 files; or a
+    /// file name or a line number that a record has no room for (54).
     TooLarge,
-    /// An address in a field that takes none (55).
+    /// An address in a field that takes only absolute values (55).
     NotRelocatable,
-    /// Words that have to lie in one page of 128, and are none or more than that (56).
+    /// A reservation that must lie in one data page, and has no words or more than 128 (56).
     BadBlock,
 }
 
@@ -114,7 +118,7 @@ impl FaultKind {
     ghost use Rattle.std.specs.Prelude.{◌≡◌};
     ghost use Rattle.c25_meaning_language.specs.Faults.{fault_name, fault_number};
 
-    /// The number that it is told by.
+    /// The fault's number, as shown to the user.
     pub fn number(&self) -> u8
         ensures { result ≡ fault_number self.now }
     {
@@ -148,7 +152,7 @@ impl FaultKind {
         }
     }
 
-    /// The name that it is told by.
+    /// The fault's name, as shown to the user.
     pub fn name(&self) -> &'static str
         ensures { result.now ≡ fault_name self.now }
     {
@@ -183,13 +187,13 @@ impl FaultKind {
     }
 }
 
-/// What an operand is by its tokens.
+/// How an operand is written, by its tokens alone.
 #[derive(Clone, Copy, PartialEq, Debug)]
 pub enum Written {
-    /// Tokens of an expression, or of nothing.
+    /// Anything else: an expression, if it is valid.
     Expression,
-    /// One of the seven indirect forms.
+    /// One of the seven indirect forms, with its change.
     Indirect(Change),
-    /// One string.
+    /// One string in double quotes.
     Quoted,
 }

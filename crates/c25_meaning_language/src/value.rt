@@ -6,9 +6,9 @@ use thiserror::Error;
 #[derive(Clone, Copy, PartialEq, Debug, Error)]
 #[error("{}", self.name())]
 pub enum ValueFault {
-    /// A name stands for nothing (22).
+    /// A name is not defined (22).
     Undefined,
-    /// An operator that takes absolute numbers alone was given a place (23).
+    /// An operator that takes only absolute numbers was given an address (23).
     NotAbsolute,
     /// A divisor is zero (24).
     DivideByZero,
@@ -21,7 +21,7 @@ impl ValueFault {
     ghost use Rattle.c25_meaning_language.specs.Faults.{fault_name};
     ghost use Rattle.c25_meaning_language.specs.Statement.{value_fault};
 
-    /// The name that it is told by.
+    /// The fault's name, as shown to the user.
     pub fn name(&self) -> &'static str
         ensures { result.now ≡ fault_name (value_fault self.now) }
     {
@@ -53,6 +53,6 @@ pub enum Base {
 pub struct Value {
     /// What the number counts from.
     pub base: Base,
-    /// The number.
+    /// The number that is counted from there.
     pub offset: i32,
 }
