@@ -82,7 +82,7 @@ pub record Acted (c d : Config) : Type 0 where
   pub expansions : d.names.count ≤ c.names.count + 1
   pub blocks : depth c ≤ 32 → depth d + collecting d.mode ≤ 32
 
--- it gives no line
+-- acting on a line gives no line
 abbrev pub Never : Config → Type 0
 Never d = ⊥
 
@@ -183,7 +183,7 @@ acted_copy : (text : Option (List ℕ)) (file : ℕ) (place : SourcePlace) (name
 acted_copy None file place name c h = misses
 acted_copy (Some text) file place name c h = comes_unless (is_full c) fault.Depth place _ (λ room. goes (omega (arith, not_full c room, blocks_in c.scope c.outer)))
 
--- what acting on a line comes to
+-- the result of acting on a line
 pub acted : (files : Files) (s : Table) (place : SourcePlace) (act : ExpansionAct) (c : Config) → IsIdle c.mode → Comes (Acted c) Never (acts files s place act c)
 unfolding acts copies ends_all
 acted files s place (If e) c h = acted_if s place e c h

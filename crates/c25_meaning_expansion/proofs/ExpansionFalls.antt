@@ -1,5 +1,5 @@
--- Rewriting comes to an end and stays in bounds: each rewriting reads one of the lines that may be read, acts on one whose
--- label was given, or takes an end away.
+-- Rewriting ends and stays in bounds: each rewriting reads one of the lines that may be read, acts on one
+-- whose label was given, or takes an end away.
 use Rattle.std.proofs.Common.{◌≡◌, ℕ, ◌+◌, ◌*◌, ◌-◌, ◌==◌, ◌<◌, ◌≤◌, Bool, true, false, not, ◌&&◌, nat_lt, if◌then◌else◌, List, [], ◌∷◌, ◌++◌, map, length, refl, ap, subst, arith, sum_by}
 use Rattle.std.proofs.lemmas.Bool.Decides.{nat_tests}
 use Rattle.c25_meaning_language.specs.Value.{Table}
@@ -20,7 +20,8 @@ pub record Falls (c d : Config) : Type 0 where
   pub left : d.left ≤ c.left
   pub bounded : IsBounded c → IsBounded d
 
--- so it is after every rewriting that goes on, and one that gives a line leaves fewer to be read; the end changes nothing
+-- less is left to rewrite after every rewriting that goes on; one that gives a line leaves fewer to be read;
+-- the end changes nothing
 abbrev pub After : Config → Rewriting → Type 0
 After c (Goes d) = Falls c d
 After c (Gives row d) = Falls c d × (d.left < c.left)

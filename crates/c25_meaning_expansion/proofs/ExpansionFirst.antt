@@ -64,12 +64,12 @@ module _ (files : Files) (s : Table) where
       enough (weight c) (suc (weight c)) c (omega arith) (omega arith) ∙ (ap (λ r. go_on r (last_within files s (weight c))) e
       ∙ enough (weight c) (weight d) d (omega (arith, (falls_going files s c d e).weighs_less)) (omega arith))
 
-  -- and so do many
+  -- many rewritings that go on leave the first that does not
   pub first_along : (n : ℕ) (old c : Config) → Leads files s n old c → first files s old ≡ first files s c
   first_along zero old c h = ap (first files s) h
   first_along (suc n) old c h = first_along n old h.0 h.1 ∙ first_going h.0 c h.2
 
-  -- What expansion comes to is one rewriting, and it can be computed.
+  -- Expansion has one result, and it can be computed.
   pub comes_to_first : (old : Config) (r : Rewriting) → ComesTo files s old r → IsLast r → first files s old ≡ r
   unfolding first last_within
   comes_to_first old r h last =
@@ -94,7 +94,7 @@ module _ (files : Files) (s : Table) where
   last_reached zero c = (zero, c, refl, refl)
   last_reached (suc n) c = comes_by c (last_within files s n) (last_reached n) (rewrite files s c) refl
 
-  -- it is what expansion comes to
+  -- `first` is reached by rewritings that go on
   pub first_reached : (c : Config) → ComesTo files s c (first files s c)
   unfolding first
   first_reached c = last_reached (weight c) c
@@ -104,14 +104,14 @@ module _ (files : Files) (s : Table) where
   last_is_last zero c h = if_never (rewrite files s c) (λ d e. omega (arith, (falls_going files s c d e).weighs_less))
   last_is_last (suc n) c h = if_after (rewrite files s c) _ (λ d e. last_is_last n d (omega (arith, (falls_going files s c d e).weighs_less)))
 
-  -- it does not merely go on
+  -- `first` does not merely go on
   pub first_is_last : (c : Config) → IsLast (first files s c)
   unfolding first
   first_is_last c = last_is_last (weight c) c (omega arith)
 
   -- ---- bounds
 
-  -- so it is along rewritings that go on
+  -- bounds stay along rewritings that go on
   pub stays_along : (n : ℕ) (old new : Config) → Leads files s n old new → Stays old new
   stays_along zero old new h = subst (Stays old) h (record { left = omega arith; bounded = λ bounds. bounds })
   stays_along (suc n) old new (mid, before, goes_on) =
@@ -128,7 +128,7 @@ module _ (files : Files) (s : Table) where
       let read = given_was_read files s reached.1 d row (reached.3 ∙ e) in
       (record { left = omega (arith, so_far.left, falls.left); bounded = λ bounds. falls.bounded (so_far.bounded bounds) }, omega (arith, so_far.left, read))
 
-  -- the same at the end
+  -- bounds stay at the end
   pub first_finishing : (c d : Config) → first files s c ≡ Finishes d → Stays c d
   first_finishing c d e =
       let reached = first_reached c in

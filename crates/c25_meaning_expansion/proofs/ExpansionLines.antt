@@ -26,7 +26,7 @@ pub record Took (m : Mode) (c d : Config) : Type 0 where
   pub expansions : d.names.count + pending d.mode ≤ c.names.count + 1
   pub blocks : depth c + collecting m ≤ 32 → depth d + collecting d.mode ≤ 32
 
--- and what it comes to
+-- what a line that was read in this mode changes, and its result
 abbrev pub Takes : Mode → Config → Rewriting → Type 0
 Takes m c r = Comes (Took m c) (Took m c) r
 
@@ -117,7 +117,7 @@ takes_in_loop row (Some directive.EndLoop) turns body nested c h = comes_if (nes
     (goes (omega arith))
 takes_in_loop row _ turns body nested c h = goes (omega arith)
 
--- what a line that was read in some mode comes to
+-- the result of a line that was read in some mode
 pub takes_read : (files : Files) (s : Table) (row : Row) (m : Mode) (c : Config) → IsIdle c.mode → Takes m c (read_by files s row m c)
 takes_read files s row (InMacro name parameters body nested) c h = takes_in_macro row (directive_in (first_word row.text)) name parameters body nested c h
 takes_read files s row (InLoop turns body nested) c h = takes_in_loop row (directive_in (first_word row.text)) turns body nested c h

@@ -1,5 +1,5 @@
--- What a line asks of expansion by its directive and operands, or its first fault of 10 to 13, 51, 52, 20, 21 (SPRU018,
--- assembler directives and macro language).
+-- What a line asks of expansion by its directive and operands, or its first fault of 10 to 13, 51, 52, 20, 21
+-- and 35 (SPRU018, assembler directives and macro language).
 use Rattle.std.specs.Prelude.{ℕ, List, [], ◌∷◌, length, nat_lt, slice_index, if◌then◌else◌, codes, Option, Some, None, unwrap_or, Result, Ok, Err}
 use Rattle.std.specs.Map.{lookup}
 use Rattle.std.specs.Option.{ok_or}
@@ -24,17 +24,17 @@ pub record Macro : Type 0 where
   pub parameters : List (List ℕ)
   pub body : List Row
 
--- what a line asks for
+-- what a line asks of expansion
 pub data ExpansionAct : Type 0 where
   If : (condition : Tree) → ExpansionAct
   ElseIf : (condition : Tree) → ExpansionAct
   Else : ExpansionAct
   EndIf : ExpansionAct
-  -- the lines of a macro of this name and these parameters follow
+  -- a macro of this name and with these parameters begins: the next lines are its body
   Define : (name : List ℕ) (parameters : List (List ℕ)) → ExpansionAct
-  -- the end of a macro or of a loop, where none is collected
+  -- `.endm` or `.endloop` where no body is being collected
   Stray : ExpansionAct
-  -- the innermost expansion is left
+  -- `.mexit`: the innermost expansion is left
   Exit : ExpansionAct
   Loop : (count : Option Tree) → ExpansionAct
   Break : (condition : Option Tree) → ExpansionAct
@@ -44,14 +44,14 @@ pub data ExpansionAct : Type 0 where
   End : ExpansionAct
   Call : (body : List Row) (arguments : SubstitutionTexts) → ExpansionAct
 
--- what a line asks for, and the label that becomes a line of its own before that
+-- what a line asks for, and its label, which becomes a line of its own before that
 pub record Order : Type 0 where
   pub label : Option (List ℕ)
   pub act : ExpansionAct
 
 -- ---- directives by their names
 
--- the directives that expansion takes
+-- the directives that expansion acts on, by their names
 abbrev pub directives : List (List ℕ × Directive)
 directives =
     (codes ".if", directive.If) ∷ (codes ".elseif", directive.ElseIf) ∷ (codes ".else", directive.Else)
@@ -60,23 +60,23 @@ directives =
     ∷ (codes ".endloop", directive.EndLoop) ∷ (codes ".asg", directive.Assign) ∷ (codes ".eval", directive.Evaluate)
     ∷ (codes ".copy", directive.Copy) ∷ (codes ".include", directive.Copy) ∷ (codes ".end", directive.End) ∷ []
 
--- the directive that a word is in either case, if it is one that expansion takes
+-- the directive of a mnemonic field, letters in either case, if expansion acts on it
 unfoldable pub directive_of : List ℕ → Option Directive
 directive_of word = lookup (str_eq_ignore_ascii_case word) directives
 
 -- ---- operands
 
--- no operand
+-- the act of a directive that takes no operand
 abbrev pub without : ExpansionAct → List (List Piece) → Result ExpansionAct FaultKind
 without act [] = Ok act
 without act (o ∷ os) = Err fault.OperandCount
 
--- one operand, an expression
+-- the act of a directive that takes one operand, an expression
 abbrev pub with_condition : (Tree → ExpansionAct) → List (List Piece) → Result ExpansionAct FaultKind
 with_condition act (o ∷ []) = expression_in o >>= λ e. Ok (act e)
 with_condition act _ = Err fault.OperandCount
 
--- none, or one that is an expression
+-- the act of a directive that takes no operand or one, an expression
 abbrev pub with_option : (Option Tree → ExpansionAct) → List (List Piece) → Result ExpansionAct FaultKind
 with_option act [] = Ok (act None)
 with_option act (o ∷ []) = expression_in o >>= λ e. Ok (act (Some e))
@@ -84,26 +84,27 @@ with_option act _ = Err fault.OperandCount
 
 -- ---- the directives with other operands
 
--- `.macro`: parameters, at most 32
+-- `.macro`: at most 32 operands, the names of the parameters; the label is the macro's name
 abbrev pub definition_in : Parts → List (List Piece) → Result ExpansionAct FaultKind
 definition_in parts operands =
     names_in operands >>= λ names.
     if nat_lt 32 (length names) then Err fault.TooManyParameters else Ok (Define (unwrap_or parts.label []) names)
 
--- the last of some operands, if there are two or more
+-- the last operand, if there are two or more
 abbrev pub last_of_two : List (List Piece) → Option (List Piece)
 last_of_two [] = None
 last_of_two (o ∷ []) = None
 last_of_two (o ∷ p ∷ []) = Some p
 last_of_two (o ∷ p ∷ q ∷ os) = last_of_two (p ∷ q ∷ os)
 
--- `.asg`: a text of any operands, and a name
+-- `.asg`: the text is all operands but the last, of any form; the last is a name
 abbrev pub assignment_in : List ℕ → List (List Piece) → Result ExpansionAct FaultKind
 assignment_in text operands =
     ok_or (last_of_two operands) fault.OperandCount >>= λ last.
     name_in last >>= λ name. Ok (Assign (assigned_text text) name)
 
--- `.eval`: an expression and a name; what is of another form than asked for comes before what is no expression
+-- `.eval`: an expression and a name; an operand of another form (52) is reported before an expression that is
+-- not valid (20, 21)
 abbrev pub evaluation_in : List (List Piece) → Result ExpansionAct FaultKind
 evaluation_in (o ∷ p ∷ []) =
     if is_expression (written_of o)
@@ -111,7 +112,7 @@ evaluation_in (o ∷ p ∷ []) =
     else Err fault.OperandForm
 evaluation_in _ = Err fault.OperandCount
 
--- `.copy`: a string
+-- `.copy` and `.include`: one string, the file's name
 abbrev pub copy_in : List (List Piece) → Result ExpansionAct FaultKind
 copy_in (o ∷ []) = string_in o >>= λ name. Ok (Copy name)
 copy_in _ = Err fault.OperandCount
@@ -135,12 +136,13 @@ act_of directive.End text parts operands = without End operands
 
 -- ---- whole lines
 
--- `.macro` needs a label, and a missing one is missing in column 1, before every other fault
+-- the parts of a line with a directive: `.macro` needs a label, and a blank in column 1 is BadLabel before
+-- any other fault
 abbrev pub parts_for : Directive → List ℕ → Result Parts FaultKind
 parts_for directive.Macro text = if is_blank (slice_index text 0) then Err fault.BadLabel else parts_in text
 parts_for _ text = parts_in text
 
--- the label of `.macro` is the macro's name; any other becomes a line
+-- the label that becomes a line of its own: not that of `.macro`, which is the macro's name
 abbrev pub label_for : Directive → Option (List ℕ) → Option (List ℕ)
 label_for directive.Macro label = None
 label_for _ label = label
@@ -152,6 +154,6 @@ order_of d text =
     act_of d text parts (operands_of parts.pieces) >>= λ act.
     Ok (record { label = label_for d parts.label; act = act })
 
--- what a line that calls a macro asks for
+-- what a line that calls a macro asks for: its operands are the arguments
 unfoldable pub call_of : Macro → List ℕ → Result Order FaultKind
 call_of m text = parts_in text >>= λ parts. Ok (record { label = parts.label; act = Call m.body (arguments m.parameters text) })

@@ -1,5 +1,6 @@
--- What expansion works on: one flat list of lines still to come, rewritten at its front (SPRU018, macro language and
--- assembler directives; the limits and the numbering of expansions are this project's own).
+-- What expansion works on: one flat list of the lines still to come, which is rewritten at its front
+-- (SPRU018, macro language and assembler directives; the limits and the numbering of expansions are this
+-- project's own).
 use Rattle.std.specs.Prelude.{ℕ, ◌+◌, List, [], ◌∷◌, ◌++◌, Bool, true, false, ◌||◌, Option, Some, None, nat_le, if◌then◌else◌, length, drop, map, sum_by, is_some}
 use Rattle.std.specs.List.{list_any}
 use Rattle.std.specs.Map.{lookup}
@@ -17,26 +18,27 @@ pub data LineOrEnd : Type 0 where
   Read : (row : Row) → LineOrEnd
   Close : LineOrEnd
 
--- what the lines up to the next end are: a copied file, an expansion of a macro, or a turn of a loop, so many more to
--- come
+-- what the lines up to the next end belong to: a copied file, the expansion of a macro, or a turn of a loop
+-- with this body, of which `more` turns are still to come
 pub data Kind : Type 0 where
   Copied : Kind
   Expanded : Kind
   Turn : (body : List Row) (more : ℕ) → Kind
 
--- a file, expansion or turn that is open: where its last line stands, and the `.if`s begun in it, the innermost first
+-- an open file, expansion or turn: the place of its last line, and the `.if`s that began in it and are open,
+-- the innermost first
 pub record Scope : Type 0 where
   pub kind : Kind
   pub last : SourcePlace
   pub branches : List Branch
 
--- an expansion that is open: its number, and the texts of its parameters
+-- an open expansion: its number, and its parameters with the texts that they stand for
 pub record Expansion : Type 0 where
   pub number : ℕ
   pub arguments : SubstitutionTexts
 
--- how the next line is looked at: read, or acted on after its label was given, or put into the body of a macro or of a
--- loop, in which so many blocks of that kind are open
+-- what is done with the next line: it is read; or a line whose label was given is acted on first; or the line
+-- goes into the body of a macro or a loop, in which `nested` blocks of that kind are open
 pub data Mode : Type 0 where
   Reading : Mode
   Acting : (place : SourcePlace) (act : ExpansionAct) → Mode
@@ -46,25 +48,26 @@ pub data Mode : Type 0 where
 -- what names stand for in expansion
 pub record Dictionary : Type 0 where
   pub macros : Named Macro
-  -- those of `.asg` and `.eval`
+  -- the names of `.asg` and `.eval`
   pub texts : SubstitutionTexts
   -- the open expansions, the innermost first
   pub expansions : List Expansion
-  -- how many expansions there have been
+  -- how many calls of macros there have been
   pub count : ℕ
 
--- all that stands at a line
+-- the state of expansion between two rewritings
 pub record Config : Type 0 where
   pub lines : List LineOrEnd
   pub scope : Scope
-  -- those in which it stands, the innermost first
+  -- the files, expansions and turns round that one, the innermost first
   pub outer : List Scope
   pub mode : Mode
   pub names : Dictionary
   -- how many lines may still be read
   pub left : ℕ
 
--- what a rewriting of the front comes to: a line, more to rewrite, the end, a fault, or a file that is not there
+-- the result of rewriting the front: a line is given, rewriting goes on, the source ends, a fault, or a file
+-- that is not there
 pub data Rewriting : Type 0 where
   Gives : (row : Row) (rest : Config) → Rewriting
   Goes : (rest : Config) → Rewriting
@@ -72,7 +75,7 @@ pub data Rewriting : Type 0 where
   Faults : (place : SourcePlace) (kind : FaultKind) → Rewriting
   Misses : (place : SourcePlace) (name : List ℕ) → Rewriting
 
--- a fault where the test holds
+-- a fault if the test holds, else what follows
 abbrev pub unless : Bool → FaultKind → SourcePlace → Rewriting → Rewriting
 unless test kind place next = if test then Faults place kind else next
 
@@ -82,16 +85,16 @@ unless test kind place next = if test then Faults place kind else next
 abbrev pub depth : Config → ℕ
 depth c = length c.scope.branches + sum_by (λ f. length f.branches + 1) c.outer
 
--- no more may be opened
+-- whether 32 blocks are open, so that no more may be opened
 abbrev pub is_full : Config → Bool
 is_full c = nat_le 32 (depth c)
 
--- these lines come next, and then an end
+-- a file, expansion or turn with these lines is opened: they come next, and then an end
 abbrev pub source_opened : Kind → SourcePlace → List Row → Config → Config
 source_opened kind last rows c =
     record c { lines = map Read rows ++ Close ∷ c.lines; scope = record { kind = kind; last = last; branches = [] }; outer = c.scope ∷ c.outer }
 
--- with these `.if`s in the innermost file, expansion or turn
+-- the configuration with these `.if`s open in the innermost file, expansion or turn
 abbrev pub with_branches : List Branch → Config → Config
 with_branches branches c = record c { scope = record { kind = c.scope.kind; last = c.scope.last; branches = branches } }
 
@@ -101,13 +104,14 @@ after_close [] = []
 after_close (Close ∷ items) = items
 after_close (Read row ∷ items) = after_close items
 
--- the open expansions after a file, expansion or turn has ended: an expansion that ends is the innermost
+-- the names after a file, expansion or turn has ended: an expansion that ends is the innermost one
 abbrev pub without_ended : Kind → Dictionary → Dictionary
 without_ended Expanded names = record names { expansions = drop 1 names.expansions }
 without_ended Copied names = names
 without_ended (Turn body more) names = names
 
--- lines dropped through the end of the innermost file, expansion or turn that passes the test
+-- the configuration after the innermost file, expansion or turn that passes the test, with all that is open
+-- inside it, has been left and its lines dropped, if one passes
 abbrev pub left_through : (Kind → Bool) → List LineOrEnd → Scope → List Scope → Dictionary → Config → Option Config
 left_through test lines scope [] names c = None
 left_through test lines scope (f ∷ fs) names c =
@@ -115,13 +119,13 @@ left_through test lines scope (f ∷ fs) names c =
     then Some (record c { lines = after_close lines; scope = f; outer = fs; names = without_ended scope.kind names })
     else left_through test (after_close lines) f fs (without_ended scope.kind names) c
 
--- an expansion
+-- whether it is an expansion
 abbrev pub is_expansion : Kind → Bool
 is_expansion Expanded = true
 is_expansion Copied = false
 is_expansion (Turn body more) = false
 
--- a turn of a loop
+-- whether it is a turn of a loop
 abbrev pub is_turn : Kind → Bool
 is_turn (Turn body more) = true
 is_turn Expanded = false
@@ -133,25 +137,26 @@ stands_in test c = test c.scope.kind || list_any (λ f. test f.kind) c.outer
 
 -- ---- names
 
--- the macro of a name
+-- the macro of this name, if it is defined
 abbrev pub macro_named : Dictionary → List ℕ → Option Macro
 macro_named names name = lookup (bytes_eq name) names.macros
 
--- the arguments of the innermost expansion
+-- the arguments of the innermost expansion; none outside expansions
 abbrev pub arguments_of : List Expansion → SubstitutionTexts
 arguments_of [] = []
 arguments_of (e ∷ es) = e.arguments
 
--- what a name stands for: the innermost expansion's parameters are seen first, then the names of `.asg` and `.eval`
+-- what a name stands for: a parameter of the innermost expansion, or else a name of `.asg` or `.eval`
 abbrev pub seen : Dictionary → List ℕ → Option (List ℕ)
 seen names = visible (arguments_of names.expansions) names.texts
 
--- the number of the innermost expansion, 0 outside
+-- the number of the innermost expansion; 0 outside expansions
 abbrev pub number_of : List Expansion → ℕ
 number_of [] = 0
 number_of (e ∷ es) = e.number
 
--- a name stands for a text from here on: a parameter of the innermost expansion, where it is one
+-- the names once a name stands for this text: a parameter of the innermost expansion gets it there, any other
+-- name among those of `.asg` and `.eval`
 abbrev pub assigned_by : List Expansion → List ℕ → List ℕ → Dictionary → Dictionary
 assigned_by [] name text names = record names { texts = with_name names.texts name text }
 assigned_by (e ∷ es) name text names =
@@ -159,11 +164,11 @@ assigned_by (e ∷ es) name text names =
     then record names { expansions = record e { arguments = with_name e.arguments name text } ∷ es }
     else record names { texts = with_name names.texts name text }
 
--- the same of all names
+-- `assigned_by` on all names
 abbrev pub assigned : List ℕ → List ℕ → Dictionary → Dictionary
 assigned name text names = assigned_by names.expansions name text names
 
--- one expansion more, with these texts of its parameters
+-- the names after one more call, with these arguments; calls are numbered from 1
 abbrev pub called : SubstitutionTexts → Dictionary → Dictionary
 called arguments names =
     record names { expansions = record { number = names.count + 1; arguments = arguments } ∷ names.expansions; count = names.count + 1 }

@@ -1,4 +1,5 @@
--- What expansion keeps in bounds: how many lines it reads and gives, and how many blocks are open at once (own).
+-- The bounds that expansion keeps: how many lines it reads and gives, and how many blocks are open at once
+-- (this project's own).
 use Rattle.std.specs.Prelude.{◌≡◌, ℕ, ◌+◌, ◌≤◌, max, List, [], ◌∷◌, ◌++◌, ⊤}
 use Rattle.c25_meaning_expansion.specs.Files.{Files}
 use Rattle.c25_meaning_expansion.specs.Rows.{Row}
@@ -7,7 +8,7 @@ use Rattle.c25_meaning_expansion.specs.Expansion.{Scope, Mode, Reading, Acting, 
 use Rattle.c25_meaning_expansion.specs.ExpansionRuns.{rewrite}
 use Rattle.c25_meaning_expansion.specs.declared.expansion.Branch.{Branch}
 
--- it does not merely go on
+-- a rewriting that gives a line, ends or fails, so that rewriting does not merely go on
 abbrev pub IsLast : Rewriting → Type 0
 IsLast (Goes d) = ⊥
 IsLast (Gives row d) = ⊤
@@ -17,42 +18,43 @@ IsLast (Misses place name) = ⊤
 
 -- ---- numbers in a configuration
 
--- how many blocks of the kind that is collected are nested in it
+-- how many blocks of its kind are open inside the body that is being collected
 abbrev pub nested_of : Mode → ℕ
 nested_of (InMacro name parameters body nested) = nested
 nested_of (InLoop turns body nested) = nested
 nested_of Reading = 0
 nested_of (Acting place act) = 0
 
--- one line whose label was given is still to be acted on
+-- how many lines wait to be acted on after their label was given: 1 or 0
 abbrev pub pending : Mode → ℕ
 pending (Acting place act) = 1
 pending Reading = 0
 pending (InMacro name parameters body nested) = 0
 pending (InLoop turns body nested) = 0
 
--- one loop whose lines are collected opens after them
+-- how many loops are being collected, each of which opens a block afterwards: 1 or 0
 abbrev pub collecting : Mode → ℕ
 collecting (InLoop turns body nested) = 1
 collecting Reading = 0
 collecting (Acting place act) = 0
 collecting (InMacro name parameters body nested) = 0
 
--- how many `.if`s are nested in the skipped lines of one of these, at most
+-- the largest number of `.if`s that are open inside the skipped lines of one of these `.if`s
 abbrev pub nesting : List Branch → ℕ
 nesting [] = 0
 nesting (b ∷ bs) = max b.nested (nesting bs)
 
--- the same in these files, expansions and turns
+-- the largest such number in these files, expansions and turns
 abbrev pub deepest : List Scope → ℕ
 deepest [] = 0
 deepest (f ∷ fs) = max (nesting f.branches) (deepest fs)
 
--- the same in all that are open
+-- the largest such number in all files, expansions and turns that are open
 abbrev pub skipping : Config → ℕ
 skipping c = deepest (c.scope ∷ c.outer)
 
--- what nests or is counted has a line of its own among the 200,000 that may be read, and at most 32 blocks are open
+-- the bounds of a configuration: each nested block and each call took one line of the 200,000 that may be
+-- read, and at most 32 blocks are open
 pub record IsBounded (c : Config) : Type 0 where
   pub collected : nested_of c.mode + c.left ≤ 200000
   pub skipped : skipping c + c.left ≤ 200000
@@ -61,7 +63,8 @@ pub record IsBounded (c : Config) : Type 0 where
 
 -- ---- many rewritings
 
--- rewritings lead from one configuration to another, each under symbols of its own, and give these lines
+-- rewritings lead from one configuration to another, each under a symbol table of its own, and give these
+-- lines
 pub data Gave (files : Files) : Config → List Row → Config → Type 0 where
   nothing : {c : Config} → Gave files c [] c
   more : {old mid new : Config} {rows : List Row} (s : Table) → Gave files old rows mid → rewrite files s mid ≡ Goes new → Gave files old rows new

@@ -1,4 +1,5 @@
--- Rewriting the lines still to come up to the next line that is given, the end, or the first fault.
+-- Rewriting the lines still to come, up to the next line that is given, the end of the source, or the first
+-- fault.
 use Rattle.std.specs.Prelude.{◌≡◌, ℕ, zero, suc, ◌+◌, ◌*◌, ◌-◌, ◌==◌, List, [], ◌∷◌, ◌++◌, Bool, true, false, not, ◌&&◌, Option, option_map, nat_lt, if◌then◌else◌, length, map}
 use Rattle.c25_meaning_language.specs.Line.{first_word}
 use Rattle.c25_meaning_language.specs.Value.{Table}
@@ -10,29 +11,31 @@ use Rattle.c25_meaning_language.specs.declared.statement.FaultKind.TheVariants a
 
 -- ---- one rewriting
 
--- a line by where it goes: into a body that is collected, or it is read
+-- a line from the list: it goes into the body that is being collected, or it is read
 abbrev pub read_by : Files → Table → Row → Mode → Config → Rewriting
 read_by files s row (InMacro name parameters body nested) c = in_macro row (directive_in (first_word row.text)) name parameters body nested c
 read_by files s row (InLoop turns body nested) c = in_loop row (directive_in (first_word row.text)) turns body nested c
 read_by files s row _ c = reads_by files s row (directive_in (first_word row.text)) c.scope.branches c
 
--- whether lines are collected
+-- whether no body is being collected
 abbrev pub is_reading : Mode → Bool
 is_reading Reading = true
 is_reading (Acting place act) = true
 is_reading (InMacro name parameters body nested) = false
 is_reading (InLoop turns body nested) = false
 
--- no block is open that began in the innermost file, expansion or turn
+-- whether no block is open that began in the innermost file, expansion or turn
 abbrev pub is_closed : Config → Bool
 is_closed c = is_reading c.mode && is_empty c.scope.branches
 
--- what stood behind the end of the innermost file, expansion or turn
+-- what follows once the innermost file, expansion or turn has ended: the lines after it in the one round it,
+-- or the end of the source
 abbrev pub back : List LineOrEnd → List Scope → Config → Rewriting
 back rest [] c = Finishes c
 back rest (f ∷ fs) c = Goes (record c { lines = rest; scope = f; outer = fs; names = without_ended c.scope.kind c.names })
 
--- the next turn of a loop that has one and has lines, or else what stood behind
+-- the end of a file, expansion or turn: a loop that has more turns, and lines, begins the next turn; else
+-- what stands after it comes
 abbrev pub ended : Kind → List LineOrEnd → Config → Rewriting
 ended (Turn body more) rest c =
     if nat_lt 0 more && not (is_empty body)
@@ -41,54 +44,57 @@ ended (Turn body more) rest c =
 ended Copied rest c = back rest c.outer c
 ended Expanded rest c = back rest c.outer c
 
--- blocks end in the file or body where they began
+-- what follows, unless a block is open that began in the innermost file, expansion or turn: then OpenBlock,
+-- at its last line
 abbrev pub closes : Rewriting → Config → Rewriting
 closes next c = if is_closed c then next else Faults c.scope.last fault.OpenBlock
 
--- one rewriting of the front: a line is read, 200,000 at most, or an end is passed
+-- one rewriting of the front of the list: a line is read, at most 200,000 in all, or an end is passed
 abbrev pub front : Files → Table → List LineOrEnd → Config → Rewriting
 front files s (Read row ∷ rest) c =
     unless (c.left == 0) fault.Lines row.place (read_by files s row c.mode (record c { lines = rest; mode = Reading; left = c.left - 1 }))
 front files s (Close ∷ rest) c = closes (ended c.scope.kind rest c) c
 front files s [] c = closes (Finishes c) c
 
--- what a line asked for is done after its label was given, or else the front is rewritten
+-- one rewriting by the mode: a line whose label was given is acted on, or else the front of the list is
+-- rewritten
 abbrev pub rewrite_by : Files → Table → Mode → Config → Rewriting
 rewrite_by files s (Acting place act) c = acts files s place act (record c { mode = Reading })
 rewrite_by files s _ c = front files s c.lines c
 
--- one rewriting
+-- one rewriting of a configuration
 unfoldable pub rewrite : Files → Table → Config → Rewriting
 rewrite files s c = rewrite_by files s c.mode c
 
 -- ---- rewriting until a line is given
 
--- so many rewritings lead from one configuration to the other, and none of them gives a line
+-- `n` rewritings that each merely go on lead from one configuration to the other
 abbrev pub Leads : Files → Table → ℕ → Config → Config → Type 0
 Leads files s zero old new = old ≡ new
 Leads files s (suc n) old new = (mid : Config) × Leads files s n old mid × (rewrite files s mid ≡ Goes new)
 
--- the first rewriting that does not merely go on is this one
+-- after some rewritings that merely go on, the next one has this result
 abbrev pub ComesTo : Files → Table → Config → Rewriting → Type 0
 ComesTo files s old r = (n : ℕ) × (c : Config) × Leads files s n old c × (rewrite files s c ≡ r)
 
--- how much rewriting is left at most: 6 for a line that may be read, since its label may be given before it is done (4),
--- and it may open one file, expansion or turn (2)
+-- the weight of the front of the list: 1 for an end, 0 for a line
 abbrev pub front_weight : List LineOrEnd → ℕ
 front_weight [] = 1
 front_weight (Close ∷ items) = 1
 front_weight (Read row ∷ items) = 0
 
--- what is still to be done weighs 4
+-- the weight of the mode: 4 for a line that is still to be acted on
 abbrev pub mode_weight : Mode → ℕ
 mode_weight (Acting place act) = 4
 mode_weight _ = 0
 
--- the sum of these
+-- a number that each rewriting that merely goes on makes smaller: 6 for each line that may still be read (4
+-- because its label may be given before it is acted on, 2 because it may open a file, expansion or turn), 2
+-- for each file, expansion or turn that can end, and the weights of the front and the mode
 abbrev pub weight : Config → ℕ
 weight c = 6 * c.left + 2 * length c.outer + front_weight c.lines + mode_weight c.mode
 
--- what follows where a rewriting merely goes on
+-- what follows a rewriting that merely goes on; any other result stays
 abbrev pub go_on : Rewriting → (Config → Rewriting) → Rewriting
 go_on (Goes d) f = f d
 go_on (Gives row d) f = Gives row d
@@ -96,18 +102,18 @@ go_on (Finishes d) f = Finishes d
 go_on (Faults place kind) f = Faults place kind
 go_on (Misses place name) f = Misses place name
 
--- the last of at most n + 1 rewritings, the first that does not merely go on
+-- the result of the first of n + 1 rewritings that does not merely go on, or of the last of them
 unfoldable pub last_within : Files → Table → ℕ → Config → Rewriting
 last_within files s zero c = rewrite files s c
 last_within files s (suc n) c = go_on (rewrite files s c) (last_within files s n)
 
--- the first rewriting that does not merely go on
+-- the result of the first rewriting that does not merely go on; the weight bounds how many come before it
 unfoldable pub first : Files → Table → Config → Rewriting
 first files s c = last_within files s (weight c) c
 
--- ---- a module
+-- ---- the start of a module
 
--- the configuration before the first line of a file
+-- the configuration before the first line of the file of this number and text
 abbrev pub start : ℕ → List ℕ → Config
 start file text = record {
   lines = map Read (rows_of file text);
@@ -118,6 +124,6 @@ start file text = record {
   left = 200000;
 }
 
--- the same by the file's name, where there is such a file
+-- the configuration before the first line of the file of this name, if there is such a file
 abbrev pub start_of : Files → List ℕ → Option Config
 start_of files name = option_map (start (file_number files name)) (text_named files name)

@@ -1,7 +1,7 @@
-//! What expansion does with lines.
+//! The directives that expansion acts on, and the state of an open `.if`.
 
-/// The directives that expansion takes out of the lines (SPRU018, assembler directives and macro
-/// language).
+/// The directives that expansion acts on; the lines that it gives have none of them (SPRU018, assembler
+/// directives and macro language).
 #[derive(Clone, Copy)]
 pub enum Directive {
     /// `.if`
@@ -34,18 +34,18 @@ pub enum Directive {
     End,
 }
 
-/// What becomes of the lines of an open `.if` that come now.
+/// What happens to the lines of an open `.if` from here on.
 #[derive(Clone, Copy)]
 pub enum Phase {
-    /// They are skipped: no condition was true yet.
+    /// Lines are skipped: no condition was true so far.
     Seeking,
-    /// They are taken: the last condition was true.
+    /// Lines are taken: the last condition was true.
     Taking,
-    /// They are skipped: the lines of a true condition were taken.
+    /// Lines are skipped: those of a true condition were taken before.
     Passing,
-    /// They are taken: they stand behind `.else`, and no condition was true.
+    /// Lines are taken: they stand after `.else`, and no condition was true.
     ElseTaking,
-    /// They are skipped: they stand behind `.else`, and the lines of a true condition were taken.
+    /// Lines are skipped: they stand after `.else`, and those of a true condition were taken before.
     ElsePassing,
 }
 
@@ -53,6 +53,6 @@ pub enum Phase {
 #[derive(Clone, Copy)]
 pub struct Branch {
     pub phase: Phase,
-    /// How many `.if`s are nested in the lines that are skipped now.
+    /// How many `.if`s are open inside the lines that are being skipped.
     pub nested: usize,
 }

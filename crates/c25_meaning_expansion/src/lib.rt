@@ -1,4 +1,5 @@
-//! The files of sources, and their expansion: macros, loops, conditions, copied files; the lines that opened what is open.
+//! The files of a source and their expansion: macros, loops, conditions, copied files, and the trail of the
+//! lines that opened them.
 #![tactic(auto)]
 
 pub mod expansion;

@@ -1,10 +1,10 @@
 //! Places of lines.
 
-/// Where a line stands.
+/// The place of a line: its file and its number there.
 #[derive(Clone, Copy)]
 pub struct SourcePlace {
-    /// The number of its file, from 0 in the order in which the files were added.
+    /// The number of the file, counted from 0 in the order in which files were added.
     pub file: usize,
-    /// The number of the line in that file, from 1.
+    /// The number of the line in that file, counted from 1.
     pub line: usize,
 }
