@@ -28,7 +28,7 @@ is_in-push (x ∷ xs) n d = on (bytes_eq d x) (is_in-push xs n d)
     on true h = refl
     on false h = h
 
--- names stay distinct where a new one comes behind them
+-- names stay distinct where a new one comes after them
 pub distinct_push : (ds : List (List ℕ)) (n : List ℕ) → are_distinct ds ≡ true → is_in ds n ≡ false → are_distinct (ds ++ n ∷ []) ≡ true
 distinct_push [] n h new = refl
 distinct_push (d ∷ ds) n h new =

@@ -1,5 +1,5 @@
--- The operands of a line under all symbols: the numbers that absolute values give their fields, and for each address
--- the field that it goes into and what it counts from (SPRU018, expressions and relocation).
+-- The operands of a line when all symbols are known: the numbers that absolute values give their fields, and
+-- for each address its field and what it counts from (SPRU018, expressions and relocation).
 use Rattle.std.specs.Prelude.{ℕ, ◌+◌, ◌<◌, Bool, true, false, List, [], ◌∷◌, ◌++◌, length, map, reverse, Option, Some, None, Result, Ok, Err, ℤ, if◌then◌else◌}
 use Rattle.std.specs.List.{All}
 use Rattle.c25_meaning_common.specs.Results.{◌>>=◌, fold_ok}
@@ -24,53 +24,54 @@ use Rattle.c25_meaning_language.specs.declared.value.Base.TheVariants.{Absolute,
 
 -- ---- numbers and addresses
 
--- the numbers of a line's expressions, 0 where a value is an address, and the addresses among them
+-- the operands of a line: the numbers of its expressions, 0 where a value is an address, and the addresses
+-- among them
 pub record Sheet : Type 0 where
   pub numbers : List ℕ
   pub addresses : List Address
 
--- before the first expression
+-- no operands: before the first expression
 abbrev pub no_operands : Sheet
 no_operands = record { numbers = []; addresses = [] }
 
--- a number more
+-- the operands with one more number
 abbrev pub with_number : ℕ → Sheet → Sheet
 with_number n s = record s { numbers = s.numbers ++ n ∷ [] }
 
--- an address more, where the field takes one
+-- the operands with one more address, if the field takes one
 abbrev pub with_address : Option RelocationKind → RelocationBase → ℤ → Sheet → Result Sheet FaultKind
 with_address None base addend s = Err fault.NotRelocatable
 with_address (Some kind) base addend s =
     Ok (record { numbers = s.numbers ++ 0 ∷ []; addresses = s.addresses ++ record { operand = length s.numbers; kind = kind; base = base; addend = addend } ∷ [] })
 
--- a value more: an address that its field does not take comes before a number that it does not
+-- the operands with one more value, a number or an address, if the field takes it
 abbrev pub with_value : Base → Field → ℤ → Sheet → Result Sheet FaultKind
 with_value Absolute field z s = number_in field z >>= λ n. Ok (with_number n s)
 with_value (Section number) field z s = with_address (relocation_of field) (relocated.Section number) z s
 with_value (Loaded number) field z s = with_address (relocation_of field) (relocated.Loaded number) z s
 with_value (External number) field z s = with_address (relocation_of field) (relocated.External number) z s
 
--- one expression more
+-- the operands with one more expression
 unfoldable pub taken : Target → Table → Sheet → Tree → Result Sheet FaultKind
 taken t table s e = valued table e >>= λ v. with_value v.base (field_of t (length s.numbers)) v.offset s
 
--- all expressions of a line, left to right
+-- the operands of a line: all its expressions, from left to right
 abbrev pub sheet_of : Target → Table → List Tree → Result Sheet FaultKind
 sheet_of t table trees = fold_ok (taken t table) no_operands trees
 
--- the fields of addresses are within so many words
+-- the field of each address lies in one of the first `size` words of the line
 abbrev pub AreWithin : Target → ℕ → List Address → Type 0
 AreWithin t size addresses = All (λ a. word_of (field_of t a.operand) a.operand < size) addresses
 
 -- ---- words and relocations
 
--- the words of these numbers
+-- the words of a line, by the numbers of its operands
 abbrev pub words_of : Target → List ℕ → List ℕ
 words_of (target.Instruction f) ns = words (insn_of f ns)
 words_of target.Words ns = ns
 words_of target.Bytes ns = ns
 
--- the relocation of an address of a line that begins at an offset of a section
+-- the relocation of an address in a line that begins at this offset of this section
 abbrev pub relocation_at : Target → ℕ → ℕ → Address → Relocation
 relocation_at t section offset a = record {
   section = section;
@@ -80,12 +81,12 @@ relocation_at t section offset a = record {
   addend = a.addend;
 }
 
--- the second word of MAC and its like is written first
+-- whether the operand of the second word is written first, as in MAC, MACD, BLKP and BLKD
 abbrev pub ends_first : Target → Bool
 ends_first (target.Instruction (form.LongMem name addr)) = true
 ends_first _ = false
 
--- addresses in the order of their words
+-- the addresses of a line in the order of its words
 abbrev pub in_order : Target → List Address → List Address
 in_order t addresses = if ends_first t then reverse addresses else addresses
 

@@ -1,5 +1,5 @@
--- The instruction statements of a module: where each stands, and its operands as numbers and addresses (SPRU018,
--- relocation).
+-- The instruction statements of a module: the address of each, and its operands as numbers and addresses
+-- (SPRU018, relocation).
 use Rattle.std.specs.Prelude.{ℕ, List, [], ◌∷◌, ◌++◌, Result, Ok}
 use Rattle.c25_meaning_assembly.specs.Addresses.{Sheet, sheet_of}
 use Rattle.c25_meaning_assembly.specs.Emission.{all_names, at_origin, table_at}
@@ -11,26 +11,26 @@ use Rattle.c25_meaning_assembly.specs.declared.assembly.Target.TheVariants as ta
 use Rattle.c25_meaning_instructions.specs.declared.insn.Insn.{Insn}
 use Rattle.c25_meaning_language.specs.declared.statement.Form.{Form}
 
--- an instruction statement: its section, its offset there, and its form with the numbers of its operands, 0 where one is
--- an address, and the addresses
+-- an instruction statement: its section, its offset there, its form, and its operands, whose numbers are 0
+-- where there is an address
 pub record Instruction : Type 0 where
   pub section : ℕ
   pub offset : ℕ
   pub form : Form
   pub sheet : Sheet
 
--- the instruction with its relocated fields 0
+-- the instruction with 0 in its relocated fields
 abbrev pub insn_with_zeros : Instruction → Insn
 insn_with_zeros i = insn_of i.form i.sheet.numbers
 
--- the statement of an item's content, if it is one
+-- the statements so far, with that of an item if the item is an instruction
 abbrev pub statement_by : Definitions → LaidContent → Content → List Instruction → Result (List Instruction) ExpansionFault
 statement_by names item (Operands (target.Instruction f) trees) before =
     at_origin item.origin (sheet_of (target.Instruction f) (table_at names item.section item.offset) trees) >>= λ s.
     Ok (before ++ record { section = item.section; offset = item.offset; form = f; sheet = s } ∷ [])
 statement_by names item _ before = Ok before
 
--- one item more
+-- the statements so far, with that of one more item
 abbrev pub with_statement : Definitions → List Instruction → LaidContent → Result (List Instruction) ExpansionFault
 with_statement names before item = statement_by names item item.content before
 

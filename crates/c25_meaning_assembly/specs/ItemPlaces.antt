@@ -1,20 +1,20 @@
--- How many words items have, and where each begins: behind those before it in its section (SPRU018, sections).
+-- How many words items have; each item begins after those before it in its section (SPRU018, sections).
 use Rattle.std.specs.Prelude.{ℕ, ◌+◌, ◌==◌, List, [], ◌∷◌, length, if◌then◌else◌}
 use Rattle.c25_meaning_assembly.specs.OperandFields.{target_size}
 use Rattle.c25_meaning_assembly.specs.Sections.{Content, Exported, LaidContent, Operands, Words, Zeros}
 
--- how many words content has
+-- how many words the content of an item has
 abbrev pub words_in : Content → ℕ
 words_in (Operands t trees) = target_size t (length trees)
 words_in (Words words) = length words
 words_in (Zeros count) = count
 words_in (Exported names) = 0
 
--- the words that an item has in a section
+-- how many words an item has in section `k`
 abbrev pub part : ℕ → LaidContent → ℕ
 part k i = if i.section == k then words_in i.content else 0
 
--- the words that items have in a section
+-- how many words items have in section `k`
 abbrev pub total : ℕ → List LaidContent → ℕ
 total k [] = 0
 total k (i ∷ is) = part k i + total k is

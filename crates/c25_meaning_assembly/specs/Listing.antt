@@ -1,5 +1,5 @@
--- The listing of a module: its expanded lines beside the words that they made (own; SPRU018, source listings, has more
--- columns).
+-- The listing of a module: its expanded lines next to the words that they made (this project's own; SPRU018,
+-- source listings, has more columns).
 use Rattle.std.specs.Prelude.{ℕ, zero, suc, ◌+◌, ◌-◌, ◌==◌, ◌&&◌, Bool, true, false, List, [], ◌∷◌, ◌++◌, length, replicate, slice_index, nat_lt, codes}
 use Rattle.std.specs.Fmt.{decimal}
 use Rattle.std.specs.List.{list_any}
@@ -8,7 +8,7 @@ use Rattle.c25_meaning_objects.specs.Module.{Contents, words_at}
 use Rattle.c25_meaning_common.specs.Digits.{four_digits}
 use Rattle.c25_meaning_objects.specs.declared.object.Relocation.{Relocation}
 
--- a line, and the words that it made
+-- an entry of the listing: a line, and where the words that it made begin and how many there are
 pub record Entry : Type 0 where
   pub line : ℕ
   pub text : List ℕ
@@ -16,15 +16,15 @@ pub record Entry : Type 0 where
   pub offset : ℕ
   pub count : ℕ
 
--- so many blanks
+-- `n` blanks
 abbrev pub blanks : ℕ → List ℕ
 blanks n = replicate n 32
 
--- a text at the right of so many columns
+-- a text at the right of `width` columns
 abbrev pub at_right : ℕ → List ℕ → List ℕ
 at_right width text = blanks (width - length text) ++ text
 
--- the number of a line
+-- a line's number in decimal, at the right of six columns
 abbrev pub number_column : ℕ → List ℕ
 number_column line = at_right 6 (decimal line)
 
@@ -32,35 +32,35 @@ number_column line = at_right 6 (decimal line)
 abbrev pub listed : List ℕ → List ℕ
 listed text = trimmed_end text ++ codes "\n"
 
--- whether a relocation is of the word at an offset of a section
+-- whether a relocation concerns the word at this offset of this section
 abbrev pub is_at : ℕ → ℕ → Relocation → Bool
 is_at section offset r = r.section == section && r.offset == offset
 
--- whether the word at an offset of a section, if there is one, has a relocation
+-- whether there is a word at this offset of this section, and it has a relocation
 abbrev pub is_relocated : Contents → ℕ → ℕ → Bool
 is_relocated m section offset =
     nat_lt offset (length (words_at m.sections section)) && list_any (is_at section offset) m.relocations
 
--- the sign behind a word
+-- the sign after a word: `'` if it is relocated
 abbrev pub sign : Bool → List ℕ
 sign true = codes "'"
 sign false = codes " "
 
--- a word at an offset of a section
+-- the column of a word: its offset, its value and its sign
 abbrev pub word_column : Contents → ℕ → ℕ → List ℕ
 word_column m section offset =
     four_digits offset ++ codes " " ++ four_digits (slice_index (words_at m.sections section) offset) ++ sign (is_relocated m section offset)
 
--- a line of a word, behind a number or blanks and before a text
+-- a line of the listing with one word: a number or blanks, the word, and a text
 abbrev pub word_line : Contents → ℕ → ℕ → List ℕ → List ℕ → List ℕ
 word_line m section offset number text = listed (number ++ codes " " ++ word_column m section offset ++ codes " " ++ text)
 
--- so many further words
+-- the lines of the further words of a source line, from an offset on: one a word, without number and text
 abbrev pub further : Contents → ℕ → ℕ → ℕ → List ℕ
 further m section offset zero = []
 further m section offset (suc n) = word_line m section offset (blanks 6) [] ++ further m section (offset + 1) n
 
--- the lines of an entry by how many words it has
+-- the lines of an entry with this many words
 abbrev pub entry_by : ℕ → Contents → Entry → List ℕ
 entry_by zero m e = listed (number_column e.line ++ blanks 12 ++ e.text)
 entry_by (suc n) m e =

@@ -1,4 +1,4 @@
--- Which field of an instruction, or which whole word, the k-th operand of a line fills, and how many words the line
+-- Which field of an instruction, or which whole word, an operand of a line fills, and how many words the line
 -- makes (SPRU018, assembler directives; SPRU014, instruction formats).
 use Rattle.std.specs.Prelude.{ℕ, List, slice_index}
 use Rattle.c25_meaning_language.specs.Fits.{Holds}
@@ -9,24 +9,24 @@ use Rattle.c25_meaning_assembly.specs.declared.assembly.Target.TheVariants as ta
 use Rattle.c25_meaning_language.specs.declared.statement.Field.{Field}
 use Rattle.c25_meaning_language.specs.declared.statement.Field.TheVariants as field
 
--- the field that the k-th expression of a line fills
+-- the field that the expression with index `k` of a line fills
 abbrev pub field_of : Target → ℕ → Field
 field_of (target.Instruction f) k = form_field f k
 field_of target.Words k = field.Word
 field_of target.Bytes k = field.Byte
 
--- each field of a line holds its number, which is 0 where none is written
+-- the numbers of a line fit its fields; a number that is not written counts as 0
 abbrev pub FitsTarget : Target → List ℕ → Type 0
 FitsTarget t ns = (k : ℕ) → Holds (field_of t k) (slice_index ns k)
 
--- the word of its line in which the field of the k-th expression is
+-- the index of the word, among those of its line, that has this field of the expression with index `k`
 abbrev pub word_of : Field → ℕ → ℕ
 word_of field.Low7 k = 0
 word_of field.Page9 k = 0
 word_of field.Word16 k = 1
 word_of _ k = k
 
--- how many words a line with so many expressions makes
+-- how many words a line with `k` expressions makes
 abbrev pub target_size : Target → ℕ → ℕ
 target_size (target.Instruction f) k = size (form_row f)
 target_size target.Words k = k

@@ -1,5 +1,5 @@
--- What the lines of a module make one after another: sections with their sizes, symbols, and what waits for the symbols
--- (SPRU018, sections, symbols, assembler directives).
+-- What the lines of a module make, one after the other: sections with their sizes, symbols, and items that
+-- wait until all symbols are known (SPRU018, sections, symbols, assembler directives).
 use Rattle.std.specs.Prelude.{ℕ, ◌+◌, ◌/◌, ◌^◌, Bool, true, false, not, ◌||◌, ◌&&◌, is_some, nat_le, nat_lt, if◌then◌else◌, List, [], ◌∷◌, ◌++◌, length, filter, set, slice_get, codes, Option, Some, None, Result, Ok, Err, ℤ, pos, negsuc}
 use Rattle.std.specs.List.{position, find, list_any}
 use Rattle.std.specs.Ordering.{int_eq}
@@ -21,17 +21,17 @@ use Rattle.c25_meaning_language.specs.declared.statement.FaultKind.TheVariants a
 use Rattle.c25_meaning_language.specs.declared.value.Base.TheVariants as base
 use Rattle.c25_meaning_language.specs.declared.value.Value.{Value}
 
--- what names stand for, in order of definition
+-- names with their values, in the order of definition
 abbrev pub Definitions : Type 0
 Definitions = List (List ℕ × Value)
 
--- a line
+-- a line of a file: the file's name and the line's number
 pub record Origin : Type 0 where
   pub file : List ℕ
   pub line : ℕ
 
--- a section: the lines give it its size, its marks with the line of each, and its blocks; its words and relocations come
--- when all symbols are known
+-- a section: the first phase gives it its size, its marks with the line of each, and its blocks; its words
+-- and relocations are added when all symbols are known
 pub record Section : Type 0 where
   pub name : List ℕ
   pub initialised : Bool
@@ -42,14 +42,15 @@ pub record Section : Type 0 where
   pub words : List ℕ
   pub relocations : List Relocation
 
--- what waits for the symbols: operands; words in their turn; zeros; names that have to stand for something here
+-- what an item holds: operands that wait for the symbols; words; zeros; or names of `.def`, which must be
+-- defined in this module
 pub data Content : Type 0 where
   Operands : (target : Target) (trees : List Tree) → Content
   Words : (words : List ℕ) → Content
   Zeros : (count : ℕ) → Content
   Exported : (names : List (List ℕ)) → Content
 
--- content, the line that it is of, and where it begins
+-- an item: its content, the line that it comes from, and where it begins
 pub record LaidContent : Type 0 where
   pub origin : Origin
   pub section : ℕ
@@ -59,14 +60,14 @@ pub record LaidContent : Type 0 where
 -- what the lines so far have made
 pub record Progress : Type 0 where
   pub sections : List Section
-  -- the section that lines go on in
+  -- the number of the current section
   pub current : ℕ
   pub names : Definitions
   -- the names of `.global` and `.ref`
   pub declared : List (List ℕ)
-  -- those and the names of `.def`
+  -- the names of `.global`, `.ref` and `.def`
   pub exported : List (List ℕ)
-  -- whether there was a `.mmregs`
+  -- whether there has been a `.mmregs`
   pub registers : Bool
   pub items : List LaidContent
   -- the names of the files that hold instructions
@@ -76,7 +77,7 @@ pub record Progress : Type 0 where
 abbrev pub empty_section : List ℕ → Bool → Section
 empty_section name initialised = record { name = name; initialised = initialised; size = 0; marks = []; origins = []; blocks = []; words = []; relocations = [] }
 
--- before the first line: an initialised section `.text`
+-- before the first line: the initialised section `.text` alone, which is the current one
 abbrev pub start : Progress
 start = record { sections = empty_section (codes ".text") true ∷ []; current = 0; names = []; declared = []; exported = []; registers = false; items = []; files = [] }
 
@@ -87,51 +88,51 @@ abbrev pub size_by : Option Section → ℕ
 size_by None = 0
 size_by (Some s) = s.size
 
--- the size of the section of a number
+-- the size of the section of this number
 abbrev pub size_at : List Section → ℕ → ℕ
 size_at sections i = size_by (slice_get sections i)
 
--- a place behind so many words of a section
+-- the address at an offset of a section
 abbrev pub place : ℕ → ℕ → Value
 place section offset = record { base = base.Section section; offset = pos offset }
 
--- the place behind the words of a section
+-- the address after the words of a section so far
 abbrev pub place_in : List Section → ℕ → Value
 place_in sections i = place i (size_at sections i)
 
--- the place where the next line begins
+-- the address where the words of the next line begin
 abbrev pub here : Progress → Value
 here p = place_in p.sections p.current
 
--- the symbols at that place
+-- the symbol table at the next line, with that address for `$`
 abbrev pub table : Progress → Table
 table p = record { entries = p.names; here = here p }
 
--- whether a name stands for something; `AR0` and the like always do
+-- whether a name has a value; `AR0` and the other predefined names always have
 abbrev pub stands : Definitions → List ℕ → Bool
 stands names name = is_some (value_named (record { entries = names; here = start_of_text }) name)
 
--- a name that stands for nothing yet stands for this from now on
+-- a name that has no value yet gets this one
 unfoldable pub define : List ℕ → Value → Progress → Result Progress FaultKind
 define name value p = if stands p.names name then Err fault.Defined else Ok (record p { names = p.names ++ (name, value) ∷ [] })
 
--- the place where the words of the next line are loaded
+-- the address where the words of the next line are loaded, wherever they run
 abbrev pub loaded_here : Progress → Value
 loaded_here p = record { base = base.Loaded p.current; offset = pos (size_at p.sections p.current) }
 
--- a label stands for the place where its line begins
+-- a label gets the address where the words of its line begin
 abbrev pub label : Option (List ℕ) → Progress → Result Progress FaultKind
 label None p = Ok p
 label (Some name) p = define name (here p) p
 
 -- ---- counts that are needed now
 
--- a number that is no less than 0
+-- the number, if it is not negative
 abbrev pub count_by : ℤ → Result ℕ FaultKind
 count_by (pos n) = Ok n
 count_by (negsuc n) = Err fault.ValueRange
 
--- the count that a value is
+-- the count that a value gives: absolute and not negative
 abbrev pub count_of : Value → Result ℕ FaultKind
 count_of v = number_by v.base v.offset >>= λ z. count_by z
 
@@ -139,11 +140,11 @@ count_of v = number_by v.base v.offset >>= λ z. count_by z
 unfoldable pub count_in : Table → Tree → Result ℕ FaultKind
 count_in t e = valued t e >>= λ v. count_of v
 
--- whether the flag that a value is is set: it is a number other than 0
+-- whether a flag is set: its value is absolute and not 0
 abbrev pub flag_of : Value → Result Bool FaultKind
 flag_of v = number_by v.base v.offset >>= λ z. Ok (not (int_eq z (pos 0)))
 
--- whether the flag that an expression gives is set; none is not
+-- whether the flag that an expression gives is set; a flag that is not written is not
 abbrev pub flag_in : Table → Option Tree → Result Bool FaultKind
 flag_in t None = Ok false
 flag_in t (Some e) = valued t e >>= λ v. flag_of v
@@ -154,42 +155,42 @@ flag_in t (Some e) = valued t e >>= λ v. flag_of v
 abbrev pub is_called : List ℕ → Section → Bool
 is_called name s = bytes_eq name s.name
 
--- whether a section, if there is one, is of this kind
+-- whether a section, if there is one, is initialised or not as asked
 abbrev pub same_kind : Bool → Option Section → Bool
 same_kind initialised None = true
 same_kind true (Some s) = s.initialised
 same_kind false (Some s) = not s.initialised
 
--- no section of this name is of the other kind
+-- a section of this name, if there is one, is of this kind, initialised or not
 abbrev pub of_kind : List ℕ → Bool → Progress → Result (Unit {0}) FaultKind
 of_kind name initialised p =
     if same_kind initialised (find (is_called name) p.sections) then Ok tt else Err fault.OperandForm
 
--- the section of this number, or a new one, which comes last; there are at most 255
+-- the number of the section that was found, or of a new one at the end of the list; there are at most 255
 abbrev pub section_opened_by : Option ℕ → List ℕ → Bool → Progress → Result (ℕ × Progress) FaultKind
 section_opened_by (Some i) name initialised p = Ok (i, p)
 section_opened_by None name initialised p =
     if nat_le 255 (length p.sections) then Err fault.TooLarge
     else Ok (length p.sections, record p { sections = p.sections ++ empty_section name initialised ∷ [] })
 
--- the number of the section of this name
+-- the number of the section of this name, which is a new one if there was none
 unfoldable pub section_opened : List ℕ → Bool → Progress → Result (ℕ × Progress) FaultKind
 section_opened name initialised p = section_opened_by (position (is_called name) p.sections) name initialised p
 
--- sections, this one changed, if it is there
+-- the sections with section `i`, if there is one, changed
 abbrev pub changed_by : (Section → Section) → List Section → ℕ → Option Section → List Section
 changed_by f sections i None = sections
 changed_by f sections i (Some s) = set sections i (f s)
 
--- sections, the one of this number changed
+-- the sections with section `i` changed
 abbrev pub changed : (Section → Section) → List Section → ℕ → List Section
 changed f sections i = changed_by f sections i (slice_get sections i)
 
--- so many words longer
+-- a section made longer by `n` words
 abbrev pub longer : ℕ → Section → Section
 longer n s = record s { size = s.size + n }
 
--- so many words more in a section, which has at most 65,536
+-- section `i` made longer by `n` words; a section has at most 65,536
 unfoldable pub grow : ℕ → ℕ → Progress → Result Progress FaultKind
 grow i n p =
     if nat_lt 65536 (size_at p.sections i + n) then Err fault.TooLarge
@@ -197,59 +198,59 @@ grow i n p =
 
 -- ---- what a line does
 
--- one item more
+-- one more item, at the end of the current section
 abbrev pub with_item : Origin → Content → Progress → Progress
 with_item origin content p =
     record p { items = p.items ++ record { origin = origin; section = p.current; offset = size_at p.sections p.current; content = content } ∷ [] }
 
--- content of so many words at the current place
+-- one more item of `n` words, by which the current section grows
 unfoldable pub lay : Origin → Content → ℕ → Progress → Result Progress FaultKind
 lay origin content n p = grow p.current n (with_item origin content p)
 
--- whether a name is among these
+-- whether a name is in this list
 abbrev pub is_in : List (List ℕ) → List ℕ → Bool
 is_in names name = list_any (bytes_eq name) names
 
--- a name behind others, once
+-- the names with this one at the end, unless it is among them
 abbrev pub once : List (List ℕ) → List ℕ → List (List ℕ)
 once names name = if is_in names name then names else names ++ name ∷ []
 
--- whether each name is there once
+-- whether no name is in the list twice
 abbrev pub are_distinct : List (List ℕ) → Bool
 are_distinct [] = true
 are_distinct (n ∷ ns) = not (is_in ns n) && are_distinct ns
 
--- names behind others, each once
+-- the names with these others at the end, each once
 abbrev pub all_once : List (List ℕ) → List (List ℕ) → List (List ℕ)
 all_once names [] = names
 all_once names (n ∷ ns) = all_once (once names n) ns
 
 -- ---- instructions
 
--- records have room for a name of at most 65,535 bytes in UTF-8
+-- whether a record has room for a file's name: UTF-8 of at most 65,535 bytes
 abbrev pub is_file_name : List ℕ → Bool
 is_file_name name = is_utf8 name && nat_le (length name) 65535
 
--- records have room for a line of 32 bits, counted from 1
+-- whether a record has room for a line's number: from 1 on, 32 bits
 abbrev pub is_line_number : ℕ → Bool
 is_line_number line = nat_le 1 line && nat_lt line (2 ^ 32)
 
--- a file that holds an instruction is one of those that do, or a new one; there are at most 65,535
+-- a file that holds an instruction is entered in the list of such files, once; there are at most 65,535
 abbrev pub use_file : List ℕ → Progress → Result Progress FaultKind
 use_file name p =
     if is_in p.files name then Ok p
     else if nat_le 65535 (length p.files) || not (is_file_name name) then Err fault.TooLarge
     else Ok (record p { files = p.files ++ name ∷ [] })
 
--- the line of an instruction
+-- the line of an instruction is entered: its number must fit a record, and its file goes into the list
 unfoldable pub use_line : Origin → Progress → Result Progress FaultKind
 use_line origin p = if is_line_number origin.line then use_file origin.file p else Err fault.TooLarge
 
--- one mark more, with its line
+-- a section with one more mark and the line that it comes from
 abbrev pub with_mark : Origin → ModuleMark → Section → Section
 with_mark origin m s = record s { marks = s.marks ++ m ∷ []; origins = s.origins ++ origin ∷ [] }
 
--- an instruction of so many words marks where it begins
+-- an instruction of `n` words gets a mark where it begins; data get none
 abbrev pub mark : Origin → Target → ℕ → ℕ → ℕ → Progress → Result Progress FaultKind
 mark origin (target.Instruction f) section offset n p =
     use_line origin p >>= λ q.
@@ -259,21 +260,21 @@ mark origin target.Bytes section offset n p = Ok p
 
 -- ---- reserved words
 
--- one block more
+-- a section with one more block
 abbrev pub with_block : Block → Section → Section
 with_block b s = record s { blocks = s.blocks ++ b ∷ [] }
 
--- words that have to lie in one page are a block
+-- words that must lie in one data page become a block
 abbrev pub block : Bool → ℕ → ℕ → ℕ → Progress → Progress
 block true section offset n p =
     record p { sections = changed (with_block (record { section = section; offset = offset; size = n })) p.sections section }
 block false section offset n p = p
 
--- a block has 1 to 128 words
+-- a block has 1 to 128 words, else BadBlock
 abbrev pub block_allowed : Bool → ℕ → Result (Unit {0}) FaultKind
 block_allowed flag n = if flag && not (nat_le 1 n && nat_le n 128) then Err fault.BadBlock else Ok tt
 
--- words for a name
+-- `n` words reserved at the end of a section, and their first address given to a name
 unfoldable pub reserve : List ℕ → List ℕ → ℕ → Bool → Progress → Result Progress FaultKind
 reserve section name n flag p =
     section_opened section false p >>= λ o. grow o.0 n o.1 >>= λ q.
@@ -281,11 +282,11 @@ reserve section name n flag p =
 
 -- ---- names
 
--- whether a name is an AR or PA name
+-- whether a name is predefined: `AR0` to `AR7`, `PA0` to `PA15`
 abbrev pub is_predefined : List ℕ → Bool
 is_predefined name = is_some (predefined name)
 
--- a plain number
+-- an absolute value
 abbrev pub value_of_number : ℕ → Value
 value_of_number n = record { base = base.Absolute; offset = pos n }
 
@@ -295,70 +296,71 @@ register_names =
     (codes "DRR", value_of_number 0) ∷ (codes "DXR", value_of_number 1) ∷ (codes "TIM", value_of_number 2)
     ∷ (codes "PRD", value_of_number 3) ∷ (codes "IMR", value_of_number 4) ∷ (codes "GREG", value_of_number 5) ∷ []
 
--- a name and what it stands for
+-- a name gets the value of this pair
 abbrev pub define_pair : Progress → List ℕ × Value → Result Progress FaultKind
 define_pair p pair = define pair.0 pair.1 p
 
--- ---- the directives, each in the order of its faults
+-- ---- the directives, each in the order in which its faults are reported
 
--- what is looked at before the label is defined: a section of the other kind, then what is no expression
+-- what is checked before the label is defined: the kind of the section, then a fault kept from reading the
+-- operands
 abbrev pub allowed : AssemblyAct → Progress → Result (Unit {0}) FaultKind
 allowed (Enter section) p = of_kind section true p
 allowed (Reserve section name room) p = of_kind section false p >>= λ _. room >>= λ r. Ok tt
 allowed _ p = Ok tt
 
--- `.text`, `.data`, `.sect`
+-- `.text`, `.data`, `.sect`: the current section from here on
 abbrev pub enter : List ℕ → Progress → Result Progress FaultKind
 enter section p = section_opened section true p >>= λ o. Ok (record o.1 { current = o.0 })
 
--- so much room for a name: the count is looked at before the flag, what a block may have behind both
+-- a reservation for a name: the count is checked before the flag, and the size of a block after both
 abbrev pub reserve_room : List ℕ → List ℕ → Room → Progress → Result Progress FaultKind
 reserve_room section name room p =
     count_in (table p) room.count >>= λ n. flag_in (table p) room.flag >>= λ flag. block_allowed flag n >>= λ _. reserve section name n flag p
 
--- `.bss`, `.usect`: the name is looked at before the operands, and defined behind them
+-- `.bss`, `.usect`: that the name is new is checked before the operands' values
 abbrev pub reserve_count : List ℕ → List ℕ → Result Room FaultKind → Progress → Result Progress FaultKind
 reserve_count section name room p =
     if stands p.names name then Err fault.Defined
     else (room >>= λ r. reserve_room section name r p)
 
--- `.set`, `.equ`: likewise
+-- `.set`, `.equ`: that the name is new is checked before the value
 abbrev pub equate : List ℕ → Tree → Progress → Result Progress FaultKind
 equate name e p =
     if stands p.names name then Err fault.Defined
     else (valued (table p) e >>= λ v. define name v p)
 
--- an instruction, `.word`, `.int`, `.byte`
+-- an instruction, `.word`, `.int`, `.byte`: an item, and a mark for an instruction
 abbrev pub put : Origin → Target → List Tree → Progress → Result Progress FaultKind
 put origin t trees p =
     lay origin (Operands t trees) (target_size t (length trees)) p >>= λ q.
     mark origin t p.current (size_at p.sections p.current) (target_size t (length trees)) q
 
--- `.space`: bits, rounded up to words
+-- `.space`: a number of bits, rounded up to whole words of 0
 abbrev pub space : Origin → Tree → Progress → Result Progress FaultKind
 space origin e p = count_in (table p) e >>= λ n. lay origin (Zeros ((n + 15) / 16)) ((n + 15) / 16) p
 
--- `.global`, `.ref`
+-- `.global`, `.ref`: names that all modules see, and that another module may define
 abbrev pub declare : List (List ℕ) → Progress → Result Progress FaultKind
 declare names p =
     if list_any is_predefined names then Err fault.Defined
     else Ok (record p { declared = all_once p.declared names; exported = all_once p.exported names })
 
--- `.def`
+-- `.def`: names that all modules see, and that this module must define
 abbrev pub export : Origin → List (List ℕ) → Progress → Result Progress FaultKind
 export origin names p =
     if list_any is_predefined names then Err fault.Defined
     else Ok (with_item origin (Exported names) (record p { exported = all_once p.exported names }))
 
--- `.label`: a name for where the words behind it are loaded, wherever they run
+-- `.label`: the name of the address where the words after it are loaded, wherever they run
 abbrev pub name_loaded : List ℕ → Progress → Result Progress FaultKind
 name_loaded name p = define name (loaded_here p) p
 
--- `.mmregs`; a second one does nothing
+-- `.mmregs`: the names of the memory-mapped registers; a second one has no effect
 unfoldable pub registers : Progress → Result Progress FaultKind
 registers p = if p.registers then Ok p else fold_ok define_pair (record p { registers = true }) register_names
 
--- what a line does
+-- the result of what a line asks for
 abbrev pub act : Origin → AssemblyAct → Progress → Result Progress FaultKind
 act origin Nothing p = Ok p
 act origin (Enter section) p = enter section p
@@ -374,7 +376,7 @@ act origin Registers p = registers p
 
 -- ---- how many names
 
--- the names that are declared and stand for nothing: those of other modules
+-- the names that are declared and not defined here: those of other modules
 abbrev pub imports : Definitions → List (List ℕ) → List (List ℕ)
 imports names declared = filter (λ name. not (stands names name)) declared
 
@@ -382,10 +384,11 @@ imports names declared = filter (λ name. not (stands names name)) declared
 abbrev pub name_count : Definitions → List (List ℕ) → ℕ
 name_count names declared = length names + length (imports names declared)
 
--- at most 65,535
+-- a module has at most 65,535 names
 abbrev pub few : Progress → Result (Unit {0}) FaultKind
 few p = if nat_lt 65535 (name_count p.names p.declared) then Err fault.TooLarge else Ok tt
 
--- one line more: 52, 20 and 21 that wait for the sections, then 26, then 22 to 25, then 54
+-- one more line; its faults in the order in which they are reported: 52, 20 and 21 that wait for the
+-- sections; 26; 22 to 25; 56; 54
 unfoldable pub pass : Origin → Statement → Progress → Result Progress FaultKind
 pass origin s p = allowed s.act p >>= λ _. label s.label p >>= λ q. act origin s.act q >>= λ r. few r >>= λ _. Ok r

@@ -1,4 +1,4 @@
--- An instruction statement (SPRU018, source statement format): a form with the trees of its operands.
+-- An instruction statement as a form with the trees of its operands (SPRU018, source statement format).
 use Rattle.std.specs.Prelude.{ℕ, Bool, true, false, List, [], ◌∷◌, map, ◌++◌, Result, Ok, Err, if◌then◌else◌}
 use Rattle.std.specs.Option.{ok_or}
 use Rattle.c25_meaning_language.specs.Line.{Piece}
@@ -15,7 +15,7 @@ use Rattle.c25_meaning_language.specs.declared.statement.Form.{Form}
 use Rattle.c25_meaning_language.specs.declared.statement.FaultKind.{FaultKind}
 use Rattle.c25_meaning_language.specs.declared.statement.FaultKind.TheVariants as fault
 
--- an instruction as it is written: a form, and a tree for each operand that is an expression
+-- an instruction as it is written: its form, and the tree of each operand that is an expression
 pub record Operation : Type 0 where
   pub form : Form
   pub trees : List Tree
@@ -27,35 +27,35 @@ pub record Trees : Type 0 where
   pub trees : List Tree
   pub deep : Bool
 
--- before the first operand
+-- no trees: before the first operand
 abbrev pub no_trees : Trees
 no_trees = record { trees = []; deep = false }
 
--- one expression more: what is none is told at once, what is too deep at the end
+-- the trees with one more: a fault 20 is reported at once, a fault 21 only after all operands
 abbrev pub with_tree : Trees → Result Tree ExpressionFault → Result Trees FaultKind
 with_tree s (Ok e) = Ok (record s { trees = s.trees ++ e ∷ [] })
 with_tree s (Err expression.TooDeep) = Ok (record s { deep = true })
 with_tree s (Err expression.BadExpression) = Err fault.BadExpression
 
--- one operand more
+-- the trees with that of one more operand, if it is an expression
 unfoldable pub with_operand : Trees → List Piece → Result Trees FaultKind
 with_operand s ps = if is_expression (written_of ps) then with_tree s (tree_in (map mark_of ps)) else Ok s
 
--- the trees of all operands
+-- the trees of all operands, if none is too deep
 abbrev pub all_trees : Trees → Result (List Tree) FaultKind
 all_trees s = if s.deep then Err fault.TooDeep else Ok s.trees
 
--- the trees of the operands that are expressions: what is no expression comes before what is too deep
+-- the trees of the operands that are expressions; 20 of any operand is reported before 21
 abbrev pub trees_in : List (List Piece) → Result (List Tree) FaultKind
 trees_in operands = fold_ok with_operand no_trees operands >>= λ s. all_trees s
 
 -- ---- instructions
 
--- the spelling of a line's first word
+-- the mnemonic of a line, or UnknownMnemonic
 abbrev pub spelled : List ℕ → Result Spelling FaultKind
 spelled word = ok_or (spelling_of word) fault.UnknownMnemonic
 
--- the instruction of these operands
+-- the instruction of this mnemonic and these operands
 unfoldable pub operation_of : Spelling → List (List Piece) → Result Operation FaultKind
 operation_of s operands =
     form_of s (map written_of operands) >>= λ f. trees_in operands >>= λ es. Ok (record { form = f; trees = es })

@@ -1,11 +1,10 @@
-//! What lines of a module ask of the assembler.
+//! The directives of the assembler, and the operands of a line.
 
 use c25_meaning_common::relocation::RelocationKind;
 use c25_meaning_language::statement::Form;
 use c25_meaning_objects::object::RelocationBase;
 
-/// The directives that the assembler takes (SPRU018, assembler directives); the others are
-/// expansion's.
+/// The directives that the assembler acts on (SPRU018, assembler directives); expansion acts on the others.
 #[derive(Clone, Copy)]
 pub enum Directive {
     /// `.text`
@@ -36,23 +35,23 @@ pub enum Directive {
     Label,
     /// `.mmregs`
     Registers,
-    /// A directive of listings alone, as `.title`: it has no effect here.
+    /// A directive that concerns listings alone, as `.title`: it has no effect.
     Ignored,
 }
 
-/// What the operands of a line make.
+/// What the operands of a line are for.
 #[derive(Clone, Copy)]
 pub enum Target {
-    /// An instruction of this form.
+    /// The operands of an instruction of this form.
     Instruction(Form),
-    /// A word for each value.
+    /// Values of `.word` and `.int`: a word for each.
     Words,
-    /// A word for each value of eight bits.
+    /// Values of `.byte`: a word for each, which has eight bits.
     Bytes,
 }
 
-/// An operand whose value is an address: which of the expressions it is, from 0, how the address
-/// goes into its field, and what it is.
+/// An operand whose value is an address: its index among the expressions of the line, from 0; how the address
+/// goes into its field; what it counts from; and the number that is added to that.
 #[derive(Clone, Copy)]
 pub struct Address {
     pub operand: usize,
