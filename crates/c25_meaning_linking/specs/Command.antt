@@ -1,29 +1,29 @@
--- What a command file tells the linker (SPRU018, linker description, the directives MEMORY and SECTIONS, and the
--- option -e; that there are two pages of 65,536 words is the TMS320C25's).
+-- What a command file says to the linker (SPRU018, linker description, the directives MEMORY and SECTIONS,
+-- and the option -e; that there are two pages of 65,536 words is the TMS320C25's).
 use Rattle.std.specs.Prelude.{◌≡◌, ℕ, ◌+◌, ◌<◌, ◌≤◌, List, [], ◌∷◌, All, Option, None, IfSome}
 
--- a range of a page
+-- a range of MEMORY: its page, its name, its first address and its number of words
 pub record RangeData : Type 0 where
   pub page : ℕ
   pub name : List ℕ
   pub origin : ℕ
   pub size : ℕ
 
--- where a section is to stand
+-- where a section is to be loaded: in any range, in the range of a name, or at an address
 pub data TargetData : Type 0 where
   Anywhere : TargetData
   InRange : List ℕ → TargetData
   At : ℕ → TargetData
 
--- what is said of one section; the page only where it is named, and an address only where it runs at another than it is
--- loaded at
+-- what SECTIONS says of one section; a page only where it names one, and a run address only where the section
+-- runs elsewhere than it is loaded
 pub record PlacingData : Type 0 where
   pub name : List ℕ
   pub target : TargetData
   pub page : Option ℕ
   pub run : Option ℕ
 
--- the name of the entry, the ranges of MEMORY and the sections of SECTIONS, each where it is given
+-- a command: the name of the entry, the ranges of MEMORY and the sections of SECTIONS, each if it is given
 pub record CommandData : Type 0 where
   pub entry : Option (List ℕ)
   pub memory : Option (List RangeData)
@@ -39,26 +39,26 @@ pub record IsRange (r : RangeData) : Type 0 where
   pub words : 0 < r.size
   pub within : r.origin + r.size ≤ 65536
 
--- a word of the range's page lies in the range
+-- this word of the range's page lies in the range
 abbrev pub HasWord : RangeData → ℕ → Type 0
 HasWord r word = (r.origin ≤ word) × (word < r.origin + r.size)
 
--- two ranges, if they are of one page, have no name and no word in common
+-- two ranges of one page have different names and no word in common
 pub record AreApart (r s : RangeData) : Type 0 where
   pub names : r.page ≡ s.page → ¬ (r.name ≡ s.name)
   pub words : r.page ≡ s.page → (word : ℕ) → HasWord r word → ¬ HasWord s word
 
--- two sections are not the same one
+-- two sections have different names
 abbrev pub AreOthers : PlacingData → PlacingData → Type 0
 AreOthers p q = ¬ (p.name ≡ q.name)
 
--- what holds of each with each that comes later
+-- this holds of each item of a list with each later item
 abbrev pub Pairwise : {A : Type 0} → (A → A → Type 0) → List A → Type 0
 Pairwise holds [] = Unit {0}
 Pairwise holds (x ∷ xs) = All (holds x) xs × Pairwise holds xs
 
--- what every command keeps: ranges lie within their pages and apart, and no section comes twice or stands on a
--- third page
+-- what every command keeps: ranges lie within their pages and apart from one another, and no section is
+-- listed twice or put on a page above 1
 pub record IsCommand (c : CommandData) : Type 0 where
   pub ranges : IfSome c.memory (All IsRange)
   pub apart : IfSome c.memory (Pairwise AreApart)

@@ -1,4 +1,4 @@
--- The numbers and names of a command file's faults.
+-- The numbers and names of the faults of a command file.
 use Rattle.std.specs.Prelude.{ℕ, List, codes}
 use Rattle.c25_meaning_common.specs.Faults.{numbered}
 use Rattle.c25_meaning_linking.specs.declared.command_fault.CommandFault.{CommandFault}
@@ -18,6 +18,6 @@ command_name command.RangeOverlap = codes "RangeOverlap"
 command_name command.RangeSize = codes "RangeSize"
 command_name command.Twice = codes "Twice"
 
--- the number of a fault and its name, as a fault's line has them
+-- a command file's fault with its number and name, as a report shows them
 abbrev pub command_text : CommandFault → List ℕ
 command_text f = numbered (command_number f) (command_name f)

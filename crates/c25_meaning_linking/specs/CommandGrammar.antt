@@ -1,6 +1,6 @@
--- How command files are read from the front: a reader answers what it reads and the tokens behind it, or the first
--- fault. Here are the readers of single tokens (own: the grammar of SPRU018, linker description, is in the files
--- that use these).
+-- How command files are read from the front: a reader answers what it has read and the tokens after that, or
+-- the first fault. Here are the readers of single tokens; the grammar of SPRU018, linker description, is in
+-- the files that use them.
 use Rattle.std.specs.Prelude.{◌≡◌, ℕ, zero, suc, ◌==◌, ◌≤◌, Bool, true, false, List, [], ◌∷◌, length, drop, Option, Some, None, ok_or, Result, Ok, Err, nat_lt, if◌then◌else◌}
 use Rattle.c25_meaning_linking.specs.declared.command_token.Sign.{Sign}
 use Rattle.c25_meaning_linking.specs.declared.command_token.Sign.TheVariants as sign
@@ -16,7 +16,7 @@ use Rattle.c25_meaning_common.specs.declared.placed.Placed.{Placed}
 use Rattle.c25_meaning_linking.specs.CommandTokens.{Token}
 use Rattle.c25_meaning_common.specs.Results.{◌>>=◌}
 
--- a value and the tokens behind it
+-- what a reader answers: a value and the tokens after it, or a fault and the byte where its token begins
 abbrev pub Reading : Type 0 → Type 0
 Reading A = Result (A × List Token) (Placed ℕ CommandFault)
 
@@ -25,11 +25,11 @@ abbrev pub fault_at : CommandFault → List Token → Placed ℕ CommandFault
 fault_at fault [] = record { place = 0; fault = fault }
 fault_at fault (t ∷ ts) = record { place = t.place; fault = fault }
 
--- a fault where the test holds
+-- a fault at the first token, if the test holds
 abbrev pub fault_if : Bool → CommandFault → List Token → Result (Unit {0}) (Placed ℕ CommandFault)
 fault_if test fault ts = if test then Err (fault_at fault ts) else Ok tt
 
--- the number of a sign among the signs
+-- a number for each sign, by which signs are compared
 abbrev pub sign_number : Sign → ℕ
 sign_number sign.OpenBrace = 0
 sign_number sign.CloseBrace = 1
@@ -41,7 +41,7 @@ sign_number sign.Equals = 6
 sign_number sign.Greater = 7
 sign_number sign.Star = 8
 
--- the number of a reserved word among them
+-- a number for each keyword, by which keywords are compared
 abbrev pub keyword_number : Keyword → ℕ
 keyword_number keyword.Memory = 0
 keyword_number keyword.Sections = 1
@@ -51,7 +51,7 @@ keyword_number keyword.Length = 4
 keyword_number keyword.Load = 5
 keyword_number keyword.Run = 6
 
--- what a token has to be
+-- whether a token of this kind is what is wanted
 abbrev pub passes : Want → Kind → Bool
 passes (want.Sign s) (kind.Sign t) = sign_number s == sign_number t
 passes (want.Keyword k) (kind.Keyword l) = keyword_number k == keyword_number l
@@ -65,7 +65,7 @@ passes want.LoadSign (kind.Sign sign.Greater) = true
 passes want.End kind.End = true
 passes _ _ = false
 
--- whether the first token is this
+-- whether the first token is what is wanted
 abbrev pub begins : Want → List Token → Bool
 begins w [] = false
 begins w (t ∷ ts) = passes w t.kind
@@ -75,33 +75,33 @@ unfoldable pub wanted : Want → List Token → Reading Token
 wanted w [] = Err (fault_at Syntax [])
 wanted w (t ∷ ts) = if passes w t.kind then Ok (t, ts) else Err (fault_at Syntax (t ∷ ts))
 
--- the tokens behind one that may be left out
+-- the tokens after this one, which may be left out
 abbrev pub past : Want → List Token → List Token
 past w ts = if begins w ts then drop 1 ts else ts
 
--- one after another up to what ends them, at most n
+-- one item after another, until the token that ends them or until `n` have been read
 unfoldable pub repeated : {S : Type 0} → Want → (S → List Token → Reading S) → ℕ → S → List Token → Reading S
 repeated last one zero s ts = Ok (s, ts)
 repeated last one (suc n) s ts = if begins last ts then Ok (s, ts) else (do
   next ← one s ts
   repeated last one n next.0 next.1)
 
--- the same, with what ends them
+-- at most `n` items, and the token that ends them
 abbrev pub at_most : {S : Type 0} → ℕ → Want → (S → List Token → Reading S) → S → List Token → Reading S
 at_most n last one s ts = do
   all ← repeated last one n s ts
   end ← wanted last all.1
   Ok (all.0, end.1)
 
--- all of them: there are no more than tokens
+-- all items and the token that ends them: there are no more items than tokens
 abbrev pub up_to : {S : Type 0} → Want → (S → List Token → Reading S) → S → List Token → Reading S
 up_to last one s ts = at_most (length ts) last one s ts
 
--- so no count from there on gives anything else
+-- the number of tokens is enough as a count: any larger count gives the same
 abbrev pub CountIsEnough : {S : Type 0} → Want → (S → List Token → Reading S) → Type 0
 CountIsEnough {S} last one = (n : ℕ) (s : S) (ts : List Token) → length ts ≤ n → at_most n last one s ts ≡ up_to last one s ts
 
--- the number that a token is
+-- the value of a token that is a number
 abbrev pub number_of_kind : Kind → Option ℕ
 number_of_kind (kind.Number n) = Some n
 number_of_kind _ = None
@@ -118,7 +118,7 @@ page_number_at ts = do
   checked ← fault_if (nat_lt 1 n.0) Syntax ts
   Ok n
 
--- `keyword =`: the tokens behind it
+-- `keyword =`: the tokens after it
 unfoldable pub setting_at : Keyword → List Token → Result (List Token) (Placed ℕ CommandFault)
 setting_at k ts = do
   key ← wanted (want.Keyword k) ts

@@ -1,5 +1,6 @@
--- MEMORY { [PAGE n :] NAME [(attributes)] : origin = number [,] length = number ... } (SPRU018, linker description,
--- the MEMORY directive; that attributes count for nothing and where each fault is told are this project's own).
+-- MEMORY { [PAGE n :] NAME [(attributes)] : origin = number [,] length = number ... } (SPRU018, linker
+-- description, the MEMORY directive; that attributes have no effect, and where each fault is reported, are
+-- this project's own).
 use Rattle.std.specs.Prelude.{ℕ, ◌+◌, ◌==◌, ◌||◌, ◌&&◌, Bool, List, [], ◌∷◌, ◌++◌, drop, Result, Ok, nat_lt, if◌then◌else◌}
 use Rattle.std.specs.List.{list_any}
 use Rattle.std.specs.Str.{bytes_eq}
@@ -14,14 +15,14 @@ use Rattle.c25_meaning_linking.specs.CommandGrammar.{Reading, fault_if, begins, 
 use Rattle.c25_meaning_common.specs.Results.{◌>>=◌}
 use Rattle.c25_meaning_linking.specs.Command.{RangeData}
 
--- the page of the ranges from here on
+-- `PAGE n :`, the page of the ranges from here on, or else the page so far
 unfoldable pub page_at : ℕ → List Token → Reading ℕ
 page_at page ts = if begins (want.Keyword keyword.Page) ts then (do
   n ← page_number_at (drop 1 ts)
   colon ← wanted (want.Sign sign.Colon) n.1
   Ok (n.0, colon.1)) else Ok (page, ts)
 
--- one word in parentheses, if they are there: the tokens behind it
+-- one attribute in parentheses, or nothing: the tokens after it
 unfoldable pub attributes_at : List Token → Result (List Token) (Placed ℕ CommandFault)
 attributes_at ts = if begins (want.Sign sign.OpenParenthesis) ts then (do
   word ← wanted want.AnyWord (drop 1 ts)
@@ -32,11 +33,12 @@ attributes_at ts = if begins (want.Sign sign.OpenParenthesis) ts then (do
 abbrev pub is_range : ℕ → List ℕ → RangeData → Bool
 is_range page name r = r.page == page && bytes_eq r.name name
 
--- whether a range shares a word with this one
+-- whether a range shares a word with one of this page, origin and size
 abbrev pub overlaps : ℕ → ℕ → ℕ → RangeData → Bool
 overlaps page origin size r = r.page == page && nat_lt origin (r.origin + r.size) && nat_lt r.origin (origin + size)
 
--- the origin and the length of a range, behind its colon
+-- the origin and the length of a range, after its colon; RangeSize and RangeOverlap are reported at the
+-- length
 unfoldable pub extent_at : ℕ → List RangeData → List Token → Reading (ℕ × ℕ)
 extent_at page before ts = do
   start ← setting_at keyword.Origin ts
@@ -47,7 +49,7 @@ extent_at page before ts = do
   apart ← fault_if (list_any (overlaps page origin.0 size.0) before) RangeOverlap count
   Ok ((origin.0, size.0), size.1)
 
--- a range of that page behind others
+-- one more range of this page
 unfoldable pub range_at : ℕ → List RangeData → List Token → Reading RangeData
 range_at page before ts = do
   name ← wanted want.Name ts
@@ -57,11 +59,11 @@ range_at page before ts = do
   extent ← extent_at page before colon.1
   Ok (record { page = page; name = name.0.text; origin = extent.0.0; size = extent.0.1 }, extent.1)
 
--- the page that is named last, 0 before any is, and the ranges
+-- the page named last, 0 before any is named, and the ranges so far
 abbrev pub Ranges : Type 0
 Ranges = ℕ × List RangeData
 
--- a range more
+-- one more range, perhaps with a page before it
 unfoldable pub more_ranges : Ranges → List Token → Reading Ranges
 more_ranges s ts = do
   page ← page_at s.0 ts

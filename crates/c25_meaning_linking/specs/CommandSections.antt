@@ -1,5 +1,6 @@
--- SECTIONS { name : [{ } or { *(name) }] [> T or load = T or load > T] [PAGE n] [,] [run = number [,]] ... } (SPRU018,
--- linker description, the SECTIONS directive, in part; where each fault is told is this project's own).
+-- SECTIONS { name : [{ } or { *(name) }] [> T or load = T or load > T] [PAGE n] [,] [run = number [,]] ... }
+-- (SPRU018, linker description, the SECTIONS directive, in part; where each fault is reported is this
+-- project's own).
 use Rattle.std.specs.Prelude.{ℕ, Bool, not, List, [], ◌∷◌, ◌++◌, drop, Option, Some, None, Result, Ok, if◌then◌else◌}
 use Rattle.std.specs.List.{list_any}
 use Rattle.std.specs.Str.{bytes_eq}
@@ -14,7 +15,7 @@ use Rattle.c25_meaning_linking.specs.CommandGrammar.{Reading, fault_if, begins, 
 use Rattle.c25_meaning_common.specs.Results.{◌>>=◌}
 use Rattle.c25_meaning_linking.specs.Command.{TargetData, Anywhere, InRange, At, PlacingData}
 
--- `*(name)` with the section's own name, or nothing: the tokens behind it
+-- `*(name)` with the section's own name, or nothing: the tokens after it
 unfoldable pub input_at : List ℕ → List Token → Result (List Token) (Placed ℕ CommandFault)
 input_at name ts = if begins (want.Sign sign.Star) ts then (do
   paren ← wanted (want.Sign sign.OpenParenthesis) (drop 1 ts)
@@ -23,14 +24,14 @@ input_at name ts = if begins (want.Sign sign.Star) ts then (do
   close ← wanted (want.Sign sign.CloseParenthesis) word.1
   Ok close.1) else Ok ts
 
--- the braces and what stands in them, if they are there: the tokens behind them
+-- braces with what stands in them, or nothing: the tokens after them
 unfoldable pub contents_at : List ℕ → List Token → Result (List Token) (Placed ℕ CommandFault)
 contents_at name ts = if begins (want.Sign sign.OpenBrace) ts then (do
   inner ← input_at name (drop 1 ts)
   close ← wanted (want.Sign sign.CloseBrace) inner
   Ok close.1) else Ok ts
 
--- a range's name or an address
+-- T: a range's name or an address
 unfoldable pub place_at : List Token → Reading TargetData
 place_at ts = if begins want.Name ts then (do
   name ← wanted want.Name ts
@@ -38,7 +39,7 @@ place_at ts = if begins want.Name ts then (do
     n ← number_at ts
     Ok (At n.0, n.1))
 
--- `> T`, `load = T`, `load > T` or nothing
+-- `> T`, `load = T` or `load > T`, or nothing
 unfoldable pub target_at : List Token → Reading TargetData
 target_at ts =
     if begins (want.Sign sign.Greater) ts then place_at (drop 1 ts)
@@ -46,20 +47,20 @@ target_at ts =
       sign ← wanted want.LoadSign (drop 1 ts)
       place_at sign.1) else Ok (Anywhere, ts))
 
--- `PAGE n` or nothing
+-- `PAGE n`, or nothing
 unfoldable pub section_page_at : List Token → Reading (Option ℕ)
 section_page_at ts = if begins (want.Keyword keyword.Page) ts then (do
   n ← page_number_at (drop 1 ts)
   Ok (Some n.0, n.1)) else Ok (None, ts)
 
--- `run = number` and a comma that may be left out, or nothing
+-- `run = number` and perhaps a comma, or nothing
 unfoldable pub run_at : List Token → Reading (Option ℕ)
 run_at ts = if begins (want.Keyword keyword.Run) ts then (do
   equals ← wanted (want.Sign sign.Equals) (drop 1 ts)
   n ← number_at equals.1
   Ok (Some n.0, past (want.Sign sign.Comma) n.1)) else Ok (None, ts)
 
--- what stands behind a section's colon
+-- what SECTIONS says of a section after its colon
 unfoldable pub placing_at : List ℕ → List Token → Reading PlacingData
 placing_at name ts = do
   after ← contents_at name ts
@@ -72,7 +73,7 @@ placing_at name ts = do
 abbrev pub is_placing : List ℕ → PlacingData → Bool
 is_placing name p = bytes_eq p.name name
 
--- a section more
+-- one more section
 unfoldable pub more_placings : List PlacingData → List Token → Reading (List PlacingData)
 more_placings before ts = do
   name ← wanted want.Name ts

@@ -1,5 +1,6 @@
--- The command that a text spells, or its first fault from the front: MEMORY, SECTIONS and -e name in any order, each
--- at most once (SPRU018, linker description, linker command files; that each comes once is this project's own).
+-- The command of a text, or its first fault from the front: MEMORY, SECTIONS and -e name in any order, each
+-- at most once (SPRU018, linker description, linker command files; that each comes at most once is this
+-- project's own).
 use Rattle.std.specs.Prelude.{ℕ, not, List, drop, codes, Some, is_some, Result, Ok, if◌then◌else◌}
 use Rattle.std.specs.Str.{bytes_eq}
 use Rattle.c25_meaning_linking.specs.declared.command_token.Keyword.TheVariants as keyword
@@ -14,7 +15,7 @@ use Rattle.c25_meaning_linking.specs.Command.{CommandData, nothing}
 use Rattle.c25_meaning_linking.specs.CommandMemory.{memory_at}
 use Rattle.c25_meaning_linking.specs.CommandSections.{sections_at}
 
--- -e name
+-- the command with `-e name` read
 unfoldable pub entry_in : CommandData → List Token → Reading CommandData
 entry_in command ts = do
   word ← wanted want.Name ts
@@ -23,33 +24,33 @@ entry_in command ts = do
   name ← wanted want.Name word.1
   Ok (record command { entry = Some name.0.text }, name.1)
 
--- MEMORY
+-- the command with MEMORY read
 unfoldable pub memory_in : CommandData → List Token → Reading CommandData
 memory_in command ts = do
   fresh ← fault_if (is_some command.memory) Twice ts
   ranges ← memory_at (drop 1 ts)
   Ok (record command { memory = Some ranges.0 }, ranges.1)
 
--- SECTIONS
+-- the command with SECTIONS read
 unfoldable pub sections_in : CommandData → List Token → Reading CommandData
 sections_in command ts = do
   fresh ← fault_if (is_some command.sections) Twice ts
   placings ← sections_at (drop 1 ts)
   Ok (record command { sections = Some placings.0 }, placings.1)
 
--- one of the three parts
+-- the command with one more of its three parts read
 unfoldable pub part_in : CommandData → List Token → Reading CommandData
 part_in command ts =
     if begins (want.Keyword keyword.Memory) ts then memory_in command ts
     else (if begins (want.Keyword keyword.Sections) ts then sections_in command ts
     else entry_in command ts)
 
--- the command that the tokens spell
+-- the command of these tokens
 unfoldable pub command_at : List Token → Result CommandData (Placed ℕ CommandFault)
 command_at ts = do
   parts ← up_to want.End part_in nothing ts
   Ok parts.0
 
--- the command that a text spells; a fault is told with the line of its token
+-- the command of a text, or its first fault with the line of its token
 abbrev pub command_of : List ℕ → Result CommandData (Placed ℕ CommandFault)
 command_of text = told (λ f. record { place = line_at text f.place; fault = f.fault }) (command_at (tokens text))

@@ -1,10 +1,10 @@
--- The numbers and names of a linker's faults.
+-- The numbers and names of the linker's faults.
 use Rattle.std.specs.Prelude.{ℕ, List, codes}
 use Rattle.c25_meaning_common.specs.Faults.{numbered}
 use Rattle.c25_meaning_linking.specs.declared.link_fault.LinkFault.{LinkFault}
 use Rattle.c25_meaning_linking.specs.declared.link_fault.LinkFault.TheVariants as link
 
--- the number of a linker's fault
+-- the number of a fault of the linker
 abbrev pub link_number : LinkFault → ℕ
 link_number link.Unresolved = 70
 link_number link.DefinedTwice = 71
@@ -15,7 +15,7 @@ link_number link.RelocRange = 75
 link_number link.NoEntry = 76
 link_number link.BadRun = 78
 
--- the name of a linker's fault
+-- the name of a fault of the linker
 abbrev pub link_name : LinkFault → List ℕ
 link_name link.Unresolved = codes "Unresolved"
 link_name link.DefinedTwice = codes "DefinedTwice"
@@ -26,6 +26,6 @@ link_name link.RelocRange = codes "RelocRange"
 link_name link.NoEntry = codes "NoEntry"
 link_name link.BadRun = codes "BadRun"
 
--- the number of a fault and its name, as a fault's line has them
+-- a fault of the linker with its number and name, as a report shows them
 abbrev pub link_text : LinkFault → List ℕ
 link_text f = numbered (link_number f) (link_name f)

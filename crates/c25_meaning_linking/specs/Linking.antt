@@ -1,6 +1,6 @@
--- What modules come to under a command: a program, or the first refusal (SPRU018, linker description; which refusal is
--- told first is this project's own: 71, 70 and 76 over all modules, then 72, 73, 74 and 78 by sections as they are placed,
--- then 75).
+-- What modules are linked to under a command: a program, or the first fault (SPRU018, linker description;
+-- which fault is reported first is this project's own: 71, 70 and 76 over all modules, then 72, 73, 74 and 78
+-- section by section as they are placed, then 75).
 use Rattle.std.specs.Prelude.{◌≡◌, ◌==◌, ℕ, List, [], ◌∷◌, map, find, filter, ℤ, Bool, false, not, Option, Some, None, is_none, Result, Ok, Err, if◌then◌else◌, ◌⊎◌, ◌↔◌, true}
 use Rattle.std.specs.Option.{option_map}
 use Rattle.std.specs.List.Sorted.{IsPermutation}
@@ -28,12 +28,12 @@ use Rattle.c25_meaning_objects.specs.declared.object.Relocation.{Relocation}
 
 -- ---- the names of symbols: 71, 70 and 76
 
--- the first name that stands among those before it
+-- the first name that is also among the names before it
 abbrev pub first_again : List (List ℕ) → List (List ℕ) → Option (List ℕ)
 first_again before [] = None
 first_again before (name ∷ names) = if is_among name before then Some name else first_again (name ∷ before) names
 
--- the names that modules define for all, by modules and symbols
+-- the names of the global symbols that modules define, by modules and symbols
 abbrev pub defined_names : List Contents → List (List ℕ)
 defined_names modules = map (λ d. d.symbol.name) (definitions modules)
 
@@ -47,29 +47,29 @@ pub record Use : Type 0 where
 abbrev pub use_of : ℕ → Contents → Relocation → Use
 use_of number m r = record { number = number; owner = m; relocation = r }
 
--- those of one module
+-- the relocations of one module
 abbrev pub module_uses : ℕ → Contents → List Use
 module_uses number m = map (use_of number m) m.relocations
 
--- the relocations, by modules and relocations
+-- the relocations of all modules, by modules and relocations
 abbrev pub uses : List Contents → List Use
 uses modules = by_modules module_uses 0 modules
 
--- whether none of these definitions is of a name
+-- whether no definition has this name
 abbrev pub is_missing : List Definition → List ℕ → Bool
 is_missing ds name = is_none (definition_of name ds)
 
--- whether a base is such a name
+-- whether a base is an external symbol that no module defines
 abbrev pub missing_base : List Definition → Contents → RelocationBase → Bool
 missing_base ds m (base.Section index) = false
 missing_base ds m (base.Loaded index) = false
 missing_base ds m (base.External index) = is_missing ds (symbol_name m index)
 
--- whether a relocation counts from such a name
+-- whether a relocation counts from an external symbol that no module defines
 abbrev pub is_unresolved : List Definition → Use → Bool
 is_unresolved ds u = missing_base ds u.owner u.relocation.base
 
--- the name that a relocation counts from
+-- the name of the section or symbol that a relocation counts from
 abbrev pub base_name : Contents → RelocationBase → List ℕ
 base_name m (base.Section index) = section_name m index
 base_name m (base.Loaded index) = section_name m index
@@ -79,17 +79,17 @@ base_name m (base.External index) = symbol_name m index
 abbrev pub first_unresolved : List Contents → Option (List ℕ)
 first_unresolved modules = option_map (λ u. base_name u.owner u.relocation.base) (find (is_unresolved (definitions modules)) (uses modules))
 
--- an entry that is none of these definitions
+-- the entry's name, if no module defines it
 abbrev pub missing_entry : List Definition → Option (List ℕ) → Option (List ℕ)
 missing_entry ds None = None
 missing_entry ds (Some name) = if is_missing ds name then Some name else None
 
--- a refusal, if there is a name to tell it with
+-- this fault at the name, if there is a name
 abbrev pub refused_with : LinkFault → Option (List ℕ) → Result (Unit {0}) (Placed (List ℕ) LinkFault)
 refused_with fault None = Ok tt
 refused_with fault (Some name) = Err (record { place = name; fault = fault })
 
--- the first refusal of the names of symbols, if there is one
+-- the first fault of the names of symbols, if there is one
 abbrev pub names_checked : List Contents → Option (List ℕ) → Result (Unit {0}) (Placed (List ℕ) LinkFault)
 names_checked modules entry =
     refused_with DefinedTwice (first_again [] (defined_names modules)) >>= λ _.
@@ -108,11 +108,11 @@ first_spilled modules places = option_map (λ u. section_name u.owner u.relocati
 
 -- ---- the map
 
--- the part that a module has of a section of the program
+-- the part that a module adds to a section of the program
 abbrev pub section_part : List Contents → List Place → ℕ → SectionData → PartData
 section_part modules places number s = record { number = decimal number; base = part_base modules places number s.name; size = body_size s.body }
 
--- that of a name, if the module has it
+-- the part that a module adds to the section of this name, if it has that section
 abbrev pub section_parts : List Contents → List Place → List ℕ → ℕ → Contents → List PartData
 section_parts modules places name number m = map (section_part modules places number) (filter (is_section_named name) m.sections)
 
@@ -132,7 +132,7 @@ symbol_value modules places d = named_value d.symbol.name (definition_value modu
 abbrev pub entry_value : List Contents → List Place → List ℕ → NamedValue
 entry_value modules places name = named_value name (name_value modules places name)
 
--- the map of modules whose sections stand at these places
+-- the map of modules whose sections are at these places
 abbrev pub map_of : List Contents → Option (List ℕ) → List Place → MapData
 map_of modules entry places = record {
   sections = map (section_place modules places) places;
@@ -142,8 +142,8 @@ map_of modules entry places = record {
 
 -- ---- linking
 
--- a program: the words of both pages, the instructions on page 0 that run where they are loaded, those that run elsewhere, those that
--- have a line of a file, and the map
+-- a program: the words of both pages, the marks of the instructions on page 0 that run where they are loaded
+-- and of those that run elsewhere, the instructions that have a line of a file, and the map
 pub record ImageData : Type 0 where
   pub program : finite.FinMap nat_cmp ℕ
   pub store : finite.FinMap nat_cmp ℕ
@@ -152,7 +152,7 @@ pub record ImageData : Type 0 where
   pub lines : List LineData
   pub described : MapData
 
--- the words of a page are those of the program, neither more nor less
+-- a page has exactly the words that the modules give it
 abbrev pub HasWords : List Contents → List Place → ℕ → finite.FinMap nat_cmp ℕ → Type 0
 HasWords modules places page words = (address word : ℕ) → (finite.get words address ≡ Some word) ↔ HasWord modules places page address word
 
@@ -171,11 +171,11 @@ pub record HasLines (modules : List Contents) (places : List Place) (lines : Lis
   pub same : IsPermutation (program_lines modules places) lines
   pub ascend : fit_from 0 (map (λ l. l.mark) lines) ≡ true
 
--- the file and the line of the instruction that is loaded at an address, where it has one
+-- the file and the line of the instruction that is loaded at an address, if it has one
 abbrev pub line_at : ℕ → List LineData → Option (List ℕ × ℕ)
 line_at address lines = option_map (λ l. (l.file, l.line)) (find (λ l. l.mark.address == address) lines)
 
--- modules under a command are this program
+-- modules under a command are linked to this program
 pub record IsProgram (modules : List Contents) (command : CommandData) (image : ImageData) : Type 0 where
   pub places : List Place
   pub names : names_checked modules command.entry ≡ Ok tt
@@ -188,19 +188,19 @@ pub record IsProgram (modules : List Contents) (command : CommandData) (image : 
   pub lines : HasLines modules places image.lines
   pub described : image.described ≡ map_of modules command.entry places
 
--- the first section that cannot be placed
+-- names are in order, and this is the first section that cannot be placed
 pub record IsRefusedPlace (modules : List Contents) (command : CommandData) (refusal : Placed (List ℕ) LinkFault) : Type 0 where
   pub names : names_checked modules command.entry ≡ Ok tt
   pub unplaced : IsUnplaced (ranges_for command) (requests modules (placings_for command)) refusal
 
--- the first field that does not take its value
+-- names and places are in order, and this is the first field that does not take its value
 pub record IsRefusedField (modules : List Contents) (command : CommandData) (refusal : Placed (List ℕ) LinkFault) : Type 0 where
   pub places : List Place
   pub names : names_checked modules command.entry ≡ Ok tt
   pub good : IsGoodMap modules command places
   pub spilled : refused_with RelocRange (first_spilled modules places) ≡ Err refusal
 
--- the first refusal of modules under a command
+-- this is the first fault of modules under a command
 abbrev pub IsRefusal : List Contents → CommandData → Placed (List ℕ) LinkFault → Type 0
 IsRefusal modules command refusal =
     (names_checked modules command.entry ≡ Err refusal) ⊎ (IsRefusedPlace modules command refusal ⊎ IsRefusedField modules command refusal)

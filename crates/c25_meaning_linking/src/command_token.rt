@@ -1,4 +1,4 @@
-//! What command files of the linker are made of.
+//! The tokens of the linker's command files.
 
 /// A sign.
 #[derive(Clone, Copy)]
@@ -14,7 +14,7 @@ pub enum Sign {
     Star,
 }
 
-/// A reserved word, in any of its spellings.
+/// A keyword, in any of its spellings.
 #[derive(Clone, Copy)]
 pub enum Keyword {
     Memory,
@@ -26,41 +26,41 @@ pub enum Keyword {
     Run,
 }
 
-/// What a token is.
+/// The kind of a token.
 #[derive(Clone, Copy)]
 pub enum Kind {
     Keyword(Keyword),
     Name,
-    /// A number. One above 4,294,967,295 stands as that: no address and no length is so large.
+    /// A number; one above 4,294,967,295 is kept as that, which is larger than any address or length.
     Number(u32),
-    /// A word that begins with a digit and is no number.
+    /// A text that begins with a digit and is not a number.
     Malformed,
     Sign(Sign),
-    /// A character that can stand nowhere, or the end of a text in an open comment.
+    /// A character that is part of no token, or the end of a text in an open comment.
     Stray,
     /// The end of the text.
     End,
 }
 
-/// What a token has to be.
+/// What the next token has to be.
 #[derive(Clone, Copy)]
 pub enum Want {
     Sign(Sign),
     Keyword(Keyword),
     Name,
-    /// A name, a reserved word, a number, or a word that only begins as a number.
+    /// A name, a keyword, a number, or a text that only begins as a number.
     AnyWord,
     /// `=` or `>`.
     LoadSign,
     End,
 }
 
-/// What stands at the front of a text, with its number of bytes where that may be more than one.
+/// What stands at the front of a text, with its length in bytes where that may be more than one.
 #[derive(Clone, Copy)]
 pub enum Lexeme {
     Blank,
     Comment(usize),
-    /// A comment that nothing closes: the rest of the text.
+    /// A comment that is not closed: the rest of the text.
     OpenComment,
     Word(usize),
     Sign(Sign),

@@ -1,4 +1,5 @@
-//! Linking: command files, where sections stand, the printed map, the words and instructions of a program.
+//! Linking: command files, the places of sections, the printed map, and the words and instructions of a
+//! program.
 #![tactic(auto)]
 
 pub mod command_fault;

@@ -2,8 +2,8 @@
 
 use thiserror::Error;
 
-/// Why modules cannot be linked under a command. It is placed at a name: the symbol's in 70, 71 and 76,
-/// the section's in 72 to 75 and 78. The numbers are those of the fault lines.
+/// Why modules cannot be linked under a command. The place of the fault is a name: that of a symbol for 70,
+/// 71 and 76, that of a section for 72 to 75 and 78.
 #[derive(Clone, Copy, Debug, Error)]
 #[error("{}", self.name())]
 pub enum LinkFault {
@@ -11,15 +11,16 @@ pub enum LinkFault {
     Unresolved,
     /// A second module defines a global symbol of this name (71).
     DefinedTwice,
-    /// The range of a section is not there, or its page has no range (72).
+    /// There is no range of the name that the section asks for, or its page has no range (72).
     NoRange,
-    /// There is no room for a section, or it does not lie inside a range at its address (73).
+    /// There is no room for a section; or at its address it does not lie inside one range, or a block of it
+    /// not inside one page of 128 words (73).
     DoesNotFit,
-    /// A section shares a word, at its address, with one that was placed before (74).
+    /// A section at its address shares a word with one that was placed before (74).
     Overlap,
     /// A relocated field does not take its value (75).
     RelocRange,
-    /// The entry is no global symbol that a module defines (76).
+    /// The entry is not a global symbol that a module defines (76).
     NoEntry,
     /// A section cannot run at the address that the command file says (78).
     BadRun,
@@ -29,7 +30,7 @@ impl LinkFault {
     ghost use Rattle.std.specs.Prelude.{◌≡◌};
     ghost use Rattle.c25_meaning_linking.specs.LinkFaults.{link_name, link_number};
 
-    /// The number that it is told by.
+    /// The fault's number, as shown to the user.
     pub fn number(&self) -> u8
         ensures { result ≡ link_number self.now }
     {
@@ -45,7 +46,7 @@ impl LinkFault {
         }
     }
 
-    /// The name that it is told by.
+    /// The fault's name, as shown to the user.
     pub fn name(&self) -> &'static str
         ensures { result.now ≡ link_name self.now }
     {
