@@ -1,5 +1,6 @@
--- What a module of relocatable words consists of, and which lists are a module. Sections, symbols and relocation
--- are those of SPRU018's chapters on sections and on the assembler; the records that hold them are this project's own.
+-- What a module of relocatable words consists of, and which lists make up a module. Sections, symbols and
+-- relocation are those of SPRU018's chapters on sections and on the assembler; the records that hold them are
+-- this project's own.
 use Rattle.std.specs.Prelude.{◌≡◌, ◌<◌, ℕ, ℤ, pos, ◌+◌, ◌-◌, ◌%◌, Bool, true, false, ◌||◌, ◌&&◌, ◌==◌, not, nat_lt, nat_le, slice_index, if◌then◌else◌, List, [], ◌∷◌, ◌++◌, length, Option, Some, None, ◌^◌, FitsSigned}
 use Rattle.std.specs.Int.{w32}
 use Rattle.std.specs.List.{slice_get, list_all, list_any, fold, AllByRecursion}
@@ -20,24 +21,24 @@ use Rattle.c25_meaning_objects.specs.declared.object.LineMark.{LineMark}
 use Rattle.c25_meaning_objects.specs.declared.object.Block.{Block}
 use Rattle.c25_meaning_common.specs.Fields.{field_values}
 
--- what a section has: room for words, or words
+-- the contents of a section: a number of reserved words, or words that are loaded
 pub data SectionBody : Type 0 where
   Uninitialised : ℕ → SectionBody
   Initialised : List ℕ → SectionBody
 
--- a section
+-- a section: its name and its contents
 pub record SectionData : Type 0 where
   pub name : List ℕ
   pub body : SectionBody
 
--- a symbol, with its value whatever its kind
+-- a symbol; the meaning of its value depends on its kind
 pub record SymbolData : Type 0 where
   pub kind : SymbolKind
   pub scope : Scope
   pub value : ℤ
   pub name : List ℕ
 
--- the lists of a module; the last three are those of version 2 alone
+-- the lists of a module; only version 2 has files, lines and blocks
 pub record Contents : Type 0 where
   pub sections : List SectionData
   pub marks : List ModuleMark
@@ -50,26 +51,27 @@ pub record Contents : Type 0 where
 
 -- ---- names
 
--- what a section's name is made of
+-- a character of a section's name: 21h to 7Eh without `"`
 abbrev pub is_section_byte : ℕ → Bool
 is_section_byte b = is_visible b && not (b == 34)
 
--- 1 to 32 characters 21h to 7Eh without the quote
+-- whether a text may be a section's name: 1 to 32 characters 21h to 7Eh without `"`
 abbrev pub is_section_name : List ℕ → Bool
 is_section_name name = nat_le 1 (length name) && nat_le (length name) 32 && list_all is_section_byte name
 
--- 1 to 128 characters: a letter or `_`, then letters, digits, `_` and `$`
+-- whether a text may be a symbol's name: 1 to 128 characters, a letter or `_`, then letters, digits, `_` and
+-- `$`
 abbrev pub is_symbol_name : List ℕ → Bool
 is_symbol_name name = nat_le 1 (length name) && nat_le (length name) 128 && begins_name (slice_index name 0) && list_all goes_on_name name
 
 -- ---- sections
 
--- the words that are loaded
+-- the words of a section that are loaded
 abbrev pub body_words : SectionBody → List ℕ
 body_words (Uninitialised size) = []
 body_words (Initialised words) = words
 
--- the size in words
+-- the size of a section in words
 abbrev pub body_size : SectionBody → ℕ
 body_size (Uninitialised size) = size
 body_size (Initialised words) = length words
@@ -79,20 +81,21 @@ abbrev pub has_words : SectionBody → Bool
 has_words (Uninitialised size) = false
 has_words (Initialised words) = true
 
--- an initialised `.text`
+-- whether a section is an initialised `.text`
 abbrev pub is_text : SectionData → Bool
 is_text s = bytes_eq s.name (46 ∷ 116 ∷ 101 ∷ 120 ∷ 116 ∷ []) && has_words s.body
 
--- the first section is an initialised `.text`
+-- the first section must be an initialised `.text`
 abbrev pub begins_sections : List SectionData → SectionData → Bool
 begins_sections [] s = is_text s
 begins_sections (first ∷ others) s = true
 
--- whether a section has that name
+-- whether one of these sections has this name
 abbrev pub has_section : List SectionData → List ℕ → Bool
 has_section before name = list_any (λ s. bytes_eq s.name name) before
 
--- the section may follow these
+-- whether a section may follow these: its name is valid and new, it has at most 65,536 words, the first is
+-- `.text`, and there are at most 255
 abbrev pub section_fits : List SectionData → SectionData → Bool
 section_fits before s =
     is_section_name s.name && nat_le (body_size s.body) 65536 && begins_sections before s
@@ -100,25 +103,25 @@ section_fits before s =
 
 -- ---- marks
 
--- the words of a section by its number: none where it is uninitialised, or where there is no such section
+-- the words of a section by its number; no words where it is uninitialised or there is no such section
 abbrev pub words_at : List SectionData → ℕ → List ℕ
 words_at sections number = elim (slice_get sections number) [ None ↦ [] | Some s ↦ body_words s.body ]
 
--- a place at or behind another
+-- whether the second place is at or after the first, by section and offset
 abbrev pub is_from : ℕ → ℕ → ℕ → ℕ → Bool
 is_from section offset other_section other_offset =
     nat_lt section other_section || (section == other_section && nat_le offset other_offset)
 
--- what stands last, if anything does
+-- the last item of a list, if there is one
 abbrev pub last_of : {A : Type 0} → List A → Option A
 last_of xs = slice_get xs (length xs - 1)
 
--- the mark ascends and does not overlap the last one
+-- whether a mark begins at or after the end of the last one
 abbrev pub mark_after : Option ModuleMark → ModuleMark → Bool
 mark_after None m = true
 mark_after (Some last) m = is_from last.section (last.offset + last.size) m.section m.offset
 
--- the mark may follow these
+-- whether a mark may follow these: one or two words of an initialised section, after the last mark
 abbrev pub mark_fits : List SectionData → List ModuleMark → ModuleMark → Bool
 mark_fits sections before m =
     (m.size == 1 || m.size == 2) && nat_le (m.offset + m.size) (length (words_at sections m.section)) && mark_after (last_of before) m
@@ -130,7 +133,7 @@ abbrev pub is_global : Scope → Bool
 is_global Local = false
 is_global Global = true
 
--- version 1 has no place that counts from where a section is loaded
+-- whether a version has symbols of this kind: version 1 has none that count from where a section is loaded
 abbrev pub kind_allowed : Version → SymbolKind → Bool
 kind_allowed Two kind = true
 kind_allowed One Absolute = true
@@ -138,22 +141,22 @@ kind_allowed One (InSection number) = true
 kind_allowed One (Loaded number) = false
 kind_allowed One External = true
 
--- a section that there is; no local external symbol and none with a value
+-- whether a symbol's kind is valid: its section exists; an external symbol is global and has the value 0
 abbrev pub place_fits : List SectionData → SymbolData → SymbolKind → Bool
 place_fits sections y Absolute = true
 place_fits sections y (InSection number) = nat_lt number (length sections)
 place_fits sections y (Loaded number) = nat_lt number (length sections)
 place_fits sections y External = is_global y.scope && int_eq y.value (pos 0)
 
--- whether a symbol has that name
+-- whether one of these symbols has this name
 abbrev pub has_symbol : List SymbolData → List ℕ → Bool
 has_symbol before name = list_any (λ y. bytes_eq y.name name) before
 
--- what a symbol has to be by itself
+-- whether a symbol is valid by itself
 abbrev pub symbol_stands : Version → List SectionData → SymbolData → Bool
 symbol_stands version sections y = is_symbol_name y.name && kind_allowed version y.kind && place_fits sections y y.kind
 
--- the symbol may follow these
+-- whether a symbol may follow these: it is valid, its name is new, and there are at most 65,535
 abbrev pub symbol_fits : Version → List SectionData → List SymbolData → SymbolData → Bool
 symbol_fits version sections before y =
     symbol_stands version sections y && not (has_symbol before y.name) && nat_lt (length before) 65535
@@ -175,93 +178,96 @@ abbrev pub is_two : Version → Bool
 is_two One = false
 is_two Two = true
 
--- a section that there is, in version 2 where it is loaded too, or a symbol that is external
+-- whether the base of a relocation is valid: a section that exists, in version 2 also where it is loaded, or
+-- a symbol that is external
 abbrev pub base_fits : Version → List SectionData → List SymbolData → RelocationBase → Bool
 base_fits version sections symbols (base.Section number) = nat_lt number (length sections)
 base_fits version sections symbols (base.Loaded number) = is_two version && nat_lt number (length sections)
 base_fits version sections symbols (base.External number) = is_external (slice_get symbols number)
 
--- the relocation ascends: no two are of one word
+-- whether a relocation's word is after that of the last one: no word has two
 abbrev pub relocation_after : Option Relocation → Relocation → Bool
 relocation_after None r = true
 relocation_after (Some last) r = is_from last.section (last.offset + 1) r.section r.offset
 
--- the field of the word is 0 yet
+-- whether the word of a relocation exists, with 0 in the field that is to be filled
 abbrev pub field_is_clear : List ℕ → Relocation → Bool
 field_is_clear words r = nat_lt r.offset (length words) && slice_index words r.offset % field_values r.kind == 0
 
--- the relocation may follow these
+-- whether a relocation may follow these
 abbrev pub relocation_fits : Version → List SectionData → List SymbolData → List Relocation → Relocation → Bool
 relocation_fits version sections symbols before r =
     base_fits version sections symbols r.base && relocation_after (last_of before) r && field_is_clear (words_at sections r.section) r
 
 -- ---- files
 
--- whether a file has that name
+-- whether one of these files has this name
 abbrev pub has_file : List (List ℕ) → List ℕ → Bool
 has_file before name = list_any (λ f. bytes_eq f name) before
 
--- the file may follow these: a text that is no other file's name, and that a record has room for
+-- whether a file's name may follow these: it is UTF-8, new, and shorter than 2^32 bytes
 abbrev pub file_fits : List (List ℕ) → List ℕ → Bool
 file_fits before name = is_utf8 name && nat_lt (length name) (2 ^ 32) && not (has_file before name)
 
 -- ---- lines
 
--- how many files are used once a line is behind these: files are used in their order
+-- how many files are used with one more line; files are used in the order of their numbers
 abbrev pub used_with : ℕ → LineMark → ℕ
 used_with count l = if nat_lt l.file count then count else l.file + 1
 
--- how many files the lines use
+-- how many files these lines use
 abbrev pub used : List LineMark → ℕ
 used lines = fold used_with 0 lines
 
--- the line may follow these: of a mark, in a file that is used already or is the next
+-- whether a line may follow these: there is a mark for it, and its file has been used or is the next one
 abbrev pub line_fits : List ModuleMark → List (List ℕ) → List LineMark → LineMark → Bool
 line_fits marks files before l =
     nat_lt (length before) (length marks) && nat_lt l.file (length files) && nat_le l.file (used before) && nat_le 1 l.line
 
--- each mark has a line, and each file is used
+-- whether each mark has a line and each file is used
 abbrev pub are_told : Contents → Bool
 are_told c = length c.lines == length c.marks && used c.lines == length c.files
 
 -- ---- blocks
 
--- the words that are reserved, and not loaded
+-- how many words a section reserves without loading them
 abbrev pub reserved : SectionBody → ℕ
 reserved (Uninitialised size) = size
 reserved (Initialised words) = 0
 
--- the words that an uninitialised section reserves, by its number: none where it is initialised, or where there is no such section
+-- how many words an uninitialised section reserves, by its number; 0 where it is initialised or there is no
+-- such section
 abbrev pub reserved_at : List SectionData → ℕ → ℕ
 reserved_at sections number = elim (slice_get sections number) [ None ↦ 0 | Some s ↦ reserved s.body ]
 
--- the block ascends and does not overlap the last one
+-- whether a block begins at or after the end of the last one
 abbrev pub block_after : Option Block → Block → Bool
 block_after None b = true
 block_after (Some last) b = is_from last.section (last.offset + last.size) b.section b.offset
 
--- the block may follow these
+-- whether a block may follow these: 1 to 128 words of an uninitialised section, after the last block
 abbrev pub block_fits : List SectionData → List Block → Block → Bool
 block_fits sections before b =
     nat_le 1 b.size && nat_le b.size 128 && nat_le (b.offset + b.size) (reserved_at sections b.section) && block_after (last_of before) b
 
 -- ---- modules
 
--- each may follow those before it
+-- whether each item of a list may follow the items before it
 abbrev pub each_fits : {A : Type 0} → (List A → A → Bool) → List A → List A → Bool
 each_fits fits before [] = true
 each_fits fits before (x ∷ xs) = fits before x && each_fits fits (before ++ x ∷ []) xs
 
--- there is a section
+-- whether a module has a section
 abbrev pub has_sections : Contents → Bool
 has_sections c = nat_lt 0 (length c.sections)
 
--- version 1 has no files, lines and blocks; version 2 tells each mark's line
+-- whether the lists of version 2 are as the version asks: version 1 has no files, lines and blocks; in
+-- version 2 each mark has a line
 abbrev pub told_by : Version → Contents → Bool
 told_by One c = length c.files == 0 && length c.lines == 0 && length c.blocks == 0
 told_by Two c = are_told c
 
--- each item of a list may follow those before it
+-- whether each list is valid: each item may follow those before it
 abbrev pub lists_fit : Contents → Bool
 lists_fit c =
     each_fits section_fits [] c.sections && (each_fits (mark_fits c.sections) [] c.marks
@@ -269,18 +275,18 @@ lists_fit c =
     && (each_fits file_fits [] c.files && (each_fits (line_fits c.marks c.files) [] c.lines
     && (told_by c.version c && each_fits (block_fits c.sections) [] c.blocks))))))
 
--- the lists are those of a module
+-- whether these lists make up a module
 abbrev pub is_module : Contents → Bool
 is_module c = has_sections c && lists_fit c
 
--- the numbers are of the widths that the records give them
+-- numbers have the widths that records have for them
 pub record IsSized (c : Contents) : Type 0 where
   pub words : AllByRecursion (λ s. AllByRecursion (λ w. w < 2 ^ 16) (body_words s.body)) c.sections
   pub values : AllByRecursion (λ y. FitsSigned w32 y.value) c.symbols
   pub addends : AllByRecursion (λ r. FitsSigned w32 r.addend) c.relocations
   pub lines : AllByRecursion (λ l. (l.file < 2 ^ 16) × (l.line < 2 ^ 32)) c.lines
 
--- the contents of a module
+-- these lists make up a module that records can hold
 pub record IsModule (c : Contents) : Type 0 where
   pub lists : is_module c ≡ true
   pub sized : IsSized c

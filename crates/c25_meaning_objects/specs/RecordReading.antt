@@ -1,5 +1,6 @@
--- Reading the bytes of a module (in records of this project's own) front to back, with the first fault that is met: of
--- one record, that it is cut off, then that its tag is unknown or out of order, then that it is not of its form.
+-- Reading the bytes of a module, in records of this project's own, from front to back up to the first fault:
+-- of one record, first that it is cut off, then that its tag is unknown or out of order, then that its
+-- payload is bad.
 use Rattle.std.specs.Prelude.{ℕ, zero, suc, ◌+◌, Bool, ◌||◌, ◌&&◌, ◌==◌, not, nat_lt, nat_le, slice_index, if◌then◌else◌, List, [], ◌∷◌, ◌++◌, length, take, drop, Option, Some, None, Result, Ok, Err}
 use Rattle.std.specs.Int.{w16, w32, from_be_bytes, cast_signed}
 use Rattle.std.specs.Option.{option_and_then, option_map}
@@ -22,17 +23,17 @@ use Rattle.c25_meaning_objects.specs.declared.object.ObjectFault.TheVariants.{Ba
 use Rattle.c25_meaning_common.specs.Results.{◌>>=◌}
 use Rattle.c25_meaning_objects.specs.Module.{SectionBody, Uninitialised, Initialised, SectionData, SymbolData, Contents, section_fits, mark_fits, symbol_fits, relocation_fits, file_fits, line_fits, are_told, told_by, block_fits, has_sections}
 
--- ---- the parts of payloads, by their places
+-- ---- the parts of payloads, by the bytes where they begin
 
--- two bytes
+-- the number in two bytes
 abbrev pub short_at : List ℕ → ℕ → ℕ
 short_at bytes at = from_be_bytes w16 (slice_index bytes at ∷ slice_index bytes (at + 1) ∷ [])
 
--- four bytes
+-- the number in four bytes
 abbrev pub long_at : List ℕ → ℕ → ℕ
 long_at bytes at = from_be_bytes w32 (slice_index bytes at ∷ slice_index bytes (at + 1) ∷ slice_index bytes (at + 2) ∷ slice_index bytes (at + 3) ∷ [])
 
--- words of two bytes each; nothing where a byte is left
+-- the words of bytes, two bytes a word, if the number of bytes is even
 unfoldable pub words_in : List ℕ → Option (List ℕ)
 words_in [] = Some []
 words_in (high ∷ []) = None
@@ -40,14 +41,15 @@ words_in (high ∷ low ∷ rest) = option_map (λ words. from_be_bytes w16 (high
 
 -- ---- payloads
 
--- section, offset, size
+-- the mark of a payload: section, offset, size
 unfoldable pub mark_of : List ℕ → Option ModuleMark
 mark_of bytes =
     if length bytes == 5
     then Some (record { section = short_at bytes 0; offset = short_at bytes 2; size = slice_index bytes 4 })
     else None
 
--- the kind of a code, with its two bytes for a section: 0 where there is none
+-- the kind of a symbol by its code and the number of its section, which must be 0 where the kind has no
+-- section
 abbrev pub kind_of : ℕ → ℕ → Option SymbolKind
 kind_of code section =
     if code == 0 then (if section == 0 then Some Absolute else None)
@@ -64,7 +66,7 @@ scope_of code = if code == 0 then Some Local else (if code == 1 then Some Global
 abbrev pub symbol_with : List ℕ → SymbolKind → Scope → SymbolData
 symbol_with bytes kind scope = record { kind = kind; scope = scope; value = cast_signed w32 (long_at bytes 4); name = drop 9 bytes }
 
--- the length byte of the name is the ninth, and the name ends the payload
+-- the symbol of a payload: kind, scope, section, value, and the name with its length in the byte before it
 unfoldable pub symbol_of : List ℕ → Option SymbolData
 symbol_of bytes =
     if nat_lt (length bytes) 9 then None
@@ -76,7 +78,7 @@ symbol_of bytes =
 abbrev pub field_of : ℕ → Option RelocationKind
 field_of code = if code == 1 then Some Word16 else (if code == 2 then Some Low7 else (if code == 3 then Some Page9 else None))
 
--- the base of a code, with its number
+-- the base of a code, with the number of the section or symbol
 abbrev pub base_of : ℕ → ℕ → Option RelocationBase
 base_of code index =
     if code == 0 then Some (base.Section index)
@@ -84,11 +86,11 @@ base_of code index =
     else (if code == 2 then Some (base.Loaded index)
     else None))
 
--- a relocation of this field and base with the place and the addend that the payload holds
+-- a relocation of this field and base with the section, the offset and the addend that the payload holds
 abbrev pub relocation_with : List ℕ → RelocationKind → RelocationBase → Relocation
 relocation_with bytes kind base = record { section = short_at bytes 0; offset = short_at bytes 2; kind = kind; base = base; addend = cast_signed w32 (long_at bytes 8) }
 
--- section, offset, field, base, number, addend: twelve bytes
+-- the relocation of a payload of twelve bytes: section, offset, field, base, number, addend
 unfoldable pub relocation_of : List ℕ → Option Relocation
 relocation_of bytes =
     if length bytes == 12
@@ -96,7 +98,7 @@ relocation_of bytes =
     (field_of (slice_index bytes 4))
     else None
 
--- the size, and behind a flag the words
+-- the contents of a section by the flag: 0 for a size alone, 1 for a size and as many words
 abbrev pub body_of : ℕ → List ℕ → Option SectionBody
 body_of flag bytes =
     if nat_lt (length bytes) 4 then None
@@ -104,7 +106,7 @@ body_of flag bytes =
     else (if flag == 1 then option_and_then (λ words. if length words == long_at bytes 0 then Some (Initialised words) else None) (words_in (drop 4 bytes))
     else None))
 
--- flag, counted name, and the body behind it
+-- the section of a payload: flag, name with its length in the byte before it, contents
 unfoldable pub section_of : List ℕ → Option SectionData
 section_of bytes =
     if nat_lt (length bytes) 2 then None
@@ -112,11 +114,11 @@ section_of bytes =
     else option_map (λ body. record { name = take (slice_index bytes 1) (drop 2 bytes); body = body })
     (body_of (slice_index bytes 0) (drop (slice_index bytes 1) (drop 2 bytes))))
 
--- file, line
+-- the line of a payload: file, line
 unfoldable pub line_of : List ℕ → Option LineMark
 line_of bytes = if length bytes == 6 then Some (record { file = short_at bytes 0; line = long_at bytes 2 }) else None
 
--- section, offset, size
+-- the block of a payload: section, offset, size
 unfoldable pub block_of : List ℕ → Option Block
 block_of bytes =
     if length bytes == 5
@@ -125,12 +127,12 @@ block_of bytes =
 
 -- ---- a record after others
 
--- an item that may follow, or else the payload is bad
+-- the item of a payload, if there is one and it may follow, or else BadField
 abbrev pub checked : {A : Type 0} → (A → Bool) → Option A → Result A ObjectFault
 checked fits None = Err BadField
 checked fits (Some x) = if fits x then Ok x else Err BadField
 
--- the tag of the list that grew last, that of the sections before any has grown
+-- the greatest tag of the records so far; 1 before the first
 abbrev pub latest : Contents → ℕ
 latest c =
     if nat_lt 0 (length c.blocks) then 7
@@ -140,58 +142,58 @@ latest c =
     else (if nat_lt 0 (length c.symbols) then 3
     else (if nat_lt 0 (length c.marks) then 2 else 1)))))
 
--- the greatest tag of a list
+-- the greatest tag of a version, apart from that of the last record
 abbrev pub last_tag : Version → ℕ
 last_tag One = 4
 last_tag Two = 7
 
--- the tag is known, and none that is over
+-- whether a tag is known and no greater one came before; 255 is the tag of the last record
 abbrev pub is_in_order : Contents → ℕ → Bool
 is_in_order c tag = nat_le (latest c) tag && (nat_le tag (last_tag c.version) || tag == 255)
 
--- the next section
+-- the module so far with one more section
 unfoldable pub with_section : Contents → List ℕ → Result Contents ObjectFault
 with_section c payload = do
   s ← checked (section_fits c.sections) (section_of payload)
   Ok (record c { sections = c.sections ++ s ∷ [] })
 
--- the next mark
+-- the module so far with one more mark
 unfoldable pub with_mark : Contents → List ℕ → Result Contents ObjectFault
 with_mark c payload = do
   m ← checked (mark_fits c.sections c.marks) (mark_of payload)
   Ok (record c { marks = c.marks ++ m ∷ [] })
 
--- the next symbol
+-- the module so far with one more symbol
 unfoldable pub with_symbol : Contents → List ℕ → Result Contents ObjectFault
 with_symbol c payload = do
   y ← checked (symbol_fits c.version c.sections c.symbols) (symbol_of payload)
   Ok (record c { symbols = c.symbols ++ y ∷ [] })
 
--- the next relocation
+-- the module so far with one more relocation
 unfoldable pub with_relocation : Contents → List ℕ → Result Contents ObjectFault
 with_relocation c payload = do
   r ← checked (relocation_fits c.version c.sections c.symbols c.relocations) (relocation_of payload)
   Ok (record c { relocations = c.relocations ++ r ∷ [] })
 
--- the next file
+-- the module so far with one more file
 unfoldable pub with_file : Contents → List ℕ → Result Contents ObjectFault
 with_file c payload = do
   name ← checked (file_fits c.files) (Some payload)
   Ok (record c { files = c.files ++ name ∷ [] })
 
--- the next line
+-- the module so far with one more line
 unfoldable pub with_line : Contents → List ℕ → Result Contents ObjectFault
 with_line c payload = do
   l ← checked (line_fits c.marks c.files c.lines) (line_of payload)
   Ok (record c { lines = c.lines ++ l ∷ [] })
 
--- the next block, behind all lines
+-- the module so far with one more block; before the first block each mark must have its line
 unfoldable pub with_block : Contents → List ℕ → Result Contents ObjectFault
 with_block c payload =
     if not (are_told c) then Err BadField
     else (checked (block_fits c.sections c.blocks) (block_of payload) >>= λ b. Ok (record c { blocks = c.blocks ++ b ∷ [] }))
 
--- the record of a tag, 1 to 7: a section, or, behind a section at least, an item of another list
+-- the module so far with the item of a record with tag 1 to 7; a section must come before all other items
 unfoldable pub with_record : Contents → ℕ → List ℕ → Result Contents ObjectFault
 with_record c tag payload =
     if tag == 1 then with_section c payload
@@ -211,19 +213,20 @@ pub record Record : Type 0 where
   pub tag : ℕ
   pub payload : List ℕ
 
--- the record at the front, and the bytes behind it
+-- the record at the front, and the bytes after it
 unfoldable pub record_at : List ℕ → Result (Record × List ℕ) ObjectFault
 record_at bytes =
     if nat_lt (length bytes) 5 then Err Short
     else (if nat_lt (length (drop 5 bytes)) (long_at bytes 1) then Err Short
     else Ok (record { tag = slice_index bytes 0; payload = take (long_at bytes 1) (drop 5 bytes) }, drop (long_at bytes 1) (drop 5 bytes)))
 
--- after the record FF
+-- the module at its last record, which has an empty payload and nothing after it
 unfoldable pub ended : Contents → List ℕ → List ℕ → Result Contents ObjectFault
 ended c payload rest =
     if has_sections c && told_by c.version c && length payload == 0 then (if length rest == 0 then Ok c else Err Trailing) else Err BadField
 
--- the records after those of `c`, at most so many: first that one is cut off, then that its tag may not follow, then its payload
+-- the module so far with the records from here on, at most `n`: of each record first that it is cut off, then
+-- that its tag may not follow, then its payload
 unfoldable pub read_from : ℕ → Contents → List ℕ → Result Contents ObjectFault
 read_from zero c bytes = Err Short
 read_from (suc n) c bytes = do
@@ -232,7 +235,7 @@ read_from (suc n) c bytes = do
       else (if found.0.tag == 255 then ended c found.0.payload found.1
       else (with_record c found.0.tag found.0.payload >>= λ d. read_from n d found.1))
 
--- before the first record
+-- the module before the first record
 abbrev pub nothing_read : Version → Contents
 nothing_read version = record {
   sections = [];
@@ -245,7 +248,7 @@ nothing_read version = record {
   blocks = [];
 }
 
--- all of them; a record takes a byte at least, so there are no more than bytes
+-- the module of all records; a record takes at least five bytes, so there are fewer records than bytes
 abbrev pub read_all : Version → List ℕ → Result Contents ObjectFault
 read_all version bytes = read_from (length bytes) (nothing_read version) bytes
 
@@ -253,12 +256,12 @@ read_all version bytes = read_from (length bytes) (nothing_read version) bytes
 abbrev pub version_of : ℕ → Result Version ObjectFault
 version_of byte = if byte == 1 then Ok One else (if byte == 2 then Ok Two else Err BadVersion)
 
--- `C25O` in front
+-- whether bytes begin with `C25O`
 abbrev pub has_magic : List ℕ → Bool
 has_magic bytes =
     nat_le 4 (length bytes) && slice_index bytes 0 == 67 && slice_index bytes 1 == 50 && slice_index bytes 2 == 53 && slice_index bytes 3 == 79
 
--- the module that the bytes are, or the first fault
+-- the module that bytes hold, or their first fault
 unfoldable pub module_of : List ℕ → Result Contents ObjectFault
 module_of bytes =
     if not (has_magic bytes) then Err BadMagic

@@ -1,4 +1,4 @@
-//! Modules of relocatable words, and the object records that spell them.
+//! Modules of relocatable words, and the object records that hold them.
 #![tactic(auto)]
 
 pub mod object;

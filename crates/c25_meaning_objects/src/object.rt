@@ -1,14 +1,14 @@
-//! The plain parts of a module of relocatable words, and what is wrong with bytes that spell none.
+//! The plain parts of a module of relocatable words, and the faults of bytes that are not a module.
 
 use c25_meaning_common::relocation::RelocationKind;
 use thiserror::Error;
 
-/// Which records may hold a module.
+/// The version of an object file: which records it may hold.
 #[derive(Clone, Copy, PartialEq, Debug)]
 pub enum Version {
     /// Sections, marks, symbols and relocations.
     One,
-    /// Files, lines and blocks too, and places that count from where a section is loaded.
+    /// Also files, lines and blocks, and addresses that count from where a section is loaded.
     Two,
 }
 
@@ -17,18 +17,18 @@ pub enum Version {
 pub enum SymbolKind {
     /// From 0.
     Absolute,
-    /// From the section of that number, counted from 0.
+    /// From where the section of that number, counted from 0, runs.
     InSection(u16),
     /// From where the section of that number is loaded.
     Loaded(u16),
-    /// The symbol is another module's, and has no value here.
+    /// External: another module defines the symbol, and it has no value here.
     External,
 }
 
-/// Who sees a symbol.
+/// Which modules see a symbol.
 #[derive(Clone, Copy)]
 pub enum Scope {
-    /// Its own module alone.
+    /// The symbol's own module alone.
     Local,
     /// All modules that are linked.
     Global,
@@ -45,7 +45,7 @@ pub struct ModuleMark {
 /// What a relocation adds its addend to.
 #[derive(Clone, Copy, PartialEq, Debug)]
 pub enum RelocationBase {
-    /// The address of the section of that number.
+    /// The address where the section of that number runs.
     Section(u16),
     /// The address where the section of that number is loaded.
     Loaded(u16),
@@ -64,16 +64,16 @@ pub struct Relocation {
     pub addend: i32,
 }
 
-/// Where the instruction of a mark stands in the sources: the number of its file, counted from 0
-/// among the module's files, and its line, counted from 1.
+/// The line that the instruction of a mark comes from: the number of its file, counted from 0 among the
+/// module's files, and the line's number, counted from 1.
 #[derive(Clone, Copy, PartialEq, Debug)]
 pub struct LineMark {
     pub file: u16,
     pub line: u32,
 }
 
-/// Words of an uninitialised section that have to lie in one page of 128 words of data memory: the
-/// section, counted from 0, their offset there, and how many they are.
+/// Words of an uninitialised section that must lie in one page of 128 words of data memory: the section,
+/// counted from 0, the offset there, and how many words.
 #[derive(Clone, Copy, PartialEq, Debug)]
 pub struct Block {
     pub section: u16,
@@ -81,21 +81,21 @@ pub struct Block {
     pub size: u8,
 }
 
-/// Why bytes are no module: the first fault that stands in them, from the front.
+/// Why bytes are not a module: the first fault in them, from the front.
 #[derive(Clone, Copy, PartialEq, Debug, Error)]
 #[error("{}", self.name())]
 pub enum ObjectFault {
-    /// They do not begin with `C25O` (40).
+    /// The bytes do not begin with `C25O` (40).
     BadMagic,
-    /// The version is none that is known, or is missing (41).
+    /// The version is unknown or missing (41).
     BadVersion,
-    /// They end before the last record does (42).
+    /// The bytes end before the last record does (42).
     Short,
-    /// A record has a tag that is unknown, or that may not follow the records before it (43).
+    /// A record's tag is unknown, or may not follow the records before it (43).
     BadTag,
-    /// A record has not the form of its tag, or may not stand among the records before it (44).
+    /// A record's payload does not have the form of its tag, or does not fit the records before it (44).
     BadField,
-    /// Something follows the last record (45).
+    /// Bytes follow the last record (45).
     Trailing,
 }
 
@@ -103,7 +103,7 @@ impl ObjectFault {
     ghost use Rattle.std.specs.Prelude.{◌≡◌};
     ghost use Rattle.c25_meaning_objects.specs.Faults.{object_name, object_number};
 
-    /// The number that it is told by.
+    /// The fault's number, as shown to the user.
     pub fn number(&self) -> u8
         ensures { result ≡ object_number self.now }
     {
@@ -117,7 +117,7 @@ impl ObjectFault {
         }
     }
 
-    /// The name that it is told by.
+    /// The fault's name, as shown to the user.
     pub fn name(&self) -> &'static str
         ensures { result.now ≡ object_name self.now }
     {
