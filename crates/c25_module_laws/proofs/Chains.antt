@@ -1,7 +1,8 @@
 -- Lists whose items ascend by place.
 use Rattle.std.proofs.Common.{ℕ, ◌+◌, ◌≤◌, ◌<◌, List, [], ◌∷◌, ◌++◌, arith}
 
--- each item is good, lies at or behind the first place and behind the item before it, and the last one before the second place
+-- each item is good, lies at or after the first place and after the item before it, and the last one before
+-- the second place
 abbrev pub Chain : {X : Type 0} → (X → ℕ) → (X → Type 0) → ℕ → ℕ → List X → Type 0
 Chain at good low high [] = low ≤ high
 Chain at good low high (x ∷ xs) = (low ≤ at x) × good x × Chain at good (at x + 1) high xs
@@ -28,6 +29,6 @@ chain_weaker at good fair low high (x ∷ xs) f h =
     let b = chain_bound at good (at x + 1) high xs h.2 in
     (h.0, f x (omega (arith, b)) h.1, chain_weaker at good fair (at x + 1) high xs f h.2)
 
--- one item more, behind the others
+-- one item more, after the others
 pub chain_push : {X : Type 0} (at : X → ℕ) (good : X → Type 0) (low high : ℕ) (xs : List X) (x : X) → Chain at good low (at x) xs → good x → at x < high → Chain at good low high (xs ++ x ∷ [])
 chain_push at good low high xs x h g l = chain_append at good low (at x) high xs (x ∷ []) h (omega arith, g, omega (arith, l))

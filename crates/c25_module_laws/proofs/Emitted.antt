@@ -1,4 +1,4 @@
--- What the items of a module give its sections: words and relocations, one item behind the other.
+-- What the items of a module give its sections: words and relocations, one item after the other.
 use Rattle.std.proofs.Common.{◌≡◌, ℕ, zero, suc, ◌+◌, ◌<◌, cond, eqb, List, [], ◌∷◌, ◌++◌, set, replicate, Option, Some, None, Result, Ok, Err, refl, sym, ap, ◌∙◌, arith}
 use Rattle.std.specs.List.{slice_get, list_all}
 use Rattle.std.proofs.lemmas.List.{append-nil, append_assoc}
@@ -20,7 +20,7 @@ pub record Made : Type 0 where
   pub words : List ℕ
   pub relocations : List Relocation
 
--- those of an item
+-- what an item gives its section
 abbrev pub made_by : Definitions → LaidContent → Content → Result Made FaultKind
 made_by names i (Operands t trees) =
     sheet_of t (table_at names i.section i.offset) trees >>= λ s.
@@ -45,7 +45,7 @@ abbrev pub words_at : ℕ → List Made → List ℕ
 words_at k [] = []
 words_at k (m ∷ ms) = words_part k m ++ words_at k ms
 
--- its relocations
+-- the relocations that an item gives a section
 abbrev pub relocations_part : ℕ → Made → List Relocation
 relocations_part k m = cond (eqb m.section k) m.relocations []
 
@@ -94,7 +94,7 @@ relocations_here k m ms e = ap (λ b. cond b m.relocations [] ++ relocations_at 
 pub relocations_there : (k : ℕ) (m : Made) (ms : List Made) → (m.section ≡ k → ⊥) → relocations_at k (m ∷ ms) ≡ relocations_at k ms
 relocations_there k m ms e = ap (λ b. cond b m.relocations [] ++ relocations_at k ms) (ne_eqb m.section k e)
 
--- sections behind the one of an item do not change
+-- sections after that of an item do not change
 filled_past : (k : ℕ) (ss : List Section) (m : Made) (ms : List Made) → m.section < k → filled_from k ss (m ∷ ms) ≡ filled_from k ss ms
 filled_past k [] m ms l = refl
 filled_past k (s ∷ ss) m ms l =

@@ -12,7 +12,7 @@ use Rattle.c25_meaning_language.specs.declared.statement.FaultKind.TheVariants a
 use Rattle.c25_meaning_assembly.proofs.Distinct.{distinct_push, neither}
 use Rattle.c25_module_laws.proofs.Kept.{AreBlocks, AreFiles, AreTold, IsOrigin, IsTold, changed_twice, each_changed, get_push, pushed, weaker}
 
--- ---- names behind others
+-- ---- names after others
 
 pub in_push : (names : List (List ℕ)) (n d : List ℕ) → is_in names d ≡ true → is_in (names ++ n ∷ []) d ≡ true
 in_push [] n d h = absurd (cc)

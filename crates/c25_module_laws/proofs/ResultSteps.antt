@@ -2,7 +2,7 @@
 use Rattle.std.proofs.Common.{◌≡◌, Bool, true, false, cond, Result, Ok, Err, refl}
 use Rattle.c25_meaning_common.specs.Results.{◌>>=◌}
 
--- what comes behind a result comes behind one without a fault
+-- what comes after a result comes after one without a fault
 pub bound : {A B E : Type 0} (r : Result A E) (f : A → Result B E) (y : B) → (r >>= f) ≡ Ok y → (x : A) × (r ≡ Ok x) × (f x ≡ Ok y)
 bound (Ok x) f y e = (x, refl, e)
 bound (Err d) f y e = absurd (cc)
@@ -17,7 +17,7 @@ pub refused : {A E : Type 0} (b : Bool) (d : E) (x y : A) → cond b (Err d) (Ok
 refused true d x y e = absurd (cc)
 refused false d x y e = (refl, cc)
 
--- the same before another result
+-- a test before another result that may not hold did not
 pub unless : {A E : Type 0} (b : Bool) (d : E) (r : Result A E) (y : A) → cond b (Err d) r ≡ Ok y → r ≡ Ok y
 unless true d r y e = absurd (cc)
 unless false d r y e = e

@@ -238,7 +238,7 @@ module _ (B : Base → Type 0) (k : ℕ) where
           (subst (λ (rs : List Relocation). AreFilled B k 0 (pre ++ words_at k ms) (used k) (used k + (part k i + total k is)) rs) (sym (relocations_there k m ms there))
           (subst (λ (n : ℕ). AreFilled B k 0 (pre ++ words_at k ms) (used k) n (relocations_at k ms)) high lower))
 
--- each item begins within what its section comes to
+-- each item begins within what its section is filled to
 pub laid_within : (used : ℕ → ℕ) (is : List LaidContent) → AreLaid used is → AllByRecursion (λ i. i.offset ≤ used i.section + total i.section is) is
 laid_within used [] h = tt
 laid_within used (i ∷ is) h = (

@@ -1,4 +1,4 @@
-//! Laws of modules of sources, each the contract of a function that does nothing.
+//! Laws of the modules of sources, each the contract of a function with an empty body.
 #![tactic(auto)]
 
 pub mod assembly_laws;
