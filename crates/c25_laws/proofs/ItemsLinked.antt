@@ -148,7 +148,7 @@ module _ (all : List Contents) (places : List Place) (number : ℕ) (p : Progres
     abbrev made : Made
     made = (stands i c).made
 
-    -- what operands come to
+    -- operands with their addresses filled are the numbers of the operands under the map
     comes : (t : Target) (trees : List Tree) (s : Sheet) → sheet_of t (table_at (all_names p) i.section i.offset) trees ≡ Ok s
         → fold (numbered value) s.numbers s.addresses ≡ numbers_under all places number m p.names i.section i.offset t trees
     comes t trees s is =

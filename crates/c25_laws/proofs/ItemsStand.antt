@@ -33,7 +33,7 @@ part_in true m r h = (refl, h)
 part_in false m r h = absurd (nothing_in r h)
 
 module _ (B : Base → Type 0) (names : Definitions) where
-  -- the relocations of items lie behind what is there
+  -- the relocations of items lie after the words that are there
   behind_used : (used : ℕ → ℕ) (k : ℕ) (is : List LaidContent) (ms : List Made) (r : Relocation) → AreLaid used is → AreMadeOf B is ms → Contains (relocations_at k ms) r → used k ≤ r.offset
   behind_used used k is ms r laid made c =
       let pre = replicate {A = ℕ} (used k) 0 in

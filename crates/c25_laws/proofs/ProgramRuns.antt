@@ -33,7 +33,7 @@ both false b h = absurd cc
 
 -- ---- marks that ascend
 
--- a mark that fits lies behind an address, with its words below 65,536
+-- a mark that fits lies at or after an address, with its words below 65,536
 record Lies (low : ℕ) (x : Mark) : Type 0 where
   from : low ≤ x.address
   some : 1 ≤ x.size

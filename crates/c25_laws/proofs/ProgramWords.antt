@@ -267,7 +267,7 @@ words_are files names modules command image of p =
     (both_hold (ReadsAs image.program) (map loaded_statement (map as_copied (filter runs_in_b0 all))) (map as_loaded (filter runs_in_place all))
     (subst (AllByRecursion (ReadsAs image.program)) (sym (map-map loaded_statement as_copied (filter runs_in_b0 all))) copied) plain)
 
--- and those of its other page
+-- the words of the other page of a program do
 pub stored_words_are : (files : Files) (names : List (List ℕ)) (modules : List Contents) (command : CommandData) (image : ImageData) → AreModulesOf files names modules → (p : IsProgram modules command image)
     → All (ReadsAs image.store) (page_statements 1 files names modules p.places)
 stored_words_are files names modules command image of p = page_words_are files names modules p.places 1 image.store of p.store

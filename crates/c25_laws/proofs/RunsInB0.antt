@@ -14,7 +14,8 @@ use Rattle.c25_linking_laws.proofs.Members.{found_in, from_map, in_front, in_map
 
 -- ---- run marks that fit
 
--- one that fits runs behind an address, and its words are below 65,536, where they run and where they are loaded
+-- a run mark that fits runs at or after an address, and its words are below 65,536, where they run and where
+-- they are loaded
 pub record Lies (low : ℕ) (x : RunMark) : Type 0 where
   pub from : low ≤ x.run
   pub some : 1 ≤ x.size

@@ -53,7 +53,7 @@ placed_statement modules places number m i = record {
 abbrev pub module_statements : List Contents → List Place → ℕ → Contents → List Instruction → List PlacedStatement
 module_statements modules places number m statements = map (placed_statement modules places number m) statements
 
--- those of modules, one module after the other; they are counted from a number
+-- the statements of modules, one module after the other; the modules are numbered from `number` on
 abbrev pub statements_by : List Contents → List Place → ℕ → List Contents → List (List Instruction) → List PlacedStatement
 statements_by modules places number (m ∷ ms) (statements ∷ others) =
     module_statements modules places number m statements ++ statements_by modules places (number + 1) ms others

@@ -64,7 +64,7 @@ module _ (value : Address → ℕ) where
   fill_behind ns [] a = refl
   fill_behind ns (b ∷ list) a = fill_behind (set ns b.operand (value b)) list a
 
--- a sheet comes to these numbers
+-- a sheet with its addresses filled has these numbers
 pub record ComesTo (value : Address → ℕ) (s : Sheet) (done : List ℕ) : Type 0 where
   pub below : AreBelow (length s.numbers) s.addresses
   pub filled : fold (numbered value) s.numbers s.addresses ≡ done

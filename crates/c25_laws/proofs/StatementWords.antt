@@ -210,7 +210,7 @@ statement_reads B m x whole pre post h is at =
 abbrev pub HasOwn : List Made → Instruction → Type 0
 HasOwn ms x = (r : Relocation) → Contains (relocations_at x.section ms) r → Covers x.offset (words_of_statement x) r.offset → Contains (relocations_in x) r
 
--- the same of a statement behind an item
+-- a statement begins after an item, and the relocations of its words are its own
 abbrev IsLater : (ℕ → ℕ) → LaidContent → List Made → Instruction → Type 0
 IsLater used i ms x = (used x.section + part x.section i ≤ x.offset) × HasOwn ms x
 
@@ -314,7 +314,7 @@ module _ (B : Base → Type 0) (names : Definitions) where
       (each_holds (λ x. used x.section + part x.section i ≤ x.offset) (λ x. used x.section ≤ x.offset) (said_in names is) (λ x h. omega (arith, h))
       (said_from (λ k. used k + part k i) is ms laid.1 made.1 said.1))
 
-  -- the relocations of items lie behind what is there
+  -- the relocations of items lie after the words that are there
   behind_used : (used : ℕ → ℕ) (k : ℕ) (is : List LaidContent) (ms : List Made) (r : Relocation) → AreLaid used is → AreMadeOf B is ms → Contains (relocations_at k ms) r → used k ≤ r.offset
   behind_used used k is ms r laid made c =
       let pre = replicate {A = ℕ} (used k) 0 in

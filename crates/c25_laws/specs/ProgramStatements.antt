@@ -38,16 +38,16 @@ AreModulesOf files (name ∷ names) [] = ⊥
 AreModulesOf files (name ∷ names) (m ∷ modules) =
     ((a : Assembled) × (assembled files name ≡ Ok a) × (a.contents ≡ m)) × AreModulesOf files names modules
 
--- what the lines of the source of a name make, or their fault
+-- what the lines of the source of this name make, or their fault
 abbrev pub lines_of : Files → List ℕ → Result Progress ExpansionFault
 lines_of files name = passed_from files name (start_of files name) >>= λ a. Ok a.progress
 
--- what lines make, nothing where there is a fault
+-- what lines make; nothing if there is a fault
 abbrev pub without_fault : Result Progress ExpansionFault → Progress
 without_fault (Ok p) = p
 without_fault (Err fault) = start
 
--- what the lines of the source of a name make; a source that has a module has no fault
+-- what the lines of the source of this name make; a source that assembles to a module has no fault
 abbrev pub lines_in : Files → List ℕ → Progress
 lines_in files name = without_fault (lines_of files name)
 
@@ -58,8 +58,8 @@ abbrev pub numbers_under : List Contents → List Place → ℕ → Contents →
 numbers_under modules places number m names section offset t trees =
     counted_from (λ k e. operand_number modules places number m names section offset (field_of t k) e) 0 trees
 
--- an instruction statement under the map: the name of its section and the page where that stands, the addresses where the
--- statement's words are loaded and where they run, whether they run elsewhere than they are loaded, and its mnemonic with the
+-- an instruction statement under the map: the name and the page of its section, the addresses where its words
+-- are loaded and where they run, whether they run elsewhere than they are loaded, and its mnemonic with the
 -- numbers of its operands
 pub record PlacedStatement : Type 0 where
   pub section : List ℕ
@@ -69,7 +69,8 @@ pub record PlacedStatement : Type 0 where
   pub elsewhere : Bool
   pub insn : Insn
 
--- the statement of an item, if it is one of an instruction: its addresses are those of its section's part and its offset
+-- the statement of an item, if the item is an instruction: its addresses are its section's part plus its
+-- offset
 abbrev pub item_statements : List Contents → List Place → ℕ → Contents → Definitions → LaidContent → Content → List PlacedStatement
 item_statements modules places number m names i (Operands (target.Instruction f) trees) = record {
   section = section_name m i.section;
@@ -81,55 +82,55 @@ item_statements modules places number m names i (Operands (target.Instruction f)
 } ∷ []
 item_statements modules places number m names i _ = []
 
--- those of the lines of a module
+-- the statements of the lines of a module
 abbrev pub line_statements : List Contents → List Place → ℕ → Contents → Progress → List PlacedStatement
 line_statements modules places number m p = flat_map (λ i. item_statements modules places number m p.names i i.content) p.items
 
--- those of modules, one module after the other; they are counted from a number
+-- the statements of modules, one module after the other; the modules are numbered from `number` on
 abbrev pub statements_from : List Contents → List Place → ℕ → List Contents → List Progress → List PlacedStatement
 statements_from modules places number (m ∷ ms) (p ∷ ps) =
     line_statements modules places number m p ++ statements_from modules places (number + 1) ms ps
 statements_from modules places number _ _ = []
 
--- the instruction statements of the sources of these names, whose modules stand at these places
+-- the instruction statements of the sources of these names, whose modules are placed so
 abbrev pub all_statements : Files → List (List ℕ) → List Contents → List Place → List PlacedStatement
 all_statements files names modules places = statements_from modules places 0 modules (map (lines_in files) names)
 
 -- ---- pages
 
--- whether a statement's section stands on a page
+-- whether a statement's section is on this page
 abbrev pub stands_on : ℕ → PlacedStatement → Bool
 stands_on page s = s.page == page
 
--- whether it stands on page 0 and runs where it is loaded
+-- whether a statement is on page 0 and runs where it is loaded
 abbrev pub runs_in_place : PlacedStatement → Bool
 runs_in_place s = stands_on 0 s && not s.elsewhere
 
--- whether it stands there and runs elsewhere, in block B0
+-- whether a statement is on page 0 and runs elsewhere, in block B0
 abbrev pub runs_in_b0 : PlacedStatement → Bool
 runs_in_b0 s = stands_on 0 s && s.elsewhere
 
--- a statement where its words are loaded
+-- a statement at the address where its words are loaded
 abbrev pub as_loaded : PlacedStatement → Statement
 as_loaded s = record { address = s.load; insn = s.insn }
 
--- a statement where its words are loaded and where they run
+-- a statement with the addresses where its words are loaded and where they run
 abbrev pub as_copied : PlacedStatement → Copied
 as_copied s = record { load = s.load; run = s.run; insn = s.insn }
 
--- the statements on a page, where their words are loaded
+-- the statements on a page, at the addresses where their words are loaded
 abbrev pub on_page : ℕ → List PlacedStatement → List Statement
 on_page page all = map as_loaded (filter (stands_on page) all)
 
--- those on page 0, which are run: those that run where they are loaded, and those that run in block B0
+-- the statements on page 0: those that run where they are loaded, and those that run in block B0
 abbrev pub split_by_run : List PlacedStatement → Statements
 split_by_run all = record { plain = map as_loaded (filter runs_in_place all); copied = map as_copied (filter runs_in_b0 all) }
 
--- the instruction statements on a page of the sources of these names, whose modules stand at these places
+-- the instruction statements on a page of the sources of these names, whose modules are placed so
 abbrev pub page_statements : ℕ → Files → List (List ℕ) → List Contents → List Place → List Statement
 page_statements page files names modules places = on_page page (all_statements files names modules places)
 
--- those on page 0, which are run
+-- the instruction statements on page 0 of the sources of these names, whose modules are placed so
 abbrev pub program_statements : Files → List (List ℕ) → List Contents → List Place → Statements
 program_statements files names modules places = split_by_run (all_statements files names modules places)
 
@@ -143,7 +144,8 @@ pub record AreMarksOf (ss : Statements) (marks : List Mark) (run_marks : List Ru
   pub copied : IsPermutation (map run_mark_of ss.copied) run_marks
   pub fit : run_fit marks run_marks ≡ true
 
--- the words of a page at a statement's address read as the statement; both are there where it has two
+-- the words of a page at a statement's address read as the statement, and the second word is there where it
+-- has two
 pub record ReadsAs (page : finite.FinMap nat_cmp ℕ) (s : Statement) : Type 0 where
   pub first : ℕ
   pub second : ℕ
@@ -151,7 +153,8 @@ pub record ReadsAs (page : finite.FinMap nat_cmp ℕ) (s : Statement) : Type 0 w
   pub second_is : size_of s.insn ≡ 2 → finite.get page (s.address + 1) ≡ Some second
   pub reads : Reads first second s.insn
 
--- block B0, as the processor sees it at FF00h to FFFFh of program memory under CNF 1, holds the words of a section that runs at an
--- address of it: at each offset the word that program memory holds at that offset of the section as it is loaded
+-- block B0, which the processor sees at FF00h to FFFFh of program memory under CNF 1, holds the words of a
+-- section that runs there: at each offset the word that program memory holds at that offset of the section
+-- where it is loaded
 abbrev pub HoldsSection : World → Place → ℕ → Type 0
 HoldsSection w section run = (offset : ℕ) → offset < section.size → program_at true w (run + offset) ≡ w.program (section.base + offset)

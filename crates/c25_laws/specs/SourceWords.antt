@@ -1,5 +1,5 @@
--- The words of a program from its sources, item by item over their lines: those of an instruction by the opcode table, those
--- of data by the values of their operands (SPRU014, instruction set; SPRU018, assembler directives).
+-- The words of a program from its sources, item by item over their lines: of instructions by the opcode
+-- table, of data by the values of their operands (SPRU014, instruction set; SPRU018, assembler directives).
 use Rattle.std.specs.Prelude.{◌≡◌, ℕ, ◌+◌, ◌↔◌, List, [], replicate, Some}
 use Rattle.std.specs.FinMap as finite
 use Rattle.std.specs.List.{Contains, slice_get}
@@ -23,8 +23,8 @@ item_words modules places number m names i (Words bytes) = bytes
 item_words modules places number m names i (Zeros count) = replicate count 0
 item_words modules places number m names i (Exported exported) = []
 
--- the sources of these names have this word at this address of this page: a word of an item of their lines, behind the words
--- of the items before it in its section
+-- the sources of these names have this word at this address of this page: a word of an item of their lines,
+-- which begins at the item's offset in its section
 pub record HasSourceWord (files : Files) (names : List (List ℕ)) (modules : List Contents) (places : List Place) (page address word : ℕ) : Type 0 where
   pub number : ℕ
   pub name : List ℕ
@@ -38,7 +38,7 @@ pub record HasSourceWord (files : Files) (names : List (List ℕ)) (modules : Li
   pub page_is : page ≡ section_page places owner item.section
   pub address_is : address ≡ section_base modules places number owner item.section + item.offset + within
 
--- the words of a page are those of the sources, neither more nor less
+-- a page has exactly the words that the sources give it
 abbrev pub HasSourceWords : Files → List (List ℕ) → List Contents → List Place → ℕ → finite.FinMap nat_cmp ℕ → Type 0
 HasSourceWords files names modules places page words =
     (address word : ℕ) → (finite.get words address ≡ Some word) ↔ HasSourceWord files names modules places page address word

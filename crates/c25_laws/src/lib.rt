@@ -1,5 +1,4 @@
-//! Laws of the definitions of assembling and of programs, each the contract of a function that does
-//! nothing.
+//! Laws of assembling and of programs, each the contract of a function with an empty body.
 #![tactic(auto)]
 
 pub mod assembly_laws;

@@ -1,4 +1,5 @@
-//! Laws of programs: what is run is what the sources say. Each is the contract of a function that does nothing.
+//! Laws of programs: the program that runs is what the sources say. Each is the contract of a function with
+//! an empty body.
 
 ghost use Rattle.std.specs.Prelude.{◌≡◌, ◌↔◌, ◌+◌, ◌++◌, ◌∷◌, [], List, ℕ, Ok, Some, pos, true};
 ghost use Rattle.std.specs.List.{All, Contains};
@@ -19,10 +20,10 @@ ghost use Rattle.c25_laws.specs.ProgramStatements.{AreMarksOf, AreModulesOf, Hol
 ghost use Rattle.c25_laws.specs.SourceValues.{name_under, placed, value_under};
 ghost use Rattle.c25_laws.specs.SourceWords.{HasSourceWord, HasSourceWords};
 
-/// The marks of a program are exactly the addresses and sizes of the instruction statements of its
-/// sources on page 0 that run where they are loaded, over all modules and sections, in ascending
-/// order, and its run marks exactly the places of those that run in block B0. The lines of a source
-/// that has a module have no fault, so none of its statements is left out.
+/// The marks of a program are exactly the addresses and sizes of the instruction statements of its sources on
+/// page 0 that run where they are loaded, over all modules and sections, in ascending order; its run marks
+/// are exactly the places of those that run in block B0. The lines of a source that assembles to a module
+/// have no fault, so no statement is left out.
 pub fn program_marks_are_statements()
     ensures sources { (files : Files) (name : List ℕ) (a : Assembled) → assembled files name ≡ Ok a
         → lines_of files name ≡ Ok (lines_in files name) }
@@ -31,9 +32,9 @@ pub fn program_marks_are_statements()
         → AreMarksOf (program_statements files names modules p.places) image.marks image.run_marks }
 {}
 
-/// What a line defines a name as is, under every map, what the line says: `.set` and `.equ` the value
-/// of the expression, a label the address where the line begins as it runs, `.label` that where it is
-/// loaded.
+/// A name that a line defines has, under every map, the value that the line says: for `.set` and `.equ` the
+/// value of the expression, for a label the address where the line's words run, for `.label` the address
+/// where they are loaded.
 pub fn names_are_their_values()
     ensures equated { (modules : List Contents) (places : List Place) (number : ℕ) (m : Contents) (name : List ℕ) (e : Tree) (p q : Progress) → equate name e p ≡ Ok q
         → (v : Value) × (q.names ≡ p.names ++ (name, v) ∷ []) × (placed modules places number m v.base v.offset
@@ -46,9 +47,9 @@ pub fn names_are_their_values()
         × (placed modules places number m v.base v.offset ≡ pos (section_base modules places number m p.current + size_at p.sections p.current)) }
 {}
 
-/// The words of a program at each instruction statement of its sources, on page 0 and on page 1, read
-/// where they are loaded as that statement's mnemonic with the numbers of its operands: the values of
-/// their expressions under the map, as their fields hold them.
+/// The words of a program at each instruction statement of its sources, on page 0 and on page 1, read where
+/// they are loaded as the statement's mnemonic with the numbers of its operands: the values of the
+/// expressions under the map, cut to their fields.
 pub fn program_words_read_as_statements()
     ensures program { (files : Files) (names : List (List ℕ)) (modules : List Contents) (command : CommandData) (image : ImageData)
         → AreModulesOf files names modules → (p : IsProgram modules command image)
@@ -58,10 +59,10 @@ pub fn program_words_read_as_statements()
         → All (ReadsAs image.store) (page_statements 1 files names modules p.places) }
 {}
 
-/// The words of a program are those of its sources, item by item over their lines: an instruction's
-/// by the opcode table with the numbers of its operands, those of `.word`, `.int` and `.byte` by the
-/// values of theirs, the bytes of `.string`, the zeros of `.space`, each at its place. So the modules'
-/// sections with their relocations and the sources say the same set of words, on both pages.
+/// The words of a program are those of its sources, item by item over their lines, each at its address: of an
+/// instruction by the opcode table with the numbers of its operands, of `.word`, `.int` and `.byte` the
+/// values of the operands, of `.string` the packed characters, of `.space` zeros. So the modules' sections
+/// with their relocations and the sources give the same words on both pages.
 pub fn program_words_are_the_sources()
     ensures each { (files : Files) (names : List (List ℕ)) (modules : List Contents) (places : List Place) (page address word : ℕ)
         → AreModulesOf files names modules
@@ -71,11 +72,11 @@ pub fn program_words_are_the_sources()
         → HasSourceWords files names modules p.places 0 image.program × HasSourceWords files names modules p.places 1 image.store }
 {}
 
-/// The first state of a program's pages is an image of the instruction statements of its sources:
-/// under all samples, interrupt lines and levels and for every number of steps, the run of the
-/// program's words ends as the run of the statements, with the same state, outputs and memories
-/// included, or at the same step for the same reason; and in every state of it the words of
-/// instruction statements are still theirs.
+/// A program runs as its source statements say. Its first state holds the words of the instruction statements
+/// of its sources. For all samples, interrupt lines and levels and any number of steps, the run of the
+/// program's words ends as the run of the statements does, with the same state, outputs and memories
+/// included, or at the same step for the same reason; and in every state of the run the words of the
+/// statements are still there.
 pub fn linked_images_run_as_statements()
     ensures image { (files : Files) (names : List (List ℕ)) (modules : List Contents) (command : CommandData) (image : ImageData) (samples : ℕ → List ℕ)
         → AreModulesOf files names modules → (p : IsProgram modules command image)
@@ -88,10 +89,9 @@ pub fn linked_images_run_as_statements()
         → KeepsStatements (program_statements files names modules p.places) (first_of_pages image.program image.store image.marks image.run_marks samples) }
 {}
 
-/// Where block B0 holds the words of a section that runs there, each as program memory holds it where
-/// the section is loaded, each instruction statement of that section is the one that acts, under CNF 1,
-/// at the address where it runs. That the statements are the world's is so in every state of a run of
-/// the program.
+/// Where block B0 holds the words of a section that runs there, as program memory holds them where the
+/// section is loaded, each instruction statement of that section is executed under CNF 1 at the address where
+/// it runs. That the state holds the statements of the program is so in every state of a run.
 pub fn sections_held_in_b0_run()
     ensures { (files : Files) (names : List (List ℕ)) (modules : List Contents) (command : CommandData) (image : ImageData) (w : World)
         → AreModulesOf files names modules → (p : IsProgram modules command image) → IsImageOf (program_statements files names modules p.places) w
