@@ -101,7 +101,7 @@ pub record IsCopyFrom (modules : List Contents) (places : List Place) (number : 
   pub chosen : is_copied places m mark ≡ true
   pub same : placed_run_mark modules places number m mark ≡ a
 
--- it is that of a mark of a module
+-- the run mark is that of a mark of some module
 pub record IsCopy (modules : List Contents) (places : List Place) (a : RunMark) : Type 0 where
   pub number : ℕ
   pub owner : Contents
@@ -219,7 +219,7 @@ module _ (modules : List Contents) (command : CommandData) (places : List Place)
         same = image.2;
       }
 
-  -- a later one is loaded behind an earlier one where they share a section
+  -- a later instruction is loaded after an earlier one where they share a section
   pub loads_apart : (a b : RunMark) → Contains (program_run_marks modules places) a → Contains (program_run_marks modules places) b → a.run + a.size ≤ b.run → (word : ℕ) → Covers a.load a.size word → Covers b.load b.size word → ⊥
   loads_apart a b c d before word here there =
       let p = copy_of a c in

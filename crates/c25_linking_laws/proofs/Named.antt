@@ -145,7 +145,7 @@ found_passes P test (y ∷ ys) x all e = by_test (found_passes P test ys x (All-
 pub found_holds : {A : Type 0} (P : A → Type 0) (test : A → Bool) (xs : List A) (x : A) → All P xs → find test xs ≡ Some x → P x
 found_holds P test xs x all e = (found_passes P test xs x all e).0
 
--- where the names of symbols are checked the entry is none of the missing ones
+-- where the names of symbols are checked, the entry is not a missing one
 entry_there : (modules : List Contents) (entry : Option (List ℕ)) → names_checked modules entry ≡ Ok tt → missing_entry (definitions modules) entry ≡ None
 entry_there modules entry e = by_names (first_again [] (defined_names modules)) (first_unresolved modules) (missing_entry (definitions modules) entry) e where
   by_names : (a b c : Option (List ℕ)) → (refused_with DefinedTwice a >>= λ _. refused_with Unresolved b >>= λ _. refused_with NoEntry c) ≡ Ok tt → c ≡ None

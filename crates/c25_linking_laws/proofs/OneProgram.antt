@@ -1,4 +1,4 @@
--- Modules and a command come to one program at most.
+-- Modules and a command have one program at most.
 use Rattle.std.proofs.Common.{◌≡◌, ℕ, ◌+◌, ◌≤◌, Bool, true, false, ◌&&◌, leb, List, [], ◌∷◌, map, Option, Some, None, refl, ap, sym, ◌∙◌, subst, arith, inl, inr}
 use Rattle.std.specs.FinMap as finite
 use Rattle.std.specs.FinMap.{same_map, nat_cmp-IsAntisymmetric}
@@ -87,7 +87,7 @@ marked_once mark low high (x ∷ xs) (y ∷ ys) h k there back =
     (λ m c. behind mark y x ys xs m g.1 g.2 (sym same) c (back m (behind_in y m ys c))) in
     λ i. same i ∷ rest i
 
--- the same of lists that have what a list has
+-- lists that each have what one list has, with marks that ascend, are the same
 permuted_once : {A : Type 0} (mark : A → Mark) (low : ℕ) (all xs ys : List A) → IsPermutation all xs → IsPermutation all ys → fit_from low (map mark xs) ≡ true → fit_from low (map mark ys) ≡ true → xs ≡ ys
 permuted_once mark low all xs ys p q h k = marked_once mark low low xs ys h k (λ m c. in_permuted all ys m q (in_permuted xs all m (IsPermutation-sym all xs p) c)) (λ m c. in_permuted all xs m p (in_permuted ys all m (IsPermutation-sym all ys q) c))
 
@@ -104,7 +104,7 @@ unmapped ms h = ap (fit_from 0) (map-self ms) ∙ h where
 abbrev run_place : RunMark → Mark
 run_place m = record { address = m.run; size = m.size }
 
--- those that run behind one another are marks that ascend, by where they run
+-- run marks that run one after the other are marks that ascend, by where they run
 runs_ascend : (marks : List Mark) (from : ℕ) (run_marks : List RunMark) → run_fit_from marks from run_marks ≡ true → fit_from from (map run_place run_marks) ≡ true
 runs_ascend marks from [] fit = refl
 runs_ascend marks from (m ∷ run_marks) fit =

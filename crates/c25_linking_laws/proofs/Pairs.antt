@@ -1,5 +1,5 @@
--- What holds of each item of a list with each later one: of lists one behind the other, of chosen and mapped items, and of
--- what modules give.
+-- What holds of each item of a list with each later one: of lists one after the other, of chosen and mapped
+-- items, and of what modules give.
 use Rattle.std.proofs.Common.{◌≡◌, ℕ, suc, ◌+◌, ◌<◌, Bool, true, false, cond, List, [], ◌∷◌, ◌++◌, map, filter, Some, refl, sym, subst, arith, inl, inr}
 use Rattle.std.specs.Prelude.{All}
 use Rattle.std.specs.List.{Contains, slice_get}
@@ -13,7 +13,7 @@ use Rattle.c25_linking_laws.proofs.Members.{behind_in, first_in, from_filter, fr
 pub all_there : {A : Type 0} (P : A → Type 0) (xs : List A) → ((x : A) → Contains xs x → P x) → All P xs
 all_there P xs h = All-weaker (Contains xs) P h xs (All-contains_itself xs)
 
--- ---- one list behind another
+-- ---- one list after another
 
 pairs_append : {A : Type 0} (R : A → A → Type 0) (xs ys : List A) → Pairwise R xs → Pairwise R ys → ((x y : A) → Contains xs x → Contains ys y → R x y) → Pairwise R (xs ++ ys)
 pairs_append R [] ys p q h = q

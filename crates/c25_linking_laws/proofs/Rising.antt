@@ -1,4 +1,4 @@
--- The marks of a module lie in the words of its sections, each behind the one before it.
+-- The marks of a module lie in the words of its sections, each after the one before it.
 use Rattle.std.proofs.Common.{◌≡◌, ℕ, ◌+◌, ◌-◌, ◌<◌, ◌≤◌, true, ◌||◌, eqb, leb, List, [], ◌∷◌, ◌++◌, length, Option, Some, None, refl, ap, subst, ◌∙◌, arith, inl, inr, ◌⊎◌, ⊎_elim, All}
 use Rattle.std.specs.List.{Contains, slice_get}
 use Rattle.std.proofs.Math.Seq.{get_or-append_seam}
@@ -16,7 +16,7 @@ use Rattle.c25_linking_laws.proofs.Members.{fits_in}
 abbrev pub Before : ModuleMark → ModuleMark → Type 0
 Before x y = (x.section < y.section) ⊎ ((x.section ≡ y.section) × (x.offset + x.size ≤ y.offset))
 
--- ---- each behind the one before it
+-- ---- each after the one before it
 
 last_pushed : (before : List ModuleMark) (x : ModuleMark) → last_of (before ++ x ∷ []) ≡ Some x
 last_pushed before x =

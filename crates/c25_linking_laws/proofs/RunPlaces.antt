@@ -54,7 +54,7 @@ pub places_run_apart : (modules : List Contents) (command : CommandData) (places
 places_run_apart modules command places good =
     subst (Pairwise RunApart) (reverse-reverse places) (stand_apart (ranges_for command) (reverse (requests modules (placings_for command))) (reverse places) good)
 
--- those of two names
+-- the places of two names run apart
 pub named_run_apart : (a b : List ℕ) (p q : Place) (ps : List Place) → (a ≡ b → ⊥) → Pairwise RunApart ps → place_named a ps ≡ Some p → place_named b ps ≡ Some q → RunApart p q
 named_run_apart a b p q [] differ pairs ha hb = absurd cc
 named_run_apart a b p q (x ∷ xs) differ pairs ha hb = by_tests (named_run_apart a b p q xs differ pairs.1) (bytes_eq a x.name) (bytes_eq b x.name) refl refl ha hb where

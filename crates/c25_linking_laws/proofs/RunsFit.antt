@@ -1,4 +1,5 @@
--- The run marks of modules at good places fit beside the marks, once they are in the order in which they run.
+-- The run marks of modules at good places fit next to the marks, once they are in the order in which they
+-- run.
 use Rattle.std.proofs.Common.{◌≡◌, ℕ, suc, ◌+◌, ◌-◌, ◌<◌, ◌≤◌, Bool, true, false, ◌&&◌, cond, nat_le, nat_lt, List, [], ◌∷◌, map, Option, Some, All, refl, ap, subst, arith, ⊎_elim}
 use Rattle.std.specs.Prelude.{IfSome}
 use Rattle.std.specs.List.{Contains, sum_by}
@@ -97,7 +98,7 @@ sorted_pairs (m ∷ ms) some once order = (
 
 -- ---- they fit
 
--- its words are words of block B0 and of program memory
+-- the words of a run mark are words of block B0 and of program memory
 record IsSmallRun (a : RunMark) : Type 0 where
   from : 0xFF00 ≤ a.run
   some : 1 ≤ a.size
@@ -105,7 +106,7 @@ record IsSmallRun (a : RunMark) : Type 0 where
   run_end : a.run + a.size ≤ 65536
   load_end : a.load + a.size ≤ 65536
 
--- a word where it is loaded is none of another's
+-- the words of a run mark, where it is loaded, are not those of another mark
 abbrev LoadsApart : RunMark → Mark → Type 0
 LoadsApart a b = (word : ℕ) → Covers a.load a.size word → Covers b.address b.size word → ⊥
 

@@ -1,4 +1,5 @@
-//! Laws of linked programs and of where their parts stand, each the contract of a function that does nothing.
+//! Laws of linked programs and of the places of their parts, each the contract of a function with an empty
+//! body.
 #![tactic(auto)]
 
 pub mod linking;

@@ -1,4 +1,4 @@
-//! Laws of linked programs, each the contract of a function that does nothing.
+//! Laws of linked programs, each the contract of a function with an empty body.
 
 ghost use Rattle.std.specs.Prelude.{◌≡◌, ◌<◌, ◌^◌, All, List, Ok, length, map, ℕ};
 ghost use Rattle.std.specs.List.Sorted.{IsNonDecreasingBy, IsPermutation};
@@ -13,15 +13,15 @@ ghost use Rattle.c25_meaning_linking.specs.Place.{Place};
 ghost use Rattle.c25_meaning_linking.specs.Words.{HasWord, program_run_marks};
 ghost use Rattle.c25_meaning_objects.specs.Module.{Contents, IsModule};
 
-/// Modules under a command come to one program at most: its words, its marks, its run marks and its map
-/// are theirs alone.
+/// Modules under a command are linked to at most one program: the words, marks, run marks, lines and map are
+/// determined.
 pub fn modules_have_one_program()
     ensures { (modules : List Contents) (command : CommandData) (image other : ImageData)
         → IsProgram modules command image → IsProgram modules command other → image ≡ other }
 {}
 
-/// The map of a program tells the places at which its modules were linked. All lines of the map of
-/// modules at good places have their form, so that its text is the text of one map.
+/// The map of a program has the places at which its modules were linked. All lines of the map of modules at
+/// good places are valid, so the map's text is the text of no other map.
 pub fn program_maps_have_their_form()
     ensures places { (modules : List Contents) (command : CommandData) (image : ImageData) → (p : IsProgram modules command image)
         → map (λ s. s.place) image.described.sections ≡ p.places }
@@ -40,8 +40,8 @@ pub fn instructions_run_apart()
         → IsNonDecreasingBy (λ m. m.run) run_marks → HasRunMarks modules places marks run_marks }
 {}
 
-/// Each word of modules that are linked under a command lies within its page and has 16 bits, so
-/// those of both pages of a program do.
+/// Each word of modules that are linked under a command lies within its page and has 16 bits, and so does
+/// each word of both pages of a program.
 pub fn program_words_have_16_bits()
     ensures each { (modules : List Contents) (command : CommandData) (places : List Place) (page address word : ℕ)
         → All IsModule modules → IsCommand command → IsGoodMap modules command places → HasWord modules places page address word
