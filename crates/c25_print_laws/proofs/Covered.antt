@@ -118,7 +118,7 @@ small_at [] n w h e = absurd (cc)
 small_at (x ∷ ws) zero w h e = let same : x ≡ w = cc in subst (λ v. v < 2 ^ 16) same (h 0 x (omega arith))
 small_at (x ∷ ws) (suc n) w h e = small_at ws n w (λ k d lt. h (suc k) d (omega (arith, lt))) e
 
--- the word at a place, and the one behind it, where a line has two
+-- the word at a place, and the one after it, where a line has two
 abbrev Follows : List ℕ → ℕ → Option ℕ → Type 0
 Follows ws n None = Unit {0}
 Follows ws n (Some s) = slice_get ws (suc n) ≡ Some s
@@ -173,7 +173,7 @@ module _ (words : map.FinMap nat_cmp ℕ) (ws : List ℕ) (same : (k : ℕ) → 
     within = c.within;
   }
 
-  -- an address within the last line, and behind it
+  -- an address within the last line, and after it
   inside : (n ended : ℕ) (was : Option ℕ) → (((was ≡ None) × (ended ≡ 0)) ⊎ (was ≡ Some ended)) → is_before n was ≡ true → n < ended
   inside n ended was (inl none) e = absurd (let f = sym (ap (is_before n) none.0) ∙ e in grind (arith, f))
   inside n ended was (inr some) e = let f : nat_lt n ended ≡ true = sym (ap (is_before n) some) ∙ e in grind (arith, nat_tests)

@@ -140,7 +140,7 @@ module _ (w tail : List ℕ) (fields : list_all is_field w ≡ true) (visible : 
 
 -- ---- a first word and its operands
 
--- the text behind a first word
+-- the text after a first word
 abbrev pub spaced : List Word → List ℕ
 spaced [] = []
 spaced (w ∷ ws) = 32 ∷ texts (w ∷ ws)
@@ -176,7 +176,7 @@ read_line w ws is lexed =
     let pieces = spaced_scanned ws (suc (length w)) lexed in
     line w (spaced ws) parts.0 parts.1 parts.2 (spaced_ends ws) (placed (suc (length w) + 1) ws) pieces.0 (none_of (directive_of w) both.1) pieces.1
 
--- expansion leaves a line alone whose first word is none of its directives
+-- expansion leaves a line alone whose first word is not one of its directives
 pub quiet_line : (w : List ℕ) (ws : List Word) → is_word w ≡ true → is_free w ≡ true → AreLexed ws → length ws ≤ 20 → IsQuiet (32 ∷ (w ++ spaced ws))
 quiet_line w ws is free lexed few =
     let parts = word_parts w is in

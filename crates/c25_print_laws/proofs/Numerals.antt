@@ -19,7 +19,7 @@ use Rattle.c25_print_laws.proofs.Tokens.{is_quiet}
 
 -- ---- a run of letters and digits
 
--- all of a front that passes, where what stands behind it does not
+-- all of a front that passes, where what comes after it does not
 pub front_passes : (p : ℕ → Bool) (xs more : List ℕ) → list_all p xs ≡ true → prefix_len p more ≡ 0 → prefix_len p (xs ++ more) ≡ length xs
 front_passes p [] more all ends = ends
 front_passes p (x ∷ xs) more all ends =

@@ -34,7 +34,7 @@ use Rattle.c25_print_laws.proofs.Words.{constant, name, comma, minus, changing, 
 abbrev pub AreOperands : Mnemonic → List Word → Form → List Tree → Type 0
 AreOperands row ws f es = (at : ℕ) → operation_of (Row row) (operands_of (placed at ws)) ≡ Ok (record { form = f; trees = es })
 
--- the trees of a memory operand: in front of others, and behind them
+-- the trees of a memory operand: in front of others, and after them
 abbrev pub front_trees : AddrForm → List ℕ → List Tree → List Tree
 front_trees Direct low es = constant_tree low ∷ es
 front_trees (Indirect c) low es = es

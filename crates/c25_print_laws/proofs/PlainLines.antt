@@ -34,7 +34,7 @@ module _ (files : Files) (s : Table) where
   taken_plain row [] c taken h = used_plain row c h
   taken_plain row (b ∷ bs) c taken h = ap (λ t. if t then takes files s row None b bs c else skips files s row None b bs c) taken ∙ used_plain row c h
 
-  -- it is given
+  -- a plain line is given
   pub gives_plain : (row : Row) (rest : List LineOrEnd) (c : Config) → are_taken c.scope.branches ≡ true → 0 < c.left → IsPlain c.names row.text →
       rewrite files s (record c { lines = Read row ∷ rest; mode = Reading }) ≡ Gives row (record c { lines = rest; mode = Reading; left = c.left - 1 })
   unfolding rewrite
@@ -80,7 +80,7 @@ module _ (files : Files) (s : Table) where
 
 -- ---- what a line that is read says of the configuration where it stands
 
--- so it is given, where nothing else stands
+-- a plain line is given, where nothing else stands
 pub plain_line : (files : Files) (s : Table) (row : Row) (rest : List LineOrEnd) (c : Config) → c.mode ≡ Reading → c.lines ≡ Read row ∷ rest → are_taken c.scope.branches ≡ true → 0 < c.left → IsPlain c.names row.text →
     first files s c ≡ Gives row (record c { lines = rest; left = c.left - 1 })
 plain_line files s row rest c reading lines taken some h =
@@ -147,7 +147,7 @@ module _ (files : Files) (s : Table) (c : Config) (b : Branch) (bs : List Branch
       let same : left - 1 - length rows ≡ left - suc (length rows) = omega arith in
       subst (λ n. Leads files s (length (row ∷ rows)) (standing (Read row ∷ (map Read rows ++ rest)) nested left) (standing rest 0 n)) same all
 
--- they change nothing but the count of lines that may still be read
+-- the lines of a false `.if` change nothing but the count of lines that may still be read
 pub lines_skipped : (files : Files) (s : Table) (rows : List Row) (rest : List LineOrEnd) (c : Config) (b : Branch) (bs : List Branch) → c.mode ≡ Reading → c.lines ≡ map Read rows ++ rest →
     c.scope.branches ≡ b ∷ bs → takes_lines b.phase ≡ false → b.nested ≡ 0 → are_closed 0 rows ≡ true → length rows ≤ c.left →
     Leads files s (length rows) c (record c { lines = rest; left = c.left - length rows })

@@ -180,7 +180,7 @@ completed_as a n marks origins items names ws is emits =
     ap (λ p. finished p >>= λ c. Ok (record { contents = c; entries = a.entries })) is
     ∙ ap (λ r. (r >>= λ sections. Ok (module_with sections [] [])) >>= λ c. Ok (record { contents = c; entries = a.entries })) (emits (text_section n marks origins))
 
--- its one section has the words of all lines, in their order
+-- the one section of the module has the words of all lines, in their order
 pub source_words : (files : Files) (name : List ℕ) (ps : List Printed) → text_named files name ≡ Some (source_of ps) → is_file_name name ≡ true → All IsInRange ps → length (flat_map words_in ps) ≤ 65536
     → (a : Assembled) × (assembled files name ≡ Ok a) × IsTextOf (flat_map words_in ps) a.contents
 unfolding assembled

@@ -51,7 +51,7 @@ read_as row ws f es ns i is few lexed shown are sheet same = record {
   quiet = subst (λ t. IsQuiet (32 ∷ t)) (sym shown) (quiet_mnemonic (row_of row).name ws is lexed few);
 }
 
--- ---- texts grouped from behind
+-- ---- texts grouped from the end
 
 pub four : (a b c d : List ℕ) → a ++ b ++ c ++ d ≡ a ++ (b ++ (c ++ d))
 four a b c d = append_assoc (a ++ b) c d ∙ append_assoc a b (c ++ d)
@@ -62,7 +62,7 @@ five a b c d e = append_assoc (a ++ b ++ c) d e ∙ four a b c (d ++ e)
 pub six : (a b c d e f : List ℕ) → a ++ b ++ c ++ d ++ e ++ f ≡ a ++ (b ++ (c ++ (d ++ (e ++ f))))
 six a b c d e f = append_assoc (a ++ b ++ c ++ d) e f ∙ five a b c d (e ++ f)
 
--- a memory operand behind a mnemonic
+-- a memory operand after a mnemonic
 spaced_front : (a : Addr) (ws : List Word) → spaced (front a ws) ≡ 32 ∷ texts (front a ws)
 spaced_front (addr.Direct low) ws = refl
 spaced_front (addr.Indirect change.Keep n) ws = refl
@@ -88,7 +88,7 @@ register_number n h = name_number n (register_text n) (register_name n h).value
 pub port_number : (n : ℕ) → n < 16 → IsNumber (Single (Name (80 ∷ 65 ∷ decimal n))) (pos n)
 port_number n h = name_number n (80 ∷ 65 ∷ decimal n) (port_name n h).value
 
--- those of a memory operand: in front of others, and behind them
+-- the numbers of a memory operand: in front of others, and after them
 abbrev pub front_numbers : Addr → List ℕ → List ℕ
 front_numbers (addr.Direct low) ns = low ∷ ns
 front_numbers (addr.Indirect c n) ns = ns
@@ -101,7 +101,7 @@ abbrev pub back_numbers : Addr → List ℕ
 back_numbers (addr.Direct low) = []
 back_numbers (addr.Indirect c n) = next_numbers n
 
--- ---- the numbers of a line with a memory operand: alone, behind a number, and round a number
+-- ---- the numbers of a line with a memory operand: alone, after a number, and round a number
 
 pub alone : (t : Target) (a : Addr) → field_of t 0 ≡ addr_field (form_of a) → AddrInRange a
     → HasNumbers t (front_trees (form_of a) (low_of a) (back_trees (form_of a) (next_of a))) (front_numbers a (back_numbers a))

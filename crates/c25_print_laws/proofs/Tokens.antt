@@ -1,4 +1,4 @@
--- Tokens one behind another are the pieces of their text.
+-- Tokens one after another are the pieces of their text.
 use Rattle.std.proofs.Common.{◌≡◌, ℕ, suc, ◌+◌, ◌*◌, ◌-◌, ◌<◌, ◌≤◌, ◌==◌, ◌||◌, not, Bool, true, List, [], ◌∷◌, ◌++◌, length, None, refl, ap, ◌∙◌, arith}
 use Rattle.std.specs.List.{list_all}
 use Rattle.std.proofs.lemmas.Bool.{and_from}
@@ -15,12 +15,12 @@ pub record Word : Type 0 where
   pub kind : TokenKind
   pub text : List ℕ
 
--- their text
+-- the text of tokens
 abbrev pub texts : List Word → List ℕ
 texts [] = []
 texts (w ∷ ws) = w.text ++ texts ws
 
--- the same as the pieces of a line
+-- tokens as the pieces of a line
 abbrev pub placed : ℕ → List Word → List Piece
 placed at [] = []
 placed at (w ∷ ws) = record { kind = w.kind; start = at; text = w.text } ∷ placed (at + length w.text) ws
@@ -34,7 +34,7 @@ behind at (w ∷ ws) = behind (at + length w.text) ws
 abbrev pub is_quiet : ℕ → Bool
 is_quiet b = not (b == 63 || b == 10 || b == 13)
 
--- each is the lexeme at its place, has such bytes alone, and not many
+-- each token is the lexeme at its place, has such bytes alone, and not many
 abbrev pub AreLexed : List Word → Type 0
 AreLexed [] = Unit {0}
 AreLexed (w ∷ ws) = (lexeme (w.text ++ texts ws) ≡ Token w.kind (length w.text)) × (0 < length w.text) × (list_all is_quiet w.text ≡ true) × (length w.text ≤ 20) × AreLexed ws

@@ -55,12 +55,12 @@ abbrev pub place : AddrForm → List ℕ → List Word → List Word
 place Direct low ws = constant low ∷ ws
 place (Indirect c) low ws = changing c ws
 
--- a next register behind all others: it has a text
+-- a next register after all others: it has a text
 abbrev pub next : Option (List ℕ) → List Word
 next None = []
 next (Some text) = comma ∷ name text ∷ []
 
--- the same of a memory operand
+-- a next register of a memory operand after all others: it has a text
 abbrev pub tail : AddrForm → Option (List ℕ) → List Word
 tail Direct o = []
 tail (Indirect c) o = next o
@@ -92,7 +92,7 @@ abbrev pub next_of : Addr → Option (List ℕ)
 next_of (addr.Direct low) = None
 next_of (addr.Indirect c n) = register_of n
 
--- the words of an address in front of others, and behind them
+-- the words of an address in front of others, and after them
 abbrev pub front : Addr → List Word → List Word
 front a ws = place (form_of a) (low_of a) ws
 

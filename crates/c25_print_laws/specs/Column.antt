@@ -1,12 +1,13 @@
--- The text of a disassembly as a source.
+-- The source that the text of a disassembly is, once its columns are cut off.
 use Rattle.std.specs.Prelude.{ℕ, List, [], ◌∷◌, ◌++◌, drop, map, codes}
 use Rattle.std.specs.Str.Lines.{lines}
 
--- texts, each behind a blank on a line of its own
+-- texts as lines of a source, each after a blank
 abbrev pub lines_with : List (List ℕ) → List ℕ
 lines_with [] = []
 lines_with (t ∷ ts) = codes " " ++ t ++ (codes "\n" ++ lines_with ts)
 
--- what stands on each line behind its columns: an address, a blank, nine bytes for one word or two, a blank
+-- the source in the lines of a disassembly: each line without its columns, which are an address, a blank,
+-- nine bytes for one or two words, and a blank
 abbrev pub source_of_text : List ℕ → List ℕ
 source_of_text text = lines_with (map (drop 15) (lines text))

@@ -1,4 +1,4 @@
-//! A law of disassembled texts, the contract of a function that does nothing.
+//! A law of disassembled texts: the contract of a function with an empty body.
 
 ghost use Rattle.std.specs.Prelude.{◌≡◌, ℕ, ◌<◌, ◌^◌, true, List, Some, Ok};
 ghost use Rattle.std.specs.List.{All, slice_get};
@@ -11,9 +11,9 @@ ghost use Rattle.c25_meaning_expansion.specs.Files.{Files, text_named};
 ghost use Rattle.c25_meaning_assembly.specs.ModuleOfSource.{Assembled, assembled};
 ghost use Rattle.c25_print_laws.specs.Source.{IsTextOf};
 
-/// Where words stand at the addresses from 0 on, one behind another, and each has 16 bits, what is
-/// printed of them is a source of them: its lines cut behind their columns, each behind a blank, are
-/// assembled to a module of one section with these words.
+/// The disassembly of words is a source of these words. Where words of 16 bits are at the addresses from 0
+/// on, without a gap, the lines printed of them, cut off after their columns and each put after a blank,
+/// assemble to a module of one section with these words.
 pub fn words_texts_are_sources_of_their_words()
     ensures { (words : FinMap nat_cmp ℕ) (ws text : List ℕ) (files : Files) (name : List ℕ) → ((k : ℕ) → word_at words k ≡ slice_get ws k)
         → All (λ w. w < 2 ^ 16) ws → IsWordsText words 0 text → text_named files name ≡ Some (source_of_text text) → is_file_name name ≡ true
