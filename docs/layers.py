@@ -16,6 +16,7 @@ and then ends with status 1:
   exist, or has one below a crate of its room that stands on it;
 - its "Where a rule lives" or "Recipes" names a file that does not exist; "Where a rule lives" lacks a source file of a library, a
   directive or a mnemonic;
+- a document, CHANGELOG.md apart, names a crate that does not exist;
 - a document or a comment has a word that docs/WORDS.md lists as not to be used.
 """
 import glob
@@ -254,9 +255,17 @@ def files_like(patterns):
     return sorted({file for it in patterns for file in glob.glob(it, recursive=True)} - {"docs/WORDS.md"})
 
 
+def wrong_names(all_crates):
+    """The names in documents that are those of crates which do not exist. CHANGELOG.md has old names."""
+    for file in files_like(set(DOCUMENTS) - {"CHANGELOG.md"}):
+        for number, line in enumerate(text_of(file).splitlines(), 1):
+            for it in sorted(set(re.findall(r"\bc25_[a-z0-9_]*[a-z0-9]\b", line)) - set(all_crates)):
+                yield f"{file}:{number}: {it} is not a crate"
+
+
 def without_code(text):
     """A text of as many lines, in which what stands in backquotes is blank."""
-    return re.sub(r"`[^`]*`", lambda code: re.sub(r"[^\n]", " ", code[0]), text)
+    return re.sub(r"`[^`\n]*\n?[^`\n]*`", lambda code: re.sub(r"[^\n]", " ", code[0]), text)
 
 
 def prose_of_document(text):
@@ -297,7 +306,7 @@ def main(words):
                 file.write(text)
         return 0
     if "--check" in words:
-        checks = (wrong_lines, wrong_subjects, wrong_tables, wrong_places, wrong_rules, wrong_words)
+        checks = (wrong_lines, wrong_subjects, wrong_tables, wrong_places, wrong_rules, wrong_names, wrong_words)
         wrong = [it for check in checks for it in check(all_crates)]
         wrong += [] if begin and end and stands.strip() == made else [f"{PAGE}: its table is not what docs/layers.py --write writes"]
         wrong += [] if ordered == text_of(LIBRARIES) else [f"{LIBRARIES}: its lines are not in the order that docs/layers.py --write writes"]
