@@ -20,6 +20,7 @@ use Rattle.c25_meaning_instructions.specs.Table.{Reads, opcode_word, second_word
 use Rattle.c25_meaning_language.specs.Tree.{Tree}
 use Rattle.c25_meaning_linking.specs.Words.{is_relocation_at, linked_word, relocated, relocated_value}
 use Rattle.c25_meaning_assembly.specs.declared.assembly.Address.{Address}
+use Rattle.c25_meaning_assembly.specs.declared.assembly.DataWidth.TheVariants as width
 use Rattle.c25_meaning_assembly.specs.declared.assembly.Target.{Target}
 use Rattle.c25_meaning_assembly.specs.declared.assembly.Target.TheVariants as target
 use Rattle.c25_meaning_objects.specs.declared.object.Relocation.{Relocation}
@@ -115,15 +116,14 @@ no_third None k first l = omega (arith, l)
 no_third (Some v) k first l = omega (arith, l)
 
 -- no byte has an address
-no_addresses : (B : _) (ns : List ℕ) (low high : ℕ) (list : List Address) → Chain (λ (a : Address). a.operand) (IsAddress B target.Bytes ns) low high list → list ≡ []
+no_addresses : (B : _) (ns : List ℕ) (low high : ℕ) (list : List Address) → Chain (λ (a : Address). a.operand) (IsAddress B (target.Data width.Byte) ns) low high list → list ≡ []
 no_addresses B ns low high [] h = refl
 no_addresses B ns low high (a ∷ list) h = let k = (h.1).kind in absurd (cc)
 
 -- as many words as it was laid with
 pub item_count : (all : List Contents) (places : List Place) (number : ℕ) (m : Contents) (names : Definitions) (i : LaidContent) (c : Content) → length (item_words all places number m names i c) ≡ words_in c
 item_count all places number m names i (Operands (target.Instruction f) trees) = form_size f (numbers_under all places number m names i.section i.offset (target.Instruction f) trees)
-item_count all places number m names i (Operands target.Words trees) = counted_length _ 0 trees
-item_count all places number m names i (Operands target.Bytes trees) = counted_length _ 0 trees
+item_count all places number m names i (Operands (target.Data w) trees) = counted_length _ 0 trees
 item_count all places number m names i (Words bytes) = refl
 item_count all places number m names i (Zeros count) = zero_count count
 item_count all places number m names i (Exported exported) = refl
@@ -206,10 +206,10 @@ module _ (all : List Contents) (places : List Place) (number : ℕ) (p : Progres
 
     -- ---- `.word` and `.int`
 
-    words_linked : (trees : List Tree) (s : Sheet) (j : ℕ) → sheet_of target.Words (table_at (all_names p) i.section i.offset) trees ≡ Ok s → j < length made.words
-        → ◌≡◌ {A = Made} (record { section = i.section; offset = i.offset; words = s.numbers; relocations = relocations_of target.Words i.section i.offset s.addresses }) made
-        → IsLinked j (numbers_under all places number m p.names i.section i.offset target.Words trees)
-    words_linked trees s j is l q = by (find (is_relocation_at i.section (i.offset + j)) m.relocations) refl ∙ ap (λ ns. slice_index ns j) (comes target.Words trees s is)
+    words_linked : (trees : List Tree) (s : Sheet) (j : ℕ) → sheet_of (target.Data width.Word) (table_at (all_names p) i.section i.offset) trees ≡ Ok s → j < length made.words
+        → ◌≡◌ {A = Made} (record { section = i.section; offset = i.offset; words = s.numbers; relocations = relocations_of (target.Data width.Word) i.section i.offset s.addresses }) made
+        → IsLinked j (numbers_under all places number m p.names i.section i.offset (target.Data width.Word) trees)
+    words_linked trees s j is l q = by (find (is_relocation_at i.section (i.offset + j)) m.relocations) refl ∙ ap (λ ns. slice_index ns j) (comes (target.Data width.Word) trees s is)
       where
         word_is : word_at m i.section (i.offset + j) ≡ slice_index s.numbers j
         word_is = read j l ∙ sym (ap (λ (x : Made). slice_index x.words j) q)
@@ -221,37 +221,37 @@ module _ (all : List Contents) (places : List Place) (number : ℕ) (p : Progres
             → relocated all places number m o (word_at m i.section (i.offset + j)) ≡ slice_index (fold (numbered value) s.numbers s.addresses) j
         by None e =
             word_is
-            ∙ sym (fill_other value s.numbers s.addresses j (λ a d at. none_own j (relocation_at target.Words i.section i.offset a) e
-            (subst (λ (x : Made). Contains x.relocations (relocation_at target.Words i.section i.offset a)) q (in_map (relocation_at target.Words i.section i.offset) s.addresses a d))
+            ∙ sym (fill_other value s.numbers s.addresses j (λ a d at. none_own j (relocation_at (target.Data width.Word) i.section i.offset a) e
+            (subst (λ (x : Made). Contains x.relocations (relocation_at (target.Data width.Word) i.section i.offset a)) q (in_map (relocation_at (target.Data width.Word) i.section i.offset) s.addresses a d))
             (ap (λ n. i.offset + n) at)))
         by (Some r) e =
             let f = found_own j r l e in
-            let g = from_map (relocation_at target.Words i.section i.offset) s.addresses r (subst (λ (x : Made). Contains x.relocations r) (sym q) f.0) in
+            let g = from_map (relocation_at (target.Data width.Word) i.section i.offset) s.addresses r (subst (λ (x : Made). Contains x.relocations r) (sym q) f.0) in
             let a = g.0 in
             let there : i.offset + a.operand ≡ r.offset = ap (λ (x : Relocation). x.offset) g.2 in
             let o = f.1 in
             let at : a.operand ≡ j = omega (arith, there, o) in
-            let sheet = sheet_is target.Words trees s is in
-            let h = chain_has (λ (x : Address). x.operand) (IsAddress (base_in p) target.Words s.numbers) 0 (length s.numbers) s.addresses a sheet.addresses g.1 in
+            let sheet = sheet_is (target.Data width.Word) trees s is in
+            let h = chain_has (λ (x : Address). x.operand) (IsAddress (base_in p) (target.Data width.Word) s.numbers) 0 (length s.numbers) s.addresses a sheet.addresses g.1 in
             let empty : word_at m i.section (i.offset + j) ≡ 0 = word_is ∙ ap (slice_index s.numbers) (sym at) ∙ (h.2).clear in
             sym (ap (λ (x : Relocation). filled x.kind (field_number x.kind (relocated_value all places number m x)) (word_at m i.section (i.offset + j))) g.2)
             ∙ ap (filled a.kind (value a)) empty
             ∙ filled_zero a.kind (value a) 0 (zero_field a.kind)
             ∙ (let z : 0 + value a ≡ value a = omega arith in z)
-            ∙ sym (fill_at value (IsAddress (base_in p) target.Words s.numbers) 0 (length s.numbers) s.numbers s.addresses j a sheet.addresses g.1 at small)
+            ∙ sym (fill_at value (IsAddress (base_in p) (target.Data width.Word) s.numbers) 0 (length s.numbers) s.numbers s.addresses j a sheet.addresses g.1 at small)
 
     -- ---- `.byte`
 
-    bytes_linked : (trees : List Tree) (s : Sheet) (j : ℕ) → sheet_of target.Bytes (table_at (all_names p) i.section i.offset) trees ≡ Ok s → j < length made.words
-        → ◌≡◌ {A = Made} (record { section = i.section; offset = i.offset; words = s.numbers; relocations = relocations_of target.Bytes i.section i.offset s.addresses }) made
-        → IsLinked j (numbers_under all places number m p.names i.section i.offset target.Bytes trees)
+    bytes_linked : (trees : List Tree) (s : Sheet) (j : ℕ) → sheet_of (target.Data width.Byte) (table_at (all_names p) i.section i.offset) trees ≡ Ok s → j < length made.words
+        → ◌≡◌ {A = Made} (record { section = i.section; offset = i.offset; words = s.numbers; relocations = relocations_of (target.Data width.Byte) i.section i.offset s.addresses }) made
+        → IsLinked j (numbers_under all places number m p.names i.section i.offset (target.Data width.Byte) trees)
     bytes_linked trees s j is l q =
-        let sheet = sheet_is target.Bytes trees s is in
+        let sheet = sheet_is (target.Data width.Byte) trees s is in
         let none = no_addresses (base_in p) s.numbers 0 (length s.numbers) s.addresses sheet.addresses in
         let bare : ◌≡◌ {A = Made} (record { section = i.section; offset = i.offset; words = s.numbers; relocations = [] }) made =
-        sym (ap (λ (list : List Address). record { section = i.section; offset = i.offset; words = s.numbers; relocations = relocations_of target.Bytes i.section i.offset list }) none) ∙ q in
+        sym (ap (λ (list : List Address). record { section = i.section; offset = i.offset; words = s.numbers; relocations = relocations_of (target.Data width.Byte) i.section i.offset list }) none) ∙ q in
         bare_linked s.numbers j l bare
-        ∙ ap (λ ns. slice_index ns j) (sym (ap (λ (list : List Address). fold (numbered value) s.numbers list) none) ∙ comes target.Bytes trees s is)
+        ∙ ap (λ ns. slice_index ns j) (sym (ap (λ (list : List Address). fold (numbered value) s.numbers list) none) ∙ comes (target.Data width.Byte) trees s is)
 
     -- ---- instructions
 
@@ -296,12 +296,12 @@ module _ (all : List Contents) (places : List Place) (number : ℕ) (p : Progres
             let s = bound (sheet_of (target.Instruction f) (table_at (all_names p) i.section i.offset) trees) (λ s. Ok (record { section = i.section; offset = i.offset; words = words_of (target.Instruction f) s.numbers; relocations = relocations_of (target.Instruction f) i.section i.offset s.addresses })) made (ap (made_by (all_names p) i) (sym e) ∙ (stands i c).gives) in
             let n = ap words_in e in
             insn_linked f trees s.0 j s.1 e (omega (arith, n, l))
-        by (Operands target.Words trees) e k =
-            let s = bound (sheet_of target.Words (table_at (all_names p) i.section i.offset) trees) (λ s. Ok (record { section = i.section; offset = i.offset; words = words_of target.Words s.numbers; relocations = relocations_of target.Words i.section i.offset s.addresses })) made (ap (made_by (all_names p) i) (sym e) ∙ (stands i c).gives) in
-            words_linked trees s.0 j s.1 k (same_made (record { section = i.section; offset = i.offset; words = (s.0).numbers; relocations = relocations_of target.Words i.section i.offset (s.0).addresses }) made s.2)
-        by (Operands target.Bytes trees) e k =
-            let s = bound (sheet_of target.Bytes (table_at (all_names p) i.section i.offset) trees) (λ s. Ok (record { section = i.section; offset = i.offset; words = words_of target.Bytes s.numbers; relocations = relocations_of target.Bytes i.section i.offset s.addresses })) made (ap (made_by (all_names p) i) (sym e) ∙ (stands i c).gives) in
-            bytes_linked trees s.0 j s.1 k (same_made (record { section = i.section; offset = i.offset; words = (s.0).numbers; relocations = relocations_of target.Bytes i.section i.offset (s.0).addresses }) made s.2)
+        by (Operands (target.Data width.Word) trees) e k =
+            let s = bound (sheet_of (target.Data width.Word) (table_at (all_names p) i.section i.offset) trees) (λ s. Ok (record { section = i.section; offset = i.offset; words = words_of (target.Data width.Word) s.numbers; relocations = relocations_of (target.Data width.Word) i.section i.offset s.addresses })) made (ap (made_by (all_names p) i) (sym e) ∙ (stands i c).gives) in
+            words_linked trees s.0 j s.1 k (same_made (record { section = i.section; offset = i.offset; words = (s.0).numbers; relocations = relocations_of (target.Data width.Word) i.section i.offset (s.0).addresses }) made s.2)
+        by (Operands (target.Data width.Byte) trees) e k =
+            let s = bound (sheet_of (target.Data width.Byte) (table_at (all_names p) i.section i.offset) trees) (λ s. Ok (record { section = i.section; offset = i.offset; words = words_of (target.Data width.Byte) s.numbers; relocations = relocations_of (target.Data width.Byte) i.section i.offset s.addresses })) made (ap (made_by (all_names p) i) (sym e) ∙ (stands i c).gives) in
+            bytes_linked trees s.0 j s.1 k (same_made (record { section = i.section; offset = i.offset; words = (s.0).numbers; relocations = relocations_of (target.Data width.Byte) i.section i.offset (s.0).addresses }) made s.2)
         by (Words bytes) e k = bare_linked bytes j k (same_made (record { section = i.section; offset = i.offset; words = bytes; relocations = [] }) made (ap (made_by (all_names p) i) (sym e) ∙ (stands i c).gives))
         by (Zeros count) e k = bare_linked (replicate count 0) j k (same_made (record { section = i.section; offset = i.offset; words = replicate count 0; relocations = [] }) made (ap (made_by (all_names p) i) (sym e) ∙ (stands i c).gives))
         by (Exported exported) e k =

@@ -51,8 +51,7 @@ one_said names i (Operands (target.Instruction f) trees) m before e = on (sheet_
         → (at_origin i.origin r >>= λ s. Ok (before ++ record { section = i.section; offset = i.offset; form = f; sheet = s } ∷ [])) ≡ Ok (before ++ with_operands i f r)
     on (Ok s) e = refl
     on (Err f) e = absurd (cc)
-one_said names i (Operands target.Words trees) m before e = no_more before
-one_said names i (Operands target.Bytes trees) m before e = no_more before
+one_said names i (Operands (target.Data w) trees) m before e = no_more before
 one_said names i (Words words) m before e = no_more before
 one_said names i (Zeros count) m before e = no_more before
 one_said names i (Exported exported) m before e = no_more before
@@ -84,8 +83,7 @@ one_mark names k i (Operands (target.Instruction f) trees) m e = on (sheet_of (t
         → cond (eqb i.section k) (mark_by i (Operands (target.Instruction f) trees)) [] ≡ map mark_of (filter (λ x. eqb x.section k) (with_operands i f r))
     on (Ok s) e = by s (eqb i.section k)
     on (Err f) e = absurd (cc)
-one_mark names k i (Operands target.Words trees) m e = no_mark (eqb i.section k)
-one_mark names k i (Operands target.Bytes trees) m e = no_mark (eqb i.section k)
+one_mark names k i (Operands (target.Data w) trees) m e = no_mark (eqb i.section k)
 one_mark names k i (Words words) m e = no_mark (eqb i.section k)
 one_mark names k i (Zeros count) m e = no_mark (eqb i.section k)
 one_mark names k i (Exported exported) m e = no_mark (eqb i.section k)
@@ -106,8 +104,7 @@ marks_said names k (i ∷ is) (m ∷ ms) give =
 
 part_filtered : (k n : ℕ) (i : LaidContent) (c : Content) → i.section ≡ n → filter (λ m. eqb m.section k) (mark_by i c) ≡ cond (eqb n k) (mark_by i c) []
 part_filtered k n i (Operands (target.Instruction f) trees) e = ap (λ s. cond (eqb s k) (mark_by i (Operands (target.Instruction f) trees)) []) e
-part_filtered k n i (Operands target.Words trees) e = sym (no_mark (eqb n k))
-part_filtered k n i (Operands target.Bytes trees) e = sym (no_mark (eqb n k))
+part_filtered k n i (Operands (target.Data w) trees) e = sym (no_mark (eqb n k))
 part_filtered k n i (Words words) e = sym (no_mark (eqb n k))
 part_filtered k n i (Zeros count) e = sym (no_mark (eqb n k))
 part_filtered k n i (Exported exported) e = sym (no_mark (eqb n k))

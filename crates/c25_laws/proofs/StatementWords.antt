@@ -18,6 +18,7 @@ use Rattle.c25_meaning_instructions.specs.Table.{Reads, opcode_word, second_word
 use Rattle.c25_meaning_language.specs.Tree.{Tree}
 use Rattle.c25_meaning_language.specs.Value.{defined, named_by, predefined}
 use Rattle.c25_meaning_assembly.specs.declared.assembly.Address.{Address}
+use Rattle.c25_meaning_assembly.specs.declared.assembly.DataWidth.TheVariants as width
 use Rattle.c25_meaning_assembly.specs.declared.assembly.Target.TheVariants as target
 use Rattle.c25_meaning_objects.specs.declared.object.Relocation.{Relocation}
 use Rattle.c25_meaning_common.specs.declared.relocation.RelocationKind.{RelocationKind}
@@ -72,16 +73,16 @@ in_front x y xs h =
         on (suc k) l e = absurd (omega (arith, l))
 
 -- the relocations of `.word` are of words
-word_kinds : (B : Base → Type 0) (section offset low high : ℕ) (ns : List ℕ) (list : List Address) (r : Relocation) → Chain (λ (a : Address). a.operand) (IsAddress B target.Words ns) low high list
-    → Contains (map (relocation_at target.Words section offset) list) r → r.kind ≡ Word16
+word_kinds : (B : Base → Type 0) (section offset low high : ℕ) (ns : List ℕ) (list : List Address) (r : Relocation) → Chain (λ (a : Address). a.operand) (IsAddress B (target.Data width.Word) ns) low high list
+    → Contains (map (relocation_at (target.Data width.Word) section offset) list) r → r.kind ≡ Word16
 word_kinds B section offset low high ns [] r h c = absurd (nothing_in r c)
 word_kinds B section offset low high ns (a ∷ list) r h c =
-    elim (in_front (relocation_at target.Words section offset a) r (map (relocation_at target.Words section offset) list) c) [
+    elim (in_front (relocation_at (target.Data width.Word) section offset a) r (map (relocation_at (target.Data width.Word) section offset) list) c) [
       | inl e ↦ sym (ap (λ (x : Relocation). x.kind) e) ∙ word_kind a.kind (h.1).kind
       | inr e ↦ word_kinds B section offset (a.operand + 1) high ns list r h.2 e
     ]
   where
-    word_kind : (k : RelocationKind) → relocation_of (field_of target.Words a.operand) ≡ Some k → k ≡ Word16
+    word_kind : (k : RelocationKind) → relocation_of (field_of (target.Data width.Word) a.operand) ≡ Some k → k ≡ Word16
     word_kind k e = cc
 
 module _ (B : Base → Type 0) (none : B Absolute) (names : Definitions) (known : (name : List ℕ) (w : Value) → named_by (predefined name) (defined names name) ≡ Some w → IsGoodValue B w) where
@@ -121,20 +122,20 @@ module _ (B : Base → Type 0) (none : B Absolute) (names : Definitions) (known 
   said_of i m (Operands (target.Instruction f) trees) good here e =
       let a = insn_said i m f trees (sheet_of (target.Instruction f) (table_at names i.section i.offset) trees) refl good here e in
       (a.0, λ r h. inl a.1)
-  said_of i m (Operands target.Words trees) good here e =
-      let s = bound (sheet_of target.Words (table_at names i.section i.offset) trees) (λ s. Ok (record { section = i.section; offset = i.offset; words = words_of target.Words s.numbers; relocations = relocations_of target.Words i.section i.offset s.addresses })) m e in
-      let made : Made = record { section = i.section; offset = i.offset; words = words_of target.Words (s.0).numbers; relocations = relocations_of target.Words i.section i.offset (s.0).addresses } in
+  said_of i m (Operands (target.Data width.Word) trees) good here e =
+      let s = bound (sheet_of (target.Data width.Word) (table_at names i.section i.offset) trees) (λ s. Ok (record { section = i.section; offset = i.offset; words = words_of (target.Data width.Word) s.numbers; relocations = relocations_of (target.Data width.Word) i.section i.offset s.addresses })) m e in
+      let made : Made = record { section = i.section; offset = i.offset; words = words_of (target.Data width.Word) (s.0).numbers; relocations = relocations_of (target.Data width.Word) i.section i.offset (s.0).addresses } in
       let q : made ≡ m = let last = s.2 in cc in
-      let sheet = sheet_made B none target.Words (table_at names i.section i.offset) known here trees s.0 s.1 in
+      let sheet = sheet_made B none (target.Data width.Word) (table_at names i.section i.offset) known here trees s.0 s.1 in
       (tt, λ r h. inr (word_kinds B i.section i.offset 0 (length (s.0).numbers) (s.0).numbers (s.0).addresses r sheet.addresses (subst (λ (x : Made). Contains x.relocations r) (sym q) h)))
-  said_of i m (Operands target.Bytes trees) good here e =
-      let s = bound (sheet_of target.Bytes (table_at names i.section i.offset) trees) (λ s. Ok (record { section = i.section; offset = i.offset; words = words_of target.Bytes s.numbers; relocations = relocations_of target.Bytes i.section i.offset s.addresses })) m e in
-      let made : Made = record { section = i.section; offset = i.offset; words = words_of target.Bytes (s.0).numbers; relocations = relocations_of target.Bytes i.section i.offset (s.0).addresses } in
+  said_of i m (Operands (target.Data width.Byte) trees) good here e =
+      let s = bound (sheet_of (target.Data width.Byte) (table_at names i.section i.offset) trees) (λ s. Ok (record { section = i.section; offset = i.offset; words = words_of (target.Data width.Byte) s.numbers; relocations = relocations_of (target.Data width.Byte) i.section i.offset s.addresses })) m e in
+      let made : Made = record { section = i.section; offset = i.offset; words = words_of (target.Data width.Byte) (s.0).numbers; relocations = relocations_of (target.Data width.Byte) i.section i.offset (s.0).addresses } in
       let q : made ≡ m = let last = s.2 in cc in
-      let sheet = sheet_made B none target.Bytes (table_at names i.section i.offset) known here trees s.0 s.1 in
+      let sheet = sheet_made B none (target.Data width.Byte) (table_at names i.section i.offset) known here trees s.0 s.1 in
       (tt, λ r h. absurd (no_bytes (s.0).numbers 0 (length (s.0).numbers) (s.0).addresses r sheet.addresses (subst (λ (x : Made). Contains x.relocations r) (sym q) h)))
     where
-      no_bytes : (ns : List ℕ) (low high : ℕ) (list : List Address) (r : Relocation) → Chain (λ (a : Address). a.operand) (IsAddress B target.Bytes ns) low high list → Contains (map (relocation_at target.Bytes i.section i.offset) list) r → ⊥
+      no_bytes : (ns : List ℕ) (low high : ℕ) (list : List Address) (r : Relocation) → Chain (λ (a : Address). a.operand) (IsAddress B (target.Data width.Byte) ns) low high list → Contains (map (relocation_at (target.Data width.Byte) i.section i.offset) list) r → ⊥
       no_bytes ns low high [] r h c = nothing_in r c
       no_bytes ns low high (a ∷ list) r h c = let k = (h.1).kind in absurd (cc)
   said_of i m (Words ws) good here e = (tt, λ r h. absurd (bare_said i m (Words ws) ws e r h))

@@ -62,8 +62,7 @@ module _ (modules : List Contents) (places : List Place) (number : ℕ) (m : Con
             insn = insn_of f ns;
           } ∷ []) (sym (numbers_are i f trees s is))
       on (Err f) is e = absurd (cc)
-  one_item i (Operands target.Words trees) made e = refl
-  one_item i (Operands target.Bytes trees) made e = refl
+  one_item i (Operands (target.Data w) trees) made e = refl
   one_item i (Words words) made e = refl
   one_item i (Zeros count) made e = refl
   one_item i (Exported exported) made e = refl

@@ -17,8 +17,7 @@ use Rattle.c25_laws.specs.ProgramStatements.{lines_in, numbers_under}
 -- the words of an item: an instruction, `.word` and `.int`, `.byte`, the bytes of `.string`, the zeros of `.space`
 abbrev pub item_words : List Contents → List Place → ℕ → Contents → Definitions → LaidContent → Content → List ℕ
 item_words modules places number m names i (Operands (target.Instruction f) trees) = words (insn_of f (numbers_under modules places number m names i.section i.offset (target.Instruction f) trees))
-item_words modules places number m names i (Operands target.Words trees) = numbers_under modules places number m names i.section i.offset target.Words trees
-item_words modules places number m names i (Operands target.Bytes trees) = numbers_under modules places number m names i.section i.offset target.Bytes trees
+item_words modules places number m names i (Operands (target.Data w) trees) = numbers_under modules places number m names i.section i.offset (target.Data w) trees
 item_words modules places number m names i (Words bytes) = bytes
 item_words modules places number m names i (Zeros count) = replicate count 0
 item_words modules places number m names i (Exported exported) = []

@@ -68,8 +68,7 @@ AreWithin t size addresses = All (λ a. word_of (field_of t a.operand) a.operand
 -- the words of a line, by the numbers of its operands
 abbrev pub words_of : Target → List ℕ → List ℕ
 words_of (target.Instruction f) ns = words (insn_of f ns)
-words_of target.Words ns = ns
-words_of target.Bytes ns = ns
+words_of (target.Data w) ns = ns
 
 -- the relocation of an address in a line that begins at this offset of this section
 abbrev pub relocation_at : Target → ℕ → ℕ → Address → Relocation

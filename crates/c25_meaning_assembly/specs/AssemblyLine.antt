@@ -12,6 +12,7 @@ use Rattle.c25_meaning_language.specs.Forms.{is_expression}
 use Rattle.c25_meaning_common.specs.Results.{◌>>=◌}
 use Rattle.c25_meaning_assembly.specs.StatementLine.{spelled, operation_of, trees_in}
 use Rattle.c25_meaning_language.specs.Tree.{Tree}
+use Rattle.c25_meaning_assembly.specs.declared.assembly.DataWidth.TheVariants as width
 use Rattle.c25_meaning_assembly.specs.declared.assembly.Directive.{Directive}
 use Rattle.c25_meaning_assembly.specs.declared.assembly.Directive.TheVariants as directive
 use Rattle.c25_meaning_assembly.specs.declared.assembly.Target.{Target}
@@ -218,8 +219,8 @@ act_of directive.Data label operands = without (Enter (codes ".data")) operands
 act_of directive.Sect label operands = entering operands
 act_of directive.Bss label operands = reserving operands
 act_of directive.Usect label operands = reserving_in label operands
-act_of directive.Word label operands = expressions_in operands >>= λ es. Ok (Put target.Words es)
-act_of directive.Byte label operands = expressions_in operands >>= λ es. Ok (Put target.Bytes es)
+act_of directive.Word label operands = expressions_in operands >>= λ es. Ok (Put (target.Data width.Word) es)
+act_of directive.Byte label operands = expressions_in operands >>= λ es. Ok (Put (target.Data width.Byte) es)
 act_of directive.Characters label operands = loading operands
 act_of directive.Space label operands = with_expression Space operands
 act_of directive.Set label operands = with_expression (Equate label) operands

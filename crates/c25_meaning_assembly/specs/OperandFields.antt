@@ -4,16 +4,22 @@ use Rattle.std.specs.Prelude.{ℕ, List, slice_index}
 use Rattle.c25_meaning_language.specs.Fits.{Holds}
 use Rattle.c25_meaning_language.specs.Statement.{form_field, form_row}
 use Rattle.c25_meaning_instructions.specs.Table.{size}
+use Rattle.c25_meaning_assembly.specs.declared.assembly.DataWidth.{DataWidth}
+use Rattle.c25_meaning_assembly.specs.declared.assembly.DataWidth.TheVariants as width
 use Rattle.c25_meaning_assembly.specs.declared.assembly.Target.{Target}
 use Rattle.c25_meaning_assembly.specs.declared.assembly.Target.TheVariants as target
 use Rattle.c25_meaning_language.specs.declared.statement.Field.{Field}
 use Rattle.c25_meaning_language.specs.declared.statement.Field.TheVariants as field
 
+-- the field that a value of a data directive fills
+abbrev pub data_field : DataWidth → Field
+data_field width.Word = field.Word
+data_field width.Byte = field.Byte
+
 -- the field that the expression with index `k` of a line fills
 abbrev pub field_of : Target → ℕ → Field
 field_of (target.Instruction f) k = form_field f k
-field_of target.Words k = field.Word
-field_of target.Bytes k = field.Byte
+field_of (target.Data w) k = data_field w
 
 -- the numbers of a line fit its fields; a number that is not written counts as 0
 abbrev pub FitsTarget : Target → List ℕ → Type 0
@@ -29,5 +35,4 @@ word_of _ k = k
 -- how many words a line with `k` expressions makes
 abbrev pub target_size : Target → ℕ → ℕ
 target_size (target.Instruction f) k = size (form_row f)
-target_size target.Words k = k
-target_size target.Bytes k = k
+target_size (target.Data w) k = k

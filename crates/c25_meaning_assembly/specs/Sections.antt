@@ -255,8 +255,7 @@ abbrev pub mark : Origin → Target → ℕ → ℕ → ℕ → Progress → Res
 mark origin (target.Instruction f) section offset n p =
     use_line origin p >>= λ q.
     Ok (record q { sections = changed (with_mark origin (record { section = section; offset = offset; size = n })) q.sections section })
-mark origin target.Words section offset n p = Ok p
-mark origin target.Bytes section offset n p = Ok p
+mark origin (target.Data w) section offset n p = Ok p
 
 -- ---- reserved words
 

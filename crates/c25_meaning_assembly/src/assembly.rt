@@ -39,15 +39,22 @@ pub enum Directive {
     Ignored,
 }
 
+/// How wide the values of a data directive are; each of them makes a word.
+#[derive(Clone, Copy)]
+pub enum DataWidth {
+    /// 16 bits: `.word`, `.int`
+    Word,
+    /// Eight bits: `.byte`
+    Byte,
+}
+
 /// What the operands of a line are for.
 #[derive(Clone, Copy)]
 pub enum Target {
     /// The operands of an instruction of this form.
     Instruction(Form),
-    /// Values of `.word` and `.int`: a word for each.
-    Words,
-    /// Values of `.byte`: a word for each, which has eight bits.
-    Bytes,
+    /// A word for each value of this width.
+    Data(DataWidth),
 }
 
 /// An operand whose value is an address: its index among the expressions of the line, from 0; how the address

@@ -44,8 +44,7 @@ FitForm (form.Plain name change) n = Unit {0}
 -- so many expressions are no more than a line has fields
 abbrev pub IsCount : Target → ℕ → Type 0
 IsCount (target.Instruction f) n = FitForm f n
-IsCount target.Words n = Unit {0}
-IsCount target.Bytes n = Unit {0}
+IsCount (target.Data w) n = Unit {0}
 
 -- ---- expressions among operands
 

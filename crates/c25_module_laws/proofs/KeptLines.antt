@@ -258,8 +258,7 @@ put_marked origin (target.Instruction f) trees p q r h e =
     let u = line_used origin q a.0 h.kept.told a.1 in
     let same : with_marks a.0 ≡ r = let last = a.2 in cc in
     subst AllKept (ap with_marks (sym u.same) ∙ same) (marked origin f trees (a.0).files p q u.told u.known h)
-put_marked origin target.Words trees p q r h e = let same : q ≡ r = cc in subst AllKept same (unmarked (laid_item origin (Operands target.Words trees) p) p q refl h)
-put_marked origin target.Bytes trees p q r h e = let same : q ≡ r = cc in subst AllKept same (unmarked (laid_item origin (Operands target.Bytes trees) p) p q refl h)
+put_marked origin (target.Data w) trees p q r h e = let same : q ≡ r = cc in subst AllKept same (unmarked (laid_item origin (Operands (target.Data w) trees) p) p q refl h)
 
 put_kept : (origin : Origin) (t : Target) (trees : List Tree) (p q : Progress) → IsCount t (length trees) → AllKept p → meaning.put origin t trees p ≡ Ok q → AllKept q
 put_kept origin t trees p q few kept e =

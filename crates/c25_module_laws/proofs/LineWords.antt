@@ -11,6 +11,7 @@ use Rattle.c25_meaning_common.specs.Fields.{field_values}
 use Rattle.c25_meaning_language.specs.Statement.{form_field, insn_of, relocation_of}
 use Rattle.c25_meaning_instructions.specs.Table.{opcode_word, words}
 use Rattle.c25_meaning_assembly.specs.declared.assembly.Address.{Address}
+use Rattle.c25_meaning_assembly.specs.declared.assembly.DataWidth.TheVariants as width
 use Rattle.c25_meaning_assembly.specs.declared.assembly.Target.{Target}
 use Rattle.c25_meaning_assembly.specs.declared.assembly.Target.TheVariants as target
 use Rattle.c25_meaning_instructions.specs.declared.insn.Insn.{Insn}
@@ -62,14 +63,13 @@ each_word (n ∷ ns) h = (h 0, each_word ns (λ k. h (suc k)))
 -- the words of a line's numbers are words
 pub line_words : (t : Target) (ns : List ℕ) → FitsTarget t ns → AreWords (words_of t ns)
 line_words (target.Instruction f) ns h = insn_words (insn_of f ns) (first_below (insn_of f ns) (opcode_word_placed (insn_of f ns) (in_range f ns h)))
-line_words target.Words ns h = each_word ns h
-line_words target.Bytes ns h = each_word ns (λ k. let l = h k in omega (arith, l))
+line_words (target.Data width.Word) ns h = each_word ns h
+line_words (target.Data width.Byte) ns h = each_word ns (λ k. let l = h k in omega (arith, l))
 
 -- a line has as many words as its operands ask for
 pub line_size : (t : Target) (ns : List ℕ) → length (words_of t ns) ≡ target_size t (length ns)
 line_size (target.Instruction f) ns = form_size f ns
-line_size target.Words ns = refl
-line_size target.Bytes ns = refl
+line_size (target.Data w) ns = refl
 
 -- ---- relocations
 
@@ -166,19 +166,19 @@ module _ (B : Base → Type 0) (section offset : ℕ) where
 
   -- ---- words
 
-  words_filled : (ns : List ℕ) (low : ℕ) (list : List Address) → Chain (λ (a : Address). a.operand) (IsAddress B target.Words ns) low (length ns) list
-      → AreFilled B section offset ns (offset + low) (offset + length ns) (map (relocation_at target.Words section offset) list)
+  words_filled : (ns : List ℕ) (low : ℕ) (list : List Address) → Chain (λ (a : Address). a.operand) (IsAddress B (target.Data width.Word) ns) low (length ns) list
+      → AreFilled B section offset ns (offset + low) (offset + length ns) (map (relocation_at (target.Data width.Word) section offset) list)
   words_filled ns low [] h = omega (arith, h)
   words_filled ns low (a ∷ list) h =
       let g = h.1 in
-      let l = chain_bound (λ (a : Address). a.operand) (IsAddress B target.Words ns) (a.operand + 1) (length ns) list h.2 in
+      let l = chain_bound (λ (a : Address). a.operand) (IsAddress B (target.Data width.Word) ns) (a.operand + 1) (length ns) list h.2 in
       let e : offset + (a.operand + 1) ≡ offset + a.operand + 1 = omega arith in (
         let m = h.0 in omega (arith, m),
-        filled_at target.Words ns a g (omega (arith, l)) (zero_clear a.kind g.kind g.clear),
-        subst (λ (n : ℕ). AreFilled B section offset ns n (offset + length ns) (map (relocation_at target.Words section offset) list)) e (words_filled ns (a.operand + 1) list h.2),
+        filled_at (target.Data width.Word) ns a g (omega (arith, l)) (zero_clear a.kind g.kind g.clear),
+        subst (λ (n : ℕ). AreFilled B section offset ns n (offset + length ns) (map (relocation_at (target.Data width.Word) section offset) list)) e (words_filled ns (a.operand + 1) list h.2),
       )
     where
-      zero_clear : (k : RelocationKind) → relocation_of (field_of target.Words a.operand) ≡ Some k → slice_index ns a.operand ≡ 0 → slice_index ns a.operand % field_values k ≡ 0
+      zero_clear : (k : RelocationKind) → relocation_of (field_of (target.Data width.Word) a.operand) ≡ Some k → slice_index ns a.operand ≡ 0 → slice_index ns a.operand % field_values k ≡ 0
       zero_clear k e z = let q : kind.Word16 ≡ k = cc in subst (λ (x : RelocationKind). slice_index ns a.operand % field_values x ≡ 0) q (rw z refl)
 
   -- the relocations of a line
@@ -194,6 +194,6 @@ module _ (B : Base → Type 0) (section offset : ℕ) where
   line_filled (target.Instruction (form.LongMem name a)) ns list few h = two_filled name a ns list few h
   line_filled (target.Instruction (form.Jump name c)) ns list few h = one_filled (form.Jump name c) ns list (alone (form.Jump name c) (λ n b e. cc)) few h
   line_filled (target.Instruction (form.Plain name c)) ns list few h = one_filled (form.Plain name c) ns list (alone (form.Plain name c) (λ n b e. cc)) few h
-  line_filled target.Words ns list few h = let z : offset + 0 ≡ offset = omega arith in subst (λ (n : ℕ). AreFilled B section offset ns n (offset + length ns) (map (relocation_at target.Words section offset) list)) z (words_filled ns 0 list h)
-  line_filled target.Bytes ns [] few h = omega arith
-  line_filled target.Bytes ns (a ∷ list) few h = let g = (h.1).kind in absurd (cc)
+  line_filled (target.Data width.Word) ns list few h = let z : offset + 0 ≡ offset = omega arith in subst (λ (n : ℕ). AreFilled B section offset ns n (offset + length ns) (map (relocation_at (target.Data width.Word) section offset) list)) z (words_filled ns 0 list h)
+  line_filled (target.Data width.Byte) ns [] few h = omega arith
+  line_filled (target.Data width.Byte) ns (a ∷ list) few h = let g = (h.1).kind in absurd (cc)

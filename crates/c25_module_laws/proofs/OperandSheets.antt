@@ -13,6 +13,7 @@ use Rattle.c25_meaning_language.specs.Statement.{number_in, relocation_of, value
 use Rattle.c25_meaning_language.specs.Tree.{Tree}
 use Rattle.c25_meaning_language.specs.Value.{Table, value_named}
 use Rattle.c25_meaning_assembly.specs.declared.assembly.Address.{Address}
+use Rattle.c25_meaning_assembly.specs.declared.assembly.DataWidth.TheVariants as width
 use Rattle.c25_meaning_assembly.specs.declared.assembly.Target.{Target}
 use Rattle.c25_meaning_assembly.specs.declared.assembly.Target.TheVariants as target
 use Rattle.c25_meaning_objects.specs.declared.object.RelocationBase.{RelocationBase}
@@ -49,8 +50,8 @@ pub record IsSheet (B : Base → Type 0) (t : Target) (n : ℕ) (s : Sheet) : Ty
 
 zero_holds : (t : Target) (k : ℕ) → Holds (field_of t k) 0
 zero_holds (target.Instruction f) k = holds_zero-form f k
-zero_holds target.Words k = omega arith
-zero_holds target.Bytes k = omega arith
+zero_holds (target.Data width.Word) k = omega arith
+zero_holds (target.Data width.Byte) k = omega arith
 
 length_push : {X : Type 0} (xs : List X) (x : X) → length (xs ++ x ∷ []) ≡ length xs + 1
 length_push xs x = length-append xs (x ∷ [])

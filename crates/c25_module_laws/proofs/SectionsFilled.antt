@@ -60,8 +60,7 @@ row_size (family.Plain name) = refl
 
 marks_behind : (k high : ℕ) (i : LaidContent) (c : Content) (ms : List ModuleMark) → i.section ≡ k → AreMarks k (i.offset + words_in c) high ms → AreMarks k i.offset high (mark_by i c ++ ms)
 marks_behind k high i (Operands (target.Instruction f) trees) ms is h = (is, row_size (form_row f), omega arith, h)
-marks_behind k high i (Operands target.Words trees) ms is h = marks_lower k i.offset (i.offset + length trees) high ms (omega arith) h
-marks_behind k high i (Operands target.Bytes trees) ms is h = marks_lower k i.offset (i.offset + length trees) high ms (omega arith) h
+marks_behind k high i (Operands (target.Data w) trees) ms is h = marks_lower k i.offset (i.offset + length trees) high ms (omega arith) h
 marks_behind k high i (Words words) ms is h = marks_lower k i.offset (i.offset + length words) high ms (omega arith) h
 marks_behind k high i (Zeros count) ms is h = marks_lower k i.offset (i.offset + count) high ms (omega arith) h
 marks_behind k high i (Exported names) ms is h = marks_lower k i.offset (i.offset + 0) high ms (omega arith) h

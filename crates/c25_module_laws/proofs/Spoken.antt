@@ -18,6 +18,7 @@ use Rattle.c25_meaning_language.specs.Operands.{operands_of, is_comma, line_faul
 use Rattle.c25_meaning_common.specs.Results.{◌>>=◌, told}
 use Rattle.c25_meaning_assembly.specs.StatementLine.{spelled, operation_of}
 use Rattle.c25_meaning_language.specs.Tree.{Tree}
+use Rattle.c25_meaning_assembly.specs.declared.assembly.DataWidth.TheVariants as width
 use Rattle.c25_meaning_assembly.specs.declared.assembly.Directive.{Directive}
 use Rattle.c25_meaning_assembly.specs.declared.assembly.Directive.TheVariants as directive
 use Rattle.c25_meaning_assembly.specs.declared.assembly.Target.TheVariants as target
@@ -365,8 +366,8 @@ act_good directive.Data label os act l h e = without_good _ act os refl e
 act_good directive.Sect label os act l h e = entering_good os act e
 act_good directive.Bss label os act l h e = reserving_good os act h e
 act_good directive.Usect label os act l h e = reserving_in_good label os act (l refl) e
-act_good directive.Word label os act l h e = let a = bound (expressions_in os) (λ es. Ok (line.Put target.Words es)) act e in given (line.Put target.Words a.0) act a.2 tt
-act_good directive.Byte label os act l h e = let a = bound (expressions_in os) (λ es. Ok (line.Put target.Bytes es)) act e in given (line.Put target.Bytes a.0) act a.2 tt
+act_good directive.Word label os act l h e = let a = bound (expressions_in os) (λ es. Ok (line.Put (target.Data width.Word) es)) act e in given (line.Put (target.Data width.Word) a.0) act a.2 tt
+act_good directive.Byte label os act l h e = let a = bound (expressions_in os) (λ es. Ok (line.Put (target.Data width.Byte) es)) act e in given (line.Put (target.Data width.Byte) a.0) act a.2 tt
 act_good directive.Characters label os act l h e = loading_good os act h e
 act_good directive.Space label os act l h e = expression_good line.Space os act (λ _. tt) e
 act_good directive.Set label os act l h e = expression_good (line.Equate label) os act (λ _. l refl) e

@@ -13,6 +13,7 @@ use Rattle.c25_meaning_instructions.specs.Table.{size}
 use Rattle.c25_meaning_language.specs.Tree.{Tree}
 use Rattle.c25_meaning_language.specs.Value.{Table}
 use Rattle.c25_meaning_assembly.specs.declared.assembly.Address.{Address}
+use Rattle.c25_meaning_assembly.specs.declared.assembly.DataWidth.TheVariants as width
 use Rattle.c25_meaning_assembly.specs.declared.assembly.Target.{Target}
 use Rattle.c25_meaning_assembly.specs.declared.assembly.Target.TheVariants as target
 use Rattle.c25_meaning_instructions.specs.declared.mnemonic.ShortName.TheVariants as short
@@ -45,8 +46,8 @@ record Good (t : Target) (s : Sheet) : Type 0 where
 
 zero_holds : (t : Target) (k : ℕ) → Holds (field_of t k) 0
 zero_holds (target.Instruction f) k = holds_zero-form f k
-zero_holds target.Words k = omega arith
-zero_holds target.Bytes k = omega arith
+zero_holds (target.Data width.Word) k = omega arith
+zero_holds (target.Data width.Byte) k = omega arith
 
 length_push : {X : Type 0} (xs : List X) (x : X) → length (xs ++ x ∷ []) ≡ length xs + 1
 length_push xs x = length-append xs (x ∷ [])
@@ -161,8 +162,8 @@ word_in_form (form.Plain _ written) kind k h = absurd (cc)
 word_within : (t : Target) (n : ℕ) (a : Address) → Takes t n a → word_of (field_of t a.operand) a.operand < target_size t n
 unfolding Takes
 word_within (target.Instruction f) n a h = word_in_form f a.kind a.operand h.1
-word_within target.Words n a h = h.0
-word_within target.Bytes n a h = absurd (cc (h.1))
+word_within (target.Data width.Word) n a h = h.0
+word_within (target.Data width.Byte) n a h = absurd (cc (h.1))
 
 -- the numbers of all operands fit
 pub fits_sheet : (t : Target) (table : Table) (es : List Tree) (s : Sheet) → sheet_of t table es ≡ Ok s → FitsTarget t s.numbers

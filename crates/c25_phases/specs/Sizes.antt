@@ -22,5 +22,4 @@ IsBlockSize false n = Unit {0}
 -- an instruction has one word or two
 abbrev pub IsSize : Target → ℕ → Type 0
 IsSize (target.Instruction f) n = (0 < n) × (n ≤ 2)
-IsSize target.Words n = Unit {0}
-IsSize target.Bytes n = Unit {0}
+IsSize (target.Data w) n = Unit {0}

@@ -178,7 +178,7 @@ impl<'a> Progress<'a> {
     {
         match target {
             Target::Instruction(_) => self.mark(origin, section, offset as u16, words as u8),
-            Target::Words | Target::Bytes => Ok(()),
+            Target::Data(_) => Ok(()),
         }
     }
 

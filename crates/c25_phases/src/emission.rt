@@ -163,7 +163,7 @@ fn put_sheet(
             let code = encode(&insn);
             sections.extend(section, code.as_slice(), relocations.as_slice())
         }
-        Target::Words | Target::Bytes => {
+        Target::Data(_) => {
             sections.extend(section, sheet.numbers(), relocations.as_slice())
         }
     }

@@ -6,7 +6,7 @@ ghost use Rattle.c25_meaning_assembly.specs.OperandFields.{field_of, word_of, ta
 ghost use Rattle.c25_phases.specs.Sizes.{IsSize};
 
 use c25_isa::size_of;
-use c25_meaning_assembly::assembly::Target;
+use c25_meaning_assembly::assembly::{DataWidth, Target};
 use c25_meaning_language::statement::{Field, Form};
 use c25_statements::fields::form_field;
 use c25_statements::forms::form_row;
@@ -17,8 +17,8 @@ pub(crate) fn field_of(target: Target, index: usize) -> Field
 {
     match target {
         Target::Instruction(form) => form_field(form, index),
-        Target::Words => Field::Word,
-        Target::Bytes => Field::Byte,
+        Target::Data(DataWidth::Word) => Field::Word,
+        Target::Data(DataWidth::Byte) => Field::Byte,
     }
 }
 
@@ -40,7 +40,7 @@ pub(crate) fn target_size(target: Target, operands: usize) -> usize
 {
     match target {
         Target::Instruction(form) => size_of(form_row(form)) as usize,
-        Target::Words | Target::Bytes => operands,
+        Target::Data(_) => operands,
     }
 }
 

@@ -16,8 +16,9 @@ use Rattle.c25_meaning_assembly.specs.Emission.{emitted, emit_all, table_at}
 use Rattle.c25_meaning_assembly.specs.OperandFields.{target_size}
 use Rattle.c25_meaning_assembly.specs.Sections.{LaidContent, Operands, Origin, Progress, Section, is_file_name, is_line_number, lay, grow, pass, use_line}
 use Rattle.c25_meaning_assembly.specs.declared.assembly.Address.{Address}
+use Rattle.c25_meaning_assembly.specs.declared.assembly.DataWidth.{DataWidth}
 use Rattle.c25_meaning_assembly.specs.declared.assembly.Target.{Target}
-use Rattle.c25_meaning_assembly.specs.declared.assembly.Target.TheVariants.{Bytes, Instruction, Words}
+use Rattle.c25_meaning_assembly.specs.declared.assembly.Target.TheVariants.{Data, Instruction}
 use Rattle.c25_meaning_objects.specs.declared.object.ModuleMark.{ModuleMark}
 use Rattle.c25_print_laws.specs.Saying.{HasNumbers}
 
@@ -71,15 +72,10 @@ module _ (origin : Origin) (es : List Tree) (n : ℕ) (marks : List ModuleMark) 
   unfolding pass lay grow use_line
   next_passes f h = rw (fits n (size (form_row f)) h, numbered, same_bytes origin.file) refl
 
-  words_pass : (names : List (List ℕ)) → n + length es ≤ 65536 → pass origin (record { label = None; act = Put Words es }) (standing n marks origins items names)
-      ≡ Ok (standing (n + length es) marks origins (items ++ item_at origin n Words es ∷ []) names)
+  data_pass : (w : DataWidth) (names : List (List ℕ)) → n + length es ≤ 65536 → pass origin (record { label = None; act = Put (Data w) es }) (standing n marks origins items names)
+      ≡ Ok (standing (n + length es) marks origins (items ++ item_at origin n (Data w) es ∷ []) names)
   unfolding pass lay grow
-  words_pass names h = rw (fits n (length es) h) refl
-
-  bytes_pass : (names : List (List ℕ)) → n + length es ≤ 65536 → pass origin (record { label = None; act = Put Bytes es }) (standing n marks origins items names)
-      ≡ Ok (standing (n + length es) marks origins (items ++ item_at origin n Bytes es ∷ []) names)
-  unfolding pass lay grow
-  bytes_pass names h = rw (fits n (length es) h) refl
+  data_pass w names h = rw (fits n (length es) h) refl
 
   -- whatever it puts
   pub leads : (t : Target) (names : List (List ℕ)) → IsUsed origin.file names → n + target_size t (length es) ≤ 65536 → Leads origin t es n items (standing n marks origins items names)
@@ -97,8 +93,7 @@ module _ (origin : Origin) (es : List Tree) (n : ℕ) (marks : List ModuleMark) 
     used = inr refl;
     passes = ap (λ ns. pass origin (record { label = None; act = Put (Instruction f) es }) (standing n marks origins items ns)) this ∙ next_passes f h;
   }
-  leads Words names used h = record { marks = marks; origins = origins; names = names; used = used; passes = words_pass names h }
-  leads Bytes names used h = record { marks = marks; origins = origins; names = names; used = used; passes = bytes_pass names h }
+  leads (Data w) names used h = record { marks = marks; origins = origins; names = names; used = used; passes = data_pass w names h }
 
 -- ---- words
 

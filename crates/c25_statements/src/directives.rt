@@ -10,7 +10,7 @@ use crate::operands::{alone, expressions_in, flagged, later_in, some, some_names
 use crate::sections::section_in;
 use crate::statement::AssemblyAct;
 use crate::strings::strings_in;
-use c25_meaning_assembly::assembly::{Directive, Target};
+use c25_meaning_assembly::assembly::{DataWidth, Directive, Target};
 use c25_meaning_common::failure::Failure;
 use c25_meaning_language::statement::FaultKind;
 use c25_expr::directive_operands::{expression_in, name_in};
@@ -242,8 +242,8 @@ pub(crate) fn act_of<'a>(
         Directive::Sect => entering(alloc, operands),
         Directive::Bss => reserving(alloc, operands),
         Directive::Usect => reserving_in(alloc, label, operands),
-        Directive::Word => putting(alloc, Target::Words, operands),
-        Directive::Byte => putting(alloc, Target::Bytes, operands),
+        Directive::Word => putting(alloc, Target::Data(DataWidth::Word), operands),
+        Directive::Byte => putting(alloc, Target::Data(DataWidth::Byte), operands),
         Directive::Characters => loading(alloc, operands),
         Directive::Space => spacing(alloc, operands),
         Directive::Set => equating(alloc, label, operands),
