@@ -44,7 +44,7 @@ passes_by a b d l (Err f) here there h =
     let both : ◌≡◌ {A = Result Passed ExpansionFault} (Err f) (Ok d) = sym (line_is b l (Err f) there) ∙ h in
     absurd (cc)
 
--- a line that passes behind the ones passes behind the others
+-- a line that passes after the first lines passes after the others
 pub passes_alike : (listed : Bool) (a b d : Passed) (l : ExpandedLine) → AreAlike listed a b → pass_line l b ≡ Ok d → (e : Passed) × (pass_line l a ≡ Ok e) × AreAlike listed e d
 passes_alike true a b d l same h = (d, ap (pass_line l) same ∙ h, refl)
 passes_alike false a b d l same h = passes_by a b d l (read_and_pass l b.progress) (ap (read_and_pass l) same) refl h
@@ -60,7 +60,7 @@ fails_alike : (listed : Bool) (a b : Passed) (l : ExpandedLine) (f : ExpansionFa
 fails_alike true a b l f same h = ap (pass_line l) same ∙ h
 fails_alike false a b l f same h = fails_by a b l f (read_and_pass l b.progress) (ap (read_and_pass l) same) refl h
 
--- one that is refused behind the ones is refused behind the others
+-- a line that is refused after the first lines is refused after the others
 pub refused_alike : (listed : Bool) (a b : Passed) (l : ExpandedLine) (e : Failure AsmFault) → AreAlike listed a b → FailsBy fault_of (pass_line l b) e → FailsBy fault_of (pass_line l a) e
 refused_alike listed a b l (NoMemory n) same h = tt
 refused_alike listed a b l (Fault f) same h = fails_alike listed a b l (fault_of f) same h

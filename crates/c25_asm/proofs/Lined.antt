@@ -23,7 +23,7 @@ entry_is l old new section offset size count s a b c =
     ap (made section offset) (c ∙ ap (λ n. n - offset) b) ∙ ap (λ m. made section m (size_at new.sections section - m)) a
     ∙ ap (λ t. made t (size_at old.sections t) (size_at new.sections t - size_at old.sections t)) s
 
--- a line that passes comes behind the others
+-- the entry of a line that passes comes after the others
 pub line_passed : (l : ExpandedLine) (a : Passed) (p : Progress) (entries : List Entry) → text_passed (origin_of l) l.text a.progress ≡ Ok p
     → entries ≡ a.entries ++ entry_of l a.progress p ∷ [] → pass_line l a ≡ Ok (record { progress = p; entries = entries })
 unfolding pass_line
@@ -31,7 +31,7 @@ line_passed l a p entries h e =
     let made : Progress → List Entry → Passed = λ q es. record { progress = q; entries = es } in
     ap (λ (r : Result Progress FaultKind). at_origin (origin_of l) r >>= λ q. Ok (made q (a.entries ++ entry_of l a.progress q ∷ []))) h ∙ ap (λ es. Ok (made p es)) (sym e)
 
--- the same where it has its entry only if a listing is wanted
+-- the entry of a line that passes comes after the others, where a listing is wanted
 pub line_listed : (listed : Bool) (l : ExpandedLine) (a : Passed) (p : Progress) (entries : List Entry) → text_passed (origin_of l) l.text a.progress ≡ Ok p
     → (listed ≡ true → entries ≡ a.entries ++ entry_of l a.progress p ∷ [])
     → (b : Passed) × (pass_line l a ≡ Ok b) × AreAlike listed b (record { progress = p; entries = entries })
@@ -39,7 +39,7 @@ line_listed true l a p entries h e = (record { progress = p; entries = entries }
 line_listed false l a p entries h e =
     (record { progress = p; entries = a.entries ++ entry_of l a.progress p ∷ [] }, line_passed l a p (a.entries ++ entry_of l a.progress p ∷ []) h refl, refl)
 
--- a growth that was refused is an answer whatever is meant
+-- out of memory is an answer whatever is meant
 pub refused_growth : (listed : Bool) (meant : Result Passed ExpansionFault) (answer : Result code.Passed (Failure AsmFault)) → IsErrAnd answer IsNoMemory → Passes listed meant answer
 refused_growth listed meant (Ok x) h = absurd h
 refused_growth listed meant (Err (NoMemory n)) h = tt

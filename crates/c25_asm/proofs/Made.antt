@@ -54,7 +54,7 @@ module _ (listed : Bool) (files : Files) (name : List ℕ) (a made : Passed) (pa
       by_listing true same = ap (λ (x : Passed). record { contents = m; entries = x.entries }) same
       by_listing false same = refl
 
-  -- one of them is not
+  -- an operand is wrong
   pub unfinished : (e : Failure AsmFault) → FailsBy fault_of (finished made.progress) e → FailsBy fault_of (assembled files name) e
   unfinished (NoMemory n) h = tt
   unfinished (Fault f) h = assembled_so (Err (fault_of f)) h

@@ -1,4 +1,4 @@
--- A source that is refused so has no module, and this fault is told.
+-- A source with a trail has no module, and the trail's fault is reported.
 use Rattle.std.proofs.Common.{◌≡◌, ℕ, zero, suc, ◌+◌, ◌<◌, List, [], ◌∷◌, ◌++◌, length, Option, Some, None, Result, Ok, Err, ◌⊎◌, inl, inr, option_map, refl, ap, sym, ◌∙◌, arith, subst}
 use Rattle.c25_meaning_assembly.specs.Emission.{all_names, at_origin, emit, emit_all, finished, module_with}
 use Rattle.c25_meaning_assembly.specs.Sections.{Definitions, LaidContent, Progress, Section, start, table}
@@ -54,7 +54,7 @@ read_before files s c d l (Finishes e) is h = absurd (cc)
 read_before files s c d l (Faults place kind) is h = absurd (cc)
 read_before files s c d l (Misses place name) is h = absurd (cc)
 
--- one that does not merely go on is the first of these
+-- a rewriting that does not merely go on is the first of the rest
 at_once : (files : Files) (s : Table) (c : Config) → IsLast (rewrite files s c) → first files s c ≡ rewrite files s c
 at_once files s c last = comes_to_first files s c (rewrite files s c) (zero, c, refl, refl) last
 
@@ -94,7 +94,7 @@ module _ (files : Files) (a : Passed) (n : ℕ) (c : Config) where
       ap (λ (x : Rewriting). passed_by (fault_by files x) (given_by files x) (passed files n) a)
       (at_once files (table a.progress) c (subst IsLast (sym h) tt) ∙ h)
 
--- the lines of the module of a name make what those from here on make behind these
+-- all lines of the module of a name make what the lines from here on make after those before
 pub record Rest (files : Files) (name : List ℕ) (c : Config) (p : Progress) : Type 0 where
   pub behind : Passed
   pub made : behind.progress ≡ p
@@ -126,7 +126,7 @@ over files name c d p r e =
       rest = r.rest ∙ over_going files r.behind r.count c d here;
     }
 
--- a line that is given here, and what the others make behind it
+-- a line that is given here, and what the lines after it make
 pub record Line (files : Files) (name : List ℕ) (p : Progress) (l : ExpandedLine) (d : Config) : Type 0 where
   pub behind : Passed
   pub made : behind.progress ≡ p
@@ -155,7 +155,7 @@ behind_line files name d p q l (suc n) behind made few rest e =
       rest = rest ∙ ap (λ (x : Result Passed ExpansionFault). x >>= λ b. passed files (suc n) d b) (line_passes behind l (Ok q) here);
     }
 
--- so it is wherever rewritings and lines lead
+-- the lines from here on make the rest, wherever rewritings and lines lead
 pub rest_of : (files : Files) (name : List ℕ) (c : Config) (p : Progress) (trail : List SourcePlace) → Reaches files name c p trail → Rest files name c p
 rest_of files name c p trail (begins e none empty) = at_start files name c p e none
 rest_of files name c p trail (goes reached e after) = over files name _ c p (rest_of files name _ p _ reached) e
@@ -256,7 +256,7 @@ none_refused files name p f trail h (inr w) =
 same_ok : (a b : Passed) → ◌≡◌ {A = Result Passed ExpansionFault} (Ok a) (Ok b) → a ≡ b
 same_ok a b e = cc
 
--- all lines make one thing
+-- all lines make the same thing each time
 pub made_once : (files : Files) (name : List ℕ) (p q : Progress) → PassesAll files name p → PassesAll files name q → p ≡ q
 made_once files name p q h k =
     let one = made_of files name p h in

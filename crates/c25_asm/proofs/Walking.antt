@@ -52,7 +52,7 @@ module _ (old new : Trace) (s : Table) (p : Progress) (here : s ≡ table p) (na
   }
 
 module _ (old new : Trace) (s : Table) (p : Progress) (sought : Option ℕ) (here : s ≡ table p) (few : HasFewNames p) (before : has_come sought p.items ≡ false) where
-  -- it goes on
+  -- the rewriting gives no line, and the walk goes on
   pub goes_on : (q : Progress) → q ≡ p → Steps s old (Ok step.Went) new → LeadsOn old p sought new q
   goes_on q same h = subst (λ (x : Progress). LeadsOn old p sought new x) (sym same) (record {
     moved = h.1;

@@ -1,4 +1,4 @@
--- The lines that a module still has.
+-- What the lines that a module still has make.
 use Rattle.std.specs.Prelude.{◌≡◌, ◌<◌, ℕ, Bool, List, Result, Err}
 use Rattle.c25_macro.specs.Expander.{Expansion, Stage, Stands, Absent, Failed}
 use Rattle.c25_meaning_language.specs.ExpansionFault.{ExpansionFault, Missing}
@@ -9,13 +9,14 @@ use Rattle.c25_phases.specs.declared.fault.AsmFault.{AsmFault}
 use Rattle.c25_asm.specs.Listed.{AreAlike, Passes}
 use Rattle.c25_asm.specs.declared.passed.Passed.{Passed}
 
--- what all lines of the module of a name make, where an expansion stands there and these have passed
+-- what all lines of the module of a name make, where an expansion has come this far and the lines so far have
+-- passed
 abbrev pub StillComes : Files → List ℕ → Stage → source.Passed → Result source.Passed ExpansionFault → Type 0
 StillComes files name (Stands c) a meant = (n : ℕ) × (c.left < n) × (source.passed files n c a ≡ meant)
 StillComes files name Absent a meant = meant ≡ Err (Missing name 0 name)
 StillComes files name (Failed f) a meant = ⊥
 
--- the same behind lines that are alike to these
+-- what all lines make, after lines that are alike to these
 pub record Comes (listed : Bool) (files : Files) (name : List ℕ) (stage : Stage) (made : source.Passed) (meant : Result source.Passed ExpansionFault) : Type 0 where
   pub behind : source.Passed
   pub alike : AreAlike listed behind made

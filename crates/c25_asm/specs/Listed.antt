@@ -1,4 +1,4 @@
--- What is told of lines and modules, of which a listing may be wanted.
+-- Lines and modules of which a listing may be wanted.
 use Rattle.std.specs.Prelude.{◌≡◌, Bool, true, false, ℕ, List, Result, Ok, Err}
 use Rattle.c25_listing.specs.declared.listing.Listing.{Listing}
 use Rattle.c25_meaning_common.specs.Results.{◌>>=◌, FailsBy}

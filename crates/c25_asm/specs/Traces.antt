@@ -1,4 +1,4 @@
--- What becomes of a source.
+-- Whether a source is assembled, and the trail of its fault.
 use Rattle.std.specs.Prelude.{◌≡◌, ℕ, List, Some, None}
 use Rattle.c25_macro.specs.Tracers.{fault_in}
 use Rattle.c25_meaning_assembly.specs.Sections.{Progress}
@@ -11,11 +11,11 @@ use Rattle.c25_asm.specs.declared.tracing.Traced.TheVariants.{Absent, Whole}
 use Rattle.c25_asm.specs.declared.tracing.Traced.TheVariants as traced
 use Rattle.c25_asm.specs.declared.tracing.Refused.{Refused}
 
--- the source of a name is refused so
+-- the source of a name is refused with this fault and this trail
 abbrev pub IsRefused : Files → (name : List ℕ) → Refused → Type 0
 IsRefused files name r = IsTrail files name (fault_in r.fault) r.trail.items
 
--- what becomes of the source of a name
+-- whether the source of a name is there, is assembled, or is refused
 abbrev pub IsTraced : Files → (name : List ℕ) → Traced → Type 0
 IsTraced files name Absent = start_of files name ≡ None
 IsTraced files name Whole = IsWhole files name

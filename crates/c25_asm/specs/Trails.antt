@@ -20,7 +20,7 @@ pub data Reaches (files : Files) (name : List ℕ) : Config → Progress → Lis
   passes : {c d : Config} {p q : Progress} {trail after : List SourcePlace} (line : ExpandedLine) → Reaches files name c p trail
       → given_by files (rewrite files (table p) c) ≡ Some (line, d) → read_and_pass line p ≡ Ok q → after ≡ trail_after c d trail → Reaches files name d q after
 
--- all lines pass, and have made this
+-- all lines pass, and make this
 pub record PassesAll (files : Files) (name : List ℕ) (p : Progress) : Type 0 where
   pub at : Config
   pub trail : List SourcePlace
@@ -35,7 +35,7 @@ pub record IsUnexpanded (files : Files) (name : List ℕ) (fault : ExpansionFaul
   pub reaches : Reaches files name at made trail
   pub refused : fault_by files (rewrite files (table made) at) ≡ Some fault
 
--- a line is given behind these
+-- a line is given after the lines that have made this
 pub record Gives (files : Files) (name : List ℕ) (made : Progress) (line : ExpandedLine) (trail : List SourcePlace) : Type 0 where
   pub at : Config
   pub before : List SourcePlace
@@ -61,7 +61,7 @@ pub record ComesWith (files : Files) (name : List ℕ) (number : ℕ) (trail : L
   pub not_before : length made.items ≤ number
   pub by_then : number < length after.items
 
--- all lines pass, and then the first item that is wrong is one that came with this line
+-- all lines pass, and the first item that is wrong came with this line
 pub record IsWrongItem (files : Files) (name : List ℕ) (fault : ExpansionFault) (trail : List SourcePlace) : Type 0 where
   pub made : Progress
   pub passes : PassesAll files name made

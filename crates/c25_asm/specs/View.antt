@@ -5,7 +5,7 @@ use Rattle.c25_listing.specs.declared.listing.Listing.{Listing}
 use Rattle.c25_phases.specs.View.{progress_of}
 use Rattle.c25_asm.specs.declared.passed.Passed.{Passed}
 
--- the lines so far
+-- the state between two lines
 abbrev pub passed_of : Passed → source.Passed
 passed_of p = record { progress = progress_of p.progress.value; entries = entries_of p.entries.items }
 

@@ -1,4 +1,4 @@
--- What a walk through the lines of a source comes to.
+-- How a walk through the lines of a source ends.
 use Rattle.std.specs.Prelude.{◌≡◌, ◌⊎◌, ℕ, ◌≤◌, Bool, true, false, nat_lt, List, length, Option, Some, None, Ok, Err}
 use Rattle.c25_macro.specs.Expander.{shown}
 use Rattle.c25_macro.specs.Tracers.{Moved, Trace, fault_in}
@@ -18,12 +18,12 @@ use Rattle.c25_asm.specs.declared.walk.Turn.TheVariants as turn
 abbrev pub HasFewNames : Progress → Type 0
 HasFewNames p = name_count p.names p.declared ≤ 65535
 
--- whether the item of the number that is sought, if one is, is among these
+-- whether the item of the sought number is among these; false where no number is sought
 abbrev pub has_come : (sought : Option ℕ) → List LaidContent → Bool
 has_come None items = false
 has_come (Some number) items = nat_lt number (length items)
 
--- what a line behind these leads to
+-- what one line more leads to
 abbrev pub Passes : ExpLine → Progress → (sought : Option ℕ) → Turn → Type 0
 Passes line p sought (turn.On q) =
     (read_and_pass (shown line) p ≡ Ok (progress_of q.value)) × HasFewNames (progress_of q.value) × (has_come sought (progress_of q.value).items ≡ false)
@@ -31,7 +31,7 @@ Passes line p sought (turn.Ended (end.Passed q)) = ⊥
 Passes line p sought (turn.Ended end.Reached) = (q : Progress) × (read_and_pass (shown line) p ≡ Ok q) × (has_come sought q.items ≡ true)
 Passes line p sought (turn.Ended (end.Refused f)) = read_and_pass (shown line) p ≡ Err (fault_in f)
 
--- the item that is sought comes with a line, behind these lines that opened what is open
+-- the sought item comes with a line, after these lines that opened what is open
 abbrev pub ComesSought : Files → (name : List ℕ) → (sought : Option ℕ) → List SourcePlace → Type 0
 ComesSought files name None trail = ⊥
 ComesSought files name (Some number) trail = ComesWith files name number trail
@@ -43,11 +43,11 @@ Ends files name sought trail (end.Passed p) =
 Ends files name sought trail end.Reached = ComesSought files name sought trail
 Ends files name sought trail (end.Refused f) = IsUnexpanded files name (fault_in f) trail ⊎ IsWrongLine files name (fault_in f) trail
 
--- the same of a walk that begins behind some lines
+-- how a walk ends that begins after some lines
 abbrev pub EndsWalk : Trace → Progress → (sought : Option ℕ) → Trace → End → Type 0
 EndsWalk old made sought new end = (name : List ℕ) → Reaches old.files name old.at made old.trail → Ends old.files name sought new.trail end
 
--- it goes on behind these lines to there
+-- a walk goes on from there to here
 pub record LeadsOn (old : Trace) (made : Progress) (sought : Option ℕ) (new : Trace) (next : Progress) : Type 0 where
   pub moved : Moved old new
   pub few : HasFewNames next

@@ -1,4 +1,4 @@
-//! Both phases.
+//! Assembling a source: expansion, the first phase line by line, then the second phase.
 
 ghost use Rattle.c25_meaning_assembly.specs.ModuleOfSource as source;
 ghost use Rattle.c25_meaning_common.specs.Results.{MeetsBy};
@@ -23,7 +23,7 @@ use c25_phases::fault::AsmFault;
 use c25_phases::finish;
 use std::alloc::Global;
 
-/// The file of this name, that a line asks for, is not there.
+/// The fault of a line that asks for a file which is not there.
 fn no_file<'a>(alloc: Global, fault: ExpandFault<'a>, name: &str) -> Failure<AsmFault<'a>>
     ensures { IsNoFile name.now fault.entry result }
 {
@@ -37,14 +37,15 @@ fn no_file<'a>(alloc: Global, fault: ExpandFault<'a>, name: &str) -> Failure<Asm
     }
 }
 
-/// A line is wrong.
+/// The fault of a line that is wrong.
 fn wrong_line<'a>(fault: ExpandFault<'a>) -> Failure<AsmFault<'a>>
     ensures { IsWrongLine fault.entry result }
 {
     Failure::Fault(AsmFault::Line(fault))
 }
 
-/// Why expansion gives no line, as why the source has no module.
+/// The failure of expansion as the failure of the source; `missing` is the name of a file that was asked for
+/// and is not there.
 fn told<'a>(
     alloc: Global,
     missing: Option<&str>,
@@ -61,7 +62,7 @@ fn told<'a>(
     }
 }
 
-/// All lines from here on, with their entries where a listing is wanted.
+/// Passes all lines that are left, and keeps their entries where a listing is wanted.
 fn pass_rest<'a>(
     alloc: Global,
     expander: &mut Expander<'a>,
@@ -81,7 +82,7 @@ fn pass_rest<'a>(
     }
 }
 
-/// All lines of the module of a name, with their entries where a listing is wanted.
+/// Passes all lines of a module, and keeps their entries where a listing is wanted.
 fn pass_all<'a>(
     alloc: Global,
     files: &'a Files,
@@ -95,8 +96,8 @@ fn pass_all<'a>(
     pass_rest(alloc, &mut expander, passed, listed)
 }
 
-/// The module of the source of a name, with the entries of its lines where a listing is wanted, and else
-/// without entries.
+/// The module of the source of a name. It has the entries of its lines where a listing is wanted, and no
+/// entries otherwise.
 fn assemble_lines<'a>(
     alloc: Global,
     files: &'a Files,
@@ -113,14 +114,15 @@ fn assemble_lines<'a>(
     })
 }
 
-/// The module of the source of a name among these files, and its listing (SPRU018, the
-/// assembler).
+/// The module of the source of a name, and its listing (SPRU018, the assembler).
 ///
-/// Where lines are wrong, the first of a first phase is told. In one line the first of these is told:
-/// 34, 38, 10 to 13, 50, 51, 52, 20, 21, 26, of values that are needed now 22 to 25, then 30 to 33, 35,
-/// 36, 56, 54. Only where that phase finds nothing, a second phase tells the first operand of an
-/// instruction, of `.word`, `.int`, `.byte` and `.def`, without a value under all names (22 to 25),
-/// with an address where none may stand (55), or out of the range of its field (53).
+/// The first fault of the first phase is reported. One line's faults come in this order: 34, 38, 10 to 13,
+/// 50, 51, 52, 20, 21, 26, those of values that are needed at once 22 to 25, then 30 to 33, 35, 36, 56, 54.
+/// If the first phase finds no fault, the second one reports the first operand of an instruction, of `.word`,
+/// `.int`, `.byte` or `.def`, that has no value when all names are known (22 to 25), is an address where none
+/// is allowed (55), or is out of the range of its field (53).
+///
+/// `NoMemory` where memory runs out.
 pub fn assemble<'a>(
     alloc: Global,
     files: &'a Files,
@@ -131,8 +133,8 @@ pub fn assemble<'a>(
     assemble_lines(alloc, files, name, true)
 }
 
-/// The module of the source of a name among these files, without a listing. It takes no memory for the
-/// entries of the lines. It is refused as [`assemble`] is.
+/// The module of the source of a name, without a listing: no memory is taken for the entries of its lines.
+/// The failures are those of [`assemble`].
 pub fn assemble_module<'a>(
     alloc: Global,
     files: &'a Files,

@@ -1,4 +1,4 @@
-//! A law of trails, the contract of a function that does nothing.
+//! The law that a source's trail is of the fault that is reported. Its function has an empty body.
 
 ghost use Rattle.std.specs.Prelude.{◌≡◌, ℕ, List, Err};
 ghost use Rattle.c25_meaning_expansion.specs.Files.{Files};

@@ -1,12 +1,12 @@
-//! The assembler: the module of a source, and its listing where one is wanted; and where it stops.
+//! The assembler: the module of a source, and its listing where one is wanted; and where a source is refused.
 //!
-//! Each expanded line goes through the first phase under the symbols of the lines before it, and has its
-//! entry in the listing, where one is wanted. The second phase comes behind the last line.
+//! Each expanded line goes through the first phase, which knows the symbols of the lines before it, and has
+//! an entry in the listing, where one is wanted. The second phase comes after the last line.
 //!
-//! Where a source is refused, which calls of macros, copies and loops led there (`tracing`): the source is
-//! assembled once more, one rewriting after another, and the lines that opened what is open are kept
-//! meanwhile. What the second phase refuses came with a line of the first one, which is sought by the
-//! number of the item.
+//! `tracing` finds which calls of macros, copies and loops led to the line where a source is refused: it
+//! assembles the source once more, one rewriting after another, and keeps the lines that opened what is open.
+//! An item that the second phase refuses came with a line of the first phase, which is found by the item's
+//! number.
 #![tactic(auto)]
 
 mod assembly;

@@ -1,4 +1,4 @@
-//! Lines passed.
+//! The first phase of expanded lines, and their entries in the listing.
 
 ghost use Rattle.std.specs.Prelude.{◌≡◌, ◌++◌, ◌∷◌, [], IfOk, IsTrue, OnOk};
 ghost use Rattle.c25_listing.specs.View.{entries_of, entry_of};
@@ -16,7 +16,7 @@ use c25_phases::fault::AsmFault;
 use c25_phases::{Origin, Progress, at_origin, read_and_pass};
 use std::alloc::Global;
 
-/// Before the first line.
+/// The state before the first line.
 pub(crate) fn no_lines<'a>(alloc: Global) -> Result<Passed<'a>, NoMemory>
     ensures { IfOk result (λ p. passed_of p ≡ source.no_lines) }
 {
@@ -26,7 +26,7 @@ pub(crate) fn no_lines<'a>(alloc: Global) -> Result<Passed<'a>, NoMemory>
     })
 }
 
-/// One entry more, where a listing is wanted.
+/// Adds the entry of a line, where a listing is wanted.
 fn add_entry<'a>(
     entries: &mut Vec<Entry<'a>>,
     entry: Entry<'a>,
@@ -41,7 +41,7 @@ fn add_entry<'a>(
     Ok(())
 }
 
-/// One line more, with its entry where a listing is wanted.
+/// Passes one line more, and adds its entry where a listing is wanted.
 #[tactic(auto, unfolding(c25_meaning_assembly::specs::ModuleOfSource::pass_line))]
 pub(crate) fn pass_line<'a>(
     passed: Passed<'a>,

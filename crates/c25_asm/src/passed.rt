@@ -1,4 +1,4 @@
-//! The lines so far, and what they have made.
+//! The state of an assembly between two lines.
 
 ghost use Rattle.std.specs.Prelude.{◌≤◌};
 ghost use Rattle.c25_meaning_assembly.specs.Sections.{name_count};
@@ -7,8 +7,8 @@ ghost use Rattle.c25_phases.specs.View.{progress_of};
 use c25_listing::listing::Entry;
 use c25_phases::Progress;
 
-/// What the lines so far have made, and their entries in the listing where one is wanted. The first is
-/// boxed, since it is handed on from line to line.
+/// What the lines so far have made, and their entries in the listing where one is wanted. The state of the
+/// first phase is boxed, since it is handed on from line to line.
 #[derive(Drop)]
 pub(crate) struct Passed<'a> {
     pub(crate) progress: Box<Progress<'a>>,

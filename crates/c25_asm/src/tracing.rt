@@ -1,4 +1,4 @@
-//! Where a source is refused.
+//! Finding where a source is refused.
 
 ghost use Rattle.std.specs.Prelude.{IfOk};
 ghost use Rattle.c25_macro.specs.Tracers.{trace_of};
@@ -17,7 +17,7 @@ use c25_meaning_expansion::place::SourcePlace;
 use c25_phases::{Progress, WrongItem, first_wrong};
 use std::alloc::Global;
 
-/// Why a source is refused, and what is open there.
+/// The fault of a source, and what is open at its line.
 #[derive(Drop)]
 pub struct Refused<'a> {
     pub fault: StepFault<'a>,
@@ -25,18 +25,18 @@ pub struct Refused<'a> {
     pub trail: Vec<SourcePlace>,
 }
 
-/// What becomes of a source.
+/// Whether a source is assembled or refused.
 #[derive(Drop)]
 pub enum Traced<'a> {
-    /// It is not there.
+    /// The source is not there.
     Absent,
-    /// It is assembled.
+    /// The source is assembled.
     Whole,
     Refused(Refused<'a>),
 }
 
-/// The lines of a source from the first one on, up to the one with which the item of the number that is
-/// sought comes, if one is.
+/// Walks through the lines of a source from the first one on. The walk ends early with the line that brings
+/// the item of the sought number, if a number is sought.
 fn walk_all<'a>(
     alloc: Global,
     tracer: &mut Tracer<'a>,
@@ -50,7 +50,7 @@ fn walk_all<'a>(
     walk(tracer, progress, sought)
 }
 
-/// Where the first item that is wrong came from.
+/// The fault of the first item that is wrong, and what is open at the line that brought the item.
 fn trace_item<'a>(
     alloc: Global,
     files: &'a Files,
@@ -81,7 +81,9 @@ fn trace_item<'a>(
     }
 }
 
-/// What becomes of the source of a name, and if it is refused, what is open there.
+/// Whether the source of a name is assembled; and if it is refused, what is open at the line of its fault.
+///
+/// `NoMemory` where memory runs out.
 pub fn trace<'a>(alloc: Global, files: &'a Files, name: &str) -> Result<Traced<'a>, NoMemory>
     ensures { IfOk result (IsTraced files.now name.now) }
 {

@@ -1,4 +1,4 @@
-//! The lines of a source, passed one after another.
+//! Walking through the lines of a source, one rewriting after another.
 
 ghost use Rattle.std.specs.Prelude.{◌≡◌, IfOk, false};
 ghost use Rattle.c25_meaning_expansion.specs.ExpansionBounds.{IsBounded};
@@ -13,26 +13,26 @@ use c25_meaning_common::no_memory::NoMemory;
 use c25_meaning_common::placed::{FileLine, Placed};
 use c25_phases::{Origin, Progress, read_and_pass};
 
-/// Where a walk through the lines of a source ends.
+/// How a walk through the lines of a source ends.
 #[derive(Drop)]
 pub(crate) enum End<'a> {
     /// All lines have passed.
     Passed(Box<Progress<'a>>),
-    /// The item that was sought came with the last line.
+    /// The sought item came with the last line.
     Reached,
     /// A line is refused.
     Refused(StepFault<'a>),
 }
 
-/// What one rewriting leads to.
+/// What one rewriting of a walk leads to.
 #[derive(Drop)]
 pub(crate) enum Turn<'a> {
-    /// The lines have made this.
+    /// The walk goes on after what the lines so far have made.
     On(Box<Progress<'a>>),
     Ended(End<'a>),
 }
 
-/// Whether the item of the number that is sought, if one is, has come.
+/// Whether the item of the sought number has come; it has not where no number is sought.
 fn has_come(progress: &Progress<'_>, sought: Option<usize>) -> bool
     ensures { result ≡ has_come sought (progress_of progress.now).items }
 {
@@ -42,7 +42,7 @@ fn has_come(progress: &Progress<'_>, sought: Option<usize>) -> bool
     }
 }
 
-/// One line more.
+/// Passes one line more.
 fn pass<'a>(
     progress: Box<Progress<'a>>,
     line: ExpLine<'a>,
@@ -69,7 +69,7 @@ fn pass<'a>(
     }
 }
 
-/// One rewriting more.
+/// Makes one rewriting more, and passes the line if it gives one.
 fn advance<'a>(
     tracer: &mut Tracer<'a>,
     progress: Box<Progress<'a>>,
@@ -91,7 +91,8 @@ fn advance<'a>(
     }
 }
 
-/// The lines from here on, up to the one with which the item of the number that is sought comes, if one is.
+/// Walks through the lines that are left. The walk ends early with the line that brings the item of the
+/// sought number, if a number is sought.
 pub(crate) fn walk<'a>(
     tracer: &mut Tracer<'a>,
     progress: Box<Progress<'a>>,

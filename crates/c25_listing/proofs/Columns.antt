@@ -35,7 +35,7 @@ low_digits n =
     let d : n % 65536 % 16 ≡ n % 16 = omega arith in
     rw (a, b, c, d) refl
 
--- four texts behind a line, one after another
+-- four texts appended to a line, one after another
 pub four_behind : (l l1 l2 l3 l4 a b c d : List ℕ) → l1 ≡ l ++ a → l2 ≡ l1 ++ b → l3 ≡ l2 ++ c → l4 ≡ l3 ++ d → l4 ≡ l ++ (a ++ (b ++ (c ++ d)))
 four_behind l l1 l2 l3 l4 a b c d first second third fourth =
     fourth ∙ ap (λ t. t ++ d) (third ∙ ap (λ t. t ++ c) (second ∙ ap (λ t. t ++ b) first)) ∙ simp append_assoc
@@ -45,7 +45,7 @@ pub first_further : (m : Contents) (section offset next count rest : ℕ) → ne
     → further m section offset count ≡ word_line m section offset (blanks 6) [] ++ further m section next rest
 first_further m section offset next count rest one more = rw (one, more) refl
 
--- one further word, as it goes out
+-- one further word, as it is printed
 pub further_more : (m : Contents) (section first count index : ℕ) (out new start : List ℕ) → index + 1 ≤ count
     → new ≡ out ++ word_line m section (first + index) (blanks 6) []
     → out ++ further m section (first + index) (count - index) ≡ start

@@ -6,7 +6,7 @@ use Rattle.c25_meaning_objects.specs.Module.{Contents}
 use Rattle.c25_listing.specs.View.{entries_of, entry_of}
 use Rattle.c25_listing.specs.declared.listing.Entry.{Entry}
 
--- the lines of one entry more stand behind those of the entries before it
+-- the printed lines of one entry more come after those of the entries before it
 pub entry_more : (m : Contents) (entries : List Entry) (i : ℕ) (d : Entry) (before after all : List ℕ) → i < length entries → after ≡ before ++ entry_text m (entry_of (get_or entries i d))
     → before ++ listing_text m (entries_of (drop i entries)) ≡ all → after ++ listing_text m (entries_of (drop (i + 1) entries)) ≡ all
 entry_more m entries i d before after all lt is told =

@@ -154,7 +154,7 @@ all_there [] s o = grind arith
 all_there (x ∷ xs) zero o = room_in (length (body_words x.body)) o
 all_there (x ∷ xs) (suc s) o = all_there xs s o
 
--- the flags of a module's words, behind its relocations, say which have one
+-- the flags of a module's words, after all its relocations, say which words have one
 pub flagged : (m : Contents) (all : List (List Bool)) (section offset : ℕ) → all ≡ fold with_flag (no_flags m.sections) m.relocations
     → flag_at all section offset ≡ is_relocated m section offset
 flagged m all section offset is =

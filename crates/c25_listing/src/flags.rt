@@ -1,4 +1,4 @@
-//! Which words of a module have a relocation.
+//! The words of a module that have a relocation, as flags.
 
 ghost use Rattle.std.specs.Prelude.{◌≡◌, length, replicate, false, slice_get, IfOk, fold};
 ghost use Rattle.c25_meaning_objects.specs.Module.{body_words};
@@ -41,7 +41,7 @@ fn word_count(body: &Body) -> usize
 }
 
 impl WordFlags {
-    /// No word has one.
+    /// Flags for so many words, none set.
     fn new(alloc: Global, count: usize) -> Result<WordFlags, NoMemory>
         ensures { IfOk result (λ w. w ≡ replicate count false) }
     {
@@ -49,7 +49,7 @@ impl WordFlags {
         Ok(WordFlags { flags })
     }
 
-    /// The word at an offset has one.
+    /// Sets the flag of the word at an offset.
     fn raise(&mut self, offset: usize)
         ensures { self.new ≡ raised self.old offset }
     {
@@ -68,7 +68,7 @@ impl WordFlags {
     }
 }
 
-/// No word has one.
+/// Flags for the words of sections, none set.
 fn no_flags(alloc: Global, sections: &[Section]) -> Result<Flags, NoMemory>
     ensures { IfOk result (λ f. flags_of f ≡ no_flags (sections_data sections.now)) }
 {
@@ -80,7 +80,7 @@ fn no_flags(alloc: Global, sections: &[Section]) -> Result<Flags, NoMemory>
 }
 
 impl Flags {
-    /// The word of a relocation has one.
+    /// Sets the flag of the word that a relocation is in.
     fn set(&mut self, relocation: &Relocation)
         ensures { flags_of self.new ≡ with_flag (flags_of self.old) relocation.now }
     {
@@ -89,7 +89,7 @@ impl Flags {
         }
     }
 
-    /// The words of these relocations have one.
+    /// Sets the flags of the words that relocations are in.
     fn set_all(&mut self, relocations: &[Relocation])
         ensures { flags_of self.new ≡ fold with_flag (flags_of self.old) relocations.now }
     {
@@ -98,7 +98,7 @@ impl Flags {
         }
     }
 
-    /// Whether the word at an offset of a section has one.
+    /// Whether the word at an offset of a section has a relocation.
     pub(crate) fn at(&self, section: u16, offset: usize) -> bool
         ensures { result ≡ flag_at (flags_of self.now) section offset }
     {
@@ -109,7 +109,7 @@ impl Flags {
     }
 }
 
-/// Those of a module.
+/// The flags of a module's words.
 pub(crate) fn relocated_words(alloc: Global, parts: &Parts) -> Result<Flags, NoMemory>
     ensures { IfOk result (λ f. flags_of f ≡ fold with_flag (no_flags (contents parts.now).sections) (contents parts.now).relocations) }
 {

@@ -1,4 +1,4 @@
-//! Listings: the lines of a module beside the offsets and the words that they made.
+//! Listings: the lines of a module next to the offsets and the words that they made.
 #![tactic(auto)]
 
 mod flags;

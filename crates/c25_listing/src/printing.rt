@@ -1,4 +1,4 @@
-//! The lines of a listing.
+//! How the lines of a listing are printed.
 
 ghost use Rattle.std.specs.Prelude.{◌≡◌, ◌≤◌, ◌+◌, ◌++◌, [], OnOk, IfOk, fold, slice_index};
 ghost use Rattle.std.specs.String.{string_bytes};
@@ -56,7 +56,7 @@ fn push_word(out: &mut String, word: u16) -> Result<(), AllocError>
     write!(out, "{high:02X}{low:02X}")
 }
 
-/// Appends a line's number, at the right of six columns.
+/// Appends a line's number, right-aligned in six columns.
 #[tactic(auto, using(crate::proofs::Columns::six_columns))]
 fn push_number(out: &mut String, number: usize) -> Result<(), AllocError>
     ensures { OnOk result (string_bytes out.new ≡ string_bytes out.old ++ listing.number_column number) }
@@ -70,7 +70,7 @@ fn sign(is_relocated: bool) -> &'static str
     if is_relocated { "'" } else { " " }
 }
 
-/// Ends a line: it goes out without the blanks at its end, and another begins.
+/// Ends a line: appends it to the text without the blanks at its end, and begins another.
 fn end(out: &mut String, line: &mut String) -> Result<(), AllocError>
     ensures { OnOk result ((string_bytes out.new ≡ string_bytes out.old ++ listing.listed (string_bytes line.old)) × (string_bytes line.new ≡ [])) }
 {
@@ -88,7 +88,7 @@ impl<'m> Marked<'m> {
         self.flags.at(section, offset as usize)
     }
 
-    /// Appends the offset and the word there.
+    /// Appends an offset and the word there.
     #[tactic(auto, using(crate::proofs::Columns::low_digits))]
     fn push_column(&self, line: &mut String, section: u16, offset: u32) -> Result<(), AllocError>
         ensures { OnOk result (string_bytes line.new ≡ string_bytes line.old ++ listing.word_column (contents self.now.parts.now) section offset) }
@@ -102,7 +102,7 @@ impl<'m> Marked<'m> {
         Ok(())
     }
 
-    /// A line of a word, behind what the line has and before a text.
+    /// Appends a printed line with one word: what `line` already holds, the word's column, and a text.
     fn push_word_line(
         &self,
         out: &mut String,
@@ -120,7 +120,7 @@ impl<'m> Marked<'m> {
         end(out, line)
     }
 
-    /// So many further words.
+    /// Appends a printed line for each further word of an entry.
     fn push_further(
         &self,
         out: &mut String,
@@ -140,7 +140,7 @@ impl<'m> Marked<'m> {
         Ok(())
     }
 
-    /// The lines of an entry.
+    /// Appends the printed lines of an entry.
     pub(crate) fn push_entry(
         &self,
         out: &mut String,

@@ -11,9 +11,11 @@ use c25_meaning_common::no_memory::NoMemory;
 use std::alloc::Global;
 
 impl Listing<'_> {
-    /// The text of the listing: for each expanded line its number, the offset
-    /// and the word, `'` where the word has a relocation, and the line; for each further word its offset
-    /// and itself.
+    /// The printed listing. Each expanded line has its number, the offset of its first word, the word, `'`
+    /// where the word has a relocation, and the line's text; each further word has a line with its offset and
+    /// the word.
+    ///
+    /// `NoMemory` where memory runs out.
     pub fn text(&self, alloc: Global) -> Result<String, NoMemory>
         ensures { IfOk result (λ text. string_bytes text ≡ listing.listing_text self.now.module (entries_of self.now.entries.items)) }
     {

@@ -1,4 +1,4 @@
--- Names that are declared: how many of them stand for nothing, and that they come behind the others each once.
+-- Declared names: how many of them are not defined, and that they come after the others, each once.
 use denote.Ref.{Bor}
 use Rattle.std.proofs.Common.{◌≡◌, ℕ, zero, suc, ◌+◌, ◌≤◌, ◌<◌, Bool, true, false, cond, not, ◌||◌, List, [], ◌∷◌, ◌++◌, length, take, get_or, slice_get, Option, Some, None, is_some, pos, refl, sym, ap, ◌∙◌, arith}
 use Rattle.std.specs.List.{filter}
@@ -21,7 +21,7 @@ use Rattle.c25_phases.specs.Imports.{imported}
 pub same_text : (a b : List ℕ) → bytes_eq a b ≡ true → a ≡ b
 same_text a b h = (bytes_eq-Decides a b).0 h
 
--- ---- what stands for something
+-- ---- names that are defined
 
 or_of : (a b : Bool) → cond a true b ≡ (a || b)
 or_of true b = refl
@@ -36,7 +36,7 @@ found_behind (n ∷ ns) more d = on (bytes_eq d n.0) (found_behind ns more d)
     on true h = refl
     on false h = h
 
--- what stands for something behind names that were put behind
+-- a name is defined among two lists of names if it is in one of them
 pub stands_behind : (names more : Definitions) (d : List ℕ) → stands (names ++ more) d ≡ (stands names d || is_some (named_by (predefined d) (defined more d)))
 stands_behind names more d = on (predefined d)
   where
@@ -51,7 +51,7 @@ one_more (Some n) b o v h = absurd (cc)
 one_more None true o v h = refl
 one_more None false o v h = refl
 
--- whether a name stands for something once another is defined
+-- whether a name is defined once another one is
 pub stands_with : (names : Definitions) (n d : List ℕ) (v : Value) → stands names d ≡ false → stands (names ++ (n, v) ∷ []) d ≡ bytes_eq d n
 stands_with names n d v h = stands_behind names ((n, v) ∷ []) d ∙ ap (λ b. b || is_some (named_by (predefined d) (cond (bytes_eq d n) (Some v) None))) h ∙ one_more (predefined d) (bytes_eq d n) (defined names d) v h
 
@@ -114,7 +114,7 @@ declare_counts names (d ∷ ds) n = on (stands names d) (declare_counts names ds
     on true h = h
     on false h = omega (arith, h)
 
--- ---- all declared names behind the others
+-- ---- all declared names after the others
 
 numbered_has : (k : ℕ) (ns : List (List ℕ)) (d : List ℕ) → is_some (defined (numbered k ns) d) ≡ is_in ns d
 numbered_has k [] d = refl
@@ -176,7 +176,7 @@ import_by : (names : Definitions) (ns more : List (List ℕ)) (d : List ℕ) (b 
 import_by names ns more d true e is = rw e (ap (λ xs. names ++ numbered (length names) xs) (sym (is ∙ append-nil ns)))
 import_by names ns more d false e is = rw e (added names ns d ∙ ap (λ xs. names ++ numbered (length names) xs) (sym is))
 
--- one declared name more, as it comes
+-- one declared name more, in its turn
 pub import_more : (names : Definitions) (ds : List (List ℕ)) (i : ℕ) (d : List ℕ) → i < length ds → d ≡ get_or ds i d → are_distinct ds ≡ true
     → imported (names_with names (take i ds)) d ≡ names_with names (take (i + 1) ds)
 import_more names ds i d l is h =
@@ -192,7 +192,7 @@ import_at names new ds i found name some is h made =
     let there : slice_get ds i ≡ Some name.now = sym is ∙ ap (option_map (λ t. t.now)) some in
     made ∙ import_more names ds i name.now (slice_get_within ds i name.now there) (sym (get_or_from_slice_get ds i name.now name.now there)) h
 
--- each number below their count has one
+-- each number below the count of names has a name
 pub none_missing : (ds : List (List ℕ)) (i : ℕ) (found : Option (Bor (List ℕ))) → i < length ds → option_map (λ t. t.now) found ≡ slice_get ds i → ((name : Bor (List ℕ)) → found ≡ Some name → ⊥) → ⊥
 none_missing ds i (Some name) l is none = none name refl
 none_missing ds i None l is none = let there = slice_get-get_or ds i [] l in absurd (cc)

@@ -48,7 +48,7 @@ unfolding place_in
 place_of_name name [] = refl
 place_of_name name (k ∷ ks) = ap (λ n. cond (bytes_eq name k.now) 0 (1 + n)) (place_of_name name ks)
 
--- its number among them
+-- the number of a name among others
 pub number_is : (k : Bor (List ℕ)) (old : List (Bor (List ℕ))) (files : List (List ℕ)) (i : ℕ) → i ≡ position_or_len (λ x. bytes_eq k.now x.now) old → map (λ x. x.now) old ≡ files
     → i ≡ position_or_len (bytes_eq k.now) files
 number_is k old files i e are =

@@ -17,7 +17,7 @@ made_more : {X Y : Type 0} (f : X → Y) (done : List Y) (xs : List X) (i : ℕ)
 made_more f done xs i x y all at is h =
     append_assoc done (y ∷ []) (map f (drop (i + 1) xs)) ∙ ap (λ z. done ++ (z ∷ map f (drop (i + 1) xs))) is ∙ ap (λ zs. done ++ map f zs) (sym (drop_at xs i x at)) ∙ h
 
--- the same where items are seen as others
+-- one item more of what is made of each, where items are seen through a view
 pub seen_more : {S X Y : Type 0} (view : S → Y) (f : X → Y) (done more : List S) (s : S) (xs : List X) (i : ℕ) (x : X) (all : List Y) → more ≡ done ++ s ∷ []
     → slice_get xs i ≡ Some x → view s ≡ f x → map view done ++ map f (drop i xs) ≡ all → map view more ++ map f (drop (i + 1) xs) ≡ all
 seen_more view f done more s xs i x all grown at is h =
@@ -29,7 +29,7 @@ pub entry_at : (entries : Definitions) (i : ℕ) (found : Option (Bor (List ℕ)
     → option_map (λ p. (p.0.now, p.1)) found ≡ slice_get entries i → slice_get entries i ≡ Some (e.0.now, e.1)
 entry_at entries i found e is h = sym h ∙ ap (option_map (λ p. (p.0.now, p.1))) is
 
--- each number below their count has one
+-- each number below the count of entries has an entry
 pub none_missing : (entries : Definitions) (i : ℕ) (found : Option (Bor (List ℕ) × Value)) → i < length entries → option_map (λ p. (p.0.now, p.1)) found ≡ slice_get entries i
     → ((e : Bor (List ℕ) × Value) → found ≡ Some e → ⊥) → ⊥
 none_missing entries i (Some e) l is none = none e refl

@@ -6,7 +6,7 @@ use Rattle.c25_meaning_common.specs.Results.{◌>>=◌}
 use Rattle.c25_meaning_language.specs.declared.statement.FaultKind.{FaultKind}
 use Rattle.c25_phases.specs.Steps.{begun, carried_out}
 
--- what comes before its act, then its act
+-- a line is passed by what comes before its act, then by its act
 pub in_two : (origin : Origin) (s : Statement) (p : Progress) → pass origin s p ≡ (begun s.label s.act p >>= λ q. carried_out origin s.act q)
 unfolding pass
 in_two origin s p = on (allowed s.act p)

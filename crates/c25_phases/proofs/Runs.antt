@@ -1,4 +1,4 @@
--- Lines of runs, one behind another.
+-- Lines of runs, one after another.
 use Rattle.std.proofs.Common.{◌≡◌, ℕ, ◌+◌, ◌≤◌, ◌<◌, List, [], ◌∷◌, ◌++◌, length, take, drop, get_or, sym, ap, ◌∙◌, arith, append_assoc, length-drop}
 use Rattle.std.proofs.lemmas.List.{append-nil, drop-append-le, drop_all, drop_more, map-append, take-append-le, take_all}
 use Rattle.c25_meaning_assembly.specs.Sections.{Origin}

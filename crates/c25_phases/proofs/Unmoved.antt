@@ -50,7 +50,7 @@ all_keep names (i ∷ is) ss out e = on (emit names i.section i.offset ss i.cont
     on (Ok next) was h go = go next h ∙ emit_keeps names i.section i.offset ss next i.content was
     on (Err f) was h go = absurd (cc)
 
--- so their files and lines stay
+-- the files and lines of marks stay as they are
 pub lines_stay : (names : Definitions) (is : List LaidContent) (ss out : List Section) → emit_all names ss is ≡ Ok out → lines_in out ≡ lines_in ss
 unfolding lines
 lines_stay names is ss out e = ap lines_of (all_keep names is ss out e)

@@ -3,6 +3,6 @@ use Rattle.std.specs.Prelude.{ℕ, List, [], ◌∷◌, ◌++◌, length, if◌t
 use Rattle.c25_meaning_assembly.specs.Sections.{Definitions, stands}
 use Rattle.c25_meaning_language.specs.declared.value.Base.TheVariants.{External}
 
--- a name that stands for nothing is another module's, by its number among all
+-- a name that is not defined is another module's, by its number among all
 abbrev pub imported : Definitions → List ℕ → Definitions
 imported names name = if stands names name then names else names ++ (name, record { base = External (length names); offset = pos 0 }) ∷ []

@@ -1,4 +1,4 @@
--- What the second phase makes of what was laid.
+-- What the second phase makes of its input.
 use Rattle.std.specs.Prelude.{List, ℕ, Result, Ok}
 use Rattle.c25_meaning_assembly.specs.Emission.{emit_all, module_with}
 use Rattle.c25_meaning_assembly.specs.Sections.{Definitions, LaidContent, Section}

@@ -8,12 +8,12 @@ use Rattle.c25_meaning_assembly.specs.Sections.{once}
 use Rattle.c25_meaning_objects.specs.declared.object.LineMark.{LineMark}
 use Rattle.c25_module.specs.View.{files_data}
 
--- files and lines are those files and lines
+-- two lists are the names of these files and these lines
 pub record IsLined (meant : Lines) (names : List (String Global)) (marks : List LineMark) : Type 0 where
   pub files : files_data names ≡ meant.files
   pub lines : marks ≡ meant.lines
 
--- the file of this number is the first of its name
+-- the first file of this name has this number
 pub record IsAt (files : List (List ℕ)) (number : ℕ) (name : List ℕ) : Type 0 where
   pub first : number ≡ position_or_len (bytes_eq name) files
   pub within : number < length files

@@ -1,4 +1,4 @@
--- What names stand for.
+-- The names that owned strings stand for.
 use Rattle.std.specs.Prelude.{ℕ, List, map, String}
 use Rattle.std.specs.declared.alloc.Global.{Global}
 use Rattle.std.specs.String.{string_bytes}

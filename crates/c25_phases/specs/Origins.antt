@@ -1,4 +1,4 @@
--- Which lines the assembler's types stand for.
+-- The lines that the assembler's types stand for.
 use Rattle.std.specs.Prelude.{List, map}
 use Rattle.c25_meaning_assembly.specs.Sections as sections
 use Rattle.c25_phases.specs.declared.item.Origin.{Origin}
@@ -12,6 +12,6 @@ origin_of o = record { file = o.file.now; line = o.line }
 abbrev pub source_line : SourceLine → sections.Origin
 source_line l = record { file = l.file.now; line = l.line }
 
--- those of many
+-- the lines of instructions
 abbrev pub source_lines : List SourceLine → List sections.Origin
 source_lines lines = map source_line lines

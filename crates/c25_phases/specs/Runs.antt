@@ -1,4 +1,4 @@
--- Lines of runs, the name of a file once for each run of lines of it.
+-- Runs of lines, each of one file.
 use Rattle.std.specs.Prelude.{ℕ, ◌+◌, List, [], ◌∷◌, ◌++◌, drop, map, take}
 use Rattle.c25_meaning_assembly.specs.Sections.{Origin}
 use Rattle.c25_phases.specs.declared.source_lines.FileRun.{FileRun}
@@ -12,7 +12,7 @@ abbrev pub total : List FileRun → ℕ
 total [] = 0
 total (r ∷ runs) = r.count + total runs
 
--- the lines of runs, and behind them those of a file, by the numbers of all
+-- the lines of runs, and after them those of one file, by the numbers of all lines
 abbrev pub origins_in : List FileRun → (file : List ℕ) → List ℕ → List Origin
 origins_in [] file numbers = lines_of file numbers
 origins_in (r ∷ runs) file numbers = lines_of r.file.now (take r.count numbers) ++ origins_in runs file (drop r.count numbers)

@@ -1,4 +1,4 @@
--- How many words what waits will have.
+-- How many words an item has.
 use Rattle.std.specs.Prelude.{ℕ, ◌<◌, ◌≤◌, Bool, true, false, length}
 use Rattle.c25_meaning_assembly.specs.OperandFields.{target_size}
 use Rattle.c25_meaning_assembly.specs.declared.assembly.Target.{Target}
@@ -7,7 +7,7 @@ use Rattle.c25_statements.specs.Exprs.{exprs_in}
 use Rattle.c25_phases.specs.declared.item.Content.{Content}
 use Rattle.c25_phases.specs.declared.item.Content.TheVariants as content
 
--- the words of what waits
+-- the words of an item
 abbrev pub content_size : Content → ℕ
 content_size (content.Operands target operands) = target_size target (length (exprs_in operands))
 content_size (content.Words words) = length words.items

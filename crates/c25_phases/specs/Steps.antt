@@ -1,4 +1,4 @@
--- Parts of the rules of lines that functions of their own follow.
+-- Parts of the rules of lines that have functions of their own.
 use Rattle.std.specs.Prelude.{ℕ, List, [], ◌∷◌, ◌++◌, Option, Result, Ok}
 use Rattle.c25_meaning_assembly.specs.AssemblyLine.{AssemblyAct, read_statement}
 use Rattle.c25_meaning_common.specs.Results.{◌>>=◌}
@@ -18,10 +18,10 @@ marked origin m p = use_line origin p >>= λ q. Ok (record q { sections = change
 abbrev pub begun : Option (List ℕ) → AssemblyAct → Progress → Result Progress FaultKind
 begun name a p = allowed a p >>= λ _. label name p
 
--- a line's act, and that there are not too many names behind it
+-- a line's act, after which there are not too many names
 abbrev pub carried_out : Origin → AssemblyAct → Progress → Result Progress FaultKind
 carried_out origin a p = act origin a p >>= λ q. few q >>= λ _. Ok q
 
--- one item more waits
+-- one item more is left for the second phase
 abbrev pub waited : LaidContent → Progress → Result Progress FaultKind
 waited item p = Ok (record p { items = p.items ++ item ∷ [] })

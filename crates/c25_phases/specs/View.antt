@@ -15,14 +15,14 @@ use Rattle.c25_phases.specs.declared.item.Content.TheVariants as content
 use Rattle.c25_phases.specs.declared.item.LaidContent.{LaidContent}
 use Rattle.c25_phases.specs.declared.progress.Progress.{Progress}
 
--- what waits
+-- the content of an item
 abbrev pub content_of : Content → sections.Content
 content_of (content.Operands target operands) = sections.Operands target (trees_of (exprs_in operands))
 content_of (content.Words words) = sections.Words words.items
 content_of (content.Zeros count) = sections.Zeros count
 content_of (content.Exported names) = sections.Exported (bytes_of_names names.items)
 
--- what waits, and where it is of
+-- an item: its content, its line, and where it begins
 abbrev pub item_of : LaidContent → sections.LaidContent
 item_of i = record { origin = origin_of i.origin; section = i.section; offset = i.offset; content = content_of i.content }
 
@@ -39,7 +39,7 @@ progress_of p = record {
   files = p.files;
 }
 
--- what names stand for so far, and `$`
+-- the values of names so far, and of `$`
 abbrev pub symbols_of : Progress → Table
 symbols_of p = p.symbols
 

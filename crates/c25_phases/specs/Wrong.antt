@@ -6,13 +6,13 @@ use Rattle.c25_meaning_language.specs.declared.statement.FaultKind.{FaultKind}
 use Rattle.c25_phases.specs.Origins.{origin_of}
 use Rattle.c25_phases.specs.declared.wrong.WrongItem.{WrongItem}
 
--- an item that is wrong: its number among all, its line, and what is wrong with it
+-- an item that is wrong: its number among all, its line, and its fault
 pub record Wrong : Type 0 where
   pub number : ℕ
   pub origin : Origin
   pub kind : FaultKind
 
--- the first of these items that is wrong behind so many that were emitted, if one is
+-- the first of these items that is wrong, if there is one; this many items come before them
 abbrev pub wrong_from : ℕ → Definitions → List Section → List LaidContent → Option Wrong
 wrong_from number names sections [] = None
 wrong_from number names sections (item ∷ items) = elim (emit names item.section item.offset sections item.content) [
@@ -20,7 +20,7 @@ wrong_from number names sections (item ∷ items) = elim (emit names item.sectio
   | Err kind ↦ Some (record { number = number; origin = item.origin; kind = kind })
 ]
 
--- the first item of all lines that is wrong under all names
+-- the first item of all lines that is wrong when all names are known, if there is one
 abbrev pub first_wrong : Progress → Option Wrong
 first_wrong p = wrong_from 0 (all_names p) p.sections p.items
 

@@ -1,5 +1,5 @@
-//! The first phase: what one line does. The type of these methods, `Progress`, is in `progress.rt`, its
-//! other methods are in `first_phase.rt`.
+//! The first phase: what one line does. `Progress`, the type of these methods, is in `progress.rt`; its other
+//! methods are in `first_phase.rt`.
 
 ghost use Rattle.std.specs.Prelude.{◌≡◌, ◌≤◌, ◌+◌, OnOk};
 ghost use Rattle.std.specs.List.{list_any};
@@ -50,7 +50,7 @@ impl<'a> Progress<'a> {
         }
     }
 
-    /// What is looked at before the label is defined.
+    /// Checks what has to hold before the line's label is defined.
     fn allowed(&self, act: &AssemblyAct<'_>) -> Result<(), FaultKind>
         ensures { result ≡ meaning.allowed (act_of act.now) (progress_of self.now) }
     {
@@ -89,7 +89,7 @@ impl<'a> Progress<'a> {
         Ok(())
     }
 
-    /// Words for a name, a block of them where the flag is set.
+    /// Reserves words for a name in an uninitialised section; they are a block where the flag is set.
     #[tactic(auto, unfolding(c25_meaning_assembly::specs::Sections::reserve))]
     fn reserve(
         &mut self,
@@ -109,7 +109,7 @@ impl<'a> Progress<'a> {
         self.define(name, place)
     }
 
-    /// So much room for a name.
+    /// Reserves room for a name, by the values of its count and its flag.
     fn reserve_room(
         &mut self,
         section: &str,
@@ -163,7 +163,7 @@ impl<'a> Progress<'a> {
         }
     }
 
-    /// An instruction of so many words marks where it begins.
+    /// Adds a mark where an instruction begins; data have no marks.
     fn mark_target(
         &mut self,
         origin: Origin<'a>,
@@ -301,7 +301,7 @@ impl<'a> Progress<'a> {
         self.define_register("GREG", 5)
     }
 
-    /// What a line does.
+    /// Does what a line says.
     fn act(&mut self, origin: Origin<'a>, act: AssemblyAct<'_>) -> Result<(), Failure<FaultKind>>
         ensures { Meets (λ _. progress_of self.new) (meaning.act (origin_of origin.entry) (act_of act.entry) (progress_of self.old)) result }
     {
@@ -327,7 +327,7 @@ impl<'a> Progress<'a> {
         }
     }
 
-    /// What comes before a line's act: what is looked at, then the label.
+    /// What comes before a line's act: the checks, then the label.
     fn begin(
         &mut self,
         label: Option<&str>,
@@ -341,7 +341,7 @@ impl<'a> Progress<'a> {
         }
     }
 
-    /// A line's act, which may make too many names.
+    /// A line's act, after which there must not be too many names.
     fn carry_out(
         &mut self,
         origin: Origin<'a>,
@@ -354,7 +354,7 @@ impl<'a> Progress<'a> {
         self.few().map_err(Failure::Fault)
     }
 
-    /// One line more.
+    /// Passes one line more: its label, then its act.
     #[tactic(auto, unfolding(c25_meaning_assembly::specs::Sections::pass), using(crate::proofs::Passed::in_two))]
     pub(crate) fn pass(
         &mut self,

@@ -1,4 +1,4 @@
-//! Numbers that lines are held against.
+//! Limits of counts, and the numbers that values stand for as counts and flags.
 
 ghost use Rattle.std.specs.Prelude.{◌≡◌, ◌<◌, ◌^◌, true, IfOk};
 ghost use Rattle.c25_meaning_assembly.specs.Sections as meaning;
@@ -7,13 +7,13 @@ ghost use Rattle.c25_phases.specs.Sizes.{IsBlockSize};
 use c25_meaning_language::statement::FaultKind;
 use c25_meaning_language::value::{Base, Value};
 
-/// How many words a block can have.
+/// The most words of a block.
 const MOST_BLOCK_WORDS: u32 = 128;
 
-/// How many bytes the name of a file with instructions can have.
+/// The most bytes of the name of a file with instructions.
 const LONGEST_FILE_NAME: usize = 65_535;
 
-/// The count that a value is.
+/// The count that a value stands for.
 pub(crate) fn count_of(value: Value) -> Result<u32, FaultKind>
     ensures { result ≡ meaning.count_of value }
 {
@@ -29,7 +29,7 @@ pub(crate) fn count_of(value: Value) -> Result<u32, FaultKind>
     }
 }
 
-/// Whether the flag that a value is is set.
+/// Whether a flag is set, by its value.
 pub(crate) fn flag_of(value: Value) -> Result<bool, FaultKind>
     ensures { result ≡ meaning.flag_of value }
 {
@@ -39,7 +39,7 @@ pub(crate) fn flag_of(value: Value) -> Result<bool, FaultKind>
     }
 }
 
-/// A block has 1 to 128 words, else BadBlock (56).
+/// Checks that a block has 1 to 128 words; else `BadBlock` (56).
 pub(crate) fn block_allowed(flag: bool, words: u32) -> Result<(), FaultKind>
     ensures told { result ≡ meaning.block_allowed flag words }
     ensures size { IfOk result (λ _. IsBlockSize flag words) }
@@ -51,14 +51,14 @@ pub(crate) fn block_allowed(flag: bool, words: u32) -> Result<(), FaultKind>
     }
 }
 
-/// Whether the records of a module have room for the name of a file.
+/// Whether a file's name is short enough for the records of a module.
 pub(crate) fn is_file_name(name: &str) -> bool
     ensures { result ≡ meaning.is_file_name name.now }
 {
     name.len() <= LONGEST_FILE_NAME
 }
 
-/// Whether they have room for the number of a line.
+/// Whether a line's number is small enough for the records of a module.
 pub(crate) fn is_line_number(line: usize) -> bool
     ensures told { result ≡ meaning.is_line_number line }
     ensures small { result ≡ true → line < 2 ^ 32 }

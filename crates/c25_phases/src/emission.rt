@@ -1,4 +1,4 @@
-//! The second phase: words and relocations under all names.
+//! The second phase: words and relocations, when all names are known.
 
 ghost use Rattle.std.specs.Prelude.{◌≡◌, ◌≤◌, ◌<◌, ◌+◌, length, replicate, OnOk, IfOk, map};
 ghost use Rattle.std.specs.List.{All, list_all};
@@ -30,7 +30,7 @@ use c25_meaning_objects::object::Relocation;
 use c25_statements::forms::insn_of;
 use std::alloc::Global;
 
-/// The declared names that stand for nothing, behind the others: other modules' names, each with its
+/// Appends the declared names that are not defined to the symbols, as names of other modules, each with its
 /// number among all.
 pub(crate) fn import_all(symbols: &mut Symbols, declared: &DistinctNames) -> Result<(), NoMemory>
     requires { name_count symbols.old.entries declared.now ≤ 65535 }
@@ -44,7 +44,7 @@ pub(crate) fn import_all(symbols: &mut Symbols, declared: &DistinctNames) -> Res
     Ok(())
 }
 
-/// A declared name that stands for nothing is another module's.
+/// Appends a declared name to the symbols, as another module's, if it is not defined.
 fn import(symbols: &mut Symbols, name: &str) -> Result<(), NoMemory>
     requires { length symbols.old.entries < 65536 }
     ensures { OnOk result (symbols.new.entries ≡ imported symbols.old.entries name.now) }
@@ -103,7 +103,7 @@ fn relocation_at(target: Target, section: u16, offset: u32, address: &Address) -
     }
 }
 
-/// The relocations of addresses, as they come.
+/// The relocations of addresses, in the order of their operands.
 fn relocations_at(
     alloc: Global,
     target: Target,
@@ -142,7 +142,7 @@ fn relocations_of(
     }
 }
 
-/// The words and relocations of a line's operands.
+/// Appends the words and relocations of a line's operands to a section.
 #[tactic(auto, using(c25_meaning_language::proofs::Numbers::in_range))]
 fn put_sheet(
     alloc: Global,
@@ -163,9 +163,7 @@ fn put_sheet(
             let code = encode(&insn);
             sections.extend(section, code.as_slice(), relocations.as_slice())
         }
-        Target::Data(_) => {
-            sections.extend(section, sheet.numbers(), relocations.as_slice())
-        }
+        Target::Data(_) => { sections.extend(section, sheet.numbers(), relocations.as_slice()) }
     }
 }
 
@@ -175,7 +173,7 @@ fn zeros(alloc: Global, count: usize) -> Result<Vec<u16>, NoMemory>
     vec![in alloc; 0; count].map_err(NoMemory::from)
 }
 
-/// An item's words.
+/// Appends an item's words and relocations to its section, or reports the first fault of its operands.
 pub(crate) fn emit(
     alloc: Global,
     symbols: &mut Symbols,
@@ -214,7 +212,7 @@ pub(crate) fn emit(
     }
 }
 
-/// All items, line by line.
+/// Appends the words and relocations of all items, line by line.
 pub(crate) fn emit_all<'a>(
     alloc: Global,
     symbols: &mut Symbols,

@@ -10,8 +10,7 @@ pub enum AsmFault<'a> {
     /// A line is wrong (10 to 13, 20 to 26, 31 to 36, 38, 50 to 56).
     #[error("{0}")]
     Line(Placed<FileLine<&'a str>, FaultKind>),
-    /// The file of this name, that the line asks for, is not there (30); at line 0 it is the module
-    /// itself.
+    /// A file that the line asks for is not there (30); at line 0 the file is the module itself.
     #[error("{file}:{line}: {}", FaultKind::NoFile)]
     NoFile {
         file: &'a str,

@@ -1,4 +1,5 @@
-//! Lines of files, one behind another. Their type, `SourceLines`, is in `source_lines.rt`.
+//! Building and reading lists of lines of files. `SourceLines`, the type of these methods, is in
+//! `source_lines.rt`.
 
 ghost use Rattle.std.specs.Prelude.{◌≡◌, ◌++◌, ◌∷◌, [], IfOk, OnOk};
 ghost use Rattle.c25_phases.specs.Origins.{source_line, source_lines};
@@ -10,7 +11,7 @@ use crate::source_lines::{FileRun, SourceLines};
 use c25_meaning_common::no_memory::NoMemory;
 use std::alloc::Global;
 
-/// Some lines of a file more.
+/// Appends lines of one file, by their numbers.
 fn push_all<'a>(
     lines: &mut Vec<SourceLine<'a>>,
     file: &'a str,
@@ -28,7 +29,7 @@ fn push_all<'a>(
 }
 
 impl<'a> SourceLines<'a> {
-    /// No lines.
+    /// An empty list of lines.
     pub(crate) fn new(alloc: Global) -> Self
         ensures { origins_of result ≡ [] }
     {
@@ -40,7 +41,7 @@ impl<'a> SourceLines<'a> {
         }
     }
 
-    /// Lines of a file come next.
+    /// Makes a file the one whose lines come next.
     fn turn_to(&mut self, file: &'a str) -> Result<(), NoMemory>
         ensures { OnOk result (TurnsTo self.old self.new file.entry.now) }
     {
@@ -57,7 +58,7 @@ impl<'a> SourceLines<'a> {
         Ok(())
     }
 
-    /// One line more.
+    /// Appends a line.
     pub(crate) fn push(&mut self, line: SourceLine<'a>) -> Result<(), NoMemory>
         ensures { OnOk result (origins_of self.new ≡ origins_of self.old ++ source_line line.entry ∷ []) }
     {
@@ -66,7 +67,7 @@ impl<'a> SourceLines<'a> {
         Ok(())
     }
 
-    /// All of them, each with its file.
+    /// All lines in order, each with its file's name.
     pub(crate) fn to_vec(&self, alloc: Global) -> Result<Vec<SourceLine<'a>>, NoMemory>
         ensures { IfOk result (λ lines. source_lines lines.items ≡ origins_of self.now) }
     {
@@ -77,7 +78,7 @@ impl<'a> SourceLines<'a> {
         }
     }
 
-    /// All of them behind others, each with its file.
+    /// Appends all lines to a list, each with its file's name.
     fn put_all(&self, lines: &mut Vec<SourceLine<'a>>) -> Result<(), NoMemory>
         ensures { OnOk result (source_lines lines.new.items ≡ source_lines lines.old.items ++ origins_of self.now) }
     {

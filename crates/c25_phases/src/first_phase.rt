@@ -1,5 +1,5 @@
-//! The first phase: names, counts and sections. The type of these methods, `Progress`, is in
-//! `progress.rt`, its other methods are in `acts.rt`.
+//! The first phase: names, counts and sections. `Progress`, the type of these methods, is in `progress.rt`;
+//! its other methods are in `acts.rt`.
 
 ghost use Rattle.std.specs.Prelude.{◌≡◌, ◌≤◌, ◌<◌, ◌+◌, Ok, OnOk, IfOk};
 ghost use Rattle.std.specs.Option.{option_map};
@@ -28,19 +28,19 @@ use c25_meaning_language::value::{Base, Value};
 use c25_meaning_objects::object::{Block, ModuleMark};
 use std::alloc::Global;
 
-/// How many words a section can have.
+/// The most words of a section.
 const MOST_WORDS: u32 = 65_536;
 
-/// How many sections a module can have.
+/// The most sections of a module.
 const MOST_SECTIONS: usize = 255;
 
-/// How many names can be defined or declared.
+/// The most names that can be defined or declared.
 const MOST_NAMES: usize = 65_535;
 
-/// How many files can hold instructions.
+/// The most files that can hold instructions.
 const MOST_FILES: usize = 65_535;
 
-/// A place behind so many words of a section.
+/// The place at an offset of a section, in words.
 pub(crate) fn place(section: u16, offset: u32) -> Value
     requires { offset ≤ 65536 }
     ensures { result ≡ meaning.place section offset }
@@ -52,7 +52,7 @@ pub(crate) fn place(section: u16, offset: u32) -> Value
 }
 
 impl<'a> Progress<'a> {
-    /// Before the first line: an empty `.text`.
+    /// The state before the first line: an empty section `.text`.
     pub fn new(alloc: Global) -> Result<Progress<'a>, NoMemory>
         ensures { IfOk result (λ p. progress_of p ≡ meaning.start) }
     {
@@ -73,7 +73,7 @@ impl<'a> Progress<'a> {
         })
     }
 
-    /// How many words a section has so far; 0 where there is none of this number.
+    /// How many words a section has so far, or 0 where there is no section of this number.
     pub fn size_at(&self, section: u16) -> u32
         ensures value { result ≡ meaning.size_at (progress_of self.now).sections section }
         ensures bound { result ≤ 65536 }
@@ -81,7 +81,7 @@ impl<'a> Progress<'a> {
         self.sections.size_at(section)
     }
 
-    /// The place behind the words of a section.
+    /// The place after the last word of a section.
     pub(crate) fn place_in(&self, section: u16) -> Value
         ensures { result ≡ meaning.place_in (progress_of self.now).sections section }
     {
@@ -105,7 +105,7 @@ impl<'a> Progress<'a> {
         self.place_in(self.current)
     }
 
-    /// `$` stands for the place where the next line begins.
+    /// Makes `$` stand for the place where the next line begins.
     pub fn move_here(&mut self)
         ensures here { symbols_of self.new ≡ meaning.table (progress_of self.old) }
         ensures same { progress_of self.new ≡ progress_of self.old }
@@ -114,14 +114,14 @@ impl<'a> Progress<'a> {
         self.symbols.set_here(here);
     }
 
-    /// What names stand for so far, and `$`.
+    /// The values of names so far, and of `$`.
     pub fn symbols(&self) -> &Symbols
         ensures { result.now ≡ symbols_of self.now }
     {
         &self.symbols
     }
 
-    /// A name that stands for nothing yet stands for a value from now on.
+    /// Defines a name, or reports that it is defined already.
     #[tactic(auto, using(crate::proofs::Declared::define_counts), unfolding(c25_meaning_assembly::specs::Sections::define))]
     pub(crate) fn define(&mut self, name: &str, value: Value) -> Result<(), Failure<FaultKind>>
         ensures { Meets (λ _. progress_of self.new) (meaning.define name.now value (progress_of self.old)) result }
@@ -142,7 +142,7 @@ impl<'a> Progress<'a> {
         }
     }
 
-    /// The value of an expression that is needed now.
+    /// The value of an expression whose names have to be known by now.
     pub(crate) fn valued(&mut self, expr: &Expr) -> Result<Value, FaultKind>
         ensures value { result ≡ valued (meaning.table (progress_of self.old)) (tree_of expr.now) }
         ensures same { progress_of self.new ≡ progress_of self.old }
@@ -151,7 +151,7 @@ impl<'a> Progress<'a> {
         valued(&self.symbols, expr)
     }
 
-    /// A count that is needed now.
+    /// The count that an expression stands for, whose names have to be known by now.
     #[tactic(auto, unfolding(c25_meaning_assembly::specs::Sections::count_in))]
     pub(crate) fn count_in(&mut self, expr: &Expr) -> Result<u32, FaultKind>
         ensures value { result ≡ meaning.count_in (meaning.table (progress_of self.old)) (tree_of expr.now) }
@@ -163,7 +163,7 @@ impl<'a> Progress<'a> {
         }
     }
 
-    /// Whether a flag is set, which is needed now.
+    /// Whether a flag is set, whose names have to be known by now; it is not where none is given.
     pub(crate) fn flag_in(&mut self, flag: &Option<Expr>) -> Result<bool, FaultKind>
         ensures value { result ≡ meaning.flag_in (meaning.table (progress_of self.old)) (option_map tree_of flag.now) }
         ensures same { progress_of self.new ≡ progress_of self.old }
@@ -177,7 +177,7 @@ impl<'a> Progress<'a> {
         }
     }
 
-    /// The number of the section of a name; a new one comes last.
+    /// The number of the section of a name; a new section comes last.
     #[tactic(auto, unfolding(c25_meaning_assembly::specs::Sections::section_opened))]
     pub(crate) fn open(&mut self, name: &str, initialised: bool) -> Result<u16, Failure<FaultKind>>
         ensures { Meets (λ i. (i, progress_of self.new)) (meaning.section_opened name.now initialised (progress_of self.old)) result }
@@ -194,7 +194,7 @@ impl<'a> Progress<'a> {
         Ok(number as u16)
     }
 
-    /// So many words more in a section.
+    /// Lengthens a section by a number of words.
     #[tactic(auto, unfolding(c25_meaning_assembly::specs::Sections::grow))]
     pub(crate) fn grow(&mut self, section: u16, words: usize) -> Result<(), Failure<FaultKind>>
         ensures told { Meets (λ _. progress_of self.new) (meaning.grow section words (progress_of self.old)) result }
@@ -208,7 +208,7 @@ impl<'a> Progress<'a> {
         Ok(())
     }
 
-    /// Content of so many words at the current place.
+    /// Lays content at the current place: lengthens the section, and keeps the content for the second phase.
     #[tactic(auto, unfolding(c25_meaning_assembly::specs::Sections::lay, c25_meaning_assembly::specs::Sections::grow))]
     pub(crate) fn lay(
         &mut self,
@@ -233,7 +233,7 @@ impl<'a> Progress<'a> {
         }
     }
 
-    /// One item more.
+    /// Keeps one item more for the second phase.
     pub(crate) fn wait(&mut self, item: LaidContent<'a>) -> Result<(), Failure<FaultKind>>
         ensures { Meets (λ _. progress_of self.new) (waited (item_of item.entry) (progress_of self.old)) result }
     {
@@ -241,7 +241,7 @@ impl<'a> Progress<'a> {
         Ok(())
     }
 
-    /// A file that holds an instruction.
+    /// Counts a file among those that hold instructions.
     fn use_file(&mut self, name: &str) -> Result<(), Failure<FaultKind>>
         ensures { Meets (λ _. progress_of self.new) (meaning.use_file name.now (progress_of self.old)) result }
     {
@@ -261,7 +261,7 @@ impl<'a> Progress<'a> {
         Ok(())
     }
 
-    /// The line of an instruction.
+    /// The line of an instruction, as the records of a module have it.
     #[tactic(auto, unfolding(c25_meaning_assembly::specs::Sections::use_line))]
     fn use_line(&mut self, origin: Origin<'a>) -> Result<SourceLine<'a>, Failure<FaultKind>>
         ensures told { Meets (λ _. progress_of self.new) (meaning.use_line (origin_of origin.entry) (progress_of self.old)) result }
@@ -277,7 +277,7 @@ impl<'a> Progress<'a> {
         })
     }
 
-    /// An instruction of so many words marks where it begins.
+    /// Adds a mark where an instruction begins, with its size in words.
     pub(crate) fn mark(
         &mut self,
         origin: Origin<'a>,
@@ -298,7 +298,7 @@ impl<'a> Progress<'a> {
             .map_err(Failure::NoMemory)
     }
 
-    /// Words that have to lie in one page are a block.
+    /// Adds a block: words that have to lie in one page.
     pub(crate) fn block(
         &mut self,
         flag: bool,
@@ -321,7 +321,7 @@ impl<'a> Progress<'a> {
         self.sections.block(section, block)
     }
 
-    /// At most 65,535 names.
+    /// Checks that there are at most 65,535 names.
     pub(crate) fn few(&self) -> Result<(), FaultKind>
         ensures told { result ≡ meaning.few (progress_of self.now) }
         ensures few { IfOk result (λ _. meaning.name_count (progress_of self.now).names (progress_of self.now).declared ≤ 65535) }

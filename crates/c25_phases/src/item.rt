@@ -1,4 +1,4 @@
-//! What waits for all names to be known.
+//! Items: what the first phase leaves for the second one, which knows all names.
 
 ghost use Rattle.std.specs.Prelude.{◌≤◌, ◌+◌};
 ghost use Rattle.c25_phases.specs.Sizes.{content_size};
@@ -6,38 +6,38 @@ ghost use Rattle.c25_phases.specs.Sizes.{content_size};
 use c25_meaning_assembly::assembly::Target;
 use c25_statements::statement::Exprs;
 
-/// A line.
+/// A line of a file.
 #[derive(Clone, Copy)]
 pub struct Origin<'a> {
-    /// The name of its file.
+    /// The file's name.
     pub file: &'a str,
-    /// Its number there.
+    /// The line's number in the file.
     pub line: usize,
 }
 
 /// The line of an instruction, as the records of a module have it.
 #[derive(Clone, Copy)]
 pub(crate) struct SourceLine<'a> {
-    /// The name of its file.
+    /// The file's name.
     pub(crate) file: &'a str,
-    /// Its number there.
+    /// The line's number in the file.
     pub(crate) line: u32,
 }
 
-/// What waits.
+/// The content of an item.
 #[derive(Drop)]
 pub(crate) enum Content {
-    /// Operands without their values.
+    /// Operands whose values are not known yet.
     Operands(Target, Exprs),
-    /// Words, in their turn.
+    /// Words that are known already.
     Words(Vec<u16>),
-    /// So many zeros.
+    /// A number of words that are zero.
     Zeros(u32),
     /// Names that have to be defined in the module.
     Exported(Vec<String>),
 }
 
-/// What waits, the line that it is of, and where it begins.
+/// An item: its content, its line, and the place where it begins.
 #[derive(Drop)]
 pub(crate) struct LaidContent<'a> {
     pub(crate) origin: Origin<'a>,

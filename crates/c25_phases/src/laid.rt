@@ -1,4 +1,4 @@
-//! What the second phase goes over. Its other methods are in `making.rt` and `wrong.rt`.
+//! The input of the second phase. The methods of its type are also in `making.rt` and `wrong.rt`.
 
 ghost use Rattle.std.specs.Prelude.{◌≡◌};
 
@@ -10,7 +10,7 @@ use c25_expr::symbols::Symbols;
 use std::alloc::Global;
 use std::mem;
 
-/// What the second phase goes over: of what the lines have made, what it needs.
+/// The part of the first phase's result that the second phase reads.
 #[derive(Drop)]
 pub(crate) struct Laid<'a> {
     pub(crate) alloc: Global,
@@ -24,7 +24,7 @@ pub(crate) struct Laid<'a> {
 }
 
 impl<'a> Laid<'a> {
-    /// What it goes over of what the lines have made.
+    /// Takes from the first phase's result what the second phase reads.
     pub(crate) fn of(progress: Progress<'a>) -> Laid<'a>
         ensures sections { result.sections ≡ progress.entry.sections }
         ensures symbols { result.symbols ≡ progress.entry.symbols }
@@ -42,7 +42,7 @@ impl<'a> Laid<'a> {
             files,
             ..
         } = progress;
-        // The marks of the sections have the names of their files.
+        // The files' names are kept with the marks of the sections.
         mem::drop(files);
         Laid {
             alloc,

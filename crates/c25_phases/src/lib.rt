@@ -1,13 +1,12 @@
-//! Both phases of the assembler: statements to the lists of a module.
+//! Both phases of the assembler: from statements to the lists of a module.
 //!
-//! The first phase goes line by line, gives sections their sizes, marks and blocks, and names their
-//! values. The second one goes over the operands that waited for all names, and gives words and
-//! relocations. A module is of version 2: it tells each instruction's file and line.
+//! The first phase goes line by line, gives sections their sizes, marks and blocks, and names their values.
+//! The second one goes over the operands when all names are known, and gives words and relocations. A module
+//! is of version 2: it says each instruction's file and line.
 //!
 //! Both phases: `line_reader`, `item`, `targets`, `sheet`, `names`, `section`, `source_lines`, `file_runs`,
-//! `sections`, `fault`, `refusal`.
-//! The first: `progress`, `first_phase`, `acts`, `counts`. The second: `laid`, `emission`, `lines`,
-//! `making`, which ends it, and `wrong`.
+//! `sections`, `fault`, `refusal`. The first: `progress`, `first_phase`, `acts`, `counts`. The second:
+//! `laid`, `emission`, `lines`, `making`, which ends it, and `wrong`.
 #![tactic(auto)]
 
 mod acts;

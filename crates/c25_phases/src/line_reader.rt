@@ -1,4 +1,4 @@
-//! A line's text, read and passed.
+//! The first phase of one line: reading its text, then doing what it says.
 
 ghost use Rattle.std.specs.Prelude.{◌≤◌, IfOk};
 ghost use Rattle.c25_meaning_common.specs.Results.{Meets};
@@ -13,9 +13,8 @@ use c25_meaning_common::failure::Failure;
 use c25_meaning_language::statement::FaultKind;
 use c25_statements::read_statement;
 
-/// The first phase of one line: its text read, and what it says done. A refusal ends the source, so it
-/// leaves nothing of what the lines before have made. What these have made is boxed, since it is handed on
-/// from line to line.
+/// The first phase of one line: its text is read, and what it says is done. A fault ends the source, so it
+/// drops what the lines before have made. The state is boxed, since it is handed on from line to line.
 pub fn read_and_pass<'a>(
     progress: Box<Progress<'a>>,
     origin: Origin<'a>,

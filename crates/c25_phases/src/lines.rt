@@ -1,4 +1,4 @@
-//! The files and lines of a module's marks.
+//! The files and lines of a module's marks, as its records have them.
 
 ghost use Rattle.std.specs.Prelude.{◌≡◌, ◌≤◌, ◌<◌, true, length, map, OnOk, IfOk};
 ghost use Rattle.std.specs.List.{fold, position_or_len};
@@ -22,12 +22,12 @@ use std::mem;
 pub(crate) struct Lines<'a> {
     alloc: Global,
     files: IndexSet<&'a str>,
-    /// The number of the last line's file, so that most lines need no hash of it.
+    /// The number of the last line's file, so that most lines need no look-up of their file.
     recent: usize,
     lines: Vec<LineMark>,
 }
 
-/// Whether the file of a number is this one.
+/// Whether the file of a number has this name.
 fn is_at(files: &IndexSet<&str>, number: usize, file: &str) -> bool
     ensures { result ≡ true → IsAt (map (λ f. f.now) files.now.keys) number file.now }
 {
@@ -47,7 +47,7 @@ impl<'a> Model for Lines<'a> {
 }
 
 impl<'a> Lines<'a> {
-    /// Before the first mark.
+    /// The lists before the first mark.
     pub(crate) fn new(alloc: Global) -> Self
         ensures { result ≡ no_lines }
     {
@@ -59,7 +59,7 @@ impl<'a> Lines<'a> {
         }
     }
 
-    /// The number of a file, which is the next one where it is new.
+    /// The number of a file; a new file gets the next number.
     fn number_of(&mut self, file: &'a str) -> Result<usize, NoMemory>
         requires { length (once self.old.files file.now) ≤ 65535 }
         ensures number { IfOk result (λ n. n ≡ position_or_len (bytes_eq file.now) self.old.files) }
@@ -74,7 +74,7 @@ impl<'a> Lines<'a> {
         Ok(number)
     }
 
-    /// The line of one mark more.
+    /// Adds the line of one mark more.
     fn add(&mut self, line: &SourceLine<'a>) -> Result<(), NoMemory>
         requires { length (with_line self.old (source_line line.now)).files ≤ 65535 }
         ensures { OnOk result (self.new ≡ with_line self.old (source_line line.now)) }
@@ -87,7 +87,7 @@ impl<'a> Lines<'a> {
         self.lines.push(mark).map_err(NoMemory::from)
     }
 
-    /// Those of the marks of a section.
+    /// Adds the lines of the marks of a section.
     pub(crate) fn add_all(&mut self, lines: &[SourceLine<'a>]) -> Result<(), NoMemory>
         requires { length (fold with_line self.old (source_lines lines.now)).files ≤ 65535 }
         ensures { OnOk result (self.new ≡ fold with_line self.old (source_lines lines.now)) }
@@ -98,7 +98,7 @@ impl<'a> Lines<'a> {
         Ok(())
     }
 
-    /// The lists of the module.
+    /// The names of the files, and the lines with the numbers of their files, for the module.
     pub(crate) fn into_parts(self) -> Result<(Vec<String>, Vec<LineMark>), NoMemory>
         ensures { IfOk result (λ p. IsLined self.entry p.0.items p.1.items) }
     {
@@ -109,7 +109,7 @@ impl<'a> Lines<'a> {
             lines,
         } = self;
         let names = copied(alloc, files.as_slice());
-        // They borrow the sources' names, which the module has copies of.
+        // The set borrows the sources' names, which the module has copies of.
         mem::drop(files);
         match names {
             Ok(names) => Ok((names, lines)),

@@ -1,4 +1,4 @@
-//! The module that the lines have made.
+//! Making the module, which ends the second phase.
 
 ghost use Rattle.std.specs.Prelude.{◌≡◌, ◌≤◌, IfOk, OnOk, length, map};
 ghost use Rattle.c25_meaning_assembly.specs.Emission as emission;
@@ -80,7 +80,7 @@ fn symbols_of(
     Ok(all)
 }
 
-/// The module of sections and symbols.
+/// The module's lists, of sections with their words and of symbols.
 #[tactic(auto, using(crate::proofs::Filed::module_is))]
 fn module_with(
     alloc: Global,
@@ -110,7 +110,7 @@ fn module_with(
 }
 
 impl<'a> Laid<'a> {
-    /// The words and relocations of all items under all names.
+    /// Gives the sections the words and relocations of all items.
     fn emit(&mut self) -> Result<(), Failure<AsmFault<'a>>>
         requires { name_count self.old.symbols.entries self.old.declared ≤ 65535 }
         ensures told { MeetsBy fault_of (λ _. self.new.sections) (emission.emit_all (emission.names_with self.old.symbols.entries self.old.declared) self.old.sections (map item_of self.old.items.items)) result }
@@ -128,21 +128,21 @@ impl<'a> Laid<'a> {
         )
     }
 
-    /// The module, which takes the sections' words, or the first fault of the operands.
+    /// The module's lists, which take over the sections' words, or the first fault of the operands.
     fn take_parts(&mut self) -> Result<Parts, Failure<AsmFault<'a>>>
         requires names { name_count self.old.symbols.entries self.old.declared ≤ 65535 }
         requires files { length (emission.lines_in self.old.sections).files ≤ 65535 }
         ensures { MeetsBy fault_of contents (module_of self.old.sections (emission.names_with self.old.symbols.entries self.old.declared) self.old.exported (map item_of self.old.items.items)) result }
     {
         self.emit()?;
-        // They are not needed any more, and are most of what the lines take.
+        // The items are not needed any more, and take most of the memory.
         self.items = Vec::new(self.alloc);
         let sections = mem::replace(&mut self.sections, Sections::new(self.alloc));
         Ok(module_with(self.alloc, sections, &self.symbols, &self.exported)?)
     }
 }
 
-/// The module that the lines have made, or the first fault of their operands.
+/// The lists of the module that the lines have made, or the first fault of their operands.
 #[tactic(auto, unfolding(c25_meaning_assembly::specs::Emission::finished))]
 pub fn finish(progress: Progress<'_>) -> Result<Parts, Failure<AsmFault<'_>>>
     requires names { name_count (progress_of progress).names (progress_of progress).declared ≤ 65535 }
@@ -151,7 +151,7 @@ pub fn finish(progress: Progress<'_>) -> Result<Parts, Failure<AsmFault<'_>>>
 {
     let mut laid = Laid::of(progress);
     let parts = laid.take_parts();
-    // Of all that the lines have made only the module stays.
+    // Only the module is kept of what the lines have made.
     mem::drop(laid);
     parts
 }

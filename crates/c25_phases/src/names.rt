@@ -1,4 +1,4 @@
-//! Names, each once.
+//! Lists of names without repetitions.
 
 ghost use Rattle.std.specs.Prelude.{◌≡◌, ◌<◌, ◌^◌, [], true, is_some, length, slice_get, IfOk, OnOk, OnErr};
 ghost use Rattle.std.specs.Option.{option_map};
@@ -11,14 +11,14 @@ use indexmap::IndexSet;
 use std::alloc::Global;
 use std::marker::Model;
 
-/// Names, each once, in order.
+/// Names in the order in which they were added, each once.
 #[derive(Drop)]
 pub(crate) struct DistinctNames {
     alloc: Global,
     names: IndexSet<String>,
 }
 
-/// Names of their own, of those that are borrowed.
+/// Owned copies of borrowed names.
 pub(crate) fn copied(alloc: Global, names: &[&str]) -> Result<Vec<String>, NoMemory>
     ensures { IfOk result (λ v. bytes_of_names v.items ≡ texts_of names.now) }
 {
@@ -58,7 +58,7 @@ impl DistinctNames {
         self.names.contains(name)
     }
 
-    /// The name of a number.
+    /// The name that has a number, counted from 0.
     pub(crate) fn get(&self, number: usize) -> Option<&str>
         ensures value { option_map (λ t. t.now) result ≡ slice_get self.now number }
         ensures distinct { are_distinct self.now ≡ true }
@@ -69,7 +69,7 @@ impl DistinctNames {
         }
     }
 
-    /// Whether the name of a number is this one.
+    /// Whether the name that has a number is this one.
     pub(crate) fn is_at(&self, number: usize, name: &str) -> bool
         ensures { result ≡ true → is_in self.now name.now ≡ true }
     {
@@ -79,7 +79,7 @@ impl DistinctNames {
         }
     }
 
-    /// The number of a name.
+    /// The number of a name, if it is among the names.
     pub(crate) fn position(&self, name: &str) -> Option<usize>
         ensures { is_some result ≡ is_in self.now name.now }
     {
@@ -93,7 +93,7 @@ impl DistinctNames {
         self.names.len()
     }
 
-    /// A name behind the others, once.
+    /// Adds a name at the end, if it is not among the names yet.
     pub(crate) fn add(&mut self, name: &str) -> Result<(), NoMemory>
         ensures ok { OnOk result (self.new ≡ once self.old name.now) }
         ensures err { OnErr result (self.new ≡ self.old) }
@@ -106,7 +106,7 @@ impl DistinctNames {
         Ok(())
     }
 
-    /// Names behind the others, each once.
+    /// Adds names at the end, each if it is not among the names yet.
     pub(crate) fn add_all(&mut self, names: &[&str]) -> Result<(), NoMemory>
         ensures { OnOk result (self.new ≡ all_once self.old (texts_of names.now)) }
     {

@@ -1,4 +1,4 @@
-//! Where a line is refused.
+//! The fault of a line as the fault of a source.
 
 ghost use Rattle.std.specs.Prelude.{◌≡◌};
 ghost use Rattle.c25_phases.specs.Refusals.{at_origin};
@@ -9,7 +9,7 @@ use c25_meaning_common::failure::Failure;
 use c25_meaning_common::placed::{FileLine, Placed};
 use c25_meaning_language::statement::FaultKind;
 
-/// Why a line is refused, as why the source is.
+/// The failure of a line as the failure of its source: a fault gets the line's place.
 pub fn at_origin<'a>(origin: Origin<'a>, failure: Failure<FaultKind>) -> Failure<AsmFault<'a>>
     ensures { result ≡ at_origin origin.entry failure }
 {

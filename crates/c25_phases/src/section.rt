@@ -1,4 +1,4 @@
-//! A section as far as the lines have made it.
+//! One section of the module that is being made.
 
 ghost use Rattle.std.specs.Prelude.{◌≡◌, ◌≤◌, ◌+◌, OnOk, IfOk};
 ghost use Rattle.c25_meaning_assembly.specs.Emission.{extended, section_of};
@@ -14,8 +14,8 @@ use c25_module::Body;
 use std::alloc::Global;
 use std::marker::Model;
 
-/// A section: the first phase gives its size, its marks with the line of each, and its blocks, the
-/// second one its words and relocations.
+/// A section: the first phase gives it a size, marks with their lines, and blocks, the second one words and
+/// relocations.
 #[derive(Drop)]
 pub(crate) struct Section<'a> {
     name: String,
@@ -42,7 +42,7 @@ impl<'a> Model for Section<'a> {
 }
 
 impl<'a> Section<'a> {
-    /// A section without words.
+    /// An empty section.
     pub(crate) fn new(alloc: Global, name: &str, initialised: bool) -> Result<Self, NoMemory>
         ensures { IfOk result (λ s. s ≡ empty_section name.now initialised) }
     {
@@ -103,7 +103,7 @@ impl<'a> Section<'a> {
         self.relocations.as_slice()
     }
 
-    /// So many words longer.
+    /// Lengthens the section by a number of words.
     pub(crate) fn lengthen(&mut self, words: u32)
         requires { self.old.size + words ≤ 65536 }
         ensures { self.new ≡ longer words self.old }
@@ -111,7 +111,7 @@ impl<'a> Section<'a> {
         self.size += words;
     }
 
-    /// One mark more, with its line.
+    /// Adds a mark and its line.
     pub(crate) fn mark(&mut self, line: SourceLine<'a>, mark: ModuleMark) -> Result<(), NoMemory>
         ensures { OnOk result (self.new ≡ with_mark (source_line line.entry) mark self.old) }
     {
@@ -119,14 +119,14 @@ impl<'a> Section<'a> {
         self.lines.push(line)
     }
 
-    /// One block more.
+    /// Adds a block.
     pub(crate) fn block(&mut self, block: Block) -> Result<(), NoMemory>
         ensures { OnOk result (self.new ≡ with_block block self.old) }
     {
         self.blocks.push(block).map_err(NoMemory::from)
     }
 
-    /// Words and relocations behind those that are there.
+    /// Appends words and relocations.
     pub(crate) fn extend(
         &mut self,
         words: &[u16],
@@ -140,7 +140,7 @@ impl<'a> Section<'a> {
             .map_err(NoMemory::from)
     }
 
-    /// The section of the module.
+    /// The section as the module has it.
     pub(crate) fn into_part(self) -> c25_module::Section
         ensures { section_data result ≡ section_of self.entry }
     {

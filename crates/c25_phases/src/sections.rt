@@ -1,4 +1,4 @@
-//! The sections of a module.
+//! All sections of the module that is being made.
 
 ghost use Rattle.std.specs.Prelude.{◌≡◌, ◌≤◌, ◌<◌, ◌+◌, ◌∷◌, ◌++◌, [], length, OnOk, IfOk, IfSome, map};
 ghost use Rattle.std.specs.List.{position, find, flat_map, fold};
@@ -16,7 +16,7 @@ use c25_meaning_objects::object::{Block, ModuleMark, Relocation};
 use std::alloc::Global;
 use std::marker::Model;
 
-/// The sections of a module, in order of first use.
+/// The sections of a module, in the order of their first use.
 #[derive(Drop)]
 pub(crate) struct Sections<'a> {
     alloc: Global,
@@ -57,7 +57,7 @@ impl<'a> Sections<'a> {
         self.sections.len()
     }
 
-    /// One section more.
+    /// Adds a section.
     pub(crate) fn push(&mut self, section: Section<'a>) -> Result<(), NoMemory>
         requires { length self.old < 255 }
         ensures { OnOk result (self.new ≡ self.old ++ section.entry ∷ []) }
@@ -65,7 +65,7 @@ impl<'a> Sections<'a> {
         self.sections.push(section).map_err(NoMemory::from)
     }
 
-    /// The number of the section of a name.
+    /// The number of the section of a name, if there is one.
     pub(crate) fn position(&self, name: &str) -> Option<usize>
         ensures value { result ≡ position (is_called name.now) self.now }
         ensures bound { IfSome result (λ i. i < 255) }
@@ -75,7 +75,7 @@ impl<'a> Sections<'a> {
             .position(|section| section.is_called(name))
     }
 
-    /// Whether the section of a name, if there is one, is of this kind.
+    /// Whether the section of a name is of this kind; it may be of either where there is none yet.
     pub(crate) fn has_kind(&self, name: &str, initialised: bool) -> bool
         ensures { result ≡ same_kind initialised (find (is_called name.now) self.now) }
     {
@@ -85,7 +85,7 @@ impl<'a> Sections<'a> {
         }
     }
 
-    /// The size of the section of a number.
+    /// The size in words of the section that has a number.
     pub(crate) fn size_at(&self, number: u16) -> u32
         ensures value { result ≡ size_at self.now number }
         ensures bound { result ≤ 65536 }
@@ -96,7 +96,7 @@ impl<'a> Sections<'a> {
         }
     }
 
-    /// So many words more in the section of a number.
+    /// Lengthens the section that has a number.
     pub(crate) fn lengthen(&mut self, number: u16, words: u32)
         requires { size_at self.old number + words ≤ 65536 }
         ensures { self.new ≡ changed (longer words) self.old number }
@@ -106,7 +106,7 @@ impl<'a> Sections<'a> {
         }
     }
 
-    /// One mark more in the section of a number, with its line.
+    /// Adds a mark and its line to the section that has a number.
     pub(crate) fn mark(
         &mut self,
         number: u16,
@@ -121,7 +121,7 @@ impl<'a> Sections<'a> {
         }
     }
 
-    /// One block more in the section of a number.
+    /// Adds a block to the section that has a number.
     pub(crate) fn block(&mut self, number: u16, block: Block) -> Result<(), NoMemory>
         ensures { OnOk result (self.new ≡ changed (with_block block) self.old number) }
     {
@@ -131,7 +131,7 @@ impl<'a> Sections<'a> {
         }
     }
 
-    /// Words and relocations behind those of the section of a number.
+    /// Appends words and relocations to those of the section that has a number.
     pub(crate) fn extend(
         &mut self,
         number: u16,
@@ -146,7 +146,7 @@ impl<'a> Sections<'a> {
         }
     }
 
-    /// The marks of all sections.
+    /// The marks of all sections, section by section.
     pub(crate) fn marks(&self) -> Result<Vec<ModuleMark>, NoMemory>
         ensures { IfOk result (λ v. v.items ≡ flat_map (λ s. s.marks) self.now) }
     {
@@ -169,7 +169,7 @@ impl<'a> Sections<'a> {
         }
     }
 
-    /// The lines of the marks of all sections, behind those that are there.
+    /// Adds the lines of the marks of all sections.
     fn put_lines(&self, lines: &mut Lines<'a>) -> Result<(), NoMemory>
         requires { length (fold with_line lines.old (flat_map (λ s. s.origins) self.now)).files ≤ 65535 }
         ensures { OnOk result (lines.new ≡ fold with_line lines.old (flat_map (λ s. s.origins) self.now)) }
@@ -181,7 +181,7 @@ impl<'a> Sections<'a> {
         Ok(())
     }
 
-    /// The blocks of all sections.
+    /// The blocks of all sections, section by section.
     pub(crate) fn blocks(&self) -> Result<Vec<Block>, NoMemory>
         ensures { IfOk result (λ v. v.items ≡ flat_map (λ s. s.blocks) self.now) }
     {
@@ -192,7 +192,7 @@ impl<'a> Sections<'a> {
         Ok(blocks)
     }
 
-    /// The relocations of all sections.
+    /// The relocations of all sections, section by section.
     pub(crate) fn relocations(&self) -> Result<Vec<Relocation>, NoMemory>
         ensures { IfOk result (λ v. v.items ≡ flat_map (λ s. s.relocations) self.now) }
     {
@@ -203,7 +203,7 @@ impl<'a> Sections<'a> {
         Ok(relocations)
     }
 
-    /// The sections of the module.
+    /// The sections as the module has them.
     pub(crate) fn into_parts(self) -> Result<Vec<c25_module::Section>, NoMemory>
         ensures { IfOk result (λ v. sections_data v.items ≡ map section_of self.entry) }
     {

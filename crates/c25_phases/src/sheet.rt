@@ -1,4 +1,4 @@
-//! The operands of a line under all names.
+//! The values of a line's operands, when all names are known.
 
 ghost use Rattle.std.specs.Prelude.{◌≡◌, length, OnOk};
 ghost use Rattle.c25_meaning_assembly.specs.Addresses.{no_operands, with_number, with_address, with_value, taken, sheet_of, AreWithin};
@@ -24,7 +24,8 @@ use c25_statements::fields::{number_in, relocation_of};
 use std::alloc::Global;
 use std::marker::Model;
 
-/// The numbers of a line's operands, 0 where a value is an address, and the addresses among them.
+/// The numbers of a line's operands, with 0 where a value is an address, and the addresses among the
+/// operands.
 #[derive(Drop)]
 pub(crate) struct Sheet {
     pub(crate) numbers: Vec<u16>,
@@ -84,7 +85,7 @@ impl Sheet {
         self.numbers.push(number).map_err(NoMemory::from)
     }
 
-    /// An address more, where the field takes one.
+    /// Adds an address, or reports that its field takes none.
     fn put_address(
         &mut self,
         kind: Option<RelocationKind>,
@@ -107,7 +108,7 @@ impl Sheet {
         Ok(())
     }
 
-    /// A value more.
+    /// Adds a value: a number that fits its field, or an address that its field takes.
     fn put(&mut self, field: Field, value: Value) -> Result<(), Failure<FaultKind>>
         ensures { Meets (λ _. self.new) (with_value value.base field value.offset self.old) result }
     {
@@ -131,7 +132,7 @@ impl Sheet {
         }
     }
 
-    /// One operand more.
+    /// Adds one operand more.
     #[tactic(auto, unfolding(c25_meaning_assembly::specs::Addresses::taken))]
     fn take(
         &mut self,
@@ -148,7 +149,7 @@ impl Sheet {
         }
     }
 
-    /// The operands of a line in the place of those before.
+    /// Replaces the operands of the line before by those of a line, or reports the first one that is wrong.
     pub(crate) fn fill(
         &mut self,
         target: Target,

@@ -1,4 +1,4 @@
-//! What the operands of a line fill, and how many words they make.
+//! The fields that a line's operands fill, and the number of words that the line makes.
 
 ghost use Rattle.std.specs.Prelude.{◌≡◌};
 ghost use Rattle.c25_meaning_assembly.specs.Addresses.{ends_first};
@@ -22,7 +22,7 @@ pub(crate) fn field_of(target: Target, index: usize) -> Field
     }
 }
 
-/// The word of its line in which the field of the operand at an index is.
+/// The index, in its line's words, of the word that the field of the operand at an index is in.
 pub(crate) fn word_of(field: Field, index: usize) -> usize
     ensures { result ≡ word_of field index }
 {
@@ -33,7 +33,7 @@ pub(crate) fn word_of(field: Field, index: usize) -> usize
     }
 }
 
-/// How many words a line with so many operands makes.
+/// How many words a line makes, by its number of operands.
 pub(crate) fn target_size(target: Target, operands: usize) -> usize
     ensures value { result ≡ target_size target operands }
     ensures some { IsSize target result }

@@ -1,4 +1,4 @@
-//! The first item that is wrong.
+//! Finding the first item that the second phase refuses.
 
 ghost use Rattle.std.specs.Option.{option_map};
 ghost use Rattle.std.specs.Prelude.{◌≡◌, ◌≤◌, IfOk, length, map};
@@ -20,16 +20,16 @@ use c25_meaning_language::statement::FaultKind;
 use std::alloc::Global;
 use std::mem;
 
-/// What a line has left for the second phase, and that phase refuses.
+/// An item that the second phase refuses.
 #[derive(Clone, Copy)]
 pub struct WrongItem<'a> {
-    /// How many items stand before it.
+    /// How many items there are before it.
     pub number: usize,
     pub origin: Origin<'a>,
     pub kind: FaultKind,
 }
 
-/// The first of some items that is wrong.
+/// The first wrong one of some items.
 fn wrong_among<'a>(
     alloc: Global,
     symbols: &mut Symbols,
@@ -58,7 +58,7 @@ fn wrong_among<'a>(
 }
 
 impl<'a> Laid<'a> {
-    /// The first item that is wrong under all names.
+    /// The first item that is wrong when all names are known.
     fn wrong_item(&mut self) -> Result<Option<WrongItem<'a>>, NoMemory>
         requires { name_count self.old.symbols.entries self.old.declared ≤ 65535 }
         ensures { IfOk result (λ wrong. option_map wrong_of wrong ≡ wrong_from 0 (names_with self.old.symbols.entries self.old.declared) self.old.sections (map item_of self.old.items.items)) }
@@ -75,14 +75,14 @@ impl<'a> Laid<'a> {
     }
 }
 
-/// The first item of the lines that the second phase refuses, if it refuses one.
+/// The first item of the lines that the second phase refuses, if there is one.
 pub fn first_wrong(progress: Progress<'_>) -> Result<Option<WrongItem<'_>>, NoMemory>
     requires { name_count (progress_of progress).names (progress_of progress).declared ≤ 65535 }
     ensures { IfOk result (λ wrong. option_map wrong_of wrong ≡ first_wrong (progress_of progress.entry)) }
 {
     let mut laid = Laid::of(progress);
     let wrong = laid.wrong_item();
-    // Of all that the lines have made only the answer stays.
+    // Only the answer is kept of what the lines have made.
     mem::drop(laid);
     wrong
 }

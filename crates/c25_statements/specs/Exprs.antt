@@ -1,4 +1,4 @@
--- What the expressions of a line's operands stand for.
+-- The list that the expressions of a line's operands are.
 use Rattle.std.specs.Prelude.{List, [], ◌∷◌}
 use Rattle.c25_expr.specs.declared.tree.Expr.{Expr}
 use Rattle.c25_statements.specs.declared.statement.Exprs.{Exprs}

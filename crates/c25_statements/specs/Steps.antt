@@ -1,4 +1,4 @@
--- Parts of the rules of lines that functions of their own follow.
+-- Parts of the rules of lines that have functions of their own.
 use Rattle.std.specs.Prelude.{ℕ, List, codes, Result, Ok}
 use Rattle.c25_meaning_language.specs.DirectiveOperands.{name_in}
 use Rattle.c25_meaning_assembly.specs.AssemblyLine.{AssemblyAct, Put, Reserve, alone, expressions_in, flagged, later_in, section_in}

@@ -33,7 +33,7 @@ so_far t = record { trees = trees_of t.exprs.items; deep = t.deep }
 abbrev pub operation_of : Operation → line.Operation
 operation_of o = record { form = o.form; trees = trees_of (exprs_in o.trees) }
 
--- a count, or what is wrong with it
+-- a count, or the fault of its expression
 abbrev pub count_tree : Result Expr FaultKind → Result Tree FaultKind
 count_tree (Ok e) = Ok (tree_of e)
 count_tree (Err f) = Err f
@@ -42,7 +42,7 @@ count_tree (Err f) = Err f
 abbrev pub room_of : Room → says.Room
 room_of r = record { count = tree_of r.count; flag = option_map tree_of r.flag }
 
--- the same, or what is wrong with them
+-- a count and a flag, or the fault of one of them
 abbrev pub room_in : Result Room FaultKind → Result says.Room FaultKind
 room_in (Ok r) = Ok (room_of r)
 room_in (Err f) = Err f

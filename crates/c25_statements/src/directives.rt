@@ -1,4 +1,4 @@
-//! What directives do.
+//! What each directive does, by its operands.
 
 ghost use Rattle.c25_meaning_assembly.specs.AssemblyLine as says;
 ghost use Rattle.c25_meaning_common.specs.Results.{Meets};
@@ -10,10 +10,10 @@ use crate::operands::{alone, expressions_in, flagged, later_in, some, some_names
 use crate::sections::section_in;
 use crate::statement::AssemblyAct;
 use crate::strings::strings_in;
+use c25_expr::directive_operands::{expression_in, name_in};
 use c25_meaning_assembly::assembly::{DataWidth, Directive, Target};
 use c25_meaning_common::failure::Failure;
 use c25_meaning_language::statement::FaultKind;
-use c25_expr::directive_operands::{expression_in, name_in};
 use c25_text::tokens::Token;
 use std::alloc::Global;
 
@@ -58,7 +58,7 @@ fn entering<'a>(
     }
 }
 
-/// `.bss` of a name and a count
+/// `.bss` with a name and a count
 fn reserving_pair<'a>(
     alloc: Global,
     name: &[Token<'a>],
@@ -80,7 +80,7 @@ fn reserving_pair<'a>(
     }
 }
 
-/// `.bss` of a name, a count and a flag
+/// `.bss` with a name, a count and a flag
 fn reserving_flagged<'a>(
     alloc: Global,
     name: &[Token<'a>],
@@ -118,7 +118,7 @@ fn reserving<'a>(
     }
 }
 
-/// `.usect` of a section and a count
+/// `.usect` with a section and a count
 fn reserving_pair_in<'a>(
     alloc: Global,
     name: &'a str,
@@ -226,7 +226,7 @@ fn putting<'a>(
     }
 }
 
-/// What a directive does on a line with this label and these operands.
+/// What a directive does on a line with a label and operands.
 #[tactic(auto, unfolding(c25_meaning_assembly::specs::AssemblyLine::act_of))]
 pub(crate) fn act_of<'a>(
     alloc: Global,

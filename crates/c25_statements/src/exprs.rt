@@ -8,7 +8,7 @@ use c25_expr::tree::Expr;
 use std::slice;
 
 impl Exprs {
-    /// These expressions.
+    /// A list of expressions, without a `Vec` where there is only one.
     pub(crate) fn of(exprs: Vec<Expr>) -> Exprs
         ensures { exprs_in result ≡ exprs.items }
     {
@@ -22,7 +22,7 @@ impl Exprs {
         }
     }
 
-    /// All of them, in order.
+    /// All expressions, in order.
     pub fn as_slice(&self) -> &[Expr]
         ensures { result.now ≡ exprs_in self.now }
     {

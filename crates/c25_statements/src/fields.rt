@@ -1,4 +1,4 @@
-//! What the operands of an instruction fill, and the number that a value gives a field.
+//! The field that each operand of an instruction fills, and the number that a value gives a field.
 
 ghost use Rattle.std.specs.Prelude.{◌≡◌, pos, negsuc};
 ghost use Rattle.c25_bits.specs.Cut.{cut};
@@ -9,8 +9,8 @@ use c25_meaning_common::relocation::RelocationKind;
 use c25_meaning_instructions::mnemonic::{LongName, PlainName, ShiftedName, ShortName};
 use c25_meaning_language::statement::{AddrForm, FaultKind, Field, Form};
 
-/// The field of an operand that says where the memory word is: seven bits of a direct address, or the number of the
-/// next auxiliary register.
+/// The field of the memory operand: seven bits of a direct address, or the number of the next auxiliary
+/// register.
 fn addr_field(addr: AddrForm) -> Field
     ensures { result ≡ addr_field addr }
 {
@@ -20,8 +20,8 @@ fn addr_field(addr: AddrForm) -> Field
     }
 }
 
-/// The field at an index where a number below a limit stands beside the memory word: behind a direct address, before
-/// a next auxiliary register.
+/// The field at an index of an instruction with a memory operand and one number below a limit: the number
+/// comes after a direct address, but before a next auxiliary register.
 fn with_number(addr: AddrForm, limit: u16, index: usize) -> Field
     ensures { result ≡ with_number addr limit index }
 {
@@ -33,7 +33,7 @@ fn with_number(addr: AddrForm, limit: u16, index: usize) -> Field
     }
 }
 
-/// Below which a shift of an instruction lies.
+/// The limit of an instruction's shift: each shift is below it.
 fn shift_limit(name: ShiftedName) -> u16
     ensures { result ≡ shift_limit name }
 {
@@ -64,8 +64,8 @@ fn field_of_short(name: ShortName, index: usize) -> Field
     }
 }
 
-/// The field at an index of an instruction with a constant of 16 bits: `LRLK` has a register before it, the others a
-/// shift behind it.
+/// The field at an index of an instruction with a constant of 16 bits: `LRLK` has a register before the
+/// constant, the others have a shift after it.
 fn field_of_long(name: LongName, index: usize) -> Field
     ensures { result ≡ field_of_long name index }
 {
@@ -77,7 +77,7 @@ fn field_of_long(name: LongName, index: usize) -> Field
     }
 }
 
-/// The field of the constant of an instruction without a memory word.
+/// The field of the constant of an instruction without a memory operand.
 fn plain_field(name: PlainName) -> Field
     ensures { result ≡ plain_field name }
 {
@@ -87,7 +87,8 @@ fn plain_field(name: PlainName) -> Field
     }
 }
 
-/// What the operand at an index, from 0 through those that are expressions, fills.
+/// The field that an operand of an instruction fills, by its index among the operands that are expressions,
+/// from 0.
 pub fn form_field(form: Form, index: usize) -> Field
     ensures { result ≡ form_field form index }
 {
@@ -108,28 +109,28 @@ pub fn form_field(form: Form, index: usize) -> Field
     }
 }
 
-/// The low 16 bits.
+/// The low 16 bits of a value.
 fn low16(value: i32) -> u16
     ensures { result ≡ cut value 16 }
 {
     value.rem_euclid(65536) as u16
 }
 
-/// The low eight bits.
+/// The low eight bits of a value.
 fn low8(value: i32) -> u16
     ensures { result ≡ cut value 8 }
 {
     value.rem_euclid(256) as u16
 }
 
-/// The low seven bits: a value modulo 128.
+/// The low seven bits of a value: the value modulo 128.
 fn low7(value: i32) -> u16
     ensures { result ≡ cut value 7 }
 {
     value.rem_euclid(128) as u16
 }
 
-/// This number, where the value lies between these, both included; else FieldRange (53).
+/// The given number, where the value is from `low` to `high`, both included; else `FieldRange` (53).
 fn within(low: i32, high: i32, value: i32, number: u16) -> Result<u16, FaultKind>
     ensures { result ≡ within low high value number }
 {
@@ -140,7 +141,7 @@ fn within(low: i32, high: i32, value: i32, number: u16) -> Result<u16, FaultKind
     }
 }
 
-/// This number, where the value is at least 0 and below the limit; else FieldRange (53).
+/// The given number, where the value is at least 0 and below the limit; else `FieldRange` (53).
 fn below(limit: u16, value: i32, number: u16) -> Result<u16, FaultKind>
     ensures { result ≡ below limit value number }
 {
@@ -151,8 +152,8 @@ fn below(limit: u16, value: i32, number: u16) -> Result<u16, FaultKind>
     }
 }
 
-/// The number that an absolute value gives a field, or `FieldRange` where the field does not take it
-/// (53).
+/// The number that an absolute value gives a field, or `FieldRange` (53) where the value is out of the
+/// field's range.
 #[tactic(auto, unfolding(c25_meaning_language::specs::Statement::number_in))]
 pub fn number_in(field: Field, value: i32) -> Result<u16, FaultKind>
     ensures { result ≡ number_in field value }
@@ -168,7 +169,7 @@ pub fn number_in(field: Field, value: i32) -> Result<u16, FaultKind>
     }
 }
 
-/// How a field takes an address, if it does.
+/// The kind of relocation by which a field takes an address, or `None` where it takes no address.
 pub fn relocation_of(field: Field) -> Option<RelocationKind>
     ensures { result ≡ relocation_of field }
 {

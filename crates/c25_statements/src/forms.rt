@@ -1,4 +1,4 @@
-//! The instruction of a form and its numbers.
+//! The instruction that a form makes of its operands' numbers.
 
 ghost use Rattle.std.specs.Prelude.{◌≡◌, slice_get, slice_index};
 ghost use Rattle.c25_meaning_language.specs.Statement.{insn_of, addr_of, addr_beside, number_beside, short_of, long_of, plain_of, form_row};
@@ -7,22 +7,22 @@ use c25_meaning_instructions::insn::{Addr, Change, Insn, PlainOperand};
 use c25_meaning_instructions::mnemonic::{LongName, Mnemonic, PlainName, ShortName};
 use c25_meaning_language::statement::{AddrForm, Form};
 
-/// The number at an index; 0 where there is none.
+/// The number at an index, or 0 where there is none.
 fn number_at(numbers: &[u16], index: usize) -> u16
     ensures { result ≡ slice_index numbers.now index }
 {
     numbers.get(index).copied().unwrap_or(0)
 }
 
-/// The number at an index, where one is given.
+/// The number at an index, if there is one.
 fn given_at(numbers: &[u16], index: usize) -> Option<u16>
     ensures { result ≡ slice_get numbers.now index }
 {
     numbers.get(index).copied()
 }
 
-/// Where the memory word is, by the one number of its operand: a direct address, or the next auxiliary register where
-/// one is given.
+/// The memory operand that a form makes of the number given for it: a direct address, or an indirect form
+/// whose next auxiliary register is the number.
 fn addr_of(addr: AddrForm, number: Option<u16>) -> Addr
     ensures { result ≡ addr_of addr number }
 {
@@ -32,7 +32,7 @@ fn addr_of(addr: AddrForm, number: Option<u16>) -> Addr
     }
 }
 
-/// Where the memory word is, among the numbers of operands that have one more beside it.
+/// The memory operand, where the instruction has one number in addition to it.
 fn addr_beside(addr: AddrForm, numbers: &[u16]) -> Addr
     ensures { result ≡ addr_beside addr numbers.now }
 {
@@ -42,7 +42,8 @@ fn addr_beside(addr: AddrForm, numbers: &[u16]) -> Addr
     }
 }
 
-/// The number beside the memory word: behind a direct address, before a next auxiliary register.
+/// The number in addition to the memory operand: it comes after a direct address, but before a next auxiliary
+/// register.
 fn number_beside(addr: AddrForm, numbers: &[u16]) -> u16
     ensures { result ≡ number_beside addr numbers.now }
 {
@@ -52,14 +53,14 @@ fn number_beside(addr: AddrForm, numbers: &[u16]) -> u16
     }
 }
 
-/// An address and the number beside it.
+/// The memory operand, and the number in addition to it.
 fn beside(addr: AddrForm, numbers: &[u16]) -> (Addr, u16)
     ensures { result ≡ (addr_beside addr numbers.now, number_beside addr numbers.now) }
 {
     (addr_beside(addr, numbers), number_beside(addr, numbers))
 }
 
-/// An instruction with a short constant, of its numbers.
+/// An instruction with a short constant.
 fn short_of(name: ShortName, numbers: &[u16]) -> Insn
     ensures { result ≡ short_of name numbers.now }
 {
@@ -75,7 +76,7 @@ fn short_of(name: ShortName, numbers: &[u16]) -> Insn
     }
 }
 
-/// An instruction with a constant of 16 bits, of its numbers.
+/// An instruction with a constant of 16 bits.
 fn long_of(name: LongName, numbers: &[u16]) -> Insn
     ensures { result ≡ long_of name numbers.now }
 {
@@ -85,7 +86,7 @@ fn long_of(name: LongName, numbers: &[u16]) -> Insn
     }
 }
 
-/// The operand of an instruction without a memory word.
+/// The operand of an instruction without a memory operand.
 fn plain_of(name: PlainName, change: Change, numbers: &[u16]) -> PlainOperand
     ensures { result ≡ plain_of name change numbers.now }
 {
@@ -98,7 +99,7 @@ fn plain_of(name: PlainName, change: Change, numbers: &[u16]) -> PlainOperand
     }
 }
 
-/// The instruction of a form and its numbers.
+/// The instruction that a form makes of its operands' numbers.
 pub fn insn_of(form: Form, numbers: &[u16]) -> Insn
     ensures { result ≡ insn_of form numbers.now }
 {

@@ -1,5 +1,5 @@
-//! Statements: what one line of a module says after expansion, and the forms and fields of
-//! instructions.
+//! Statements: what one line of a module says after expansion, and which operands and fields each instruction
+//! has.
 #![tactic(auto)]
 
 mod directives;

@@ -15,7 +15,7 @@ fn is_dotted(word: &str) -> bool
     byte_at(word.as_bytes(), 0) == b'.'
 }
 
-/// The directives that the assembler takes, but those without effect.
+/// The directives that the assembler takes, without those that have no effect.
 static DIRECTIVES: [(&str, Directive); 17] = [
     (".text", Directive::Text),
     (".data", Directive::Data),
@@ -36,7 +36,7 @@ static DIRECTIVES: [(&str, Directive); 17] = [
     (".mmregs", Directive::Registers),
 ];
 
-/// The directives of listings alone, which have no effect.
+/// The directives of listings, which have no effect here.
 static IGNORED: [&str; 13] = [
     ".title",
     ".list",
@@ -53,14 +53,15 @@ static IGNORED: [&str; 13] = [
     ".ssnolist",
 ];
 
-/// Whether a word is a directive without effect, in either case.
+/// Whether a word is a directive without effect, whatever the case of its letters.
 fn is_ignored(word: &str) -> bool
     ensures { result ≡ is_ignored word.now }
 {
     IGNORED.iter().any(|name| word.eq_ignore_ascii_case(name))
 }
 
-/// The directive that a word is, if it is one that the assembler takes, in either case.
+/// The directive that a word names, if the assembler takes one of this name, whatever the case of its
+/// letters.
 fn find_directive(word: &str) -> Option<Directive>
     ensures { result ≡ directive_of word.now }
 {
@@ -73,7 +74,7 @@ fn find_directive(word: &str) -> Option<Directive>
     }
 }
 
-/// The same, where most words are mnemonics.
+/// The directive that a word names, if any. A word without a point, as most are, is not looked up.
 fn directive_of(word: &str) -> Option<Directive>
     ensures { result ≡ directive_of word.now }
 {
@@ -84,7 +85,7 @@ fn directive_of(word: &str) -> Option<Directive>
     }
 }
 
-/// The directive that the first word of a line is.
+/// The directive that a line's first word names, if any.
 pub(crate) fn directive_in(text: &str) -> Option<Directive>
     ensures { result ≡ directive_in (first_word text.now) }
 {

@@ -1,4 +1,4 @@
-//! Lists of operands of the directives of the assembler.
+//! The operands of the assembler's directives.
 
 ghost use Rattle.std.specs.Prelude.{◌≡◌};
 ghost use Rattle.c25_meaning_language.specs.DirectiveOperands as acts;
@@ -11,15 +11,16 @@ ghost use Rattle.c25_statements.specs.View.{texts_of, trees_of, count_tree, room
 
 use crate::statement::{Exprs, Room};
 use crate::trees::exprs_of;
+use c25_expr::directive_operands::{name_in, tree_in};
 use c25_expr::operands::written_of;
 use c25_expr::tree::Expr;
 use c25_meaning_common::failure::Failure;
 use c25_meaning_language::statement::{FaultKind, Written};
-use c25_expr::directive_operands::{name_in, tree_in};
 use c25_text::tokens::Token;
 use std::alloc::Global;
 
-/// An operand that is written as an expression; what is wrong with it is told later.
+/// The expression of an operand. `OperandForm` (52) where the operand is not written as an expression; a
+/// fault of the expression itself is returned inside, since it is reported later.
 pub(crate) fn later_in(
     alloc: Global,
     operand: &[Token<'_>],
@@ -36,7 +37,7 @@ pub(crate) fn later_in(
     }
 }
 
-/// A count alone.
+/// Room of a count alone, without a flag.
 pub(crate) fn alone(count: Result<Expr, FaultKind>) -> Result<Room, FaultKind>
     ensures { room_in result ≡ says.alone (count_tree count) }
 {
@@ -46,7 +47,7 @@ pub(crate) fn alone(count: Result<Expr, FaultKind>) -> Result<Room, FaultKind>
     }
 }
 
-/// A count and a flag: BadExpression (20) of either comes before TooDeep (21).
+/// Room of a count and a flag: `BadExpression` (20) of either comes before `TooDeep` (21).
 pub(crate) fn flagged(
     count: Result<Expr, FaultKind>,
     flag: Result<Expr, FaultKind>,
@@ -64,7 +65,7 @@ pub(crate) fn flagged(
     }
 }
 
-/// There is an operand.
+/// Checks that there is an operand; else `OperandCount` (51).
 pub(crate) fn some(operands: &[&[Token<'_>]]) -> Result<(), FaultKind>
     ensures { result ≡ says.some (operands_view operands.now) }
 {
@@ -74,7 +75,8 @@ pub(crate) fn some(operands: &[&[Token<'_>]]) -> Result<(), FaultKind>
     }
 }
 
-/// Each operand is an expression, and no string and no indirect form; else OperandForm (52).
+/// Checks that each operand is written as an expression, and not as a string or an indirect form; else
+/// `OperandForm` (52).
 fn all_expressions(operands: &[&[Token<'_>]]) -> Result<(), FaultKind>
     ensures { result ≡ says.all_expressions (operands_view operands.now) }
 {
@@ -86,7 +88,7 @@ fn all_expressions(operands: &[&[Token<'_>]]) -> Result<(), FaultKind>
     Ok(())
 }
 
-/// Operands that are expressions, at least one.
+/// The expressions of operands, of which there is at least one.
 pub(crate) fn expressions_in(
     alloc: Global,
     operands: &[&[Token<'_>]],
@@ -102,7 +104,7 @@ pub(crate) fn expressions_in(
     }
 }
 
-/// Operands that are names.
+/// The names that operands are.
 fn names_in<'a>(
     alloc: Global,
     operands: &[&[Token<'a>]],
@@ -119,7 +121,7 @@ fn names_in<'a>(
     Ok(names)
 }
 
-/// Operands that are names, at least one.
+/// The names that operands are, of which there is at least one.
 pub(crate) fn some_names<'a>(
     alloc: Global,
     operands: &[&[Token<'a>]],

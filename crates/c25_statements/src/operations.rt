@@ -1,4 +1,4 @@
-//! The instruction of a line.
+//! The instruction that a line says.
 
 ghost use Rattle.std.specs.Prelude.{◌≡◌, IfOk, map};
 ghost use Rattle.c25_meaning_assembly.specs.StatementLine.{spelled, operation_of};
@@ -13,22 +13,22 @@ use crate::shapes::form_of;
 use crate::statement::Operation;
 use crate::trees::exprs_of;
 use c25_expr::operands::written_of;
+use c25_isa::mnemonic;
 use c25_meaning_common::failure::Failure;
 use c25_meaning_common::no_memory::NoMemory;
 use c25_meaning_instructions::mnemonic::Spelling;
 use c25_meaning_language::statement::{FaultKind, Form, Written};
-use c25_isa::mnemonic;
 use c25_text::tokens::Token;
 use std::alloc::Global;
 
-/// The spelling of a line's first word, or `UnknownMnemonic` (50).
+/// The spelling that a line's first word is, or `UnknownMnemonic` (50).
 pub fn spelled(word: &str) -> Result<Spelling, FaultKind>
     ensures { result ≡ spelled word.now }
 {
     mnemonic(word).ok_or(FaultKind::UnknownMnemonic)
 }
 
-/// What each operand is by its tokens.
+/// What each operand is written as.
 fn kinds_of(alloc: Global, operands: &[&[Token<'_>]]) -> Result<Vec<Written>, NoMemory>
     ensures { IfOk result (λ v. v.items ≡ map written_of (operands_view operands.now)) }
 {
@@ -39,7 +39,7 @@ fn kinds_of(alloc: Global, operands: &[&[Token<'_>]]) -> Result<Vec<Written>, No
     Ok(kinds)
 }
 
-/// The form that these operands have, of whatever number.
+/// The form that an instruction has with any number of operands.
 fn form_of_many(
     alloc: Global,
     spelling: Spelling,
@@ -51,7 +51,8 @@ fn form_of_many(
     Ok(form_of(spelling, kinds.as_slice()))
 }
 
-/// The form that these operands have. Most lines have one or two, whose kinds take no memory.
+/// The form that an instruction has with these operands. Most lines have one or two operands, for which no
+/// memory is taken.
 fn form_in(
     alloc: Global,
     spelling: Spelling,
@@ -67,8 +68,9 @@ fn form_in(
     }
 }
 
-/// The instruction of these operands, or its first fault: too few or too many (51), one of another form
-/// than the instruction takes (52), one that is no expression (20), one that nests too deep (21).
+/// The instruction of a spelling and its operands, or its first fault: too few or too many operands (51), an
+/// operand of another form than the instruction takes (52), one that is no expression (20), one that is
+/// nested too deep (21).
 #[tactic(auto, unfolding(c25_meaning_assembly::specs::StatementLine::operation_of))]
 pub fn operation_of(
     alloc: Global,
@@ -86,7 +88,7 @@ pub fn operation_of(
     }
 }
 
-/// The instruction of a line's first word and operands.
+/// The instruction of a line's first word and its operands.
 pub(crate) fn operation_in(
     alloc: Global,
     word: &str,

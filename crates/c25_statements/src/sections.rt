@@ -7,21 +7,21 @@ ghost use Rattle.c25_meaning_common.specs.Results.{Meets};
 ghost use Rattle.c25_text.specs.View.{piece_of};
 ghost use Rattle.c25_expr.specs.Pieces.{pieces_of};
 
+use c25_expr::directive_operands::{is_string, string_in};
 use c25_meaning_common::failure::Failure;
 use c25_meaning_language::statement::FaultKind;
 use c25_module::is_section_name;
-use c25_expr::directive_operands::{is_string, string_in};
 use c25_text::tokens::Token;
 use std::alloc::Global;
 
-/// Whether a token stands directly behind another.
+/// Whether a token begins where another one ends, without a blank between them.
 fn stands_behind(before: &Token<'_>, token: &Token<'_>) -> bool
     ensures { result ≡ says.stands_behind (piece_of before.now) (piece_of token.now) }
 {
     token.start >= before.start && token.start - before.start == before.text.len()
 }
 
-/// The text of an operand's tokens, each directly behind the one before it.
+/// The text of an operand's tokens, where there is no blank between them.
 fn joined(alloc: Global, operand: &[Token<'_>]) -> Result<String, Failure<FaultKind>>
     ensures { Meets string_bytes (says.joined (pieces_of operand.now)) result }
 {
@@ -40,7 +40,7 @@ fn joined(alloc: Global, operand: &[Token<'_>]) -> Result<String, Failure<FaultK
     Ok(name)
 }
 
-/// The name that an operand says: that of a string, or else its text.
+/// The name that an operand gives: the content of a string, or else the operand's text.
 fn said_in(alloc: Global, operand: &[Token<'_>]) -> Result<String, Failure<FaultKind>>
     ensures { Meets string_bytes (says.said_in (pieces_of operand.now)) result }
 {
@@ -51,7 +51,7 @@ fn said_in(alloc: Global, operand: &[Token<'_>]) -> Result<String, Failure<Fault
     }
 }
 
-/// An operand that is a section's name.
+/// The section that an operand names.
 pub(crate) fn section_in(alloc: Global, operand: &[Token<'_>]) -> Result<String, Failure<FaultKind>>
     ensures { Meets string_bytes (says.section_in (pieces_of operand.now)) result }
 {

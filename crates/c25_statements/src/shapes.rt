@@ -27,7 +27,7 @@ fn all_expressions(operands: &[Written]) -> bool
     operands.iter().all(|operand| is_expression(*operand))
 }
 
-/// Whether each operand but the one of that index, counted from 0, is an expression.
+/// Whether each operand but the one at an index, counted from 0, is an expression.
 fn others(index: usize, operands: &[Written]) -> bool
     ensures { result ≡ forms.others index operands.now }
 {
@@ -43,7 +43,7 @@ fn others(index: usize, operands: &[Written]) -> bool
     }
 }
 
-/// The number of operands lies between these, both included; else OperandCount (51).
+/// Checks that the number of operands is from `low` to `high`, both included; else `OperandCount` (51).
 fn counted(low: usize, high: usize, operands: &[Written]) -> Result<(), FaultKind>
     ensures { result ≡ forms.counted low high operands.now }
 {
@@ -54,8 +54,8 @@ fn counted(low: usize, high: usize, operands: &[Written]) -> Result<(), FaultKin
     }
 }
 
-/// How many operands may follow one that says where the memory word is: behind an indirect form the next auxiliary
-/// register.
+/// How many operands may follow the memory operand: one, the next auxiliary register, after an indirect form;
+/// none after a direct address.
 fn more_behind(operand: Option<Written>) -> usize
     ensures value { result ≡ forms.more_behind operand }
     ensures bound { result ≤ 1 }
@@ -66,7 +66,7 @@ fn more_behind(operand: Option<Written>) -> usize
     }
 }
 
-/// How the memory word is addressed; OperandForm (52) where the operand is a string or is missing.
+/// How the memory word is addressed; `OperandForm` (52) where the operand is a string or is missing.
 fn addr_written(operand: Option<Written>) -> Result<AddrForm, FaultKind>
     ensures { result ≡ forms.addr_written operand }
 {
@@ -77,8 +77,8 @@ fn addr_written(operand: Option<Written>) -> Result<AddrForm, FaultKind>
     }
 }
 
-/// How the memory word is addressed that the operand of that index names, among so many operands, of which the others
-/// are expressions; else 51, then 52.
+/// How the memory word is addressed by the operand at an index. The number of operands has to be in range,
+/// else 51; the others have to be expressions, else 52.
 fn memory(
     index: usize,
     low: usize,
@@ -98,7 +98,8 @@ fn memory(
     }
 }
 
-/// So many operands, each an expression; else 51, then 52.
+/// Checks that the number of operands is from `low` to `high`, else 51, and that each is an expression, else
+/// 52.
 #[tactic(auto, unfolding(c25_meaning_language::specs::Forms::expressions))]
 fn expressions(low: usize, high: usize, operands: &[Written]) -> Result<(), FaultKind>
     ensures { result ≡ forms.expressions low high operands.now }
@@ -111,7 +112,7 @@ fn expressions(low: usize, high: usize, operands: &[Written]) -> Result<(), Faul
     }
 }
 
-/// How an indirect operand changes the auxiliary register; where there is none, as the instruction does without it.
+/// How an indirect operand changes the auxiliary register, or the default where the operand is missing.
 fn change_written(default: Change, operand: Option<Written>) -> Result<Change, FaultKind>
     ensures { result ≡ forms.change_written default operand }
 {
@@ -132,7 +133,8 @@ fn jump_change(name: JumpName) -> Change
     }
 }
 
-/// The operands of a jump: where to, and perhaps an indirect form with the next auxiliary register; else 51, then 52.
+/// How the operands of a jump change the auxiliary register: an address, and perhaps an indirect form with
+/// the next auxiliary register; else 51, then 52.
 fn jumping(name: JumpName, operands: &[Written]) -> Result<Change, FaultKind>
     ensures { result ≡ forms.jumping name operands.now }
 {
@@ -146,7 +148,8 @@ fn jumping(name: JumpName, operands: &[Written]) -> Result<Change, FaultKind>
     }
 }
 
-/// The operand of `NORM`: an indirect form, without one `*+`; else 51, then 52.
+/// How the operand of `NORM` changes the auxiliary register: an indirect form, or `*+` where there is none;
+/// else 51, then 52.
 #[tactic(auto, unfolding(c25_meaning_language::specs::Forms::norm))]
 fn norm(operands: &[Written]) -> Result<Change, FaultKind>
     ensures { result ≡ forms.norm operands.now }
@@ -155,8 +158,8 @@ fn norm(operands: &[Written]) -> Result<Change, FaultKind>
     change_written(Change::Increment, operands.first().copied())
 }
 
-/// The operands of an instruction without a memory word: one expression for `SPM`, `FORT` and `CMPR`, none for the
-/// others, but for `NORM`.
+/// The operands of an instruction without a memory operand: an indirect form for `NORM`, one expression for
+/// `SPM`, `FORT` and `CMPR`, no operand for the others.
 fn plain_change(name: PlainName, operands: &[Written]) -> Result<Change, FaultKind>
     ensures { result ≡ forms.plain_change name operands.now }
 {
@@ -169,7 +172,7 @@ fn plain_change(name: PlainName, operands: &[Written]) -> Result<Change, FaultKi
     }
 }
 
-/// The form of an instruction with a short constant: `LARK` has a register before it.
+/// The form of an instruction with a short constant: `LARK` has a register before the constant.
 fn short_form(name: ShortName, operands: &[Written]) -> Result<Form, FaultKind>
     ensures { result ≡ forms.row_form (Mnemonic.Short name) operands.now }
 {
@@ -180,8 +183,8 @@ fn short_form(name: ShortName, operands: &[Written]) -> Result<Form, FaultKind>
     expressions(count, count, operands).and(Ok(Form::Short(name)))
 }
 
-/// The form of an instruction with a constant of 16 bits: `LRLK` has a register before it, the others perhaps a shift
-/// behind it.
+/// The form of an instruction with a constant of 16 bits: `LRLK` has a register before the constant, the
+/// others perhaps a shift after it.
 fn long_form(name: LongName, operands: &[Written]) -> Result<Form, FaultKind>
     ensures { result ≡ forms.row_form (Mnemonic.Long name) operands.now }
 {
@@ -192,7 +195,7 @@ fn long_form(name: LongName, operands: &[Written]) -> Result<Form, FaultKind>
     expressions(least, 2, operands).and(Ok(Form::Long(name)))
 }
 
-/// The form of an instruction by its row of the table of instructions.
+/// The form of an instruction, by its row of the opcode table.
 fn row_form(mnemonic: Mnemonic, operands: &[Written]) -> Result<Form, FaultKind>
     ensures { result ≡ forms.row_form mnemonic operands.now }
 {
@@ -210,7 +213,7 @@ fn row_form(mnemonic: Mnemonic, operands: &[Written]) -> Result<Form, FaultKind>
     }
 }
 
-/// The form of an instruction by the kinds of its operands.
+/// The form of an instruction, by its spelling and what its operands are written as.
 pub fn form_of(spelling: Spelling, operands: &[Written]) -> Result<Form, FaultKind>
     ensures { result ≡ forms.form_of spelling operands.now }
 {

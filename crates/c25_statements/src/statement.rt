@@ -1,10 +1,10 @@
-//! What lines say. Names borrow the line.
+//! Statements: what a line says. Names borrow the line.
 
 use c25_expr::tree::Expr;
 use c25_meaning_assembly::assembly::Target;
 use c25_meaning_language::statement::{FaultKind, Form};
 
-/// The expressions of a line's operands. Most lines have one, which is kept without a list.
+/// The expressions of a line's operands. Most lines have one, which is kept without a `Vec`.
 #[derive(Drop)]
 pub enum Exprs {
     One(Expr),
@@ -18,24 +18,24 @@ pub struct Operation {
     pub trees: Exprs,
 }
 
-/// How much room is reserved.
+/// How much room a line reserves.
 #[derive(Drop)]
 pub struct Room {
-    /// How many words.
+    /// The number of words.
     pub count: Expr,
-    /// Whether they have to lie in one page of 128 words, where this is told.
+    /// The flag, where one is given: whether the words have to lie in one page of 128 words.
     pub flag: Option<Expr>,
 }
 
 /// What a line does.
 #[derive(Drop)]
 pub enum AssemblyAct<'a> {
-    /// Nothing: it has no first word, or a directive without effect.
+    /// Nothing: the line has no first word, or a directive without effect.
     Nothing,
-    /// The lines behind it go on in an initialised section.
+    /// The lines after it go on in an initialised section.
     Enter(String),
-    /// Words are reserved in an uninitialised section, and the name stands for the first of them.
-    /// Operands that are no expressions are a fault to be told behind a section of the other kind.
+    /// Words are reserved in an uninitialised section, and the name stands for the first of them. A fault of
+    /// the operands' expressions is reported after that of a section of the other kind.
     Reserve {
         section: String,
         name: &'a str,
@@ -48,21 +48,21 @@ pub enum AssemblyAct<'a> {
     },
     /// The operands make an instruction or words.
     Put(Target, Exprs),
-    /// These words are loaded.
+    /// Words are loaded.
     Load(Vec<u16>),
-    /// So many bits of zeros are loaded, rounded up to words.
+    /// As many bits of zeros as the expression says are loaded, rounded up to words.
     Space(Expr),
-    /// The names are other modules' if they are not defined here, and those see them if they are.
+    /// Names that are defined in another module, or that other modules see if they are defined here.
     Declare(Vec<&'a str>),
-    /// Other modules see the names, which have to be defined here.
+    /// Names that other modules see, and that have to be defined here.
     Export(Vec<&'a str>),
-    /// The name stands for where the words of the next line are loaded.
+    /// The name stands for the address where the words of the next line are loaded.
     Label(&'a str),
     /// The names of the memory-mapped registers stand for their addresses.
     Registers,
 }
 
-/// What a line says: a label for the place where it begins, and what it does.
+/// What a line says: a label for the place where the line begins, and what the line does.
 #[derive(Drop)]
 pub struct Statement<'a> {
     pub label: Option<&'a str>,

@@ -1,4 +1,4 @@
-//! One line of a module.
+//! The statement of one line of a module.
 
 ghost use Rattle.std.specs.Prelude.{◌≡◌};
 ghost use Rattle.std.specs.Option.{option_map};
@@ -23,7 +23,7 @@ use c25_text::line::{Line, Word, split_line};
 use c25_text::tokens::Token;
 use std::alloc::Global;
 
-/// An instruction's line.
+/// What a line with an instruction does.
 fn instructing<'a>(
     alloc: Global,
     word: &str,
@@ -37,7 +37,7 @@ fn instructing<'a>(
     }
 }
 
-/// What a line does whose first word is no directive.
+/// What a line does whose first word is no directive, if it has one.
 fn act_without<'a>(
     alloc: Global,
     word: Option<Word<'_>>,
@@ -51,7 +51,7 @@ fn act_without<'a>(
     }
 }
 
-/// What a line does by its directive, if it has one.
+/// What a line does, with its directive if it has one.
 fn act_by<'a>(
     alloc: Global,
     directive: Option<Directive>,
@@ -70,7 +70,7 @@ fn act_by<'a>(
     }
 }
 
-/// Whether a directive defines its label behind its operands.
+/// Whether a directive itself defines the name in the label's place, after its operands are read.
 fn names_label(directive: Option<Directive>) -> bool
     ensures { result ≡ says.names_label directive }
 {
@@ -93,14 +93,14 @@ fn parts_for(directive: Option<Directive>, text: &str) -> Result<Line<'_>, Failu
     }
 }
 
-/// The label that stands for the place where the line begins.
+/// The label that stands for the place where the line begins, if there is one.
 fn label_for(directive: Option<Directive>, label: Option<&str>) -> Option<&str>
     ensures { option_map (λ t. t.now) result ≡ says.label_for directive (option_map (λ t. t.now) label.entry) }
 {
     if names_label(directive) { None } else { label }
 }
 
-/// What a line says by its directive, if it has one.
+/// What a line says, with its directive if it has one.
 #[tactic(auto, unfolding(c25_meaning_assembly::specs::AssemblyLine::statement_by))]
 fn statement_by(
     alloc: Global,
@@ -117,9 +117,9 @@ fn statement_by(
     }
 }
 
-/// What a line says, or the first fault that it shows by itself: one of its text (10 to 13), a first
-/// word that is neither a mnemonic nor a directive (50), too few or too many operands (51), one of
-/// another form than is asked for (52), one that is no expression (20), one that nests too deep (21).
+/// What a line says, or the first fault that its text alone shows: a wrong token (10 to 13), a first word
+/// that is neither a mnemonic nor a directive (50), too few or too many operands (51), an operand of another
+/// form than is asked for (52), one that is no expression (20), one that is nested too deep (21).
 pub fn read_statement(alloc: Global, text: &str) -> Result<Statement<'_>, Failure<FaultKind>>
     ensures { Meets statement_of (says.read_statement text.now) result }
 {

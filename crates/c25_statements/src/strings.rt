@@ -1,25 +1,26 @@
-//! The words of strings.
+//! The words that strings make.
 
 ghost use Rattle.std.specs.Prelude.{◌≡◌, ◌+◌, ◌*◌, ◌++◌, OnOk};
 ghost use Rattle.c25_meaning_assembly.specs.AssemblyLine as says;
 ghost use Rattle.c25_meaning_common.specs.Results.{Meets};
 ghost use Rattle.c25_expr.specs.Pieces.{operands_view};
 
+use c25_expr::directive_operands::string_in;
 use c25_meaning_common::failure::Failure;
 use c25_meaning_common::no_memory::NoMemory;
 use c25_meaning_language::statement::FaultKind;
-use c25_expr::directive_operands::string_in;
 use c25_text::tokens::Token;
 use std::alloc::Global;
 
-/// The word of two characters.
+/// The word of two characters, the first one in the high byte.
 fn pair(first: u8, second: u8) -> u16
     ensures { result ≡ first * 256 + second }
 {
     u16::from(first) * 256 + u16::from(second)
 }
 
-/// Appends two characters a word, the first one high, with a zero where the last has none.
+/// Appends the words of a text: two characters a word, the first one in the high byte; an odd last character
+/// has a zero after it.
 fn pack(words: &mut Vec<u16>, text: &[u8]) -> Result<(), NoMemory>
     ensures { OnOk result (words.new.items ≡ words.old.items ++ says.packed text.now) }
 {
@@ -34,7 +35,7 @@ fn pack(words: &mut Vec<u16>, text: &[u8]) -> Result<(), NoMemory>
     Ok(())
 }
 
-/// The words of operands that are strings.
+/// The words of operands, each of which is a string.
 pub(crate) fn strings_in(
     alloc: Global,
     operands: &[&[Token<'_>]],

@@ -1,4 +1,4 @@
-//! The expressions of a line's operands.
+//! Reading the expressions of a line's operands.
 
 ghost use Rattle.std.specs.Prelude.{◌≡◌, IfOk};
 ghost use Rattle.c25_meaning_assembly.specs.StatementLine.{no_trees, with_operand, all_trees, trees_in};
@@ -18,7 +18,7 @@ use c25_meaning_language::statement::{FaultKind, Written};
 use c25_text::tokens::Token;
 use std::alloc::Global;
 
-/// The expressions of the operands so far, and whether one of those was too deep.
+/// The expressions of the operands so far, and whether one of the operands was nested too deep.
 #[derive(Drop)]
 struct Trees {
     exprs: Vec<Expr>,
@@ -26,7 +26,7 @@ struct Trees {
 }
 
 impl Trees {
-    /// No expressions, with room for so many.
+    /// No expressions, with room for as many as there are operands.
     fn new(alloc: Global, room: usize) -> Result<Trees, NoMemory>
         ensures { IfOk result (λ t. so_far t ≡ no_trees) }
     {
@@ -36,7 +36,7 @@ impl Trees {
         })
     }
 
-    /// One operand more.
+    /// Takes one operand more; one that is not written as an expression is passed over.
     #[tactic(auto, unfolding(c25_meaning_assembly::specs::StatementLine::with_operand))]
     fn add(&mut self, alloc: Global, tokens: &[Token<'_>]) -> Result<(), Failure<FaultKind>>
         ensures { Meets (λ _. so_far self.new) (with_operand (so_far self.old) (pieces_of tokens.now)) result }
@@ -55,7 +55,8 @@ impl Trees {
         Ok(())
     }
 
-    /// All of them, or TooDeep (21) where one was told: a token list that is no expression comes before it.
+    /// All expressions, or `TooDeep` (21) if one was nested too deep. An operand that is no expression (20)
+    /// has been reported before, by `add`.
     fn finish(self) -> Result<Exprs, Failure<FaultKind>>
         ensures { Meets (λ v. trees_of (exprs_in v)) (all_trees (so_far self)) result }
     {
@@ -68,7 +69,7 @@ impl Trees {
     }
 }
 
-/// The expressions of the operands that are such.
+/// The expressions of those operands that are written as expressions.
 pub(crate) fn exprs_of(
     alloc: Global,
     operands: &[&[Token<'_>]],

@@ -23,7 +23,7 @@ among : (word : List ℕ) (rows : List Row) → option_map (λ r. r.1) (find (λ
 among word [] = refl
 among word (row ∷ rows) = one_more (str_eq_ignore_ascii_case word row.0.now) row _ _ (among word rows)
 
--- so has the row that is found
+-- the row that is found has the directive too
 told : (word : List ℕ) (rows : List Row) (found : Option (Bor Row)) → option_map (λ r. r.now) found ≡ find (λ r. str_eq_ignore_ascii_case word r.0.now) rows → option_map (λ r. r.now.1) found ≡ directive_among word (map (λ r. (r.0.now, r.1)) rows)
 told word rows None e = ap (option_map (λ r. r.1)) e ∙ among word rows
 told word rows (Some row) e = ap (option_map (λ r. r.1)) e ∙ among word rows

@@ -6,7 +6,7 @@ use Rattle.c25_listing.specs.View.{entry_of}
 use Rattle.c25_listing.proofs.Columns.{entry_words}
 use Rattle.c25_listing.proofs.printing.Marked.push_entry.Goals as goal
 
--- what follows of what holds where a call went well
+-- what follows from a fact that holds where a call succeeded
 then : {A E P Q : Type 0} (r : Result A E) → (P → Q) → OnOk r P → OnOk r Q
 then (Ok x) f p = f p
 then (Err e) f p = p
