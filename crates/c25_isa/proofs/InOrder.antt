@@ -1,5 +1,5 @@
--- Spellings in the order of their letters as numbers: what a binary search of them finds, and how a list is seen to be in order.
-use Rattle.std.proofs.Common.{◌≡◌, ℕ, zero, suc, ◌+◌, ◌*◌, ◌<◌, ◌≤◌, Bool, true, ◌&&◌, List, [], ◌∷◌, length, map, get_or, Option, Some, None, Result, Ok, Err, inl, inr, refl, sym, ap, ap₂, ◌∙◌, subst, arith}
+-- Spellings in the order of their texts' numbers: what a binary search of them finds, and how a list is seen to be in order.
+use Rattle.std.proofs.Common.{◌≡◌, ℕ, zero, suc, ◌+◌, ◌*◌, ◌^◌, ◌<◌, ◌≤◌, Bool, true, ◌&&◌, List, [], ◌∷◌, length, map, get_or, Option, Some, None, Result, Ok, Err, inl, inr, refl, sym, ap, ap₂, ◌∙◌, subst, arith}
 use Rattle.std.specs.Bool.{nat_lt}
 use Rattle.std.specs.Char.{to_ascii_lowercase}
 use Rattle.std.specs.List.{Contains, list_all}
@@ -10,7 +10,7 @@ use Rattle.std.specs.Result.{result_ok}
 use Rattle.std.proofs.lemmas.Bool.{and_parts, cases_lt}
 use Rattle.std.proofs.lemmas.List.{get_or-map, length-map}
 use Rattle.std.proofs.lemmas.List.Sorted.{searched}
-use Rattle.c25_isa.specs.Letters.{AreInOrder, are_bytes, is_short, lower, number, spelling_number}
+use Rattle.c25_isa.specs.Letters.{AreInOrder, are_bytes, digit, has_short_text, is_short, lower, number, spelling_number}
 use Rattle.c25_meaning_instructions.specs.Spellings.{spellings}
 use Rattle.c25_meaning_instructions.specs.Table.{SameLetters, spelling_text}
 use Rattle.c25_meaning_instructions.specs.declared.mnemonic.Spelling.{Spelling}
@@ -69,37 +69,64 @@ passes p (x ∷ xs) h (suc k) s below = passes p xs (and_parts (p x) (list_all p
 
 -- ---- texts as numbers
 
-number_is_one : (xs : List ℕ) → 1 ≤ number xs
-number_is_one [] = omega arith
-number_is_one (x ∷ xs) = let rest = number_is_one xs in omega arith
-
-first_of_both : (x y a b : ℕ) → x < 256 → y < 256 → x + 256 * a ≡ y + 256 * b → x ≡ y
-first_of_both x y a b l m e = omega arith
-
-rest_of_both : (x y a b : ℕ) → x < 256 → y < 256 → x + 256 * a ≡ y + 256 * b → a ≡ b
-rest_of_both x y a b l m e = omega arith
-
 below_256 : (x : ℕ) → nat_lt x 256 ≡ true → x < 256
 below_256 x h = grind arith
 
--- texts of one number are one
-pub one_text : (xs ys : List ℕ) → are_bytes xs ≡ true → are_bytes ys ≡ true → number xs ≡ number ys → xs ≡ ys
-one_text [] [] a b e = refl
-one_text [] (y ∷ ys) a b e = let more = number_is_one ys in absurd (omega arith)
-one_text (x ∷ xs) [] a b e = let more = number_is_one xs in absurd (omega arith)
-one_text (x ∷ xs) (y ∷ ys) a b e =
-    let of_x = and_parts (nat_lt x 256) (are_bytes xs) a in
-    let of_y = and_parts (nat_lt y 256) (are_bytes ys) b in
-    let l = below_256 x of_x.0 in
-    let m = below_256 y of_y.0 in
-    ap₂ (λ z zs. z ∷ zs) (first_of_both x y (number xs) (number ys) l m e) (one_text xs ys of_x.1 of_y.1 (rest_of_both x y (number xs) (number ys) l m e))
+digit_is_small : (k : ℕ) (xs : List ℕ) → are_bytes xs ≡ true → digit k xs < 257
+digit_is_small k [] h = omega arith
+digit_is_small zero (x ∷ xs) h = let small = below_256 x (and_parts (nat_lt x 256) (are_bytes xs) h).0 in omega arith
+digit_is_small (suc k) (x ∷ xs) h = digit_is_small k xs (and_parts (nat_lt x 256) (are_bytes xs) h).1
+
+by_digits : (n : ℕ) (xs ys : List ℕ) → length xs ≤ n → length ys ≤ n → ((k : ℕ) → k < n → digit k xs ≡ digit k ys) → xs ≡ ys
+by_digits n [] [] a b same = refl
+by_digits zero (x ∷ xs) ys a b same = absurd (omega arith)
+by_digits zero [] (y ∷ ys) a b same = absurd (omega arith)
+by_digits (suc n) [] (y ∷ ys) a b same = let e : 0 ≡ suc y = same 0 (omega arith) in absurd (omega arith)
+by_digits (suc n) (x ∷ xs) [] a b same = let e : suc x ≡ 0 = same 0 (omega arith) in absurd (omega arith)
+by_digits (suc n) (x ∷ xs) (y ∷ ys) a b same =
+    let e : suc x ≡ suc y = same 0 (omega arith) in
+    ap₂ (λ z zs. z ∷ zs) (omega arith) (by_digits n xs ys (omega arith) (omega arith) (λ k below. same (suc k) (omega arith)))
+
+module _ (a b c d x y z w : ℕ) (la : a < 257) (lb : b < 257) (lc : c < 257) (ld : d < 257) (lx : x < 257) (ly : y < 257) (lz : z < 257) (lw : w < 257) (e : a * 2 ^ 27 + b * 2 ^ 18 + c * 2 ^ 9 + d ≡ x * 2 ^ 27 + y * 2 ^ 18 + z * 2 ^ 9 + w) where
+  first : a ≡ x
+  first = omega arith
+
+  second : b ≡ y
+  second = let f = first in omega arith
+
+  third : c ≡ z
+  third = let f = first in let s = second in omega arith
+
+  fourth : d ≡ w
+  fourth = let f = first in let s = second in let t = third in omega arith
+
+few : (xs : List ℕ) → is_short xs ≡ true → length xs ≤ 4
+few xs h = let l = (and_parts (nat_lt (length xs) 5) (are_bytes xs) h).0 in grind arith
+
+module _ (xs ys : List ℕ) (a : is_short xs ≡ true) (b : is_short ys ≡ true) (e : number xs ≡ number ys) where
+  of_xs : (k : ℕ) → digit k xs < 257
+  of_xs k = digit_is_small k xs (and_parts (nat_lt (length xs) 5) (are_bytes xs) a).1
+
+  of_ys : (k : ℕ) → digit k ys < 257
+  of_ys k = digit_is_small k ys (and_parts (nat_lt (length ys) 5) (are_bytes ys) b).1
+
+  same_digit : (k : ℕ) → k < 4 → digit k xs ≡ digit k ys
+  same_digit zero l = first _ _ _ _ _ _ _ _ (of_xs 0) (of_xs 1) (of_xs 2) (of_xs 3) (of_ys 0) (of_ys 1) (of_ys 2) (of_ys 3) e
+  same_digit (suc zero) l = second _ _ _ _ _ _ _ _ (of_xs 0) (of_xs 1) (of_xs 2) (of_xs 3) (of_ys 0) (of_ys 1) (of_ys 2) (of_ys 3) e
+  same_digit (suc (suc zero)) l = third _ _ _ _ _ _ _ _ (of_xs 0) (of_xs 1) (of_xs 2) (of_xs 3) (of_ys 0) (of_ys 1) (of_ys 2) (of_ys 3) e
+  same_digit (suc (suc (suc zero))) l = fourth _ _ _ _ _ _ _ _ (of_xs 0) (of_xs 1) (of_xs 2) (of_xs 3) (of_ys 0) (of_ys 1) (of_ys 2) (of_ys 3) e
+  same_digit (suc (suc (suc (suc k)))) l = absurd (omega arith)
+
+  -- texts of one number are one
+  pub one_text : xs ≡ ys
+  one_text = by_digits 4 xs ys (few xs a) (few ys b) same_digit
 
 -- ---- a search
 
 some_is : {A : Type 0} (a b : A) → Some a ≡ Some b → a ≡ b
 some_is a b e = cc
 
-module _ (all : List Spelling) (numbers : List ℕ) (are : numbers ≡ map spelling_number all) (rise : AreInOrder numbers) (short : list_all is_short all ≡ true) (has : (s : Spelling) → Contains all s) where
+module _ (all : List Spelling) (numbers : List ℕ) (are : numbers ≡ map spelling_number all) (rise : AreInOrder numbers) (short : list_all has_short_text all ≡ true) (has : (s : Spelling) → Contains all s) where
   number_at : (k : ℕ) (s : Spelling) → k < length all → get_or numbers k 0 ≡ spelling_number (get_or all k s)
   number_at k s below = subst (λ l. get_or l k 0 ≡ spelling_number (get_or all k s)) (sym are) (get_or-map spelling_number all k s 0 below)
 
@@ -107,18 +134,17 @@ module _ (all : List Spelling) (numbers : List ℕ) (are : numbers ≡ map spell
   pub no_long_spelling : (text : List ℕ) → 4 < length text → (s : Spelling) → SameLetters text (spelling_text s) → ⊥
   no_long_spelling text long s same =
       let at = has s in
-      let is = subst (λ t. is_short t ≡ true) at.2 (passes is_short all short at.0 s at.1) in
-      let few = (and_parts (nat_lt (length (spelling_text s)) 5) (are_bytes (lower (spelling_text s))) is).0 in
-      let lengths = sym (length-map text to_ascii_lowercase) ∙ ap length same ∙ length-map (spelling_text s) to_ascii_lowercase in
+      let is = subst (λ t. has_short_text t ≡ true) at.2 (passes has_short_text all short at.0 s at.1) in
+      let small = few (lower (spelling_text s)) is in
+      let lengths = sym (length-map text to_ascii_lowercase) ∙ ap length same in
       grind arith
 
-  module _ (text : List ℕ) (bytes : are_bytes (lower text) ≡ true) where
+  module _ (text : List ℕ) (is_name : is_short (lower text) ≡ true) where
     -- the spelling that has the number of a text has its letters
     same_letters : (i : ℕ) → i < length all → get_or numbers i 0 ≡ number (lower text) → (d : Spelling) → SameLetters text (spelling_text (get_or all i d))
     same_letters i below e d =
-        let is = passes is_short all short i d below in
-        let small = (and_parts (nat_lt (length (spelling_text (get_or all i d))) 5) (are_bytes (lower (spelling_text (get_or all i d)))) is).1 in
-        one_text (lower text) (lower (spelling_text (get_or all i d))) bytes small (sym e ∙ number_at i d below)
+        let is = passes has_short_text all short i d below in
+        one_text (lower text) (lower (spelling_text (get_or all i d))) is_name is (sym e ∙ number_at i d below)
 
     -- a text whose number is not among theirs spells none
     no_spelling : (i : ℕ) → ((k : ℕ) → k < i → get_or numbers k 0 < number (lower text)) → ((k : ℕ) → i ≤ k → k < length numbers → number (lower text) < get_or numbers k 0) → length numbers ≡ length all → (s : Spelling) → SameLetters text (spelling_text s) → ⊥
@@ -140,8 +166,8 @@ module _ (all : List Spelling) (numbers : List ℕ) (are : numbers ≡ map spell
         no_spelling i found.1 found.2 len
 
   -- the same of a text as it is written
-  pub found_written : (written text : List ℕ) → written ≡ text → are_bytes (lower written) ≡ true → length numbers ≡ length all → (n : ℕ) → n ≡ number (lower written) → (r : Result ℕ ℕ) (o : Option ℕ) → o ≡ result_ok r → IsBinarySearchResult (λ y. nat_cmp y n) numbers r
+  pub found_written : (written text : List ℕ) → written ≡ text → is_short (lower written) ≡ true → length numbers ≡ length all → (n : ℕ) → n ≡ number (lower written) → (r : Result ℕ ℕ) (o : Option ℕ) → o ≡ result_ok r → IsBinarySearchResult (λ y. nat_cmp y n) numbers r
       → MatchOption o ((s : Spelling) → SameLetters text (spelling_text s) → ⊥) (λ i. (d : Spelling) → SameLetters text (spelling_text (get_or all i d)))
-  found_written written text same bytes len n is r o e holds =
+  found_written written text same short_text len n is r o e holds =
       subst (λ t. MatchOption o ((s : Spelling) → SameLetters t (spelling_text s) → ⊥) (λ i. (d : Spelling) → SameLetters t (spelling_text (get_or all i d)))) same
-      (found_spelling written bytes len r o e (subst (λ m. IsBinarySearchResult (λ y. nat_cmp y m) numbers r) is holds))
+      (found_spelling written short_text len r o e (subst (λ m. IsBinarySearchResult (λ y. nat_cmp y m) numbers r) is holds))

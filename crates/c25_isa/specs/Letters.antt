@@ -1,15 +1,20 @@
--- The letters of a name as one number, by which the spellings are put in order.
-use Rattle.std.specs.Prelude.{ℕ, ◌+◌, ◌*◌, ◌<◌, ◌≤◌, Bool, ◌&&◌, List, [], ◌∷◌, length, get_or, map}
+-- The letters of a name as one number, for the alphabetical order of the spellings.
+use Rattle.std.specs.Prelude.{ℕ, zero, suc, ◌+◌, ◌*◌, ◌^◌, ◌<◌, ◌≤◌, Bool, ◌&&◌, List, [], ◌∷◌, length, get_or, map}
 use Rattle.std.specs.Bool.{nat_lt}
 use Rattle.std.specs.Char.{to_ascii_lowercase}
 use Rattle.std.specs.List.{list_all}
 use Rattle.c25_meaning_instructions.specs.Table.{spelling_text}
 use Rattle.c25_meaning_instructions.specs.declared.mnemonic.Spelling.{Spelling}
 
--- a text as one number: its first letter are the low eight bits, behind its last one stands a 1
+-- the digit of the letter at an index of a text: the letter's code plus one, or 0 after the text's end
+abbrev pub digit : ℕ → List ℕ → ℕ
+digit k [] = 0
+digit zero (c ∷ cs) = suc c
+digit (suc k) (c ∷ cs) = digit k cs
+
+-- the first four letters of a text as one number, nine bits each: the numbers of texts are in alphabetical order
 abbrev pub number : List ℕ → ℕ
-number [] = 1
-number (c ∷ cs) = c + 256 * number cs
+number text = digit 0 text * 2 ^ 27 + digit 1 text * 2 ^ 18 + digit 2 text * 2 ^ 9 + digit 3 text
 
 -- a text in lower case
 abbrev pub lower : List ℕ → List ℕ
@@ -23,10 +28,14 @@ spelling_number s = number (lower (spelling_text s))
 abbrev pub are_bytes : List ℕ → Bool
 are_bytes text = list_all (λ c. nat_lt c 256) text
 
--- a spelling has at most four letters, of eight bits each
-abbrev pub is_short : Spelling → Bool
-is_short s = nat_lt (length (spelling_text s)) 5 && are_bytes (lower (spelling_text s))
+-- a text has at most four letters, of eight bits each
+abbrev pub is_short : List ℕ → Bool
+is_short text = nat_lt (length text) 5 && are_bytes text
 
--- none of the numbers is below one before it
+-- a spelling has at most four letters
+abbrev pub has_short_text : Spelling → Bool
+has_short_text s = is_short (lower (spelling_text s))
+
+-- no number is below one before it
 abbrev pub AreInOrder : List ℕ → Type 0
 AreInOrder xs = (i j : ℕ) → i ≤ j → j < length xs → get_or xs i 0 ≤ get_or xs j 0

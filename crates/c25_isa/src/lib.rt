@@ -18,17 +18,15 @@ mod shifted;
 mod short;
 mod text;
 
+ghost use Rattle.std.specs.Prelude.{◌≡◌, Some, IfSome};
+ghost use Rattle.c25_meaning_instructions.specs.Table.{opcode_word, second_word, words, size, InRange, Reads};
+ghost use Rattle.c25_meaning_instructions.specs.declared.insn.Insn.{Insn};
+
 use arrayvec::ArrayVec;
 use c25_meaning_instructions::insn::Insn;
 use c25_meaning_instructions::mnemonic::Mnemonic;
 pub use names::mnemonic;
 pub use text::show;
-
-ghost use Rattle.std.specs.Prelude.{◌≡◌, Some, IfSome};
-ghost use Rattle.c25_meaning_instructions.specs.Table.{opcode_word, second_word, words, size, InRange, Reads};
-ghost use Rattle.c25_meaning_instructions.specs.declared.insn.Insn.{Insn};
-
-
 
 /// The one or two words of an instruction, in the order of their addresses.
 pub type Code = ArrayVec<u16, 2>;

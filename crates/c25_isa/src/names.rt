@@ -1,16 +1,16 @@
 //! The names of instructions (SPRU014, "Instruction Set Summary").
 
-ghost use Rattle.std.specs.Prelude.{◌≡◌, ◌<◌, None, Some, IfSome, length, true};
+ghost use Rattle.std.specs.Prelude.{◌≡◌, ◌+◌, ◌*◌, ◌^◌, ◌<◌, ◌≤◌, None, Some, IfSome, length, true};
 ghost use Rattle.std.specs.Char.{to_ascii_lowercase};
 ghost use Rattle.c25_isa.specs.Letters as letters;
-ghost use Rattle.c25_isa.specs.Letters.{are_bytes, lower};
+ghost use Rattle.c25_isa.specs.Letters.{is_short, lower};
 ghost use Rattle.c25_meaning_instructions.specs.Table.{SameLetters, spelling_text};
 ghost use Rattle.c25_meaning_instructions.specs.declared.mnemonic.Spelling.{Spelling};
 
 use crate::in_order::table;
 use c25_meaning_instructions::mnemonic::Spelling;
 
-/// A letter in lower case, with room for three more behind it.
+/// A letter in lower case.
 #[inline]
 fn letter(byte: u8) -> u64
     ensures value { result ≡ to_ascii_lowercase byte }
@@ -19,22 +19,41 @@ fn letter(byte: u8) -> u64
     u64::from(byte.to_ascii_lowercase())
 }
 
-/// The letters of a text of at most four as one number, those of either case being the same.
-/// `None` for a longer text.
+/// The digit of a letter: its code in lower case plus one, so that no letter has the digit 0.
+#[inline]
+fn digit(byte: u8) -> u64
+    ensures value { result ≡ to_ascii_lowercase byte + 1 }
+    ensures byte { result ≤ 256 }
+{
+    letter(byte) + 1
+}
+
+/// The number of four digits, nine bits each, the first one highest.
+#[inline]
+fn joined(first: u64, second: u64, third: u64, fourth: u64) -> u64
+    requires first { first ≤ 256 }
+    requires second { second ≤ 256 }
+    requires third { third ≤ 256 }
+    requires fourth { fourth ≤ 256 }
+    ensures { result ≡ first * 2 ^ 27 + second * 2 ^ 18 + third * 2 ^ 9 + fourth }
+{
+    (first << 27) + (second << 18) + (third << 9) + fourth
+}
+
+/// The letters of a text of at most four as one number, the same in either case of letters. The
+/// numbers of texts are in alphabetical order. `None` for a longer text.
 #[inline]
 fn number_of(text: &[u8]) -> Option<u64>
     ensures value { IfSome result (λ number. number ≡ letters.number (lower text.now)) }
-    ensures bytes { IfSome result (λ _. are_bytes (lower text.now) ≡ true) }
+    ensures short { IfSome result (λ _. is_short (lower text.now) ≡ true) }
     ensures long { result ≡ None → 4 < length text.now }
 {
     match text {
-        [] => Some(1),
-        [a] => Some(letter(*a) + 256),
-        [a, b] => Some(letter(*a) + 256 * (letter(*b) + 256)),
-        [a, b, c] => Some(letter(*a) + 256 * (letter(*b) + 256 * (letter(*c) + 256))),
-        [a, b, c, d] => Some(
-            letter(*a) + 256 * (letter(*b) + 256 * (letter(*c) + 256 * (letter(*d) + 256))),
-        ),
+        [] => Some(0),
+        [a] => Some(joined(digit(*a), 0, 0, 0)),
+        [a, b] => Some(joined(digit(*a), digit(*b), 0, 0)),
+        [a, b, c] => Some(joined(digit(*a), digit(*b), digit(*c), 0)),
+        [a, b, c, d] => Some(joined(digit(*a), digit(*b), digit(*c), digit(*d))),
         _ => None,
     }
 }

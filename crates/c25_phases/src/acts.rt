@@ -28,6 +28,14 @@ use c25_meaning_language::statement::FaultKind;
 use c25_meaning_language::value::{Base, Value};
 use c25_statements::statement::{AssemblyAct, Exprs, Room, Statement};
 
+/// The words that a line lays: their section, the offset of the first one, and how many there are.
+#[derive(Clone, Copy)]
+struct LaidWords {
+    section: u16,
+    offset: u32,
+    count: usize,
+}
+
 fn any_predefined(names: &[&str]) -> bool
     ensures { result ≡ list_any meaning.is_predefined (texts_of names.now) }
 {
@@ -168,16 +176,16 @@ impl<'a> Progress<'a> {
         &mut self,
         origin: Origin<'a>,
         target: Target,
-        section: u16,
-        offset: u32,
-        words: usize,
+        laid: LaidWords,
     ) -> Result<(), Failure<FaultKind>>
-        requires within { offset + words ≤ 65536 }
-        requires some { IsSize target words }
-        ensures { Meets (λ _. progress_of self.new) (meaning.mark (origin_of origin.entry) target section offset words (progress_of self.old)) result }
+        requires within { laid.offset + laid.count ≤ 65536 }
+        requires some { IsSize target laid.count }
+        ensures { Meets (λ _. progress_of self.new) (meaning.mark (origin_of origin.entry) target laid.section laid.offset laid.count (progress_of self.old)) result }
     {
         match target {
-            Target::Instruction(_) => self.mark(origin, section, offset as u16, words as u8),
+            Target::Instruction(_) => {
+                self.mark(origin, laid.section, laid.offset as u16, laid.count as u8)
+            }
             Target::Data(_) => Ok(()),
         }
     }
@@ -191,11 +199,19 @@ impl<'a> Progress<'a> {
     ) -> Result<(), Failure<FaultKind>>
         ensures { Meets (λ _. progress_of self.new) (meaning.put (origin_of origin.entry) target (trees_of (exprs_in operands)) (progress_of self.old)) result }
     {
-        let words = target_size(target, operands.as_slice().len());
+        let count = target_size(target, operands.as_slice().len());
         let section = self.current;
         let offset = self.sections.size_at(section);
-        self.lay(origin, Content::Operands(target, operands), words)?;
-        self.mark_target(origin, target, section, offset, words)
+        self.lay(origin, Content::Operands(target, operands), count)?;
+        self.mark_target(
+            origin,
+            target,
+            LaidWords {
+                section,
+                offset,
+                count,
+            },
+        )
     }
 
     /// `.space`

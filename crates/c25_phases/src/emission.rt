@@ -142,21 +142,21 @@ fn relocations_of(
     }
 }
 
-/// Appends the words and relocations of a line's operands to a section.
+/// Appends the words and relocations of an item's operands to the item's section.
 #[tactic(auto, using(c25_meaning_language::proofs::Numbers::in_range))]
 fn put_sheet(
     alloc: Global,
     sections: &mut Sections<'_>,
-    section: u16,
-    offset: u32,
+    item: &LaidContent<'_>,
     target: Target,
     sheet: &Sheet,
 ) -> Result<(), NoMemory>
     requires fits { fields.FitsTarget target sheet.now.numbers }
-    requires within { All (λ a. offset + fields.word_of (fields.field_of target a.operand) a.operand < 65536) sheet.now.addresses }
-    ensures { OnOk result (sections.new ≡ emission.with_sheet target section offset sections.old sheet.now) }
+    requires within { All (λ a. item.now.offset + fields.word_of (fields.field_of target a.operand) a.operand < 65536) sheet.now.addresses }
+    ensures { OnOk result (sections.new ≡ emission.with_sheet target item.now.section item.now.offset sections.old sheet.now) }
 {
-    let relocations = relocations_of(alloc, target, section, offset, sheet.addresses())?;
+    let section = item.section;
+    let relocations = relocations_of(alloc, target, section, item.offset, sheet.addresses())?;
     match target {
         Target::Instruction(form) => {
             let insn = insn_of(form, sheet.numbers());
@@ -189,9 +189,7 @@ pub(crate) fn emit(
         Content::Operands(target, operands) => {
             symbols.set_here(place(section, item.offset));
             sheet.fill(*target, symbols, operands.as_slice())?;
-            put_sheet(alloc, sections, section, item.offset, *target, sheet).map_err(
-                Failure::NoMemory,
-            )
+            put_sheet(alloc, sections, item, *target, sheet).map_err(Failure::NoMemory)
         }
         Content::Words(words) => sections
             .extend(section, words.as_slice(), &[])
