@@ -202,16 +202,13 @@ impl<'a> Progress<'a> {
         let count = target_size(target, operands.as_slice().len());
         let section = self.current;
         let offset = self.sections.size_at(section);
+        let laid = LaidWords {
+            section,
+            offset,
+            count,
+        };
         self.lay(origin, Content::Operands(target, operands), count)?;
-        self.mark_target(
-            origin,
-            target,
-            LaidWords {
-                section,
-                offset,
-                count,
-            },
-        )
+        self.mark_target(origin, target, laid)
     }
 
     /// `.space`
