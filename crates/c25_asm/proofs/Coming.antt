@@ -9,7 +9,7 @@ use Rattle.c25_meaning_expansion.specs.ExpansionAnswers.{ExpandedLine, given_by,
 use Rattle.c25_meaning_language.specs.ExpansionFault.{ExpansionFault, Faulty, Missing}
 use Rattle.c25_meaning_expansion.specs.ExpansionRuns.{first, start, start_of}
 use Rattle.c25_meaning_expansion.specs.Files.{Files, text_named}
-use Rattle.c25_meaning_assembly.specs.ModuleOfSource.{Passed, no_lines, pass_line, passed_by, passed, passed_from}
+use Rattle.c25_meaning_assembly.specs.ModuleOfSource.{LinesSoFar, no_lines, pass_line, passed_by, passed, passed_from}
 use Rattle.c25_meaning_common.specs.Results.{◌>>=◌, FailsBy}
 use Rattle.c25_meaning_expansion.specs.Rows.{file_number}
 use Rattle.c25_meaning_assembly.specs.Listing.{Entry}
@@ -35,13 +35,13 @@ pub begins : (listed : Bool) (files : Files) (name : List ℕ) → Comes listed 
 begins listed files name = record { behind = no_lines; alike = like_itself listed no_lines; still = by_start files name (file_number files name) (text_named files name) }
 
 -- the same of lines whose progress is the same
-pub moved : (listed : Bool) (files : Files) (name : List ℕ) (stage : Stage) (p q : Progress) (entries : List Entry) (meant : Result Passed ExpansionFault) → q ≡ p
+pub moved : (listed : Bool) (files : Files) (name : List ℕ) (stage : Stage) (p q : Progress) (entries : List Entry) (meant : Result LinesSoFar ExpansionFault) → q ≡ p
     → Comes listed files name stage (record { progress = p; entries = entries }) meant → Comes listed files name stage (record { progress = q; entries = entries }) meant
 moved listed files name stage p q entries meant same coming =
     subst (λ (x : Progress). Comes listed files name stage (record { progress = x; entries = entries }) meant) (sym same) coming
 
 -- the names of lines that are alike
-names_alike : (listed : Bool) (s : Table) (a b : Passed) → AreAlike listed a b → s ≡ table b.progress → s ≡ table a.progress
+names_alike : (listed : Bool) (s : Table) (a b : LinesSoFar) → AreAlike listed a b → s ≡ table b.progress → s ≡ table a.progress
 names_alike listed s a b alike is = is ∙ ap table (sym (same_made listed a b alike))
 
 -- ---- what a rewriting gives
@@ -55,7 +55,7 @@ no_fault files (Misses place name) l d h = absurd (cc)
 
 -- ---- a line
 
-on_line : (files : Files) (c d : Config) (s : Table) (a : Passed) (l : ExpandedLine) (n : ℕ) → s ≡ table a.progress
+on_line : (files : Files) (c d : Config) (s : Table) (a : LinesSoFar) (l : ExpandedLine) (n : ℕ) → s ≡ table a.progress
     → given_by files (first files s c) ≡ Some (l, d) → passed files (suc n) c a ≡ (pass_line l a >>= λ b. passed files n d b)
 unfolding passed
 on_line files c d s a l n is h =
@@ -70,7 +70,7 @@ at e files name s r new f n h =
     subst (λ (x : List ℕ). IsNextAt files x e.stage s r new) n (subst (λ (x : Files). IsNextAt x e.name e.stage s r new) f h)
 
 -- one line more was given
-line_more : (files : Files) (name : List ℕ) (old new : Stage) (s : Table) (a b : Passed) (meant : Result Passed ExpansionFault) (line : ExpLine)
+line_more : (files : Files) (name : List ℕ) (old new : Stage) (s : Table) (a b : LinesSoFar) (meant : Result LinesSoFar ExpansionFault) (line : ExpLine)
     → s ≡ table a.progress → StillComes files name old a meant → IsNextAt files name old s (Ok (Some line)) new → left_of new < left_of old
     → pass_line (shown line) a ≡ Ok b → StillComes files name new b meant
 line_more files name (Stands c) (Stands d) s a b meant line is (zero, few, h) next less passes = absurd (omega (arith, few))
@@ -81,9 +81,9 @@ line_more files name (Stands c) (Failed f) s a b meant line is coming next less 
 line_more files name Absent new s a b meant line is coming next less passes = absurd next
 line_more files name (Failed f) new s a b meant line is coming next less passes = absurd next
 
-pub goes_on : (listed : Bool) (files : Files) (name : List ℕ) (old new : Stage) (s : Table) (a then : Passed) (meant : Result Passed ExpansionFault) (line : ExpLine)
+pub goes_on : (listed : Bool) (files : Files) (name : List ℕ) (old new : Stage) (s : Table) (a then : LinesSoFar) (meant : Result LinesSoFar ExpansionFault) (line : ExpLine)
     → s ≡ table a.progress → Comes listed files name old a meant → IsNextAt files name old s (Ok (Some line)) new → left_of new < left_of old
-    → (b : Passed) × (pass_line (shown line) a ≡ Ok b) × AreAlike listed b then → Comes listed files name new then meant
+    → (b : LinesSoFar) × (pass_line (shown line) a ≡ Ok b) × AreAlike listed b then → Comes listed files name new then meant
 goes_on listed files name old new s a then meant line is coming next less (b, passes, same) =
     let d = passes_alike listed coming.behind a b (shown line) coming.alike passes in
     record {
@@ -93,7 +93,7 @@ goes_on listed files name old new s a then meant line is coming next less (b, pa
     }
 
 -- a line was given that is wrong
-line_fails : (files : Files) (name : List ℕ) (old new : Stage) (s : Table) (a : Passed) (meant : Result Passed ExpansionFault) (line : ExpLine) (f : ExpansionFault)
+line_fails : (files : Files) (name : List ℕ) (old new : Stage) (s : Table) (a : LinesSoFar) (meant : Result LinesSoFar ExpansionFault) (line : ExpLine) (f : ExpansionFault)
     → s ≡ table a.progress → StillComes files name old a meant → IsNextAt files name old s (Ok (Some line)) new
     → pass_line (shown line) a ≡ Err f → meant ≡ Err f
 line_fails files name (Stands c) (Stands d) s a meant line f is (zero, few, h) next fails = absurd (omega (arith, few))
@@ -104,14 +104,14 @@ line_fails files name (Stands c) (Failed g) s a meant line f is coming next fail
 line_fails files name Absent new s a meant line f is coming next fails = absurd next
 line_fails files name (Failed g) new s a meant line f is coming next fails = absurd next
 
-refused_by : (files : Files) (name : List ℕ) (old new : Stage) (s : Table) (a : Passed) (meant : Result Passed ExpansionFault) (line : ExpLine) (e : Failure AsmFault)
+refused_by : (files : Files) (name : List ℕ) (old new : Stage) (s : Table) (a : LinesSoFar) (meant : Result LinesSoFar ExpansionFault) (line : ExpLine) (e : Failure AsmFault)
     → s ≡ table a.progress → StillComes files name old a meant → IsNextAt files name old s (Ok (Some line)) new
     → FailsBy fault_of (pass_line (shown line) a) e → FailsBy fault_of meant e
 refused_by files name old new s a meant line (NoMemory n) is coming next fails = tt
 refused_by files name old new s a meant line (Fault f) is coming next fails = line_fails files name old new s a meant line (fault_of f) is coming next fails
 
 -- a line was given that is refused
-pub line_refused : (listed : Bool) (files : Files) (name : List ℕ) (old new : Stage) (s : Table) (a : Passed) (meant : Result Passed ExpansionFault) (line : ExpLine) (e : Failure AsmFault)
+pub line_refused : (listed : Bool) (files : Files) (name : List ℕ) (old new : Stage) (s : Table) (a : LinesSoFar) (meant : Result LinesSoFar ExpansionFault) (line : ExpLine) (e : Failure AsmFault)
     → s ≡ table a.progress → Comes listed files name old a meant → IsNextAt files name old s (Ok (Some line)) new
     → FailsBy fault_of (pass_line (shown line) a) e → FailsBy fault_of meant e
 line_refused listed files name old new s a meant line e is coming next fails =
@@ -120,13 +120,13 @@ line_refused listed files name old new s a meant line e is coming next fails =
 
 -- ---- the end
 
-on_end : (files : Files) (c d : Config) (s : Table) (a : Passed) (n : ℕ) → s ≡ table a.progress → first files s c ≡ Finishes d → passed files (suc n) c a ≡ Ok a
+on_end : (files : Files) (c d : Config) (s : Table) (a : LinesSoFar) (n : ℕ) → s ≡ table a.progress → first files s c ≡ Finishes d → passed files (suc n) c a ≡ Ok a
 unfolding passed
 on_end files c d s a n is h =
     sym (ap (λ t. passed_by (fault_by files (first files t c)) (given_by files (first files t c)) (passed files n) a) is)
     ∙ ap (λ r. passed_by (fault_by files r) (given_by files r) (passed files n) a) h
 
-ends_at : (files : Files) (name : List ℕ) (old new : Stage) (s : Table) (a : Passed) (meant : Result Passed ExpansionFault)
+ends_at : (files : Files) (name : List ℕ) (old new : Stage) (s : Table) (a : LinesSoFar) (meant : Result LinesSoFar ExpansionFault)
     → s ≡ table a.progress → StillComes files name old a meant → IsNextAt files name old s (Ok None) new → meant ≡ Ok a
 ends_at files name (Stands c) (Stands d) s a meant is (zero, few, h) next = absurd (omega (arith, few))
 ends_at files name (Stands c) (Stands d) s a meant is (suc n, few, h) next = sym h ∙ on_end files c d s a n is next
@@ -136,14 +136,14 @@ ends_at files name Absent new s a meant is coming next = absurd next
 ends_at files name (Failed f) new s a meant is coming next = absurd next
 
 -- no line more came
-pub ends : (listed : Bool) (files : Files) (name : List ℕ) (old new : Stage) (s : Table) (a : Passed) (meant : Result Passed ExpansionFault)
-    → s ≡ table a.progress → Comes listed files name old a meant → IsNextAt files name old s (Ok None) new → (b : Passed) × (meant ≡ Ok b) × AreAlike listed b a
+pub ends : (listed : Bool) (files : Files) (name : List ℕ) (old new : Stage) (s : Table) (a : LinesSoFar) (meant : Result LinesSoFar ExpansionFault)
+    → s ≡ table a.progress → Comes listed files name old a meant → IsNextAt files name old s (Ok None) new → (b : LinesSoFar) × (meant ≡ Ok b) × AreAlike listed b a
 ends listed files name old new s a meant is coming next =
     (coming.behind, ends_at files name old new s coming.behind meant (names_alike listed s coming.behind a coming.alike is) coming.still next, coming.alike)
 
 -- ---- a fault
 
-on_fault : (files : Files) (c : Config) (s : Table) (a : Passed) (n : ℕ) (f : ExpansionFault) → s ≡ table a.progress → fault_by files (first files s c) ≡ Some f → passed files (suc n) c a ≡ Err f
+on_fault : (files : Files) (c : Config) (s : Table) (a : LinesSoFar) (n : ℕ) (f : ExpansionFault) → s ≡ table a.progress → fault_by files (first files s c) ≡ Some f → passed files (suc n) c a ≡ Err f
 unfolding passed
 on_fault files c s a n f is h =
     sym (ap (λ t. passed_by (fault_by files (first files t c)) (given_by files (first files t c)) (passed files n) a) is)
@@ -173,7 +173,7 @@ told_failure (Fault f) meant (NoMemory m) missing g is t same told = absurd t
 told_failure {A = A} (Fault f) meant (Fault e) missing g is t same told =
     subst (λ (r : Result A ExpansionFault). FailsBy fault_of r g) (sym (is f refl)) (told_fault A f e missing g t same told)
 
-expansion_stops : (files : Files) (name : List ℕ) (old new : Stage) (s : Table) (a : Passed) (meant : Result Passed ExpansionFault) (e : Failure ExpandFault) (missing : Option (Bor (List ℕ))) (g : Failure AsmFault)
+expansion_stops : (files : Files) (name : List ℕ) (old new : Stage) (s : Table) (a : LinesSoFar) (meant : Result LinesSoFar ExpansionFault) (e : Failure ExpandFault) (missing : Option (Bor (List ℕ))) (g : Failure AsmFault)
     → s ≡ table a.progress → StillComes files name old a meant → IsNextAt files name old s (Err e) new → option_map (λ n. n.now) missing ≡ missing_of new → IsTold missing e g → FailsBy fault_of meant g
 expansion_stops files name (Stands c) (Stands d) s a meant e missing g is coming next same told = absurd next
 expansion_stops files name (Stands c) Absent s a meant e missing g is coming next same told = absurd next
@@ -189,7 +189,7 @@ expansion_stops files name Absent new s a meant e missing g is coming next same 
 expansion_stops files name (Failed failure) new s a meant e missing g is coming next same told = absurd coming
 
 -- expansion fails
-pub expansion_fails : (listed : Bool) (files : Files) (name : List ℕ) (old new : Stage) (s : Table) (a : Passed) (meant : Result Passed ExpansionFault) (e : Failure ExpandFault) (missing : Option (Bor (List ℕ))) (g : Failure AsmFault)
+pub expansion_fails : (listed : Bool) (files : Files) (name : List ℕ) (old new : Stage) (s : Table) (a : LinesSoFar) (meant : Result LinesSoFar ExpansionFault) (e : Failure ExpandFault) (missing : Option (Bor (List ℕ))) (g : Failure AsmFault)
     → s ≡ table a.progress → Comes listed files name old a meant → IsNextAt files name old s (Err e) new → option_map (λ n. n.now) missing ≡ missing_of new → IsTold missing e g → FailsBy fault_of meant g
 expansion_fails listed files name old new s a meant e missing g is coming next same told =
     expansion_stops files name old new s coming.behind meant e missing g (names_alike listed s coming.behind a coming.alike is) coming.still next same told

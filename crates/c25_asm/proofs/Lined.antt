@@ -3,7 +3,7 @@ use Rattle.std.proofs.Common.{◌≡◌, ℕ, ◌-◌, Bool, true, false, List, 
 use Rattle.c25_meaning_assembly.specs.Emission.{at_origin}
 use Rattle.c25_meaning_expansion.specs.ExpansionAnswers.{ExpandedLine}
 use Rattle.c25_meaning_assembly.specs.Listing.{Entry}
-use Rattle.c25_meaning_assembly.specs.ModuleOfSource.{Passed, origin_of, entry_of, pass_line}
+use Rattle.c25_meaning_assembly.specs.ModuleOfSource.{LinesSoFar, origin_of, entry_of, pass_line}
 use Rattle.c25_meaning_common.specs.Results.{◌>>=◌, IsNoMemory}
 use Rattle.c25_meaning_common.specs.declared.failure.Failure.{Failure}
 use Rattle.c25_meaning_common.specs.declared.failure.Failure.TheVariants.{NoMemory, Fault}
@@ -13,7 +13,7 @@ use Rattle.c25_meaning_language.specs.declared.statement.FaultKind.{FaultKind}
 use Rattle.c25_phases.specs.Steps.{text_passed}
 use Rattle.c25_phases.specs.declared.fault.AsmFault.{AsmFault}
 use Rattle.c25_asm.specs.Listed.{AreAlike, Passes}
-use Rattle.c25_asm.specs.declared.passed.Passed as code
+use Rattle.c25_asm.specs.declared.lines_so_far.LinesSoFar as code
 
 -- the words by which the section of a line grew
 pub entry_is : (l : ExpandedLine) (old new : Progress) (section offset size count : ℕ) → section ≡ old.current → offset ≡ size_at old.sections section → size ≡ size_at new.sections section → count ≡ size - offset
@@ -24,23 +24,23 @@ entry_is l old new section offset size count s a b c =
     ∙ ap (λ t. made t (size_at old.sections t) (size_at new.sections t - size_at old.sections t)) s
 
 -- the entry of a line that passes comes after the others
-pub line_passed : (l : ExpandedLine) (a : Passed) (p : Progress) (entries : List Entry) → text_passed (origin_of l) l.text a.progress ≡ Ok p
+pub line_passed : (l : ExpandedLine) (a : LinesSoFar) (p : Progress) (entries : List Entry) → text_passed (origin_of l) l.text a.progress ≡ Ok p
     → entries ≡ a.entries ++ entry_of l a.progress p ∷ [] → pass_line l a ≡ Ok (record { progress = p; entries = entries })
 unfolding pass_line
 line_passed l a p entries h e =
-    let made : Progress → List Entry → Passed = λ q es. record { progress = q; entries = es } in
+    let made : Progress → List Entry → LinesSoFar = λ q es. record { progress = q; entries = es } in
     ap (λ (r : Result Progress FaultKind). at_origin (origin_of l) r >>= λ q. Ok (made q (a.entries ++ entry_of l a.progress q ∷ []))) h ∙ ap (λ es. Ok (made p es)) (sym e)
 
 -- the entry of a line that passes comes after the others, where a listing is wanted
-pub line_listed : (listed : Bool) (l : ExpandedLine) (a : Passed) (p : Progress) (entries : List Entry) → text_passed (origin_of l) l.text a.progress ≡ Ok p
+pub line_listed : (listed : Bool) (l : ExpandedLine) (a : LinesSoFar) (p : Progress) (entries : List Entry) → text_passed (origin_of l) l.text a.progress ≡ Ok p
     → (listed ≡ true → entries ≡ a.entries ++ entry_of l a.progress p ∷ [])
-    → (b : Passed) × (pass_line l a ≡ Ok b) × AreAlike listed b (record { progress = p; entries = entries })
+    → (b : LinesSoFar) × (pass_line l a ≡ Ok b) × AreAlike listed b (record { progress = p; entries = entries })
 line_listed true l a p entries h e = (record { progress = p; entries = entries }, line_passed l a p entries h (e refl), refl)
 line_listed false l a p entries h e =
     (record { progress = p; entries = a.entries ++ entry_of l a.progress p ∷ [] }, line_passed l a p (a.entries ++ entry_of l a.progress p ∷ []) h refl, refl)
 
 -- out of memory is an answer whatever is meant
-pub refused_growth : (listed : Bool) (meant : Result Passed ExpansionFault) (answer : Result code.Passed (Failure AsmFault)) → IsErrAnd answer IsNoMemory → Passes listed meant answer
+pub refused_growth : (listed : Bool) (meant : Result LinesSoFar ExpansionFault) (answer : Result code.LinesSoFar (Failure AsmFault)) → IsErrAnd answer IsNoMemory → Passes listed meant answer
 refused_growth listed meant (Ok x) h = absurd h
 refused_growth listed meant (Err (NoMemory n)) h = tt
 refused_growth listed meant (Err (Fault f)) h = absurd h

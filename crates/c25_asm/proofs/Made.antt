@@ -7,7 +7,7 @@ use Rattle.c25_meaning_language.specs.ExpansionFault.{ExpansionFault}
 use Rattle.c25_meaning_expansion.specs.ExpansionRuns.{start_of}
 use Rattle.c25_meaning_expansion.specs.Files.{Files}
 use Rattle.c25_meaning_objects.specs.Module.{Contents, is_module}
-use Rattle.c25_meaning_assembly.specs.ModuleOfSource.{Assembled, Passed, assembled, completed, passed_from}
+use Rattle.c25_meaning_assembly.specs.ModuleOfSource.{Assembled, LinesSoFar, assembled, completed, passed_from}
 use Rattle.c25_meaning_common.specs.Results.{◌>>=◌, FailsBy, MeetsBy}
 use Rattle.c25_meaning_common.specs.declared.failure.Failure.{Failure}
 use Rattle.c25_meaning_common.specs.declared.failure.Failure.TheVariants.{NoMemory, Fault}
@@ -19,17 +19,17 @@ use Rattle.c25_asm.specs.View.{assembled_of}
 use Rattle.c25_asm.proofs.Alike.{same_made}
 
 -- the lists of lines that pass and whose operands are right
-pub lists_are_a_module : (files : Files) (name : List ℕ) (a : Passed) (c : Contents) → passed_from files name (start_of files name) ≡ Ok a → finished a.progress ≡ Ok c
+pub lists_are_a_module : (files : Files) (name : List ℕ) (a : LinesSoFar) (c : Contents) → passed_from files name (start_of files name) ≡ Ok a → finished a.progress ≡ Ok c
     → is_module c ≡ true
 unfolding assembled
 lists_are_a_module files name a c passed made =
     let whole : Assembled = record { contents = c; entries = a.entries } in
     let ended : completed a ≡ Ok whole = ap (λ (r : Result Contents ExpansionFault). r >>= λ m. Ok (record { contents = m; entries = a.entries })) made in
-    (source_good files name whole (ap (λ (r : Result Passed ExpansionFault). r >>= λ b. completed b) passed ∙ ended)).lists
+    (source_good files name whole (ap (λ (r : Result LinesSoFar ExpansionFault). r >>= λ b. completed b) passed ∙ ended)).lists
 
 -- ---- where a listing may be wanted
 
-module _ (listed : Bool) (files : Files) (name : List ℕ) (a made : Passed) (passed : passed_from files name (start_of files name) ≡ Ok a) (alike : AreAlike listed a made) where
+module _ (listed : Bool) (files : Files) (name : List ℕ) (a made : LinesSoFar) (passed : passed_from files name (start_of files name) ≡ Ok a) (alike : AreAlike listed a made) where
   pub few_made : length (lines_in made.progress.sections).files ≤ 65535
   few_made = subst (λ (p : Progress). length (lines_in p.sections).files ≤ 65535) (same_made listed a made alike) (few_files files name a passed)
 
@@ -42,7 +42,7 @@ module _ (listed : Bool) (files : Files) (name : List ℕ) (a made : Passed) (pa
   assembled_so : (r : Result Contents ExpansionFault) → finished made.progress ≡ r → assembled files name ≡ (r >>= λ m. Ok (record { contents = m; entries = a.entries }))
   unfolding assembled
   assembled_so r h =
-      ap (λ (x : Result Passed ExpansionFault). x >>= λ b. completed b) passed
+      ap (λ (x : Result LinesSoFar ExpansionFault). x >>= λ b. completed b) passed
       ∙ ap (λ (x : Result Contents ExpansionFault). x >>= λ m. Ok (record { contents = m; entries = a.entries })) (finished_alike r h)
 
   -- the operands are right
@@ -51,7 +51,7 @@ module _ (listed : Bool) (files : Files) (name : List ℕ) (a made : Passed) (pa
   assembled_alike m h = (record { contents = m; entries = a.entries }, assembled_so (Ok m) h, by_listing listed alike)
     where
       by_listing : (wanted : Bool) → AreAlike wanted a made → IsListed wanted (record { contents = m; entries = a.entries }) (record { contents = m; entries = made.entries })
-      by_listing true same = ap (λ (x : Passed). record { contents = m; entries = x.entries }) same
+      by_listing true same = ap (λ (x : LinesSoFar). record { contents = m; entries = x.entries }) same
       by_listing false same = refl
 
   -- an operand is wrong
@@ -63,7 +63,7 @@ module _ (listed : Bool) (files : Files) (name : List ℕ) (a made : Passed) (pa
 pub unpassed : (files : Files) (name : List ℕ) (e : Failure AsmFault) → FailsBy fault_of (passed_from files name (start_of files name)) e → FailsBy fault_of (assembled files name) e
 unfolding assembled
 unpassed files name (NoMemory n) h = tt
-unpassed files name (Fault f) h = ap (λ (x : Result Passed ExpansionFault). x >>= λ b. completed b) h
+unpassed files name (Fault f) h = ap (λ (x : Result LinesSoFar ExpansionFault). x >>= λ b. completed b) h
 
 -- ---- the module alone
 

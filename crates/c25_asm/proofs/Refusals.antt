@@ -1,7 +1,7 @@
 -- A source with a trail has no module, and the trail's fault is reported.
 use Rattle.std.proofs.Common.{◌≡◌, ℕ, zero, suc, ◌+◌, ◌<◌, List, [], ◌∷◌, ◌++◌, length, Option, Some, None, Result, Ok, Err, ◌⊎◌, inl, inr, option_map, refl, ap, sym, ◌∙◌, arith, subst}
 use Rattle.c25_meaning_assembly.specs.Emission.{all_names, at_origin, emit, emit_all, finished, module_with}
-use Rattle.c25_meaning_assembly.specs.Sections.{Definitions, LaidContent, Progress, Section, start, table}
+use Rattle.c25_meaning_assembly.specs.Sections.{Definitions, PendingItem, Progress, Section, start, table}
 use Rattle.c25_meaning_common.specs.Results.{◌>>=◌}
 use Rattle.c25_meaning_expansion.specs.Expansion.{Config, Rewriting, Gives, Goes, Finishes, Faults, Misses}
 use Rattle.c25_meaning_expansion.specs.ExpansionAnswers.{ExpandedLine, given_by, fault_by}
@@ -17,7 +17,7 @@ use Rattle.c25_meaning_language.specs.ExpansionFault.{ExpansionFault, Faulty}
 use Rattle.c25_meaning_language.specs.Value.{Table}
 use Rattle.c25_meaning_language.specs.declared.statement.FaultKind.{FaultKind}
 use Rattle.c25_meaning_objects.specs.Module.{Contents}
-use Rattle.c25_meaning_assembly.specs.ModuleOfSource.{Passed, assembled, completed, entry_of, no_lines, pass_line, passed, passed_by, passed_from, read_and_pass}
+use Rattle.c25_meaning_assembly.specs.ModuleOfSource.{LinesSoFar, assembled, completed, entry_of, no_lines, pass_line, passed, passed_by, passed_from, read_and_pass}
 use Rattle.c25_phases.specs.Wrong.{Wrong, first_wrong, wrong_from}
 use Rattle.c25_asm.specs.Trails.{Reaches, begins, goes, passes, IsTrail, IsUnexpanded, IsWrongItem, IsWrongLine, PassesAll}
 
@@ -60,14 +60,14 @@ at_once files s c last = comes_to_first files s c (rewrite files s c) (zero, c, 
 
 -- ---- the lines from here on
 
-abbrev made_so : Passed → ExpandedLine → Progress → Passed
+abbrev made_so : LinesSoFar → ExpandedLine → Progress → LinesSoFar
 made_so a l q = record { progress = q; entries = a.entries ++ entry_of l a.progress q ∷ [] }
 
-line_passes : (a : Passed) (l : ExpandedLine) (r : Result Progress ExpansionFault) → read_and_pass l a.progress ≡ r → pass_line l a ≡ (r >>= λ q. Ok (made_so a l q))
+line_passes : (a : LinesSoFar) (l : ExpandedLine) (r : Result Progress ExpansionFault) → read_and_pass l a.progress ≡ r → pass_line l a ≡ (r >>= λ q. Ok (made_so a l q))
 unfolding pass_line
 line_passes a l r e = ap (λ (x : Result Progress ExpansionFault). x >>= λ q. Ok (made_so a l q)) e
 
-module _ (files : Files) (a : Passed) (n : ℕ) (c : Config) where
+module _ (files : Files) (a : LinesSoFar) (n : ℕ) (c : Config) where
   over_going : (d : Config) → rewrite files (table a.progress) c ≡ Goes d → passed files (suc n) c a ≡ passed files (suc n) d a
   unfolding passed
   over_going d e = ap (λ (r : Rewriting). passed_by (fault_by files r) (given_by files r) (passed files n) a) (first_going files (table a.progress) c d e)
@@ -96,7 +96,7 @@ module _ (files : Files) (a : Passed) (n : ℕ) (c : Config) where
 
 -- all lines of the module of a name make what the lines from here on make after those before
 pub record Rest (files : Files) (name : List ℕ) (c : Config) (p : Progress) : Type 0 where
-  pub behind : Passed
+  pub behind : LinesSoFar
   pub made : behind.progress ≡ p
   pub count : ℕ
   pub few : c.left < suc count
@@ -128,7 +128,7 @@ over files name c d p r e =
 
 -- a line that is given here, and what the lines after it make
 pub record Line (files : Files) (name : List ℕ) (p : Progress) (l : ExpandedLine) (d : Config) : Type 0 where
-  pub behind : Passed
+  pub behind : LinesSoFar
   pub made : behind.progress ≡ p
   pub count : ℕ
   pub few : d.left < count
@@ -142,7 +142,7 @@ line_at files name c d p l r g =
     let less : d.left < c.left = read_before files (table r.behind.progress) c d l _ refl here in
     record { behind = r.behind; made = r.made; count = r.count; few = omega (arith, r.few, less); rest = r.rest ∙ over_line files r.behind r.count c l d here }
 
-behind_line : (files : Files) (name : List ℕ) (d : Config) (p q : Progress) (l : ExpandedLine) (count : ℕ) (behind : Passed) → behind.progress ≡ p → d.left < count
+behind_line : (files : Files) (name : List ℕ) (d : Config) (p q : Progress) (l : ExpandedLine) (count : ℕ) (behind : LinesSoFar) → behind.progress ≡ p → d.left < count
     → passed_from files name (start_of files name) ≡ (pass_line l behind >>= λ b. passed files count d b) → read_and_pass l p ≡ Ok q → Rest files name d q
 behind_line files name d p q l zero behind made few rest e = absurd (omega (arith, few))
 behind_line files name d p q l (suc n) behind made few rest e =
@@ -152,7 +152,7 @@ behind_line files name d p q l (suc n) behind made few rest e =
       made = refl;
       count = n;
       few = few;
-      rest = rest ∙ ap (λ (x : Result Passed ExpansionFault). x >>= λ b. passed files (suc n) d b) (line_passes behind l (Ok q) here);
+      rest = rest ∙ ap (λ (x : Result LinesSoFar ExpansionFault). x >>= λ b. passed files (suc n) d b) (line_passes behind l (Ok q) here);
     }
 
 -- the lines from here on make the rest, wherever rewritings and lines lead
@@ -165,7 +165,7 @@ rest_of files name c p trail (passes l reached g e after) =
 
 -- ---- items
 
-wrong_by : (n : ℕ) (names : Definitions) (sections : List Section) (item : LaidContent) (items : List LaidContent) (w : Wrong) (r : Result (List Section) FaultKind)
+wrong_by : (n : ℕ) (names : Definitions) (sections : List Section) (item : PendingItem) (items : List PendingItem) (w : Wrong) (r : Result (List Section) FaultKind)
     → emit names item.section item.offset sections item.content ≡ r
     → ((next : List Section) → wrong_from (n + 1) names next items ≡ Some w → emit_all names next items ≡ Err (Faulty w.origin.file w.origin.line w.kind))
     → wrong_from n names sections (item ∷ items) ≡ Some w → emit_all names sections (item ∷ items) ≡ Err (Faulty w.origin.file w.origin.line w.kind)
@@ -176,7 +176,7 @@ wrong_by n names sections item items w (Err kind) h more e =
     ap (λ (r : Result (List Section) FaultKind). at_origin item.origin r >>= λ x. emit_all names x items) h
     ∙ ap (λ (x : Wrong). Err (Faulty x.origin.file x.origin.line x.kind)) (same _ _ told)
 
-wrong_item : (n : ℕ) (names : Definitions) (sections : List Section) (items : List LaidContent) (w : Wrong)
+wrong_item : (n : ℕ) (names : Definitions) (sections : List Section) (items : List PendingItem) (w : Wrong)
     → wrong_from n names sections items ≡ Some w → emit_all names sections items ≡ Err (Faulty w.origin.file w.origin.line w.kind)
 wrong_item n names sections [] w e = absurd (cc)
 wrong_item n names sections (item ∷ items) w e =
@@ -192,7 +192,7 @@ not_finished p w e =
 
 refused_in : (files : Files) (name : List ℕ) (f : ExpansionFault) → passed_from files name (start_of files name) ≡ Err f → assembled files name ≡ Err f
 unfolding assembled
-refused_in files name f e = ap (λ (r : Result Passed ExpansionFault). r >>= λ a. completed a) e
+refused_in files name f e = ap (λ (r : Result LinesSoFar ExpansionFault). r >>= λ a. completed a) e
 
 unexpanded : (files : Files) (name : List ℕ) (f : ExpansionFault) (trail : List SourcePlace) → IsUnexpanded files name f trail
     → passed_from files name (start_of files name) ≡ Err f
@@ -207,11 +207,11 @@ wrong_line : (files : Files) (name : List ℕ) (f : ExpansionFault) (trail : Lis
 wrong_line files name f trail h =
     let at = line_at files name h.gives.at h.gives.next h.made h.line (rest_of files name h.gives.at h.made _ h.gives.reaches) h.gives.given in
     let here : read_and_pass h.line at.behind.progress ≡ Err f = subst (λ (x : Progress). read_and_pass h.line x ≡ Err f) (sym at.made) h.refused in
-    at.rest ∙ ap (λ (x : Result Passed ExpansionFault). x >>= λ b. passed files at.count h.gives.next b) (line_passes at.behind h.line (Err f) here)
+    at.rest ∙ ap (λ (x : Result LinesSoFar ExpansionFault). x >>= λ b. passed files at.count h.gives.next b) (line_passes at.behind h.line (Err f) here)
 
 -- what all lines make, where they pass
 pub record Made (files : Files) (name : List ℕ) (p : Progress) : Type 0 where
-  pub all : Passed
+  pub all : LinesSoFar
   pub progress : all.progress ≡ p
   pub passes : passed_from files name (start_of files name) ≡ Ok all
 
@@ -222,7 +222,7 @@ made_of files name p h =
     subst (λ (x : Progress). rewrite files (table x) h.at ≡ Finishes h.last) (sym r.made) h.ends in
     record { all = r.behind; progress = r.made; passes = r.rest ∙ over_end files r.behind r.count h.at h.last here }
 
-incomplete : (a : Passed) (f : ExpansionFault) → finished a.progress ≡ Err f → completed a ≡ Err f
+incomplete : (a : LinesSoFar) (f : ExpansionFault) → finished a.progress ≡ Err f → completed a ≡ Err f
 incomplete a f e = ap (λ (r : Result Contents ExpansionFault). r >>= λ m. Ok (record { contents = m; entries = a.entries })) e
 
 wrong_item_told : (files : Files) (name : List ℕ) (f : ExpansionFault) (trail : List SourcePlace) → IsWrongItem files name f trail → assembled files name ≡ Err f
@@ -231,7 +231,7 @@ wrong_item_told files name f trail h =
     let made = made_of files name h.made h.passes in
     let fails : finished made.all.progress ≡ Err f =
     subst (λ (x : Progress). finished x ≡ Err f) (sym made.progress) (not_finished h.made h.wrong h.refused ∙ ap Err (sym h.told)) in
-    ap (λ (r : Result Passed ExpansionFault). r >>= λ a. completed a) made.passes ∙ incomplete made.all f fails
+    ap (λ (r : Result LinesSoFar ExpansionFault). r >>= λ a. completed a) made.passes ∙ incomplete made.all f fails
 
 -- The source is refused with the fault of its trail.
 pub refused : (files : Files) (name : List ℕ) (f : ExpansionFault) (trail : List SourcePlace) → IsTrail files name f trail → assembled files name ≡ Err f
@@ -246,14 +246,14 @@ pub none_refused : (files : Files) (name : List ℕ) (p : Progress) (f : Expansi
     → IsUnexpanded files name f trail ⊎ IsWrongLine files name f trail → ⊥
 none_refused files name p f trail h (inl u) =
     let made = made_of files name p h in
-    let both : ◌≡◌ {A = Result Passed ExpansionFault} (Ok made.all) (Err f) = sym made.passes ∙ unexpanded files name f trail u in
+    let both : ◌≡◌ {A = Result LinesSoFar ExpansionFault} (Ok made.all) (Err f) = sym made.passes ∙ unexpanded files name f trail u in
     absurd (cc)
 none_refused files name p f trail h (inr w) =
     let made = made_of files name p h in
-    let both : ◌≡◌ {A = Result Passed ExpansionFault} (Ok made.all) (Err f) = sym made.passes ∙ wrong_line files name f trail w in
+    let both : ◌≡◌ {A = Result LinesSoFar ExpansionFault} (Ok made.all) (Err f) = sym made.passes ∙ wrong_line files name f trail w in
     absurd (cc)
 
-same_ok : (a b : Passed) → ◌≡◌ {A = Result Passed ExpansionFault} (Ok a) (Ok b) → a ≡ b
+same_ok : (a b : LinesSoFar) → ◌≡◌ {A = Result LinesSoFar ExpansionFault} (Ok a) (Ok b) → a ≡ b
 same_ok a b e = cc
 
 -- all lines make the same thing each time
@@ -261,10 +261,10 @@ pub made_once : (files : Files) (name : List ℕ) (p q : Progress) → PassesAll
 made_once files name p q h k =
     let one = made_of files name p h in
     let other = made_of files name q k in
-    sym one.progress ∙ ap (λ (a : Passed). a.progress) (same_ok one.all other.all (sym one.passes ∙ other.passes)) ∙ other.progress
+    sym one.progress ∙ ap (λ (a : LinesSoFar). a.progress) (same_ok one.all other.all (sym one.passes ∙ other.passes)) ∙ other.progress
 
 -- an item that is wrong is one of them
-within_by : (n : ℕ) (names : Definitions) (sections : List Section) (item : LaidContent) (items : List LaidContent) (w : Wrong) (r : Result (List Section) FaultKind)
+within_by : (n : ℕ) (names : Definitions) (sections : List Section) (item : PendingItem) (items : List PendingItem) (w : Wrong) (r : Result (List Section) FaultKind)
     → emit names item.section item.offset sections item.content ≡ r
     → ((next : List Section) → wrong_from (n + 1) names next items ≡ Some w → w.number < n + 1 + length items)
     → wrong_from n names sections (item ∷ items) ≡ Some w → w.number < n + length (item ∷ items)
@@ -274,7 +274,7 @@ within_by n names sections item items w (Err kind) h more e =
     let first : n ≡ w.number = ap (λ (x : Wrong). x.number) (same _ _ told) in
     omega (arith, first)
 
-within : (n : ℕ) (names : Definitions) (sections : List Section) (items : List LaidContent) (w : Wrong)
+within : (n : ℕ) (names : Definitions) (sections : List Section) (items : List PendingItem) (w : Wrong)
     → wrong_from n names sections items ≡ Some w → w.number < n + length items
 within n names sections [] w e = absurd (cc)
 within n names sections (item ∷ items) w e =

@@ -23,7 +23,7 @@ module _ (old new : Trace) (s : Table) (p : Progress) (here : s ≡ table p) (na
   rewriting : rewrite old.files s old.at ≡ rewrite old.files (table p) old.at
   rewriting = λ i. rewrite old.files (here i) old.at
 
-  went : Steps s old (Ok step.Went) new → Reaches old.files name new.at p new.trail
+  went : Steps s old (Ok step.Consumed) new → Reaches old.files name new.at p new.trail
   went h = goes reached (sym rewriting ∙ h.0) h.1.trail
 
   given : (line : ExpLine) → Steps s old (Ok (step.Given line)) new → given_by old.files (rewrite old.files (table p) old.at) ≡ Some (shown line, new.at)
@@ -53,7 +53,7 @@ module _ (old new : Trace) (s : Table) (p : Progress) (here : s ≡ table p) (na
 
 module _ (old new : Trace) (s : Table) (p : Progress) (sought : Option ℕ) (here : s ≡ table p) (few : HasFewNames p) (before : has_come sought p.items ≡ false) where
   -- the rewriting gives no line, and the walk goes on
-  pub goes_on : (q : Progress) → q ≡ p → Steps s old (Ok step.Went) new → LeadsOn old p sought new q
+  pub goes_on : (q : Progress) → q ≡ p → Steps s old (Ok step.Consumed) new → LeadsOn old p sought new q
   goes_on q same h = subst (λ (x : Progress). LeadsOn old p sought new x) (sym same) (record {
     moved = h.1;
     few = few;

@@ -10,16 +10,16 @@ use Rattle.c25_meaning_assembly.specs.ModuleOfSource as source
 use Rattle.c25_phases.specs.View.{fault_of}
 use Rattle.c25_phases.specs.declared.fault.AsmFault.{AsmFault}
 use Rattle.c25_asm.specs.View.{assembled_of, passed_of}
-use Rattle.c25_asm.specs.declared.passed.Passed.{Passed}
+use Rattle.c25_asm.specs.declared.lines_so_far.LinesSoFar.{LinesSoFar}
 
 -- lines have made the same, and have the same entries where a listing is wanted
-abbrev pub AreAlike : (listed : Bool) → source.Passed → source.Passed → Type 0
+abbrev pub AreAlike : (listed : Bool) → source.LinesSoFar → source.LinesSoFar → Type 0
 AreAlike true a b = a ≡ b
 AreAlike false a b = a.progress ≡ b.progress
 
 -- the lines that passed are those that are meant, unless memory ran out
-abbrev pub Passes : (listed : Bool) → Result source.Passed ExpansionFault → Result Passed (Failure AsmFault) → Type 0
-Passes listed meant (Ok p) = (a : source.Passed) × (meant ≡ Ok a) × AreAlike listed a (passed_of p)
+abbrev pub Passes : (listed : Bool) → Result source.LinesSoFar ExpansionFault → Result LinesSoFar (Failure AsmFault) → Type 0
+Passes listed meant (Ok p) = (a : source.LinesSoFar) × (meant ≡ Ok a) × AreAlike listed a (passed_of p)
 Passes listed meant (Err e) = FailsBy fault_of meant e
 
 -- a module with entries is this one, and the entries are its own where a listing is wanted

@@ -3,7 +3,7 @@ use Rattle.std.specs.Prelude.{◌≡◌, ◌⊎◌, ℕ, ◌≤◌, Bool, true, 
 use Rattle.c25_macro.specs.Expander.{shown}
 use Rattle.c25_macro.specs.Tracers.{Moved, Trace, fault_in}
 use Rattle.c25_macro.specs.declared.answer.ExpLine.{ExpLine}
-use Rattle.c25_meaning_assembly.specs.Sections.{LaidContent, Progress, name_count}
+use Rattle.c25_meaning_assembly.specs.Sections.{PendingItem, Progress, name_count}
 use Rattle.c25_meaning_expansion.specs.Files.{Files}
 use Rattle.c25_meaning_expansion.specs.declared.place.SourcePlace.{SourcePlace}
 use Rattle.c25_meaning_assembly.specs.ModuleOfSource.{read_and_pass}
@@ -19,7 +19,7 @@ abbrev pub HasFewNames : Progress → Type 0
 HasFewNames p = name_count p.names p.declared ≤ 65535
 
 -- whether the item of the sought number is among these; false where no number is sought
-abbrev pub has_come : (sought : Option ℕ) → List LaidContent → Bool
+abbrev pub has_come : (sought : Option ℕ) → List PendingItem → Bool
 has_come None items = false
 has_come (Some number) items = nat_lt number (length items)
 

@@ -11,7 +11,7 @@ ghost use Rattle.c25_asm.specs.Told.{IsNoFile, IsTold, IsWrongLine};
 ghost use Rattle.c25_asm.specs.View.{assembled_of, passed_of};
 
 use crate::lines::{no_lines, pass_line};
-use crate::passed::Passed;
+use crate::lines_so_far::LinesSoFar;
 use c25_listing::listing::Listing;
 use c25_macro::answer::ExpandFault;
 use c25_macro::expander::Expander;
@@ -66,9 +66,9 @@ fn told<'a>(
 fn pass_rest<'a>(
     alloc: Global,
     expander: &mut Expander<'a>,
-    passed: Passed<'a>,
+    passed: LinesSoFar<'a>,
     listed: bool,
-) -> Result<Passed<'a>, Failure<AsmFault<'a>>>
+) -> Result<LinesSoFar<'a>, Failure<AsmFault<'a>>>
     ensures { IsRest listed (expansion_of expander.old) (passed_of passed.entry) result }
 {
     let mut passed = passed;
@@ -88,7 +88,7 @@ fn pass_all<'a>(
     files: &'a Files,
     name: &'a str,
     listed: bool,
-) -> Result<Passed<'a>, Failure<AsmFault<'a>>>
+) -> Result<LinesSoFar<'a>, Failure<AsmFault<'a>>>
     ensures { Passes listed (source.passed_from files.now name.now (start_of files.now name.now)) result }
 {
     let passed = no_lines(alloc)?;
@@ -106,7 +106,7 @@ fn assemble_lines<'a>(
 ) -> Result<Listing<'a>, Failure<AsmFault<'a>>>
     ensures { Assembles listed (source.assembled files.now name.now) result }
 {
-    let Passed { progress, entries } = pass_all(alloc, files, name, listed)?;
+    let LinesSoFar { progress, entries } = pass_all(alloc, files, name, listed)?;
     let parts = finish(Box::into_inner(progress))?;
     Ok(Listing {
         module: module(parts),

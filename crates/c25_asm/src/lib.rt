@@ -12,7 +12,7 @@
 mod assembly;
 pub mod laws;
 mod lines;
-mod passed;
+mod lines_so_far;
 mod tracing;
 mod walk;
 

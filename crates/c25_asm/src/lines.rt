@@ -7,7 +7,7 @@ ghost use Rattle.c25_meaning_assembly.specs.ModuleOfSource as source;
 ghost use Rattle.c25_asm.specs.Listed.{Passes};
 ghost use Rattle.c25_asm.specs.View.{passed_of};
 
-use crate::passed::Passed;
+use crate::lines_so_far::LinesSoFar;
 use c25_listing::listing::Entry;
 use c25_macro::answer::ExpLine;
 use c25_meaning_common::failure::Failure;
@@ -17,10 +17,10 @@ use c25_phases::{Origin, Progress, at_origin, read_and_pass};
 use std::alloc::Global;
 
 /// The state before the first line.
-pub(crate) fn no_lines<'a>(alloc: Global) -> Result<Passed<'a>, NoMemory>
+pub(crate) fn no_lines<'a>(alloc: Global) -> Result<LinesSoFar<'a>, NoMemory>
     ensures { IfOk result (λ p. passed_of p ≡ source.no_lines) }
 {
-    Ok(Passed {
+    Ok(LinesSoFar {
         progress: Box::new(alloc, Progress::new(alloc)?)?,
         entries: Vec::new(alloc),
     })
@@ -44,13 +44,13 @@ fn add_entry<'a>(
 /// Passes one line more, and adds its entry where a listing is wanted.
 #[tactic(auto, unfolding(c25_meaning_assembly::specs::ModuleOfSource::pass_line))]
 pub(crate) fn pass_line<'a>(
-    passed: Passed<'a>,
+    passed: LinesSoFar<'a>,
     line: ExpLine<'a>,
     listed: bool,
-) -> Result<Passed<'a>, Failure<AsmFault<'a>>>
+) -> Result<LinesSoFar<'a>, Failure<AsmFault<'a>>>
     ensures { Passes listed (source.pass_line (shown line.entry) (passed_of passed.entry)) result }
 {
-    let Passed { progress, entries } = passed;
+    let LinesSoFar { progress, entries } = passed;
     let mut entries = entries;
     let ExpLine { file, line, text } = line;
     let origin = Origin { file, line };
@@ -67,7 +67,7 @@ pub(crate) fn pass_line<'a>(
                 count,
             };
             add_entry(&mut entries, entry, listed)?;
-            Ok(Passed { progress, entries })
+            Ok(LinesSoFar { progress, entries })
         }
         Err(failure) => Err(at_origin(origin, failure)),
     }

@@ -83,7 +83,7 @@ fn advance<'a>(
     let mut progress = progress;
     progress.move_here();
     match tracer.step(progress.symbols()) {
-        Ok(Step::Went) => Ok(Turn::On(progress)),
+        Ok(Step::Consumed) => Ok(Turn::On(progress)),
         Ok(Step::Given(line)) => pass(progress, line, sought),
         Ok(Step::Finished) => Ok(Turn::Ended(End::Passed(progress))),
         Err(Failure::NoMemory(error)) => Err(error),

@@ -8,22 +8,22 @@ use c25_texts::{LineFormat, decimal_of, is_word, read_items};
 use c25_meaning_common::failure::Failure;
 use c25_meaning_common::placed::Placed;
 use c25_meaning_processor::lines::Lines;
-use c25_meaning_processor::schedule::{BadSchedule, Entry, Event};
+use c25_meaning_processor::schedule::{BadSchedule, ScheduleEntry, Event};
 use std::alloc::Global;
 use std::marker::Model;
 
 /// Events by steps that do not fall. Contracts see it as the list of its entries.
 #[derive(Drop)]
 pub struct Schedule {
-    entries: Vec<Entry>,
+    entries: Vec<ScheduleEntry>,
 }
 
 impl Model for Schedule {
     ghost use Rattle.std.specs.Prelude.{List};
-    ghost use Rattle.c25_meaning_processor.specs.declared.schedule.Entry.{Entry};
+    ghost use Rattle.c25_meaning_processor.specs.declared.schedule.ScheduleEntry.{ScheduleEntry};
     ghost use Rattle.c25_board.specs.ScheduleRises.{RisesFrom};
 
-    ghost Value = { List Entry };
+    ghost Value = { List ScheduleEntry };
 
     ghost view = { λ s. s.entries.items };
 
@@ -35,7 +35,7 @@ impl Schedule {
     ghost use Rattle.c25_board.specs.ScheduleRises.{RisesFrom};
 
     /// The entries, the first one first.
-    pub fn as_slice(&self) -> &[Entry]
+    pub fn as_slice(&self) -> &[ScheduleEntry]
         ensures entries { result.now ≡ self.now }
         ensures rises { RisesFrom 0 result.now }
     {
@@ -64,7 +64,7 @@ fn event_of(word: &[u8]) -> Option<Event>
 }
 
 /// The step of the last entry, 0 before the first.
-fn last_step(before: &[Entry]) -> u32
+fn last_step(before: &[ScheduleEntry]) -> u32
     ensures { result ≡ last_step before.now }
 {
     before.last().map_or(0, |entry| entry.step)
@@ -76,13 +76,13 @@ struct EntryLines;
 impl LineFormat for EntryLines {
     ghost use Rattle.c25_meaning_processor.specs.Schedule.{entry_of};
 
-    type Item = Entry;
+    type Item = ScheduleEntry;
 
     type Fault = BadSchedule;
 
     ghost item_of = { entry_of };
 
-    fn item(before: &[Entry], words: &[&[u8]]) -> Option<Entry> {
+    fn item(before: &[ScheduleEntry], words: &[&[u8]]) -> Option<ScheduleEntry> {
         match words {
             [step, event] => {
                 let step = decimal_of(u32::MAX, step)?;
@@ -90,7 +90,7 @@ impl LineFormat for EntryLines {
                 if step < last_step(before) {
                     None
                 } else {
-                    Some(Entry { step, event })
+                    Some(ScheduleEntry { step, event })
                 }
             }
             _ => None,

@@ -11,7 +11,7 @@ use Rattle.c25_meaning_processor.specs.Samples.{samples_of}
 use Rattle.c25_meaning_processor.specs.Schedule.{schedule_of}
 use Rattle.c25_meaning_common.specs.declared.failure.Failure.TheVariants as failure
 use Rattle.c25_meaning_processor.specs.declared.sample.Sample.{Sample}
-use Rattle.c25_meaning_processor.specs.declared.schedule.Entry.{Entry}
+use Rattle.c25_meaning_processor.specs.declared.schedule.ScheduleEntry.{ScheduleEntry}
 use Rattle.c25_chain.specs.Built.{IsBuilt, IsBuiltAs}
 use Rattle.c25_chain.specs.Chain.{Answers, Given, Inputs, IsAnswer, inputs_in, inputs_of, inputs_view, run_of, texts_of}
 use Rattle.c25_chain.specs.Linked as linked
@@ -35,11 +35,11 @@ is_built files sources command b h = record { all = h.all; assembled = h.assembl
 abbrev samples_in : List ℕ → Result (List Sample) (Refusal (List ℕ))
 samples_in text = told Samples (samples_of text)
 
-abbrev schedule_in : List ℕ → Result (List Entry) (Refusal (List ℕ))
+abbrev schedule_in : List ℕ → Result (List ScheduleEntry) (Refusal (List ℕ))
 schedule_in text = told Schedule (schedule_of text)
 
 -- the entries beside samples
-abbrev with_entries : List Sample → List Entry → Result Inputs (Refusal (List ℕ))
+abbrev with_entries : List Sample → List ScheduleEntry → Result Inputs (Refusal (List ℕ))
 with_entries samples entries = Ok (record { samples = samples; entries = entries })
 
 abbrev with_samples : (schedule : List ℕ) → List Sample → Result Inputs (Refusal (List ℕ))
@@ -53,22 +53,22 @@ pub no_schedule : (samples schedule : List ℕ) (read : List Sample) (f : Fault)
 no_schedule samples schedule read (failure.NoMemory m) e h = tt
 no_schedule samples schedule read (failure.Fault r) e h =
     ap (λ (x : Result (List Sample) (Refusal (List ℕ))). x >>= with_samples schedule) e
-    ∙ ap (λ (x : Result (List Entry) (Refusal (List ℕ))). x >>= with_entries read) h
+    ∙ ap (λ (x : Result (List ScheduleEntry) (Refusal (List ℕ))). x >>= with_entries read) h
 
-pub both_read : (samples schedule : List ℕ) (read : List Sample) (entries : List Entry) → samples_in samples ≡ Ok read → schedule_in schedule ≡ Ok entries → inputs_of samples schedule ≡ Ok (record { samples = read; entries = entries })
+pub both_read : (samples schedule : List ℕ) (read : List Sample) (entries : List ScheduleEntry) → samples_in samples ≡ Ok read → schedule_in schedule ≡ Ok entries → inputs_of samples schedule ≡ Ok (record { samples = read; entries = entries })
 both_read samples schedule read entries e h =
     ap (λ (x : Result (List Sample) (Refusal (List ℕ))). x >>= with_samples schedule) e
-    ∙ ap (λ (x : Result (List Entry) (Refusal (List ℕ))). x >>= with_entries read) h
+    ∙ ap (λ (x : Result (List ScheduleEntry) (Refusal (List ℕ))). x >>= with_entries read) h
 
 -- a refusal that is told on
-pub inputs_told_on : (meant : Result Inputs (Refusal (List ℕ))) (result : Result (List Sample × List Entry) Fault) (given : Fault) → IsErrAnd result (λ f. f ≡ given)
+pub inputs_told_on : (meant : Result Inputs (Refusal (List ℕ))) (result : Result (List Sample × List ScheduleEntry) Fault) (given : Fault) → IsErrAnd result (λ f. f ≡ given)
     → FailsBy refusal_of meant given → MeetsBy refusal_of inputs_view meant result
 inputs_told_on meant (Ok both) given same h = absurd same
 inputs_told_on meant (Err f) given same h = subst (FailsBy refusal_of meant) (sym same) h
 
 -- ---- the answer
 
-pub answered : (g : Given) (n : ℕ) (b : Built) (d : Done) (c : Chain) (samples : List Sample) (entries : List Entry) → IsBuiltAs g.files g.sources g.command b
+pub answered : (g : Given) (n : ℕ) (b : Built) (d : Done) (c : Chain) (samples : List Sample) (entries : List ScheduleEntry) → IsBuiltAs g.files g.sources g.command b
     → inputs_in g ≡ Ok (record { samples = samples; entries = entries })
     → HasRun b.linked.page0.words b.linked.page1.words b.linked.image.marks b.linked.image.run_marks samples entries n d
     → texts_of c ≡ linked.texts_of b.linked → c.listings ≡ b.listings → run_of c ≡ run_data d → IsAnswer g n c

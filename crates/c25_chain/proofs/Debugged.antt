@@ -23,7 +23,7 @@ use Rattle.c25_meaning_processor.specs.Samples.{samples_at}
 use Rattle.c25_meaning_processor.specs.Script.{script_of}
 use Rattle.c25_meaning_processor.specs.Signals.{signals_of}
 use Rattle.c25_meaning_processor.specs.declared.sample.Sample.{Sample}
-use Rattle.c25_meaning_processor.specs.declared.schedule.Entry.{Entry}
+use Rattle.c25_meaning_processor.specs.declared.schedule.ScheduleEntry.{ScheduleEntry}
 use Rattle.c25_meaning_processor.specs.declared.script.Cmd.{Cmd}
 
 -- a text that reads as commands, by what is told of it
@@ -35,7 +35,7 @@ told_script script commands h = by_result (script_of script) h where
 
 -- ---- over a linked program
 
-module _ (l : Linked) (samples : List Sample) (entries : List Entry) (script : List ℕ) where
+module _ (l : Linked) (samples : List Sample) (entries : List ScheduleEntry) (script : List ℕ) where
   pub answers_linked : (commands : List Cmd) (text : List ℕ) → told {F = Refusal (List ℕ)} Script (script_of script) ≡ Ok commands
       → AnswersScript WordStep (signals_of entries) l.image commands (first_of_pages l.page0.words l.page1.words l.image.marks l.image.run_marks (samples_at samples)) text
       → AnswersLinked l samples entries script text

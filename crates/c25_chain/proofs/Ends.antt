@@ -19,7 +19,7 @@ use Rattle.c25_meaning_processor.specs.WordStep.{WordStep}
 use Rattle.c25_meaning_image.specs.declared.mark.Mark.{Mark}
 use Rattle.c25_meaning_image.specs.declared.mark.RunMark.{RunMark}
 use Rattle.c25_meaning_processor.specs.declared.sample.Sample.{Sample}
-use Rattle.c25_meaning_processor.specs.declared.schedule.Entry.{Entry}
+use Rattle.c25_meaning_processor.specs.declared.schedule.ScheduleEntry.{ScheduleEntry}
 use Rattle.c25_chain.specs.Run.{HasRun, HasRunFrom, Shows, run_data}
 use Rattle.c25_chain.specs.declared.run.Done.{Done}
 
@@ -48,14 +48,14 @@ module _ (signals : Signals) (s : State) (n : ℕ) (d : Done) where
   ends_as o k j t failed fails first run none named counted shows = ends o j t failed fails (subst (λ (x : ℕ). IsRun signals x n s o j t failed fails) first run) none named counted shows
 
 -- the run of a board that began as a program does
-module _ (page0 page1 : finite.FinMap nat_cmp ℕ) (marks : List Mark) (run_marks : List RunMark) (samples : List Sample) (given : List Entry) (n : ℕ) where
-  has_run : (entries : List Entry) (d : Done) (s t : State) → entries ≡ given → s ≡ first_of_pages page0 page1 marks run_marks (samples_at samples)
+module _ (page0 page1 : finite.FinMap nat_cmp ℕ) (marks : List Mark) (run_marks : List RunMark) (samples : List Sample) (given : List ScheduleEntry) (n : ℕ) where
+  has_run : (entries : List ScheduleEntry) (d : Done) (s t : State) → entries ≡ given → s ≡ first_of_pages page0 page1 marks run_marks (samples_at samples)
       → HasRunFrom (signals_of entries) s n d t → HasRun page0 page1 marks run_marks samples given n d
   has_run entries d s t same begin h =
-      let under = subst (λ (es : List Entry). Runs WordStep (signals_of es) 0 n s h.end) same h.run in
+      let under = subst (λ (es : List ScheduleEntry). Runs WordStep (signals_of es) 0 n s h.end) same h.run in
       (h.end, subst (λ (x : State). Runs WordStep (signals_of given) 0 n x h.end) begin under, h.ends)
 
-  pub runs_program : (entries : List Entry) (result : Result Done NoMemory) (s t : State) → entries ≡ given → s ≡ first_of_pages page0 page1 marks run_marks (samples_at samples)
+  pub runs_program : (entries : List ScheduleEntry) (result : Result Done NoMemory) (s t : State) → entries ≡ given → s ≡ first_of_pages page0 page1 marks run_marks (samples_at samples)
       → IfOk result (λ d. HasRunFrom (signals_of entries) s n d t) → IfOk result (HasRun page0 page1 marks run_marks samples given n)
   runs_program entries (Ok d) s t same begin h = has_run entries d s t same begin h
   runs_program entries (Err refused) s t same begin h = tt

@@ -8,7 +8,7 @@ use Rattle.c25_meaning_processor.specs.Samples.{samples_of}
 use Rattle.c25_meaning_processor.specs.Schedule.{schedule_of}
 use Rattle.c25_meaning_common.specs.declared.failure.Failure.TheVariants as failure
 use Rattle.c25_meaning_processor.specs.declared.sample.Sample.{Sample}
-use Rattle.c25_meaning_processor.specs.declared.schedule.Entry.{Entry}
+use Rattle.c25_meaning_processor.specs.declared.schedule.ScheduleEntry.{ScheduleEntry}
 use Rattle.c25_chain.specs.Built.{IsBuilt, IsUnbuilt}
 use Rattle.c25_chain.specs.Linked.{LinkedTexts}
 use Rattle.c25_chain.specs.Refusal.{Fault, refusal_of}
@@ -34,10 +34,10 @@ given_of files names command samples schedule = record { files = files; sources 
 -- samples and the entries of a schedule
 pub record Inputs : Type 0 where
   pub samples : List Sample
-  pub entries : List Entry
+  pub entries : List ScheduleEntry
 
 -- these samples and entries
-abbrev pub inputs_view : List Sample × List Entry → Inputs
+abbrev pub inputs_view : List Sample × List ScheduleEntry → Inputs
 inputs_view both = record { samples = both.0; entries = both.1 }
 
 -- those of two texts, or the first refusal among them

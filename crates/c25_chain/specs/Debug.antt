@@ -22,7 +22,7 @@ use Rattle.c25_meaning_processor.specs.Samples.{samples_at}
 use Rattle.c25_meaning_processor.specs.Script.{script_of}
 use Rattle.c25_meaning_processor.specs.Signals.{signals_of}
 use Rattle.c25_meaning_processor.specs.declared.sample.Sample.{Sample}
-use Rattle.c25_meaning_processor.specs.declared.schedule.Entry.{Entry}
+use Rattle.c25_meaning_processor.specs.declared.schedule.ScheduleEntry.{ScheduleEntry}
 use Rattle.c25_meaning_processor.specs.declared.script.Cmd.{Cmd}
 
 -- what one step of a program is
@@ -59,14 +59,14 @@ Debugs g script (Err (failure.NoMemory m)) = Unit {0}
 Debugs g script (Err (failure.Fault f)) = IsRefused g (refusal_of f) ⊎ IsRefusedScript g script (refusal_of f)
 
 -- the answers of the script of a text over the words of a linked program, from its first state on
-pub record AnswersLinked (l : Linked) (samples : List Sample) (entries : List Entry) (script : List ℕ) (text : List ℕ) : Type 0 where
+pub record AnswersLinked (l : Linked) (samples : List Sample) (entries : List ScheduleEntry) (script : List ℕ) (text : List ℕ) : Type 0 where
   pub commands : List Cmd
   pub script_read : script_of script ≡ Ok commands
   pub answers : AnswersScript WordStep (signals_of entries) l.image commands
       (first_of_pages l.page0.words l.page1.words l.image.marks l.image.run_marks (samples_at samples)) text
 
 -- that, or the refusal of the script, unless memory ran out
-abbrev pub DebugsLinked : Linked → List Sample → List Entry → List ℕ → Result (String Global) Fault → Type 0
+abbrev pub DebugsLinked : Linked → List Sample → List ScheduleEntry → List ℕ → Result (String Global) Fault → Type 0
 DebugsLinked l samples entries script (Ok text) = AnswersLinked l samples entries script (string_bytes text)
 DebugsLinked l samples entries script (Err (failure.NoMemory m)) = Unit {0}
 DebugsLinked l samples entries script (Err (failure.Fault f)) = told Script (script_of script) ≡ Err (refusal_of f)

@@ -21,7 +21,7 @@ use Rattle.c25_meaning_processor.specs.State.{State}
 use Rattle.c25_meaning_image.specs.Marks.{is_code}
 use Rattle.c25_meaning_processor.specs.Statements.{Statement, Statements, loaded_statements, marks_of, statement_step}
 use Rattle.c25_meaning_processor.specs.declared.sample.Sample.{Sample}
-use Rattle.c25_meaning_processor.specs.declared.schedule.Entry.{Entry}
+use Rattle.c25_meaning_processor.specs.declared.schedule.ScheduleEntry.{ScheduleEntry}
 use Rattle.c25_chain.specs.Built.{IsBuilt}
 use Rattle.c25_chain.specs.Chain.{Given, Inputs, inputs_in, run_of, texts_of}
 use Rattle.c25_chain.specs.Linked.{places_of}
@@ -65,11 +65,11 @@ abbrev pub first_state : ImageData → List Sample → State
 first_state image samples = first_of_pages image.program image.store image.marks image.run_marks (samples_at samples)
 
 -- the end of n steps of the program's words
-abbrev pub RunsItsWords : ImageData → List Sample → List Entry → ℕ → Ending → Type 0
+abbrev pub RunsItsWords : ImageData → List Sample → List ScheduleEntry → ℕ → Ending → Type 0
 RunsItsWords image = RunsWords image.program image.store image.marks image.run_marks
 
 -- the end of n steps of the statements of the sources, read from no word
-abbrev pub statements_run : Files → List (List ℕ) → ImageData → List Sample → List Entry → ℕ → Ending
+abbrev pub statements_run : Files → List (List ℕ) → ImageData → List Sample → List ScheduleEntry → ℕ → Ending
 statements_run files names image samples entries n =
     runs.run_of (statement_step (source_statements files names image.described)) (signals_of entries) 0 n (first_state image samples)
 
@@ -98,18 +98,18 @@ pub record MarksStatements (files : Files) (names : List (List ℕ)) (image : Im
 -- and memories included, or leaving the code at the same step for the same reason
 abbrev pub RunsAsSources : Files → List (List ℕ) → ImageData → Type 0
 RunsAsSources files names image =
-    (samples : List Sample) (entries : List Entry) (n : ℕ) (e : Ending)
+    (samples : List Sample) (entries : List ScheduleEntry) (n : ℕ) (e : Ending)
     → RunsItsWords image samples entries n e ↔ (e ≡ statements_run files names image samples entries n)
 
 -- a state that one of the runs is in after n steps
-abbrev pub IsReached : Files → List (List ℕ) → ImageData → List Sample → List Entry → ℕ → State → Type 0
+abbrev pub IsReached : Files → List (List ℕ) → ImageData → List Sample → List ScheduleEntry → ℕ → State → Type 0
 IsReached files names image samples entries n t =
     RunsItsWords image samples entries n (Ran t) ⊎ (statements_run files names image samples entries n ≡ Ran t)
 
 -- in every state of either run the words of the instruction statements, where they are loaded, are those of the hex text
 abbrev pub CodeStays : Files → List (List ℕ) → ImageData → Type 0
 CodeStays files names image =
-    (samples : List Sample) (entries : List Entry) (n : ℕ) (t : State) (address : ℕ)
+    (samples : List Sample) (entries : List ScheduleEntry) (n : ℕ) (t : State) (address : ℕ)
     → IsReached files names image samples entries n t
     → is_code (marks_of (loaded_statements (source_statements files names image.described))) address ≡ true
     → t.world.program address ≡ memory_of_map image.program address

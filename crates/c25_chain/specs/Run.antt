@@ -15,7 +15,7 @@ use Rattle.c25_meaning_image.specs.declared.mark.Mark.{Mark}
 use Rattle.c25_meaning_image.specs.declared.mark.RunMark.{RunMark}
 use Rattle.c25_meaning_processor.specs.declared.registers.Regs.{Regs}
 use Rattle.c25_meaning_processor.specs.declared.sample.Sample.{Sample}
-use Rattle.c25_meaning_processor.specs.declared.schedule.Entry.{Entry}
+use Rattle.c25_meaning_processor.specs.declared.schedule.ScheduleEntry.{ScheduleEntry}
 use Rattle.c25_chain.specs.declared.run.Done.{Done}
 
 -- what a run did and left: its outputs in order, registers, data memory, how it ended, and how many steps were done
@@ -39,11 +39,11 @@ EndsAs n (Ran t) d = (d.outcome ≡ outcome.Ran) × (d.steps ≡ n) × Shows t d
 EndsAs n (Left j stop t) d = (d.outcome ≡ outcome.Left j stop) × (d.steps ≡ j) × Shows t d
 
 -- n steps of the words of both pages, with instructions at these places, and such as run in block B0, from a reset on, under these samples and this schedule
-abbrev pub RunsWords : (page0 page1 : finite.FinMap nat_cmp ℕ) → List Mark → List RunMark → List Sample → List Entry → ℕ → Ending → Type 0
+abbrev pub RunsWords : (page0 page1 : finite.FinMap nat_cmp ℕ) → List Mark → List RunMark → List Sample → List ScheduleEntry → ℕ → Ending → Type 0
 RunsWords page0 page1 marks run_marks samples entries n e = Runs WordStep (signals_of entries) 0 n (first_of_pages page0 page1 marks run_marks (samples_at samples)) e
 
 -- what was done is that run
-abbrev pub IsRunOf : (page0 page1 : finite.FinMap nat_cmp ℕ) → List Mark → List RunMark → List Sample → List Entry → ℕ → RunData → Type 0
+abbrev pub IsRunOf : (page0 page1 : finite.FinMap nat_cmp ℕ) → List Mark → List RunMark → List Sample → List ScheduleEntry → ℕ → RunData → Type 0
 IsRunOf page0 page1 marks run_marks samples entries n d = (e : Ending) × RunsWords page0 page1 marks run_marks samples entries n e × EndsAs n e d
 
 -- the state in which a run ended
@@ -56,7 +56,7 @@ abbrev pub run_data : Done → RunData
 run_data d = record { outputs = d.outputs.items; regs = d.regs; memory = d.memory.items; outcome = d.outcome; steps = d.steps }
 
 -- and it is that run
-abbrev pub HasRun : (page0 page1 : finite.FinMap nat_cmp ℕ) → List Mark → List RunMark → List Sample → List Entry → ℕ → Done → Type 0
+abbrev pub HasRun : (page0 page1 : finite.FinMap nat_cmp ℕ) → List Mark → List RunMark → List Sample → List ScheduleEntry → ℕ → Done → Type 0
 HasRun page0 page1 marks run_marks samples entries n d = IsRunOf page0 page1 marks run_marks samples entries n (run_data d)
 
 -- what was done is a run of n steps from a state on, and this is the state in which it ended

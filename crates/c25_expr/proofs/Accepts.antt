@@ -5,7 +5,7 @@ use Rattle.std.proofs.lemmas.Bool.{ne_eqb, cond_both, le-leb}
 use Rattle.c25_meaning_language.specs.declared.expression.BinaryOperator.{BinaryOperator}
 use Rattle.c25_meaning_language.specs.declared.expression.UnaryOperator.{UnaryOperator}
 use Rattle.c25_meaning_language.specs.Tree.{Tree, Single, Group, Unary, Binary, Mark, Operand, Signed, Stray, level_of}
-use Rattle.c25_meaning_language.specs.Reading.{PostfixItem, Push, Wrap, Apply, Combine, Frame, Open, Pending, After, State, settle, reduced, loosest, step, step_by, operand_begun, waiting_by, closed, followed, finished_by, whole, run, unary_of, binary_of, is_open, is_close}
+use Rattle.c25_meaning_language.specs.Reading.{PostfixItem, Push, Wrap, Apply, Combine, Frame, Open, Pending, After, ParserState, settle, reduced, loosest, step, step_by, operand_begun, waiting_by, closed, followed, finished_by, whole, run, unary_of, binary_of, is_open, is_close}
 use Rattle.c25_expr.specs.Completes.{opens, completes, completes_on, behind_open, behind_close, behind_follow}
 use Rattle.c25_expr.proofs.Sound.{level_loosest}
 
@@ -28,7 +28,7 @@ SettledBehind fs None = Unit {0}
 SettledBehind fs (Some e) = IsSettled fs
 
 -- none waits before an operand that is whole
-abbrev pub HasShape : State → Type 0
+abbrev pub HasShape : ParserState → Type 0
 HasShape s = IsShaped s.frames × SettledBehind s.frames s.current
 
 -- a state with an operand, with so many parentheses open
@@ -38,7 +38,7 @@ record Stands (n : ℕ) (fs : List Frame) (c : Option Tree) : Type 0 where
   some : is_none c ≡ false
   same : opens fs ≡ n
 
-abbrev StandsIn : ℕ → State → Type 0
+abbrev StandsIn : ℕ → ParserState → Type 0
 StandsIn n s = Stands n s.frames s.current
 
 settles : (fs : List Frame) (e : Tree) (is : List PostfixItem) → IsShaped fs → StandsIn (opens fs) (settle fs e is)
@@ -58,7 +58,7 @@ reduces n (After l op ∷ fs) e is h g = cond_both (nat_le (level_of op) n) (red
 
 -- what is answered to the rest, if it goes on
 abbrev Answers : List Mark → Type 0
-Answers ms = (s : State) → HasShape s → is_some (run ms s) ≡ completes ms (is_none s.current) (opens s.frames)
+Answers ms = (s : ParserState) → HasShape s → is_some (run ms s) ≡ completes ms (is_none s.current) (opens s.frames)
 
 answers_settled : (ms : List Mark) → Answers ms → (fs : List Frame) (e : Tree) (is : List PostfixItem) → IsShaped fs → is_some (run ms (settle fs e is)) ≡ completes ms false (opens fs)
 answers_settled ms more fs e is h =
@@ -88,11 +88,11 @@ answers_closed ms more (Open ∷ fs) e is h g =
     answers_settled ms more fs (Group e) (Wrap ∷ is) h ∙ sym (ap (λ n. completes_on (completes ms) (behind_close n)) next)
 answers_closed ms more (Pending op ∷ fs) e is h g = absurd g
 answers_closed ms more (After l op ∷ fs) e is h g =
-    ap (λ (s : State). is_some (option_and_then (run ms) (closed s))) (loose op l e fs is) ∙ answers_closed ms more fs (Binary op l e) (Combine op ∷ is) h.1 h.0
+    ap (λ (s : ParserState). is_some (option_and_then (run ms) (closed s))) (loose op l e fs is) ∙ answers_closed ms more fs (Binary op l e) (Combine op ∷ is) h.1 h.0
 
 answers_followed : (ms : List Mark) → Answers ms → (fs : List Frame) (e : Tree) (is : List PostfixItem) (o : Option BinaryOperator) (b : Bool) → IsShaped fs → IsSettled fs → is_some (option_and_then (run ms) (followed fs e is o b)) ≡ completes_on (completes ms) (behind_follow (opens fs) (is_some o) b)
 answers_followed ms more fs e is (Some op) b h g =
-    let t : State = reduced (level_of op) fs e is in
+    let t : ParserState = reduced (level_of op) fs e is in
     answers_waiting ms more op (opens fs) t.frames t.current t.items (reduces (level_of op) fs e is h g)
 answers_followed ms more fs e is None true h g = answers_closed ms more fs e is h g
 answers_followed ms more fs e is None false h g = refl
@@ -109,18 +109,18 @@ answers_whole : (fs : List Frame) (e : Tree) (is : List PostfixItem) → IsShape
 answers_whole [] e is h g = refl
 answers_whole (Open ∷ fs) e is h g = sym (ne_eqb (opens fs + 1) 0 (λ h. absurd (omega arith)))
 answers_whole (Pending op ∷ fs) e is h g = absurd g
-answers_whole (After l op ∷ fs) e is h g = ap (λ (s : State). is_some (whole s)) (loose op l e fs is) ∙ answers_whole fs (Binary op l e) (Combine op ∷ is) h.1 h.0
+answers_whole (After l op ∷ fs) e is h g = ap (λ (s : ParserState). is_some (whole s)) (loose op l e fs is) ∙ answers_whole fs (Binary op l e) (Combine op ∷ is) h.1 h.0
 
 answers_end : (fs : List Frame) (c : Option Tree) (is : List PostfixItem) → IsShaped fs → SettledBehind fs c → is_some (finished_by fs c is) ≡ completes [] (is_none c) (opens fs)
 answers_end fs None is h g = refl
 answers_end fs (Some e) is h g = answers_whole fs e is h g
 
 -- a tree is found where the tokens complete one
-pub is_some-run : (ms : List Mark) (s : State) → HasShape s → is_some (run ms s) ≡ completes ms (is_none s.current) (opens s.frames)
+pub is_some-run : (ms : List Mark) (s : ParserState) → HasShape s → is_some (run ms s) ≡ completes ms (is_none s.current) (opens s.frames)
 is_some-run [] s h = answers_end s.frames s.current s.items h.0 h.1
 is_some-run (m ∷ ms) s h = answers_step ms (is_some-run ms) s.frames s.current s.items m h.0 h.1
 
-abbrev StepShaped : Option State → Type 0
+abbrev StepShaped : Option ParserState → Type 0
 StepShaped None = Unit {0}
 StepShaped (Some s) = HasShape s
 
@@ -140,11 +140,11 @@ shaped_closed : (fs : List Frame) (e : Tree) (is : List PostfixItem) → IsShape
 shaped_closed [] e is h g = tt
 shaped_closed (Open ∷ fs) e is h g = shaped_settle fs (Group e) (Wrap ∷ is) h
 shaped_closed (Pending op ∷ fs) e is h g = absurd g
-shaped_closed (After l op ∷ fs) e is h g = subst (λ (s : State). StepShaped (closed s)) (sym (loose op l e fs is)) (shaped_closed fs (Binary op l e) (Combine op ∷ is) h.1 h.0)
+shaped_closed (After l op ∷ fs) e is h g = subst (λ (s : ParserState). StepShaped (closed s)) (sym (loose op l e fs is)) (shaped_closed fs (Binary op l e) (Combine op ∷ is) h.1 h.0)
 
 shaped_followed : (fs : List Frame) (e : Tree) (is : List PostfixItem) (o : Option BinaryOperator) (b : Bool) → IsShaped fs → IsSettled fs → StepShaped (followed fs e is o b)
 shaped_followed fs e is (Some op) b h g =
-    let t : State = reduced (level_of op) fs e is in
+    let t : ParserState = reduced (level_of op) fs e is in
     shaped_waiting op (opens fs) t.frames t.current t.items (reduces (level_of op) fs e is h g)
 shaped_followed fs e is None true h g = shaped_closed fs e is h g
 shaped_followed fs e is None false h g = tt
@@ -158,5 +158,5 @@ shaped_step fs (Some e) is (Signed s) h g = shaped_followed fs e is (binary_of s
 shaped_step fs (Some e) is Stray h g = tt
 
 -- a step keeps the shape
-pub HasShape-step : (s t : State) (m : Mark) → HasShape s → step s m ≡ Some t → HasShape t
+pub HasShape-step : (s t : ParserState) (m : Mark) → HasShape s → step s m ≡ Some t → HasShape t
 HasShape-step s t m h e = subst StepShaped e (shaped_step s.frames s.current s.items m h.0 h.1)

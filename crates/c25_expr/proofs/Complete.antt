@@ -9,7 +9,7 @@ use Rattle.c25_meaning_language.specs.declared.expression.BinaryOperator.TheVari
 use Rattle.c25_meaning_language.specs.declared.expression.UnaryOperator.{UnaryOperator}
 use Rattle.c25_meaning_language.specs.declared.expression.UnaryOperator.TheVariants as unary
 use Rattle.c25_meaning_language.specs.Tree.{Tree, Single, Group, Unary, Binary, Mark, Signed, level_of, level, spelling, binary_sign, unary_sign, IsGrouped, IsTreeOf}
-use Rattle.c25_meaning_language.specs.Reading.{PostfixItem, Push, Wrap, Apply, Combine, Frame, Open, Pending, After, State, Found, start, settle, reduced, loosest, operand_begun, waiting, closed, followed, step_by, finished_by, whole, run, unary_of, binary_of, is_open, is_close}
+use Rattle.c25_meaning_language.specs.Reading.{PostfixItem, Push, Wrap, Apply, Combine, Frame, Open, Pending, After, ParserState, Found, start, settle, reduced, loosest, operand_begun, waiting, closed, followed, step_by, finished_by, whole, run, unary_of, binary_of, is_open, is_close}
 use Rattle.c25_expr.proofs.Sound.{IsReady, level_positive, level_loosest, run_sound}
 
 -- a tree in postfix order, the last item first
@@ -34,11 +34,11 @@ Fits (Open ∷ fs) e = Unit {0}
 Fits (Pending op ∷ fs) e = level e ≡ 0
 Fits (After l op ∷ fs) e = level e < level_of op
 
-abbrev reading : List Frame → List PostfixItem → State
+abbrev reading : List Frame → List PostfixItem → ParserState
 reading fs is = record { frames = fs; current = None; items = is }
 
 -- the state after a tree: the operators of its right spine wait
-abbrev pub spread : List Frame → Tree → List PostfixItem → State
+abbrev pub spread : List Frame → Tree → List PostfixItem → ParserState
 spread fs (Single l) is = settle fs (Single l) (Push l ∷ is)
 spread fs (Group e) is = settle fs (Group e) (Wrap ∷ (postfix e ++ is))
 spread fs (Unary op e) is = settle fs (Unary op e) (Apply op ∷ (postfix e ++ is))
@@ -58,11 +58,11 @@ settle_none (Pending op ∷ fs) e is h = absurd h
 settle_none (After l op ∷ fs) e is h = refl
 
 -- the operators of a level take the operand of a state
-abbrev reduced_by : ℕ → List Frame → Option Tree → List PostfixItem → State
+abbrev reduced_by : ℕ → List Frame → Option Tree → List PostfixItem → ParserState
 reduced_by n fs None is = record { frames = fs; current = None; items = is }
 reduced_by n fs (Some e) is = reduced n fs e is
 
-abbrev reduce : ℕ → State → State
+abbrev reduce : ℕ → ParserState → ParserState
 reduce n s = reduced_by n s.frames s.current s.items
 
 settle_reduce : (n : ℕ) (fs : List Frame) (e : Tree) (is : List PostfixItem) → IsSettled fs → reduce n (settle fs e is) ≡ reduced n fs e is
@@ -111,22 +111,22 @@ none_some x h = cc
 after_operator : (op : BinaryOperator) (fs : List Frame) (c : Option Tree) (is : List PostfixItem) (gs : List Frame) (l : Tree) (js : List PostfixItem)
     → reduced_by (level_of op) fs c is ≡ record { frames = gs; current = Some l; items = js }
     → step_by fs c is (Signed (binary_sign op)) ≡ Some (record { frames = After l op ∷ gs; current = None; items = js })
-after_operator op fs None is gs l js h = absurd (none_some l (ap (λ (s : State). s.current) h))
+after_operator op fs None is gs l js h = absurd (none_some l (ap (λ (s : ParserState). s.current) h))
 after_operator op fs (Some x) is gs l js h =
-    ap (λ (o : Option BinaryOperator). followed fs x is o (is_close (binary_sign op))) (binary_sign-of op) ∙ ap (λ (s : State). Some (waiting op s)) h
+    ap (λ (o : Option BinaryOperator). followed fs x is o (is_close (binary_sign op))) (binary_sign-of op) ∙ ap (λ (s : ParserState). Some (waiting op s)) h
 
 -- a group ends
 after_close : (fs : List Frame) (c : Option Tree) (is : List PostfixItem) (gs : List Frame) (e : Tree) (js : List PostfixItem)
     → reduced_by loosest fs c is ≡ record { frames = Open ∷ gs; current = Some e; items = js }
     → step_by fs c is (Signed sign.CloseParenthesis) ≡ Some (settle gs (Group e) (Wrap ∷ js))
-after_close fs None is gs e js h = absurd (none_some e (ap (λ (s : State). s.current) h))
+after_close fs None is gs e js h = absurd (none_some e (ap (λ (s : ParserState). s.current) h))
 after_close fs (Some x) is gs e js h = ap closed h
 
 -- the tokens end
 after_all : (fs : List Frame) (c : Option Tree) (is : List PostfixItem) (e : Tree) (js : List PostfixItem)
     → reduced_by loosest fs c is ≡ record { frames = []; current = Some e; items = js }
     → finished_by fs c is ≡ Some (record { tree = e; items = js })
-after_all fs None is e js h = absurd (none_some e (ap (λ (s : State). s.current) h))
+after_all fs None is e js h = absurd (none_some e (ap (λ (s : ParserState). s.current) h))
 after_all fs (Some x) is e js h = ap whole h
 
 pub level_most : (e : Tree) → level e ≤ 8
@@ -145,7 +145,7 @@ pending_spread op fs (Binary o l r) is h = absurd (omega (arith, h, level_positi
 pub reads : (e : Tree) (fs : List Frame) (is : List PostfixItem) (rest : List Mark) → IsGrouped e → Fits fs e → run (spelling e ++ rest) (reading fs is) ≡ run rest (spread fs e is)
 reads (Single l) fs is rest g f = refl
 reads (Group e) fs is rest g f =
-    let s : State = spread (Open ∷ fs) e is in
+    let s : ParserState = spread (Open ∷ fs) e is in
     ap (λ (ms : List Mark). run ms (reading (Open ∷ fs) is)) (append_assoc (spelling e) (Signed sign.CloseParenthesis ∷ []) rest)
     ∙ reads e (Open ∷ fs) is (Signed sign.CloseParenthesis ∷ rest) g tt
     ∙ ap (option_and_then (run rest)) (after_close s.frames s.current s.items fs e (postfix e ++ is) (spread_reduce loosest (Open ∷ fs) e is tt g (level_most e)))
@@ -154,7 +154,7 @@ reads (Unary op e) fs is rest g f =
     ∙ reads e (Pending op ∷ fs) is rest g.1 g.0
     ∙ ap (run rest) (pending_spread op fs e is g.0)
 reads (Binary op l r) fs is rest g f =
-    let s : State = spread fs l is in
+    let s : ParserState = spread fs l is in
     let ready = fits_ready fs op l r f in
     ap (λ (ms : List Mark). run ms (reading fs is)) (append_assoc (spelling l) (Signed (binary_sign op) ∷ spelling r) rest)
     ∙ reads l fs is (Signed (binary_sign op) ∷ (spelling r ++ rest)) g.2 (fits_left fs op l r f g.0)
@@ -165,7 +165,7 @@ reads (Binary op l r) fs is rest g f =
 -- from the tokens of a tree it is found, with its items in postfix order
 pub run_complete : (e : Tree) (ms : List Mark) → IsTreeOf ms e → run ms start ≡ Some (record { tree = e; items = postfix e ++ [] })
 run_complete e ms h =
-    let s : State = spread [] e [] in
+    let s : ParserState = spread [] e [] in
     ap (λ (xs : List Mark). run xs start) (sym h.spelled ∙ sym (append-nil (spelling e))) ∙ reads e [] [] [] h.grouped tt
     ∙ after_all s.frames s.current s.items e (postfix e ++ []) (spread_reduce loosest [] e [] tt h.grouped (level_most e))
 

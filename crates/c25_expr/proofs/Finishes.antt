@@ -3,7 +3,7 @@ use Rattle.std.proofs.Common.{◌≡◌, ℕ, zero, suc, ◌<◌, Bool, true, fa
 use Rattle.std.proofs.lemmas.Bool.{false≢true, eqb-true}
 use Rattle.std.proofs.lemmas.List.{length-reverse, reverse-reverse}
 use Rattle.c25_meaning_language.specs.Tree.{Tree}
-use Rattle.c25_meaning_language.specs.Reading.{PostfixItem, State, Found, reduced, loosest, whole, whole_by, finished}
+use Rattle.c25_meaning_language.specs.Reading.{PostfixItem, ParserState, Found, reduced, loosest, whole, whole_by, finished}
 use Rattle.c25_expr.specs.Postfix.{item_of, last_tree, runs}
 use Rattle.c25_expr.specs.View.{woven, trees_of, items_of, behind, state_of, trees_before, operand_by}
 use Rattle.c25_expr.specs.declared.builder.Builder.{Builder}
@@ -11,7 +11,7 @@ use Rattle.c25_expr.specs.declared.builder.Frame.{Frame}
 use Rattle.c25_expr.specs.declared.builder.Frame.TheVariants.{Open, Pending, After}
 
 -- where an operand stands, what is left where the operators have taken it decides
-finished_is : (b : Builder) (s : State) → b.expects ≡ false → s ≡ reduced loosest (behind b).frames (last_tree (trees_of b)) (items_of b) → finished (state_of b) ≡ whole s
+finished_is : (b : Builder) (s : ParserState) → b.expects ≡ false → s ≡ reduced loosest (behind b).frames (last_tree (trees_of b)) (items_of b) → finished (state_of b) ≡ whole s
 finished_is b s h e =
     ap (λ (x : Bool). finished (record { frames = woven (reverse b.frames.items) (trees_before x (trees_of b)); current = operand_by x (trees_of b); items = items_of b })) h
     ∙ ap whole (sym e)

@@ -5,7 +5,7 @@ use Rattle.std.specs.Result.{IfOk, IsErrOf}
 use Rattle.std.proofs.lemmas.List.{at_drop_more, drop_all}
 use Rattle.std.proofs.lemmas.Bool.{false≢true}
 use Rattle.c25_meaning_language.specs.Tree.{Tree, Mark, mark_of, IsTreeOf, depth}
-use Rattle.c25_meaning_language.specs.Reading.{State, Found, start, step, finished, run}
+use Rattle.c25_meaning_language.specs.Reading.{ParserState, Found, start, step, finished, run}
 use Rattle.c25_meaning_common.specs.Results.{Fails, Meets}
 use Rattle.c25_meaning_language.specs.declared.expression.ExpressionFault.{ExpressionFault}
 use Rattle.c25_meaning_language.specs.declared.expression.ExpressionFault.TheVariants.{BadExpression, TooDeep}
@@ -22,7 +22,7 @@ use Rattle.c25_expr.proofs.Accepts.{HasShape, HasShape-step, is_some-run}
 use Rattle.c25_expr.proofs.Rooms.{runs_postfix}
 
 -- one token more
-pub run_more : (ts : List Token) (i : ℕ) (d : Token) (s : State) (o : Option State) → i < length ts → step s (mark_of (piece_of (get_or ts i d))) ≡ o → run (marks_of (drop i ts)) s ≡ option_and_then (run (marks_of (drop (i + 1) ts))) o
+pub run_more : (ts : List Token) (i : ℕ) (d : Token) (s : ParserState) (o : Option ParserState) → i < length ts → step s (mark_of (piece_of (get_or ts i d))) ≡ o → run (marks_of (drop i ts)) s ≡ option_and_then (run (marks_of (drop (i + 1) ts))) o
 run_more ts i d s o l e =
     at_drop_more (λ us. run (marks_of us) s) ts i d l
     ∙ ap (option_and_then (run (marks_of (drop (i + 1) ts)))) e
@@ -33,7 +33,7 @@ some_of None x h = absurd (cc)
 some_of (Some y) x h = cc
 
 -- after one token more the state has its shape, and what is found from there on is what was to be found
-pub one_more : (ts : List Token) (i : ℕ) (d : Token) (s t : State) → i < length ts → HasShape s → run (marks_of (drop i ts)) s ≡ run (marks_of ts) start → ok_or (step s (mark_of (piece_of (get_or ts i d)))) BadExpression ≡ Ok t
+pub one_more : (ts : List Token) (i : ℕ) (d : Token) (s t : ParserState) → i < length ts → HasShape s → run (marks_of (drop i ts)) s ≡ run (marks_of ts) start → ok_or (step s (mark_of (piece_of (get_or ts i d)))) BadExpression ≡ Ok t
     → HasShape t × (run (marks_of (drop (i + 1) ts)) t ≡ run (marks_of ts) start)
 one_more ts i d s t l shape told h = let e = some_of _ t h in (HasShape-step s t _ shape e, sym (run_more ts i d s _ l e) ∙ told)
 
@@ -53,25 +53,25 @@ some_from None h = absurd (false≢true h)
 some_from (Some f) h = (f, refl)
 
 -- where the rest does not complete what was read nothing is found
-pub not_completed : (ms rest : List Mark) (s : State) → HasShape s → run rest s ≡ run ms start → completes rest (is_none s.current) (opens s.frames) ≡ false → run ms start ≡ None
+pub not_completed : (ms rest : List Mark) (s : ParserState) → HasShape s → run rest s ≡ run ms start → completes rest (is_none s.current) (opens s.frames) ≡ false → run ms start ≡ None
 not_completed ms rest s shape told h = sym told ∙ none_from (run rest s) (is_some-run rest s shape ∙ h)
 
 -- where it completes it, the tree is as deep as what is open
-pub completed : (ms rest : List Mark) (s : State) (n : ℕ) → HasShape s → run rest s ≡ run ms start → n ≡ nesting s.frames → 64 < n → completes rest (is_none s.current) (opens s.frames) ≡ true → (e : Tree) × IsTreeOf ms e × (64 < depth e)
+pub completed : (ms rest : List Mark) (s : ParserState) (n : ℕ) → HasShape s → run rest s ≡ run ms start → n ≡ nesting s.frames → 64 < n → completes rest (is_none s.current) (opens s.frames) ≡ true → (e : Tree) × IsTreeOf ms e × (64 < depth e)
 completed ms rest s n shape told same more h =
     let found = some_from (run rest s) (is_some-run rest s shape ∙ h) in
     let f : Found = found.0 in
     (f.tree, run_tree f ms (sym told ∙ found.1), omega (arith, reach-depth rest s f found.1, nesting-reach s))
 
 -- after the last token
-pub run_end : (ts : List Token) (i : ℕ) (s : State) → length ts ≤ i → run (marks_of (drop i ts)) s ≡ finished s
+pub run_end : (ts : List Token) (i : ℕ) (s : ParserState) → length ts ≤ i → run (marks_of (drop i ts)) s ≡ finished s
 run_end ts i s l = ap (λ us. run (marks_of us) s) (drop_all i ts l)
 
 tree_same : (x y : Tree) → Some x ≡ Some y → x ≡ y
 tree_same x y h = cc
 
 -- what is found at the end is the tree of the tokens, and not too deep
-pub ended : (ms : List Mark) (s : State) (e : Tree) → run ms start ≡ finished s → option_map (λ (f : Found). f.tree) (finished s) ≡ Some e → reach s ≤ 64 → IsTreeOf ms e × (depth e ≤ 64)
+pub ended : (ms : List Mark) (s : ParserState) (e : Tree) → run ms start ≡ finished s → option_map (λ (f : Found). f.tree) (finished s) ≡ Some e → reach s ≤ 64 → IsTreeOf ms e × (depth e ≤ 64)
 ended ms s e told h shallow = by_found (finished s) refl h
   where
     by_found : (o : Option Found) → finished s ≡ o → option_map (λ (f : Found). f.tree) o ≡ Some e → IsTreeOf ms e × (depth e ≤ 64)
@@ -81,7 +81,7 @@ ended ms s e told h shallow = by_found (finished s) refl h
         (subst (IsTreeOf ms) same (run_tree f ms (told ∙ is)), omega (arith, depth_ended s.frames s.current s.items f is, ap depth same, shallow))
 
 -- the items of what is found run
-pub ended_runs : (ms : List Mark) (s : State) (f : Found) → run ms start ≡ finished s → reach s ≤ 64 → finished s ≡ Some f → runs (reverse f.items) 0 ≡ true
+pub ended_runs : (ms : List Mark) (s : ParserState) (f : Found) → run ms start ≡ finished s → reach s ≤ 64 → finished s ≡ Some f → runs (reverse f.items) 0 ≡ true
 ended_runs ms s f told shallow h =
     let tree = run_tree f ms (told ∙ h) in
     runs_postfix f.tree f.items tree.grouped (omega (arith, depth_ended s.frames s.current s.items f h, shallow)) (run_items f ms (told ∙ h))
@@ -119,7 +119,7 @@ answered view o (Ok x) h = record { ok = some_of o (view x) h; bad = λ bad. abs
 answered view o (Err f) h = let p = failed o f h in record { ok = tt; bad = λ bad. p.0 (as_unit _ _ bad); deep = λ deep. p.1 (as_unit _ _ deep) }
 
 -- the tree that is found at the end
-abbrev pub tree_found : State → Option Tree
+abbrev pub tree_found : ParserState → Option Tree
 tree_found s = option_map (λ (f : Found). f.tree) (finished s)
 
 pub none_found : (o : Option Found) → option_map (λ (f : Found). f.tree) o ≡ None → o ≡ None

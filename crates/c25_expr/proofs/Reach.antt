@@ -5,7 +5,7 @@ use Rattle.std.proofs.lemmas.Bool.{cond_both}
 use Rattle.c25_meaning_language.specs.declared.expression.BinaryOperator.{BinaryOperator}
 use Rattle.c25_meaning_language.specs.declared.expression.UnaryOperator.{UnaryOperator}
 use Rattle.c25_meaning_language.specs.Tree.{Tree, Single, Group, Unary, Binary, Mark, Operand, Signed, Stray, depth, level_of}
-use Rattle.c25_meaning_language.specs.Reading.{PostfixItem, Push, Wrap, Apply, Combine, Frame, Open, Pending, After, State, Found, settle, reduced, loosest, step, step_by, operand_begun, waiting_by, closed_by, followed, finished_by, whole_by, run}
+use Rattle.c25_meaning_language.specs.Reading.{PostfixItem, Push, Wrap, Apply, Combine, Frame, Open, Pending, After, ParserState, Found, settle, reduced, loosest, step, step_by, operand_begun, waiting_by, closed_by, followed, finished_by, whole_by, run}
 use Rattle.c25_expr.specs.Completes.{nesting}
 
 -- how deep the frames, and the trees in them, nest
@@ -21,7 +21,7 @@ reach_by fs None = height fs
 reach_by fs (Some e) = max (height fs) (nesting fs + depth e)
 
 -- how deep what was read nests
-abbrev pub reach : State → ℕ
+abbrev pub reach : ParserState → ℕ
 reach s = reach_by s.frames s.current
 
 found_same : (f g : Found) → Some f ≡ Some g → f ≡ g
@@ -38,7 +38,7 @@ reach-reduced n [] e is = refl
 reach-reduced n (Open ∷ fs) e is = refl
 reach-reduced n (Pending op ∷ fs) e is = refl
 reach-reduced n (After l op ∷ fs) e is = cond_both (nat_le (level_of op) n) (reduced n fs (Binary op l e) (Combine op ∷ is)) (record { frames = After l op ∷ fs; current = Some e; items = is })
-    (λ (s : State). reach s ≡ max (max (nesting fs + depth l) (height fs)) (nesting fs + depth e))
+    (λ (s : ParserState). reach s ≡ max (max (nesting fs + depth l) (height fs)) (nesting fs + depth e))
     (λ _. omega (arith, reach-reduced n fs (Binary op l e) (Combine op ∷ is)))
     (λ _. refl)
 
@@ -53,11 +53,11 @@ nesting-height (Pending op ∷ fs) = omega arith
 nesting-height (After l op ∷ fs) = omega (arith, nesting-height fs)
 
 -- a step makes nothing less deep, and opens at most one more
-record Nears (n : ℕ) (s : State) : Type 0 where
+record Nears (n : ℕ) (s : ParserState) : Type 0 where
   least : n ≤ reach s
   most : reach s ≤ max n (nesting s.frames)
 
-abbrev Deepens : ℕ → Option State → Type 0
+abbrev Deepens : ℕ → Option ParserState → Type 0
 Deepens n None = Unit {0}
 Deepens n (Some s) = Nears n s
 
@@ -85,10 +85,10 @@ deepens_closed (Open ∷ fs) (Some e) is n h =
 
 deepens_followed : (fs : List Frame) (e : Tree) (is : List PostfixItem) (o : Option BinaryOperator) (b : Bool) → Deepens (max (height fs) (nesting fs + depth e)) (followed fs e is o b)
 deepens_followed fs e is (Some op) b =
-    let t : State = reduced (level_of op) fs e is in
+    let t : ParserState = reduced (level_of op) fs e is in
     deepens_waiting op t.frames t.current t.items (max (height fs) (nesting fs + depth e)) (reach-reduced (level_of op) fs e is)
 deepens_followed fs e is None true =
-    let t : State = reduced loosest fs e is in
+    let t : ParserState = reduced loosest fs e is in
     deepens_closed t.frames t.current t.items (max (height fs) (nesting fs + depth e)) (reach-reduced loosest fs e is)
 deepens_followed fs e is None false = tt
 
@@ -110,24 +110,24 @@ depth_whole (g ∷ fs) (Some e) is f h = cc
 pub depth_ended : (fs : List Frame) (c : Option Tree) (is : List PostfixItem) (f : Found) → finished_by fs c is ≡ Some f → reach_by fs c ≡ depth f.tree
 depth_ended fs None is f h = cc
 depth_ended fs (Some e) is f h =
-    let t : State = reduced loosest fs e is in
+    let t : ParserState = reduced loosest fs e is in
     sym (reach-reduced loosest fs e is) ∙ depth_whole t.frames t.current t.items f h
 
-depth_behind : (ms : List Mark) (n : ℕ) (o : Option State) (f : Found) → ((t : State) → run ms t ≡ Some f → reach t ≤ depth f.tree) → Deepens n o → option_and_then (run ms) o ≡ Some f → n ≤ depth f.tree
+depth_behind : (ms : List Mark) (n : ℕ) (o : Option ParserState) (f : Found) → ((t : ParserState) → run ms t ≡ Some f → reach t ≤ depth f.tree) → Deepens n o → option_and_then (run ms) o ≡ Some f → n ≤ depth f.tree
 depth_behind ms n None f more d h = cc
 depth_behind ms n (Some t) f more d h = omega (arith, more t h, d.least)
 
 -- a tree is as deep as what was open
-pub reach-depth : (ms : List Mark) (s : State) (f : Found) → run ms s ≡ Some f → reach s ≤ depth f.tree
+pub reach-depth : (ms : List Mark) (s : ParserState) (f : Found) → run ms s ≡ Some f → reach s ≤ depth f.tree
 reach-depth [] s f h = omega (arith, depth_ended s.frames s.current s.items f h)
 reach-depth (m ∷ ms) s f h = depth_behind ms (reach s) (step s m) f (λ t. reach-depth ms t f) (deepens s.frames s.current s.items m) h
 
 -- a step opens at most one more
-pub reach-step : (s t : State) (m : Mark) → step s m ≡ Some t → reach t ≤ max (reach s) (nesting t.frames)
+pub reach-step : (s t : ParserState) (m : Mark) → step s m ≡ Some t → reach t ≤ max (reach s) (nesting t.frames)
 reach-step s t m e = (subst (Deepens (reach s)) e (deepens s.frames s.current s.items m)).most
 
 -- what is open now
-pub nesting-reach : (s : State) → nesting s.frames ≤ reach s
+pub nesting-reach : (s : ParserState) → nesting s.frames ≤ reach s
 nesting-reach s = by_current s.frames s.current
   where
     by_current : (fs : List Frame) (c : Option Tree) → nesting fs ≤ reach_by fs c

@@ -10,7 +10,7 @@ use Rattle.c25_meaning_language.specs.declared.expression.BinaryOperator.TheVari
 use Rattle.c25_meaning_language.specs.declared.expression.UnaryOperator.{UnaryOperator}
 use Rattle.c25_meaning_language.specs.declared.expression.UnaryOperator.TheVariants as unary
 use Rattle.c25_meaning_language.specs.Tree.{Tree, Single, Group, Unary, Binary, Mark, Operand, Signed, Stray, level_of, level, spelling, binary_sign, unary_sign, IsGrouped}
-use Rattle.c25_meaning_language.specs.Reading.{PostfixItem, Push, Wrap, Apply, Combine, Frame, Open, Pending, After, State, Found, settle, reduced, loosest, step, step_by, operand_begun, waiting_by, closed_by, followed, finished_by, whole_by, run, unary_of, binary_of, is_open, is_close}
+use Rattle.c25_meaning_language.specs.Reading.{PostfixItem, Push, Wrap, Apply, Combine, Frame, Open, Pending, After, ParserState, Found, settle, reduced, loosest, step, step_by, operand_begun, waiting_by, closed_by, followed, finished_by, whole_by, run, unary_of, binary_of, is_open, is_close}
 
 -- the tokens of what is open
 abbrev pub before : List Frame → List Mark
@@ -25,7 +25,7 @@ operand_marks None = []
 operand_marks (Some e) = spelling e
 
 -- the tokens so far
-abbrev pub so_far : State → List Mark
+abbrev pub so_far : ParserState → List Mark
 so_far s = before s.frames ++ operand_marks s.current
 
 -- no operator of this level or tighter is open right before
@@ -48,7 +48,7 @@ OperandGrouped fs None = Unit {0}
 OperandGrouped fs (Some e) = IsGrouped e × (level e ≡ 0) × IsReady fs 0
 
 -- all of it is grouped
-abbrev pub IsSound : State → Type 0
+abbrev pub IsSound : ParserState → Type 0
 IsSound s = AreGrouped s.frames × OperandGrouped s.frames s.current
 
 pub level_positive : (op : BinaryOperator) → 0 < level_of op
@@ -72,7 +72,7 @@ so_far-reduced n [] e is = refl
 so_far-reduced n (Open ∷ fs) e is = refl
 so_far-reduced n (Pending op ∷ fs) e is = refl
 so_far-reduced n (After l op ∷ fs) e is = cond_both (nat_le (level_of op) n) (reduced n fs (Binary op l e) (Combine op ∷ is)) (record { frames = After l op ∷ fs; current = Some e; items = is })
-    (λ (s : State). so_far s ≡ before (After l op ∷ fs) ++ spelling e)
+    (λ (s : ParserState). so_far s ≡ before (After l op ∷ fs) ++ spelling e)
     (λ _. so_far-reduced n fs (Binary op l e) (Combine op ∷ is)
     ∙ ap (λ m. before fs ++ m) (sym (append_assoc (spelling l) (Signed (binary_sign op) ∷ []) (spelling e)))
     ∙ sym (append_assoc (before fs) (spelling l ++ Signed (binary_sign op) ∷ []) (spelling e)))
@@ -83,7 +83,7 @@ abbrev ReducedBy : ℕ → List Frame → Option Tree → Type 0
 ReducedBy n fs None = ⊥
 ReducedBy n fs (Some e) = AreGrouped fs × IsGrouped e × (level e ≤ n) × IsReady fs n
 
-abbrev IsReduced : ℕ → State → Type 0
+abbrev IsReduced : ℕ → ParserState → Type 0
 IsReduced n s = ReducedBy n s.frames s.current
 
 IsReduced-reduced : (n : ℕ) (fs : List Frame) (e : Tree) (is : List PostfixItem) → AreGrouped fs → IsGrouped e → level e ≤ n → IsReady fs (level e) → IsReduced n (reduced n fs e is)
@@ -96,12 +96,12 @@ IsReduced-reduced n (After x op ∷ fs) e is g h l r = cond_both (nat_le (level_
     (λ no. (g, h, l, leb-false _ _ no))
 
 -- what a step gives
-pub record Stepped (s t : State) (m : Mark) : Type 0 where
+pub record Stepped (s t : ParserState) (m : Mark) : Type 0 where
   pub spelled : so_far t ≡ so_far s ++ m ∷ []
   pub sound : IsSound t
 
 -- after a step, if there is one
-abbrev Steps : State → Mark → Option State → Type 0
+abbrev Steps : ParserState → Mark → Option ParserState → Type 0
 Steps s m None = Unit {0}
 Steps s m (Some t) = Stepped s t m
 
@@ -154,7 +154,7 @@ open_steps fs is s None true h q g = record { spelled = spelled_none (before fs)
 open_steps fs is s None false h q g = tt
 
 -- an operator waits after what is left
-wait_steps : (s : State) (gs : List Frame) (c : Option Tree) (js : List PostfixItem) (o : Sign) (op : BinaryOperator) → o ≡ binary_sign op → ReducedBy (level_of op) gs c → before gs ++ operand_marks c ≡ so_far s → Stepped s (waiting_by op gs c js) (Signed o)
+wait_steps : (s : ParserState) (gs : List Frame) (c : Option Tree) (js : List PostfixItem) (o : Sign) (op : BinaryOperator) → o ≡ binary_sign op → ReducedBy (level_of op) gs c → before gs ++ operand_marks c ≡ so_far s → Stepped s (waiting_by op gs c js) (Signed o)
 wait_steps s gs None js o op q r e = absurd r
 wait_steps s gs (Some x) js o op q r e = record {
   spelled = append-nil _ ∙ sym (append_assoc (before gs) (spelling x) (Signed (binary_sign op) ∷ [])) ∙ ap (λ m. m ++ Signed (binary_sign op) ∷ []) e ∙ ap (λ t. so_far s ++ Signed t ∷ []) (sym q);
@@ -162,7 +162,7 @@ wait_steps s gs (Some x) js o op q r e = record {
 }
 
 -- a group ends after what is left
-close_steps : (s : State) (n : ℕ) (gs : List Frame) (c : Option Tree) (js : List PostfixItem) (o : Sign) → o ≡ sign.CloseParenthesis → ReducedBy n gs c → before gs ++ operand_marks c ≡ so_far s → Steps s (Signed o) (closed_by gs c js)
+close_steps : (s : ParserState) (n : ℕ) (gs : List Frame) (c : Option Tree) (js : List PostfixItem) (o : Sign) → o ≡ sign.CloseParenthesis → ReducedBy n gs c → before gs ++ operand_marks c ≡ so_far s → Steps s (Signed o) (closed_by gs c js)
 close_steps s n [] None js o q r e = tt
 close_steps s n [] (Some x) js o q r e = tt
 close_steps s n (Pending op ∷ gs) None js o q r e = tt
@@ -184,11 +184,11 @@ level_loosest _ = omega arith
 follow_steps : (fs : List Frame) (e : Tree) (is : List PostfixItem) (s : Sign) (o : Option BinaryOperator) (b : Bool) → binary_of s ≡ o → is_close s ≡ b → AreGrouped fs → OperandGrouped fs (Some e)
     → Steps (record { frames = fs; current = Some e; items = is }) (Signed s) (followed fs e is o b)
 follow_steps fs e is s (Some op) b h q g i =
-    let t : State = reduced (level_of op) fs e is in
+    let t : ParserState = reduced (level_of op) fs e is in
     wait_steps (record { frames = fs; current = Some e; items = is }) t.frames t.current t.items s op (binary_of-sign s op h)
     (IsReduced-reduced (level_of op) fs e is g i.0 (omega (arith, i.1)) (subst (IsReady fs) (sym i.1) i.2)) (so_far-reduced (level_of op) fs e is)
 follow_steps fs e is s None true h q g i =
-    let t : State = reduced loosest fs e is in
+    let t : ParserState = reduced loosest fs e is in
     close_steps (record { frames = fs; current = Some e; items = is }) loosest t.frames t.current t.items s (is_close-sign s q)
     (IsReduced-reduced loosest fs e is g i.0 (omega (arith, i.1)) (subst (IsReady fs) (sym i.1) i.2)) (so_far-reduced loosest fs e is)
 follow_steps fs e is s None false h q g i = tt
@@ -205,7 +205,7 @@ by_current fs (Some e) is (Signed s) g h = follow_steps fs e is s _ _ refl refl 
 by_current fs (Some e) is Stray g h = tt
 
 -- a step reads its token
-pub step_steps : (s : State) (m : Mark) → IsSound s → Steps s m (step s m)
+pub step_steps : (s : ParserState) (m : Mark) → IsSound s → Steps s m (step s m)
 step_steps s m g = by_current s.frames s.current s.items m g.0 g.1
 
 whole_sound : (n : ℕ) (gs : List Frame) (c : Option Tree) (js : List PostfixItem) (f : Found) (ms : List Mark) → ReducedBy n gs c → before gs ++ operand_marks c ≡ ms → whole_by gs c js ≡ Some f → (spelling f.tree ≡ ms) × IsGrouped f.tree
@@ -219,19 +219,19 @@ whole_sound n (g ∷ gs) (Some x) js f ms r e h = cc
 ended : (fs : List Frame) (c : Option Tree) (is : List PostfixItem) (f : Found) → AreGrouped fs → OperandGrouped fs c → finished_by fs c is ≡ Some f → (spelling f.tree ≡ (before fs ++ operand_marks c) ++ []) × IsGrouped f.tree
 ended fs None is f g i h = cc
 ended fs (Some e) is f g i h =
-    let t : State = reduced loosest fs e is in
+    let t : ParserState = reduced loosest fs e is in
     let r = whole_sound loosest t.frames t.current t.items f (before fs ++ spelling e)
     (IsReduced-reduced loosest fs e is g i.0 (omega (arith, i.1)) (subst (IsReady fs) (sym i.1) i.2)) (so_far-reduced loosest fs e is) h in
     (r.0 ∙ sym (append-nil (before fs ++ spelling e)), r.1)
 
 -- after the first token, by what is read of the others
-behind : (ms : List Mark) (s : State) (m : Mark) (o : Option State) (f : Found) → ((t : State) → IsSound t → run ms t ≡ Some f → (spelling f.tree ≡ so_far t ++ ms) × IsGrouped f.tree) → Steps s m o → option_and_then (run ms) o ≡ Some f → (spelling f.tree ≡ so_far s ++ m ∷ ms) × IsGrouped f.tree
+behind : (ms : List Mark) (s : ParserState) (m : Mark) (o : Option ParserState) (f : Found) → ((t : ParserState) → IsSound t → run ms t ≡ Some f → (spelling f.tree ≡ so_far t ++ ms) × IsGrouped f.tree) → Steps s m o → option_and_then (run ms) o ≡ Some f → (spelling f.tree ≡ so_far s ++ m ∷ ms) × IsGrouped f.tree
 behind ms s m None f more g h = cc
 behind ms s m (Some t) f more g h =
     let r = more t g.sound h in
     (r.0 ∙ ap (λ x. x ++ ms) g.spelled ∙ append_assoc (so_far s) (m ∷ []) ms, r.1)
 
 -- what is found at the end of all tokens is their tree
-pub run_sound : (ms : List Mark) (s : State) (f : Found) → IsSound s → run ms s ≡ Some f → (spelling f.tree ≡ so_far s ++ ms) × IsGrouped f.tree
+pub run_sound : (ms : List Mark) (s : ParserState) (f : Found) → IsSound s → run ms s ≡ Some f → (spelling f.tree ≡ so_far s ++ ms) × IsGrouped f.tree
 run_sound [] s f g h = ended s.frames s.current s.items f g.0 g.1 h
 run_sound (m ∷ ms) s f g h = behind ms s m (step s m) f (λ t. run_sound ms t f) (step_steps s m g) h

@@ -3,7 +3,7 @@ use Rattle.std.specs.Prelude.{Bool, true, false, List, [], ◌∷◌, map, rever
 use Rattle.c25_meaning_language.specs.Tree as tree
 use Rattle.c25_meaning_language.specs.Tree.{Tree, Mark, mark_of}
 use Rattle.c25_meaning_language.specs.Reading as reading
-use Rattle.c25_meaning_language.specs.Reading.{State}
+use Rattle.c25_meaning_language.specs.Reading.{ParserState}
 use Rattle.c25_text.specs.View.{piece_of}
 use Rattle.c25_text.specs.declared.tokens.Token.{Token}
 use Rattle.c25_expr.specs.Postfix.{item_of, built, last_tree, other_trees}
@@ -43,7 +43,7 @@ abbrev pub trees_of : Builder → List Tree
 trees_of b = built (items_of b)
 
 -- the state that a builder stands for where the last tree is an operand after the frames
-abbrev pub behind : Builder → State
+abbrev pub behind : Builder → ParserState
 behind b = record {
   frames = woven (reverse b.frames.items) (other_trees (trees_of b));
   current = Some (last_tree (trees_of b));
@@ -61,7 +61,7 @@ operand_by true ts = None
 operand_by false ts = Some (last_tree ts)
 
 -- the state that a builder stands for
-abbrev pub state_of : Builder → State
+abbrev pub state_of : Builder → ParserState
 state_of b = record {
   frames = woven (reverse b.frames.items) (trees_before b.expects (trees_of b));
   current = operand_by b.expects (trees_of b);

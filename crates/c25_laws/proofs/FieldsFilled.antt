@@ -24,7 +24,7 @@ use Rattle.c25_module_laws.proofs.AddressFields.{IsAlone, IsField, alone, field_
 use Rattle.c25_module_laws.proofs.Chains.{Chain, chain_bound}
 use Rattle.c25_module_laws.proofs.Counted.{FitForm}
 use Rattle.c25_linking_laws.proofs.Members.{behind_in, in_front, nothing_in}
-use Rattle.c25_module_laws.proofs.OperandSheets.{IsAddress}
+use Rattle.c25_module_laws.proofs.OperandsValued.{IsAddress}
 
 -- addresses of these numbers, whatever they count from
 abbrev pub Ascend : Form → List ℕ → ℕ → List Address → Type 0

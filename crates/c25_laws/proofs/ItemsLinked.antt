@@ -7,14 +7,14 @@ use Rattle.std.proofs.lemmas.Bool.{eq-eqb, eqb-true}
 use Rattle.std.proofs.lemmas.List.{get_or-set_other, get_or-set_same, length-set}
 use Rattle.std.proofs.lemmas.List.Elements.{All-contains, Contains-append_left, Contains-append_right}
 use Rattle.c25_meaning_instructions.proofs.RelocatedFields.{filled_zero}
-use Rattle.c25_meaning_assembly.specs.Addresses.{Sheet, relocation_at, relocations_of, sheet_of, words_of}
+use Rattle.c25_meaning_assembly.specs.Addresses.{OperandValues, relocation_at, relocations_of, operand_values, words_of}
 use Rattle.c25_meaning_assembly.specs.Emission.{all_names, is_here, module_with, table_at}
 use Rattle.c25_meaning_common.specs.Fields.{field_number, filled}
 use Rattle.c25_meaning_assembly.specs.InstructionStatements.{Instruction}
 use Rattle.c25_meaning_objects.specs.Module.{Contents}
 use Rattle.c25_meaning_common.specs.Fields.{field_values}
 use Rattle.c25_meaning_linking.specs.Place.{Place}
-use Rattle.c25_meaning_assembly.specs.Sections.{Content, Definitions, Exported, LaidContent, Operands, Progress, Words, Zeros, place}
+use Rattle.c25_meaning_assembly.specs.Sections.{Content, Definitions, Exported, PendingItem, Operands, Progress, Words, Zeros, place}
 use Rattle.c25_meaning_language.specs.Statement.{form_row, insn_of}
 use Rattle.c25_meaning_instructions.specs.Table.{Reads, opcode_word, second_word, size, words}
 use Rattle.c25_meaning_language.specs.Tree.{Tree}
@@ -41,12 +41,12 @@ use Rattle.c25_module_laws.proofs.LineWords.{IsFilled}
 use Rattle.c25_linking_laws.proofs.Members.{behind_in, each_in, first_in, found_in, from_map, in_front, in_map, none_found, nothing_in}
 use Rattle.c25_module_laws.proofs.ModulesOfSources.{base_in, items_placed}
 use Rattle.c25_laws.proofs.NamesUnder.{name_kind, name_means}
-use Rattle.c25_module_laws.proofs.OperandSheets.{IsAddress, IsSheet, sheet_made}
+use Rattle.c25_module_laws.proofs.OperandsValued.{IsAddress, IsSheet, sheet_made}
 use Rattle.c25_laws.proofs.ProgramWords.{linked, reads}
 use Rattle.c25_module_laws.proofs.ResultSteps.{bound, permitted}
 use Rattle.c25_module_laws.proofs.SectionsFilled.{laid_within, zero_count}
 use Rattle.c25_laws.proofs.SheetStatements.{address_value}
-use Rattle.c25_laws.proofs.SheetsFilled.{sheet_comes}
+use Rattle.c25_laws.proofs.ValuesFilled.{sheet_comes}
 use Rattle.c25_laws.proofs.StatementItems.{said_by, said_in, with_operands}
 use Rattle.c25_laws.proofs.StatementWords.{chain_has}
 use Rattle.c25_laws.proofs.StatementsOfSources.{HasOperands, all_operands, are_statements, good, in_module, of_section, words_same}
@@ -91,11 +91,11 @@ both true b h = (refl, h)
 both false b h = absurd cc
 
 -- the statement of an item is one of the module's
-said_contains : (names : Definitions) (is : List LaidContent) (i : LaidContent) (x : Instruction) → Contains is i → said_by names i i.content ≡ x ∷ [] → Contains (said_in names is) x
+said_contains : (names : Definitions) (is : List PendingItem) (i : PendingItem) (x : Instruction) → Contains is i → said_by names i i.content ≡ x ∷ [] → Contains (said_in names is) x
 said_contains names [] i x c e = absurd (nothing_in i c)
 said_contains names (y ∷ is) i x c e =
     elim (in_front y i is c) [
-      | inl same ↦ Contains-append_left (said_by names y y.content) (said_in names is) x (subst (λ (xs : List Instruction). Contains xs x) (sym (ap (λ (z : LaidContent). said_by names z z.content) same ∙ e)) (first_in x []))
+      | inl same ↦ Contains-append_left (said_by names y y.content) (said_in names is) x (subst (λ (xs : List Instruction). Contains xs x) (sym (ap (λ (z : PendingItem). said_by names z z.content) same ∙ e)) (first_in x []))
       | inr later ↦ Contains-append_right (said_by names y y.content) (said_in names is) x (said_contains names is i x later e)
     ]
 
@@ -121,7 +121,7 @@ no_addresses B ns low high [] h = refl
 no_addresses B ns low high (a ∷ list) h = let k = (h.1).kind in absurd (cc)
 
 -- as many words as it was laid with
-pub item_count : (all : List Contents) (places : List Place) (number : ℕ) (m : Contents) (names : Definitions) (i : LaidContent) (c : Content) → length (item_words all places number m names i c) ≡ words_in c
+pub item_count : (all : List Contents) (places : List Place) (number : ℕ) (m : Contents) (names : Definitions) (i : PendingItem) (c : Content) → length (item_words all places number m names i c) ≡ words_in c
 item_count all places number m names i (Operands (target.Instruction f) trees) = form_size f (numbers_under all places number m names i.section i.offset (target.Instruction f) trees)
 item_count all places number m names i (Operands (target.Data w) trees) = counted_length _ 0 trees
 item_count all places number m names i (Words bytes) = refl
@@ -137,29 +137,29 @@ module _ (all : List Contents) (places : List Place) (number : ℕ) (p : Progres
   abbrev value : Address → ℕ
   value a = field_number a.kind (address_value all places number m a)
 
-  pub code : (i : LaidContent) → Contains p.items i → is_code (heads p.sections) i.section ≡ true
-  code i c = each_in (λ (i : LaidContent). is_code (heads p.sections) i.section ≡ true) p.items i (kept.kept).items.codes c
+  pub code : (i : PendingItem) → Contains p.items i → is_code (heads p.sections) i.section ≡ true
+  code i c = each_in (λ (i : PendingItem). is_code (heads p.sections) i.section ≡ true) p.items i (kept.kept).items.codes c
 
-  pub stands : (i : LaidContent) → Contains p.items i → StandsIn (base_in p) (all_names p) (λ k. words_at k ms) (λ k. relocations_at k ms) i
+  pub stands : (i : PendingItem) → Contains p.items i → StandsIn (base_in p) (all_names p) (λ k. words_at k ms) (λ k. relocations_at k ms) i
   stands i c =
       stands_in (base_in p) (all_names p) (λ k. []) (λ k. []) (λ k. 0) p.items ms (λ k. refl) (λ k r e. absurd (nothing_in r e)) (kept.kept).items.laid (good p ms kept give) give i c
 
-  module _ (i : LaidContent) (c : Contains p.items i) where
+  module _ (i : PendingItem) (c : Contains p.items i) where
     abbrev made : Made
     made = (stands i c).made
 
     -- operands with their addresses filled are the numbers of the operands under the map
-    comes : (t : Target) (trees : List Tree) (s : Sheet) → sheet_of t (table_at (all_names p) i.section i.offset) trees ≡ Ok s
+    comes : (t : Target) (trees : List Tree) (s : OperandValues) → operand_values t (table_at (all_names p) i.section i.offset) trees ≡ Ok s
         → fold (numbered value) s.numbers s.addresses ≡ numbers_under all places number m p.names i.section i.offset t trees
     comes t trees s is =
         sheet_comes all places number m p.names (all_names p) i.section i.offset t
         (name_means all places number m (length p.sections) p.names p.declared p.exported refl (kept.kept).names.symbols)
         (name_kind all places number m (length p.sections) p.names p.declared p.exported refl (kept.kept).names.symbols) trees s is
 
-    sheet_is : (t : Target) (trees : List Tree) (s : Sheet) → sheet_of t (table_at (all_names p) i.section i.offset) trees ≡ Ok s → IsSheet (base_in p) t (length trees) s
+    sheet_is : (t : Target) (trees : List Tree) (s : OperandValues) → operand_values t (table_at (all_names p) i.section i.offset) trees ≡ Ok s → IsSheet (base_in p) t (length trees) s
     sheet_is t trees s is =
         sheet_made (base_in p) tt t (table_at (all_names p) i.section i.offset) (all_known (length p.sections) p.names p.declared p.exported (kept.kept).names.symbols)
-        (each_in (λ (i : LaidContent). IsGoodValue (base_in p) (place i.section i.offset)) p.items i
+        (each_in (λ (i : PendingItem). IsGoodValue (base_in p) (place i.section i.offset)) p.items i
         (items_placed p p.items kept.kept (kept.kept).items.codes (laid_within (λ k. 0) p.items (kept.kept).items.laid)) c) trees s is
 
     read : (j : ℕ) → j < length made.words → word_at m i.section (i.offset + j) ≡ slice_index made.words j
@@ -206,7 +206,7 @@ module _ (all : List Contents) (places : List Place) (number : ℕ) (p : Progres
 
     -- ---- `.word` and `.int`
 
-    words_linked : (trees : List Tree) (s : Sheet) (j : ℕ) → sheet_of (target.Data width.Word) (table_at (all_names p) i.section i.offset) trees ≡ Ok s → j < length made.words
+    words_linked : (trees : List Tree) (s : OperandValues) (j : ℕ) → operand_values (target.Data width.Word) (table_at (all_names p) i.section i.offset) trees ≡ Ok s → j < length made.words
         → ◌≡◌ {A = Made} (record { section = i.section; offset = i.offset; words = s.numbers; relocations = relocations_of (target.Data width.Word) i.section i.offset s.addresses }) made
         → IsLinked j (numbers_under all places number m p.names i.section i.offset (target.Data width.Word) trees)
     words_linked trees s j is l q = by (find (is_relocation_at i.section (i.offset + j)) m.relocations) refl ∙ ap (λ ns. slice_index ns j) (comes (target.Data width.Word) trees s is)
@@ -242,7 +242,7 @@ module _ (all : List Contents) (places : List Place) (number : ℕ) (p : Progres
 
     -- ---- `.byte`
 
-    bytes_linked : (trees : List Tree) (s : Sheet) (j : ℕ) → sheet_of (target.Data width.Byte) (table_at (all_names p) i.section i.offset) trees ≡ Ok s → j < length made.words
+    bytes_linked : (trees : List Tree) (s : OperandValues) (j : ℕ) → operand_values (target.Data width.Byte) (table_at (all_names p) i.section i.offset) trees ≡ Ok s → j < length made.words
         → ◌≡◌ {A = Made} (record { section = i.section; offset = i.offset; words = s.numbers; relocations = relocations_of (target.Data width.Byte) i.section i.offset s.addresses }) made
         → IsLinked j (numbers_under all places number m p.names i.section i.offset (target.Data width.Byte) trees)
     bytes_linked trees s j is l q =
@@ -258,10 +258,10 @@ module _ (all : List Contents) (places : List Place) (number : ℕ) (p : Progres
     abbrev own : Form → List Tree → List ℕ
     own f trees = numbers_under all places number m p.names i.section i.offset (target.Instruction f) trees
 
-    abbrev filled_word : Form → Sheet → ℕ → ℕ → ℕ
+    abbrev filled_word : Form → OperandValues → ℕ → ℕ → ℕ
     filled_word f s k word = fold (fill value f k) word s.addresses
 
-    insn_linked : (f : Form) (trees : List Tree) (s : Sheet) (j : ℕ) → sheet_of (target.Instruction f) (table_at (all_names p) i.section i.offset) trees ≡ Ok s → i.content ≡ Operands (target.Instruction f) trees → j < size (form_row f)
+    insn_linked : (f : Form) (trees : List Tree) (s : OperandValues) (j : ℕ) → operand_values (target.Instruction f) (table_at (all_names p) i.section i.offset) trees ≡ Ok s → i.content ≡ Operands (target.Instruction f) trees → j < size (form_row f)
         → IsLinked j (words (insn_of f (numbers_under all places number m p.names i.section i.offset (target.Instruction f) trees)))
     insn_linked f trees s j is content l =
         let x : Instruction = record { section = i.section; offset = i.offset; form = f; sheet = s } in
@@ -293,14 +293,14 @@ module _ (all : List Contents) (places : List Place) (number : ℕ) (p : Progres
       where
         by : (d : Content) → i.content ≡ d → j < length made.words → IsLinked j (item_words all places number m p.names i d)
         by (Operands (target.Instruction f) trees) e k =
-            let s = bound (sheet_of (target.Instruction f) (table_at (all_names p) i.section i.offset) trees) (λ s. Ok (record { section = i.section; offset = i.offset; words = words_of (target.Instruction f) s.numbers; relocations = relocations_of (target.Instruction f) i.section i.offset s.addresses })) made (ap (made_by (all_names p) i) (sym e) ∙ (stands i c).gives) in
+            let s = bound (operand_values (target.Instruction f) (table_at (all_names p) i.section i.offset) trees) (λ s. Ok (record { section = i.section; offset = i.offset; words = words_of (target.Instruction f) s.numbers; relocations = relocations_of (target.Instruction f) i.section i.offset s.addresses })) made (ap (made_by (all_names p) i) (sym e) ∙ (stands i c).gives) in
             let n = ap words_in e in
             insn_linked f trees s.0 j s.1 e (omega (arith, n, l))
         by (Operands (target.Data width.Word) trees) e k =
-            let s = bound (sheet_of (target.Data width.Word) (table_at (all_names p) i.section i.offset) trees) (λ s. Ok (record { section = i.section; offset = i.offset; words = words_of (target.Data width.Word) s.numbers; relocations = relocations_of (target.Data width.Word) i.section i.offset s.addresses })) made (ap (made_by (all_names p) i) (sym e) ∙ (stands i c).gives) in
+            let s = bound (operand_values (target.Data width.Word) (table_at (all_names p) i.section i.offset) trees) (λ s. Ok (record { section = i.section; offset = i.offset; words = words_of (target.Data width.Word) s.numbers; relocations = relocations_of (target.Data width.Word) i.section i.offset s.addresses })) made (ap (made_by (all_names p) i) (sym e) ∙ (stands i c).gives) in
             words_linked trees s.0 j s.1 k (same_made (record { section = i.section; offset = i.offset; words = (s.0).numbers; relocations = relocations_of (target.Data width.Word) i.section i.offset (s.0).addresses }) made s.2)
         by (Operands (target.Data width.Byte) trees) e k =
-            let s = bound (sheet_of (target.Data width.Byte) (table_at (all_names p) i.section i.offset) trees) (λ s. Ok (record { section = i.section; offset = i.offset; words = words_of (target.Data width.Byte) s.numbers; relocations = relocations_of (target.Data width.Byte) i.section i.offset s.addresses })) made (ap (made_by (all_names p) i) (sym e) ∙ (stands i c).gives) in
+            let s = bound (operand_values (target.Data width.Byte) (table_at (all_names p) i.section i.offset) trees) (λ s. Ok (record { section = i.section; offset = i.offset; words = words_of (target.Data width.Byte) s.numbers; relocations = relocations_of (target.Data width.Byte) i.section i.offset s.addresses })) made (ap (made_by (all_names p) i) (sym e) ∙ (stands i c).gives) in
             bytes_linked trees s.0 j s.1 k (same_made (record { section = i.section; offset = i.offset; words = (s.0).numbers; relocations = relocations_of (target.Data width.Byte) i.section i.offset (s.0).addresses }) made s.2)
         by (Words bytes) e k = bare_linked bytes j k (same_made (record { section = i.section; offset = i.offset; words = bytes; relocations = [] }) made (ap (made_by (all_names p) i) (sym e) ∙ (stands i c).gives))
         by (Zeros count) e k = bare_linked (replicate count 0) j k (same_made (record { section = i.section; offset = i.offset; words = replicate count 0; relocations = [] }) made (ap (made_by (all_names p) i) (sym e) ∙ (stands i c).gives))

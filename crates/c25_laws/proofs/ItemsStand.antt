@@ -8,7 +8,7 @@ use Rattle.std.proofs.lemmas.List.Elements.{Contains-append_cases, Contains-appe
 use Rattle.c25_meaning_assembly.specs.Emission.{section_of}
 use Rattle.c25_meaning_objects.specs.Module.{SectionData}
 use Rattle.c25_meaning_linking.specs.Place.{Covers}
-use Rattle.c25_meaning_assembly.specs.Sections.{Definitions, LaidContent, Section}
+use Rattle.c25_meaning_assembly.specs.Sections.{Definitions, PendingItem, Section}
 use Rattle.c25_meaning_objects.specs.declared.object.Relocation.{Relocation}
 use Rattle.c25_meaning_language.specs.declared.value.Base.{Base}
 use Rattle.c25_module_laws.proofs.Emitted.{Give, Made, filled_from, made_by, relocations_at, relocations_here, relocations_part, words_at, words_here, words_part}
@@ -19,7 +19,7 @@ use Rattle.c25_module_laws.proofs.SectionsFilled.{AreMadeOf, IsMadeOf, section_f
 use Rattle.c25_laws.proofs.StatementWords.{chain_has}
 
 -- what an item gives, in the words and relocations of its section, of which no other is of its words
-pub record StandsIn (B : Base → Type 0) (names : Definitions) (words_of_section : ℕ → List ℕ) (relocations_of_section : ℕ → List Relocation) (i : LaidContent) : Type 0 where
+pub record StandsIn (B : Base → Type 0) (names : Definitions) (words_of_section : ℕ → List ℕ) (relocations_of_section : ℕ → List Relocation) (i : PendingItem) : Type 0 where
   pub made : Made
   pub gives : made_by names i i.content ≡ Ok made
   pub good : IsMadeOf B i made
@@ -34,14 +34,14 @@ part_in false m r h = absurd (nothing_in r h)
 
 module _ (B : Base → Type 0) (names : Definitions) where
   -- the relocations of items lie after the words that are there
-  behind_used : (used : ℕ → ℕ) (k : ℕ) (is : List LaidContent) (ms : List Made) (r : Relocation) → AreLaid used is → AreMadeOf B is ms → Contains (relocations_at k ms) r → used k ≤ r.offset
+  behind_used : (used : ℕ → ℕ) (k : ℕ) (is : List PendingItem) (ms : List Made) (r : Relocation) → AreLaid used is → AreMadeOf B is ms → Contains (relocations_at k ms) r → used k ≤ r.offset
   behind_used used k is ms r laid made c =
       let pre = replicate {A = ℕ} (used k) 0 in
       (chain_has (λ (x : Relocation). x.offset) (IsFilled B k 0 (pre ++ words_at k ms)) (used k) (used k + total k is) (relocations_at k ms) r (section_filled B k used pre is ms (zero_count (used k)) laid made) c).0
 
-  pub stands_in : (pre : ℕ → List ℕ) (rel : ℕ → List Relocation) (used : ℕ → ℕ) (is : List LaidContent) (ms : List Made)
+  pub stands_in : (pre : ℕ → List ℕ) (rel : ℕ → List Relocation) (used : ℕ → ℕ) (is : List PendingItem) (ms : List Made)
       → ((k : ℕ) → length (pre k) ≡ used k) → ((k : ℕ) (r : Relocation) → Contains (rel k) r → r.offset < used k) → AreLaid used is → AreMadeOf B is ms → Give names is ms
-      → (i : LaidContent) → Contains is i → StandsIn B names (λ k. pre k ++ words_at k ms) (λ k. rel k ++ relocations_at k ms) i
+      → (i : PendingItem) → Contains is i → StandsIn B names (λ k. pre k ++ words_at k ms) (λ k. rel k ++ relocations_at k ms) i
   stands_in pre rel used [] [] at low laid made give i c = absurd (nothing_in i c)
   stands_in pre rel used [] (m ∷ ms) at low laid made give i c = absurd made
   stands_in pre rel used (x ∷ is) [] at low laid made give i c = absurd made
@@ -134,22 +134,22 @@ module _ (B : Base → Type 0) (names : Definitions) where
               omega (arith, b, o, u, p, size)
 
 -- an item begins where those before it in its section end
-pub laid_behind : (used : ℕ → ℕ) (before : List LaidContent) (i : LaidContent) (after : List LaidContent) → AreLaid used (before ++ i ∷ after) → i.offset ≡ used i.section + total i.section before
+pub laid_behind : (used : ℕ → ℕ) (before : List PendingItem) (i : PendingItem) (after : List PendingItem) → AreLaid used (before ++ i ∷ after) → i.offset ≡ used i.section + total i.section before
 laid_behind used [] i after h = let o = h.0 in omega (arith, o)
 laid_behind used (x ∷ before) i after h = let r = laid_behind (λ k. used k + part k x) before i after h.1 in omega (arith, r)
 
 -- ---- which item a word is of
 
 -- a word of a section is one of an item
-pub record IsWordOf (k o : ℕ) (is : List LaidContent) : Type 0 where
-  pub item : LaidContent
+pub record IsWordOf (k o : ℕ) (is : List PendingItem) : Type 0 where
+  pub item : PendingItem
   pub among : Contains is item
   pub section_is : item.section ≡ k
   pub within : ℕ
   pub offset_is : o ≡ item.offset + within
   pub small : within < words_in item.content
 
-pub word_of : (k o : ℕ) (used : ℕ → ℕ) (is : List LaidContent) → AreLaid used is → used k ≤ o → o < used k + total k is → IsWordOf k o is
+pub word_of : (k o : ℕ) (used : ℕ → ℕ) (is : List PendingItem) → AreLaid used is → used k ≤ o → o < used k + total k is → IsWordOf k o is
 word_of k o used [] laid l h = absurd (omega (arith, l, h))
 word_of k o used (x ∷ is) laid l h =
     by (λ (past : used k + part k x ≤ o). word_of k o (λ n. used n + part n x) is laid.1 past (omega (arith, h))) (eqb x.section k) refl (ltb o (used k + words_in x.content)) refl

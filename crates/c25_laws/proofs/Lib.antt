@@ -11,7 +11,7 @@ pub mod ProgramWords
 pub mod RunsInB0
 pub mod SectionsInB0
 pub mod SheetStatements
-pub mod SheetsFilled
+pub mod ValuesFilled
 pub mod SourcesRead
 pub mod StatementItems
 pub mod StatementWords

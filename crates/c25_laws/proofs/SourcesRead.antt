@@ -7,7 +7,7 @@ use Rattle.c25_meaning_assembly.specs.InstructionStatements.{Instruction}
 use Rattle.c25_meaning_objects.specs.Module.{Contents, IsModule}
 use Rattle.c25_meaning_language.specs.ExpansionFault.{ExpansionFault}
 use Rattle.c25_meaning_expansion.specs.ExpansionRuns.{start_of}
-use Rattle.c25_meaning_assembly.specs.ModuleOfSource.{Assembled, Passed, assembled, completed, passed_from}
+use Rattle.c25_meaning_assembly.specs.ModuleOfSource.{Assembled, LinesSoFar, assembled, completed, passed_from}
 use Rattle.c25_meaning_common.specs.Results.{◌>>=◌, fold_ok}
 use Rattle.c25_module_laws.proofs.ModulesOfSources.{source_good}
 use Rattle.c25_module_laws.proofs.ResultSteps.{bound}
@@ -41,7 +41,7 @@ pub source_lines : (files : Files) (name : List ℕ) (a : Assembled) → assembl
 unfolding assembled
 source_lines files name a e =
     let b = bound (passed_from files name (start_of files name)) (λ b. completed b) a e in
-    let made : lines_of files name ≡ Ok (b.0).progress = ap (λ (r : Result Passed ExpansionFault). r >>= λ (x : Passed). Ok x.progress) b.1 in
+    let made : lines_of files name ≡ Ok (b.0).progress = ap (λ (r : Result LinesSoFar ExpansionFault). r >>= λ (x : LinesSoFar). Ok x.progress) b.1 in
     made ∙ ap Ok (sym (ap program.without_fault made))
 
 pub sources_read : (files : Files) (names : List (List ℕ)) (modules : List Contents) → AreModulesOf files names modules → AreRead modules (map (statements_in files) names)

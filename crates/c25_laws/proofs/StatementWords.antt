@@ -6,13 +6,13 @@ use Rattle.std.proofs.lemmas.Bool.{eqb-true}
 use Rattle.std.proofs.lemmas.List.{append_assoc, length-append, get_or-append-add}
 use Rattle.std.proofs.lemmas.List.Elements.{Contains-append_cases, Contains-append_left, Contains-append_right}
 use Rattle.c25_meaning_language.proofs.Numbers.{in_range}
-use Rattle.c25_meaning_assembly.specs.Addresses.{Sheet, relocation_at, relocations_of, sheet_of, words_of}
+use Rattle.c25_meaning_assembly.specs.Addresses.{OperandValues, relocation_at, relocations_of, operand_values, words_of}
 use Rattle.c25_meaning_assembly.specs.OperandFields.{field_of}
 use Rattle.c25_meaning_assembly.specs.Emission.{is_here, table_at}
 use Rattle.c25_meaning_assembly.specs.InstructionStatements.{Instruction, insn_with_zeros}
 use Rattle.c25_meaning_linking.specs.Place.{Covers}
 use Rattle.c25_meaning_common.specs.Results.{◌>>=◌}
-use Rattle.c25_meaning_assembly.specs.Sections.{Content, Definitions, Exported, LaidContent, Operands, Words, Zeros, place}
+use Rattle.c25_meaning_assembly.specs.Sections.{Content, Definitions, Exported, PendingItem, Operands, Words, Zeros, place}
 use Rattle.c25_meaning_language.specs.Statement.{relocation_of}
 use Rattle.c25_meaning_instructions.specs.Table.{Reads, opcode_word, second_word, words}
 use Rattle.c25_meaning_language.specs.Tree.{Tree}
@@ -35,7 +35,7 @@ use Rattle.c25_module_laws.proofs.Counted.{FitForm, IsCount}
 use Rattle.c25_module_laws.proofs.Emitted.{Give, Made, made_by, relocations_at, relocations_here, relocations_part, words_at, words_here, words_part}
 use Rattle.c25_module_laws.proofs.Kept.{AreLaid, IsGoodContent, part, part_here, total, words_in}
 use Rattle.c25_module_laws.proofs.LineWords.{IsFilled}
-use Rattle.c25_module_laws.proofs.OperandSheets.{IsAddress, sheet_made}
+use Rattle.c25_module_laws.proofs.OperandsValued.{IsAddress, sheet_made}
 use Rattle.c25_module_laws.proofs.ResultSteps.{bound, permitted}
 use Rattle.c25_module_laws.proofs.SectionsFilled.{AreMadeOf, section_filled, zero_count}
 use Rattle.c25_laws.proofs.StatementItems.{IsStatementOf, said_by, said_in, with_operands}
@@ -45,11 +45,11 @@ use Rattle.c25_laws.specs.ModuleStatements.{relocations_in, words_of_statement}
 -- ---- what items give, by their statements
 
 -- an item's statement, and that the relocations of other items are of words
-pub record IsSaid (B : Base → Type 0) (names : Definitions) (i : LaidContent) (m : Made) : Type 0 where
+pub record IsSaid (B : Base → Type 0) (names : Definitions) (i : PendingItem) (m : Made) : Type 0 where
   pub statements : AllByRecursion (IsStatementOf B m) (said_by names i i.content)
   pub others : (r : Relocation) → Contains m.relocations r → ((x : Instruction) × (said_by names i i.content ≡ x ∷ [])) ⊎ (r.kind ≡ Word16)
 
-abbrev pub AreSaid : (Base → Type 0) → Definitions → List LaidContent → List Made → Type 0
+abbrev pub AreSaid : (Base → Type 0) → Definitions → List PendingItem → List Made → Type 0
 AreSaid B names [] [] = Unit {0}
 AreSaid B names [] (m ∷ ms) = ⊥
 AreSaid B names (i ∷ is) [] = ⊥
@@ -86,14 +86,14 @@ word_kinds B section offset low high ns (a ∷ list) r h c =
     word_kind k e = cc
 
 module _ (B : Base → Type 0) (none : B Absolute) (names : Definitions) (known : (name : List ℕ) (w : Value) → named_by (predefined name) (defined names name) ≡ Some w → IsGoodValue B w) where
-  bare_said : (i : LaidContent) (m : Made) (c : Content) (ws : List ℕ) → ◌≡◌ {A = Result Made FaultKind} (Ok (record { section = i.section; offset = i.offset; words = ws; relocations = [] })) (Ok m)
+  bare_said : (i : PendingItem) (m : Made) (c : Content) (ws : List ℕ) → ◌≡◌ {A = Result Made FaultKind} (Ok (record { section = i.section; offset = i.offset; words = ws; relocations = [] })) (Ok m)
       → (r : Relocation) → Contains m.relocations r → ⊥
   bare_said i m c ws e r h =
       let made : Made = record { section = i.section; offset = i.offset; words = ws; relocations = [] } in
       let q : made ≡ m = cc in
       nothing_in r (subst (λ (x : Made). Contains x.relocations r) (sym q) h)
 
-  insn_said : (i : LaidContent) (m : Made) (f : Form) (trees : List Tree) (r : Result Sheet FaultKind) → sheet_of (target.Instruction f) (table_at names i.section i.offset) trees ≡ r → IsCount (target.Instruction f) (length trees) → IsGoodValue B (place i.section i.offset)
+  insn_said : (i : PendingItem) (m : Made) (f : Form) (trees : List Tree) (r : Result OperandValues FaultKind) → operand_values (target.Instruction f) (table_at names i.section i.offset) trees ≡ r → IsCount (target.Instruction f) (length trees) → IsGoodValue B (place i.section i.offset)
       → (r >>= λ s. Ok (record { section = i.section; offset = i.offset; words = words_of (target.Instruction f) s.numbers; relocations = relocations_of (target.Instruction f) i.section i.offset s.addresses })) ≡ Ok m
       → AllByRecursion (IsStatementOf B m) (with_operands i f r) × ((x : Instruction) × (with_operands i f r ≡ x ∷ []))
   insn_said i m f trees (Err e) was good here is = absurd (cc)
@@ -117,19 +117,19 @@ module _ (B : Base → Type 0) (none : B Absolute) (names : Definitions) (known 
         (x, refl),
       )
 
-  said_of : (i : LaidContent) (m : Made) (c : Content) → IsGoodContent c → IsGoodValue B (place i.section i.offset) → made_by names i c ≡ Ok m
+  said_of : (i : PendingItem) (m : Made) (c : Content) → IsGoodContent c → IsGoodValue B (place i.section i.offset) → made_by names i c ≡ Ok m
       → AllByRecursion (IsStatementOf B m) (said_by names i c) × ((r : Relocation) → Contains m.relocations r → ((x : Instruction) × (said_by names i c ≡ x ∷ [])) ⊎ (r.kind ≡ Word16))
   said_of i m (Operands (target.Instruction f) trees) good here e =
-      let a = insn_said i m f trees (sheet_of (target.Instruction f) (table_at names i.section i.offset) trees) refl good here e in
+      let a = insn_said i m f trees (operand_values (target.Instruction f) (table_at names i.section i.offset) trees) refl good here e in
       (a.0, λ r h. inl a.1)
   said_of i m (Operands (target.Data width.Word) trees) good here e =
-      let s = bound (sheet_of (target.Data width.Word) (table_at names i.section i.offset) trees) (λ s. Ok (record { section = i.section; offset = i.offset; words = words_of (target.Data width.Word) s.numbers; relocations = relocations_of (target.Data width.Word) i.section i.offset s.addresses })) m e in
+      let s = bound (operand_values (target.Data width.Word) (table_at names i.section i.offset) trees) (λ s. Ok (record { section = i.section; offset = i.offset; words = words_of (target.Data width.Word) s.numbers; relocations = relocations_of (target.Data width.Word) i.section i.offset s.addresses })) m e in
       let made : Made = record { section = i.section; offset = i.offset; words = words_of (target.Data width.Word) (s.0).numbers; relocations = relocations_of (target.Data width.Word) i.section i.offset (s.0).addresses } in
       let q : made ≡ m = let last = s.2 in cc in
       let sheet = sheet_made B none (target.Data width.Word) (table_at names i.section i.offset) known here trees s.0 s.1 in
       (tt, λ r h. inr (word_kinds B i.section i.offset 0 (length (s.0).numbers) (s.0).numbers (s.0).addresses r sheet.addresses (subst (λ (x : Made). Contains x.relocations r) (sym q) h)))
   said_of i m (Operands (target.Data width.Byte) trees) good here e =
-      let s = bound (sheet_of (target.Data width.Byte) (table_at names i.section i.offset) trees) (λ s. Ok (record { section = i.section; offset = i.offset; words = words_of (target.Data width.Byte) s.numbers; relocations = relocations_of (target.Data width.Byte) i.section i.offset s.addresses })) m e in
+      let s = bound (operand_values (target.Data width.Byte) (table_at names i.section i.offset) trees) (λ s. Ok (record { section = i.section; offset = i.offset; words = words_of (target.Data width.Byte) s.numbers; relocations = relocations_of (target.Data width.Byte) i.section i.offset s.addresses })) m e in
       let made : Made = record { section = i.section; offset = i.offset; words = words_of (target.Data width.Byte) (s.0).numbers; relocations = relocations_of (target.Data width.Byte) i.section i.offset (s.0).addresses } in
       let q : made ≡ m = let last = s.2 in cc in
       let sheet = sheet_made B none (target.Data width.Byte) (table_at names i.section i.offset) known here trees s.0 s.1 in
@@ -145,7 +145,7 @@ module _ (B : Base → Type 0) (none : B Absolute) (names : Definitions) (known 
       let p = permitted (list_all (is_here names) exported) made fault.Undefined m e in
       (tt, λ r h. absurd (bare_said i m (Exported exported) [] (ap Ok p.1) r h))
 
-  pub all_said_of : (is : List LaidContent) (ms : List Made) → AllByRecursion (λ i. IsGoodContent i.content) is → AllByRecursion (λ i. IsGoodValue B (place i.section i.offset)) is → Give names is ms → AreSaid B names is ms
+  pub all_said_of : (is : List PendingItem) (ms : List Made) → AllByRecursion (λ i. IsGoodContent i.content) is → AllByRecursion (λ i. IsGoodValue B (place i.section i.offset)) is → Give names is ms → AreSaid B names is ms
   all_said_of [] [] good here give = tt
   all_said_of [] (m ∷ ms) good here give = give
   all_said_of (i ∷ is) [] good here give = give
@@ -212,11 +212,11 @@ abbrev pub HasOwn : List Made → Instruction → Type 0
 HasOwn ms x = (r : Relocation) → Contains (relocations_at x.section ms) r → Covers x.offset (words_of_statement x) r.offset → Contains (relocations_in x) r
 
 -- a statement begins after an item, and the relocations of its words are its own
-abbrev IsLater : (ℕ → ℕ) → LaidContent → List Made → Instruction → Type 0
+abbrev IsLater : (ℕ → ℕ) → PendingItem → List Made → Instruction → Type 0
 IsLater used i ms x = (used x.section + part x.section i ≤ x.offset) × HasOwn ms x
 
 module _ (B : Base → Type 0) (names : Definitions) where
-  pub words_read : (pre : ℕ → List ℕ) (used : ℕ → ℕ) (is : List LaidContent) (ms : List Made) → ((k : ℕ) → length (pre k) ≡ used k) → AreLaid used is → AreMadeOf B is ms → AreSaid B names is ms
+  pub words_read : (pre : ℕ → List ℕ) (used : ℕ → ℕ) (is : List PendingItem) (ms : List Made) → ((k : ℕ) → length (pre k) ≡ used k) → AreLaid used is → AreMadeOf B is ms → AreSaid B names is ms
       → AllByRecursion (ReadsAt (λ k. pre k ++ words_at k ms)) (said_in names is)
   words_read pre used [] [] at laid made said = tt
   words_read pre used [] (m ∷ ms) at laid made said = absurd said
@@ -259,7 +259,7 @@ module _ (B : Base → Type 0) (names : Definitions) where
   -- ---- relocations
 
   -- each relocation of a statement is one of its section
-  pub relocations_there_are : (is : List LaidContent) (ms : List Made) → AreSaid B names is ms
+  pub relocations_there_are : (is : List PendingItem) (ms : List Made) → AreSaid B names is ms
       → AllByRecursion (λ x. (r : Relocation) → Contains (relocations_in x) r → Contains (relocations_at x.section ms) r) (said_in names is)
   relocations_there_are [] [] said = tt
   relocations_there_are [] (m ∷ ms) said = absurd said
@@ -273,7 +273,7 @@ module _ (B : Base → Type 0) (names : Definitions) where
       (λ x h r c. Contains-append_right (relocations_part x.section m) (relocations_at x.section ms) r (h r c)) (relocations_there_are is ms said.1))
 
   -- each relocation of a section is of a statement or of a word
-  pub relocations_are_of : (k : ℕ) (is : List LaidContent) (ms : List Made) (r : Relocation) → AreSaid B names is ms → Contains (relocations_at k ms) r
+  pub relocations_are_of : (k : ℕ) (is : List PendingItem) (ms : List Made) (r : Relocation) → AreSaid B names is ms → Contains (relocations_at k ms) r
       → ((x : Instruction) × Contains (said_in names is) x × Contains (relocations_in x) r) ⊎ (r.kind ≡ Word16)
   relocations_are_of k [] [] r said c = absurd (nothing_in r c)
   relocations_are_of k [] (m ∷ ms) r said c = absurd said
@@ -304,7 +304,7 @@ module _ (B : Base → Type 0) (names : Definitions) where
 
   -- ---- no other relocation is of a statement's words
 
-  pub said_from : (used : ℕ → ℕ) (is : List LaidContent) (ms : List Made) → AreLaid used is → AreMadeOf B is ms → AreSaid B names is ms → AllByRecursion (λ x. used x.section ≤ x.offset) (said_in names is)
+  pub said_from : (used : ℕ → ℕ) (is : List PendingItem) (ms : List Made) → AreLaid used is → AreMadeOf B is ms → AreSaid B names is ms → AllByRecursion (λ x. used x.section ≤ x.offset) (said_in names is)
   said_from used [] [] laid made said = tt
   said_from used [] (m ∷ ms) laid made said = absurd said
   said_from used (i ∷ is) [] laid made said = absurd said
@@ -316,12 +316,12 @@ module _ (B : Base → Type 0) (names : Definitions) where
       (said_from (λ k. used k + part k i) is ms laid.1 made.1 said.1))
 
   -- the relocations of items lie after the words that are there
-  behind_used : (used : ℕ → ℕ) (k : ℕ) (is : List LaidContent) (ms : List Made) (r : Relocation) → AreLaid used is → AreMadeOf B is ms → Contains (relocations_at k ms) r → used k ≤ r.offset
+  behind_used : (used : ℕ → ℕ) (k : ℕ) (is : List PendingItem) (ms : List Made) (r : Relocation) → AreLaid used is → AreMadeOf B is ms → Contains (relocations_at k ms) r → used k ≤ r.offset
   behind_used used k is ms r laid made c =
       let pre = replicate {A = ℕ} (used k) 0 in
       (chain_has (λ (x : Relocation). x.offset) (IsFilled B k 0 (pre ++ words_at k ms)) (used k) (used k + total k is) (relocations_at k ms) r (section_filled B k used pre is ms (zero_count (used k)) laid made) c).0
 
-  pub own_relocations : (used : ℕ → ℕ) (is : List LaidContent) (ms : List Made) → AreLaid used is → AreMadeOf B is ms → AreSaid B names is ms
+  pub own_relocations : (used : ℕ → ℕ) (is : List PendingItem) (ms : List Made) → AreLaid used is → AreMadeOf B is ms → AreSaid B names is ms
       → AllByRecursion (HasOwn ms) (said_in names is)
   own_relocations used [] [] laid made said = tt
   own_relocations used [] (m ∷ ms) laid made said = absurd said

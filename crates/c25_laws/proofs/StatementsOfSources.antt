@@ -9,9 +9,9 @@ use Rattle.c25_meaning_expansion.specs.Files.{Files}
 use Rattle.c25_meaning_assembly.specs.InstructionStatements.{Instruction, insn_with_zeros, instructions_of}
 use Rattle.c25_meaning_objects.specs.Module as modules
 use Rattle.c25_meaning_objects.specs.Module.{Contents}
-use Rattle.c25_meaning_assembly.specs.ModuleOfSource.{Assembled, Passed, assembled, completed, passed_from}
+use Rattle.c25_meaning_assembly.specs.ModuleOfSource.{Assembled, LinesSoFar, assembled, completed, passed_from}
 use Rattle.c25_meaning_common.specs.Results.{◌>>=◌}
-use Rattle.c25_meaning_assembly.specs.Sections.{Definitions, LaidContent, Progress, Section}
+use Rattle.c25_meaning_assembly.specs.Sections.{Definitions, PendingItem, Progress, Section}
 use Rattle.c25_meaning_instructions.specs.Table.{Reads}
 use Rattle.c25_meaning_assembly.specs.declared.assembly.Address.{Address}
 use Rattle.c25_meaning_assembly.specs.declared.assembly.Target.TheVariants as target
@@ -30,7 +30,7 @@ use Rattle.c25_module_laws.proofs.KeptLines.{IsMade, source_made}
 use Rattle.c25_module_laws.proofs.LineWords.{IsFilled}
 use Rattle.c25_module_laws.proofs.ModuleFits.{AllFrom, all_sections}
 use Rattle.c25_module_laws.proofs.ModulesOfSources.{base_in, finished_is, items_placed, made_good, words_in_module}
-use Rattle.c25_module_laws.proofs.OperandSheets.{AreAddresses, HoldsOf, IsAddress}
+use Rattle.c25_module_laws.proofs.OperandsValued.{AreAddresses, HoldsOf, IsAddress}
 use Rattle.c25_module_laws.proofs.ResultSteps.{bound}
 use Rattle.c25_module_laws.proofs.SectionsFilled.{AreMadeOf, laid_within, section_filled}
 use Rattle.c25_laws.proofs.StatementItems.{IsStatementOf, all_said, marks_of_section, marks_said, said_by, said_in}
@@ -71,7 +71,7 @@ record IsGoodStatement (hs : List Head) (x : Instruction) : Type 0 where
   operands : HasOperands x
   addresses : AllByRecursion (HasAddress x) x.sheet.addresses
 
-good_statements : (B : Base → Type 0) (names : Definitions) (hs : List Head) (is : List LaidContent) (ms : List Made) → AllByRecursion (λ i. is_code hs i.section ≡ true) is → AreMadeOf B is ms → AreSaid B names is ms
+good_statements : (B : Base → Type 0) (names : Definitions) (hs : List Head) (is : List PendingItem) (ms : List Made) → AllByRecursion (λ i. is_code hs i.section ≡ true) is → AreMadeOf B is ms → AreSaid B names is ms
     → AllByRecursion (IsGoodStatement hs) (said_in names is)
 good_statements B names hs [] [] codes made said = tt
 good_statements B names hs [] (m ∷ ms) codes made said = absurd said
@@ -195,7 +195,7 @@ source_read files name a e =
     let f = finished_is p c.0 c.1 in
     let made = source_made files name (start_of files name) b.0 b.1 in
     let all = said_in (all_names p) p.items in
-    let lines : instructions_in files name ≡ Ok all = ap (λ (r : Result Passed ExpansionFault). r >>= λ (x : Passed). instructions_of x.progress) b.1 ∙ all_said (all_names p) p.items f.0 [] (f.1).give in
+    let lines : instructions_in files name ≡ Ok all = ap (λ (r : Result LinesSoFar ExpansionFault). r >>= λ (x : LinesSoFar). instructions_of x.progress) b.1 ∙ all_said (all_names p) p.items f.0 [] (f.1).give in
     let is : c.0 ≡ a.contents = ap (λ (x : Assembled). x.contents) same in
     (all, lines, subst (λ (m : Contents). AreStatements m all) (sym (f.1).module_is ∙ is) (are_statements p f.0 made (f.1).give), all_operands p f.0 made (f.1).give)
 

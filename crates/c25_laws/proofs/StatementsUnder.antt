@@ -2,17 +2,17 @@
 use Rattle.std.proofs.Common.{◌≡◌, ℕ, ◌+◌, List, [], ◌∷◌, ◌++◌, length, map, Result, Ok, Err, refl, sym, ap, ◌∙◌, subst}
 use Rattle.std.specs.List.{AllByRecursion, flat_map}
 use Rattle.std.proofs.lemmas.List.{map-append}
-use Rattle.c25_meaning_assembly.specs.Addresses.{Sheet, relocations_of, sheet_of, words_of}
+use Rattle.c25_meaning_assembly.specs.Addresses.{OperandValues, relocations_of, operand_values, words_of}
 use Rattle.c25_meaning_assembly.specs.Emission.{all_names, finished, module_with, names_with, symbol_of, table_at}
 use Rattle.c25_meaning_language.specs.ExpansionFault.{ExpansionFault}
 use Rattle.c25_meaning_expansion.specs.ExpansionRuns.{start_of}
 use Rattle.c25_meaning_expansion.specs.Files.{Files}
 use Rattle.c25_meaning_assembly.specs.InstructionStatements.{instructions_of}
 use Rattle.c25_meaning_objects.specs.Module.{Contents}
-use Rattle.c25_meaning_assembly.specs.ModuleOfSource.{Assembled, Passed, assembled, completed, passed_from}
+use Rattle.c25_meaning_assembly.specs.ModuleOfSource.{Assembled, LinesSoFar, assembled, completed, passed_from}
 use Rattle.c25_meaning_linking.specs.Place.{Place}
 use Rattle.c25_meaning_common.specs.Results.{◌>>=◌}
-use Rattle.c25_meaning_assembly.specs.Sections.{Content, Definitions, Exported, LaidContent, Operands, Progress, Words, Zeros}
+use Rattle.c25_meaning_assembly.specs.Sections.{Content, Definitions, Exported, PendingItem, Operands, Progress, Words, Zeros}
 use Rattle.c25_meaning_language.specs.Statement.{insn_of}
 use Rattle.c25_meaning_language.specs.Tree.{Tree}
 use Rattle.c25_meaning_linking.specs.Words.{section_base, section_name, section_page, section_run, section_runs_elsewhere}
@@ -29,7 +29,7 @@ use Rattle.c25_laws.proofs.StatementItems.{all_said, said_by, said_in, with_oper
 use Rattle.c25_module_laws.proofs.Valued.{IsGoodValue}
 use Rattle.c25_laws.specs.ModuleStatements.{instructions_in}
 use Rattle.c25_laws.proofs.NamesUnder.{name_kind, name_means}
-use Rattle.c25_laws.proofs.SheetsFilled.{sheet_comes}
+use Rattle.c25_laws.proofs.ValuesFilled.{sheet_comes}
 use Rattle.c25_laws.proofs.SheetStatements as sheets
 use Rattle.c25_laws.proofs.SheetStatements.{module_statements, operand_numbers, placed_statement, sheet_statements, statements_by, statements_in}
 use Rattle.c25_laws.specs.ProgramStatements.{AreModulesOf, all_statements, item_statements, line_statements, lines_in, numbers_under, statements_from, without_fault}
@@ -39,17 +39,17 @@ use Rattle.c25_laws.specs.ProgramStatements.{AreModulesOf, all_statements, item_
 module _ (modules : List Contents) (places : List Place) (number : ℕ) (m : Contents) (n : ℕ) (names : Definitions) (declared exported : List (List ℕ))
     (symbols : m.symbols ≡ map (symbol_of exported) (names_with names declared)) (good : AllByRecursion (λ e. IsSymbol e.0 × IsGoodValue (IsInside n) e.1) names) where
   -- the numbers of a statement's operands under the map
-  pub numbers_are : (i : LaidContent) (f : Form) (trees : List Tree) (s : Sheet) → sheet_of (target.Instruction f) (table_at (names_with names declared) i.section i.offset) trees ≡ Ok s
+  pub numbers_are : (i : PendingItem) (f : Form) (trees : List Tree) (s : OperandValues) → operand_values (target.Instruction f) (table_at (names_with names declared) i.section i.offset) trees ≡ Ok s
       → operand_numbers modules places number m (record { section = i.section; offset = i.offset; form = f; sheet = s }) ≡ numbers_under modules places number m names i.section i.offset (target.Instruction f) trees
   numbers_are i f trees s is =
       sheet_comes modules places number m names (names_with names declared) i.section i.offset (target.Instruction f)
       (name_means modules places number m n names declared exported symbols good) (name_kind modules places number m n names declared exported symbols good) trees s is
 
-  one_item : (i : LaidContent) (c : Content) (made : Made) → made_by (names_with names declared) i c ≡ Ok made
+  one_item : (i : PendingItem) (c : Content) (made : Made) → made_by (names_with names declared) i c ≡ Ok made
       → item_statements modules places number m names i c ≡ module_statements modules places number m (said_by (names_with names declared) i c)
-  one_item i (Operands (target.Instruction f) trees) made e = on (sheet_of (target.Instruction f) (table_at (names_with names declared) i.section i.offset) trees) refl e
+  one_item i (Operands (target.Instruction f) trees) made e = on (operand_values (target.Instruction f) (table_at (names_with names declared) i.section i.offset) trees) refl e
     where
-      on : (r : Result Sheet FaultKind) → sheet_of (target.Instruction f) (table_at (names_with names declared) i.section i.offset) trees ≡ r
+      on : (r : Result OperandValues FaultKind) → operand_values (target.Instruction f) (table_at (names_with names declared) i.section i.offset) trees ≡ r
           → (r >>= λ s. Ok (record { section = i.section; offset = i.offset; words = words_of (target.Instruction f) s.numbers; relocations = relocations_of (target.Instruction f) i.section i.offset s.addresses })) ≡ Ok made
           → item_statements modules places number m names i (Operands (target.Instruction f) trees) ≡ module_statements modules places number m (with_operands i f r)
       on (Ok s) is e =
@@ -67,7 +67,7 @@ module _ (modules : List Contents) (places : List Place) (number : ℕ) (m : Con
   one_item i (Zeros count) made e = refl
   one_item i (Exported exported) made e = refl
 
-  pub items_say : (is : List LaidContent) (ms : List Made) → Give (names_with names declared) is ms
+  pub items_say : (is : List PendingItem) (ms : List Made) → Give (names_with names declared) is ms
       → flat_map (λ i. item_statements modules places number m names i i.content) is ≡ module_statements modules places number m (said_in (names_with names declared) is)
   items_say [] [] give = refl
   items_say [] (x ∷ ms) give = absurd give
@@ -98,11 +98,11 @@ comes_from files name a e =
     let same : out ≡ a = let last = c.2 in cc in
     let f = finished_is p c.0 c.1 in
     let lines : instructions_in files name ≡ Ok (said_in (all_names p) p.items) =
-    ap (λ (r : Result Passed ExpansionFault). r >>= λ (x : Passed). instructions_of x.progress) b.1 ∙ all_said (all_names p) p.items f.0 [] (f.1).give in
+    ap (λ (r : Result LinesSoFar ExpansionFault). r >>= λ (x : LinesSoFar). instructions_of x.progress) b.1 ∙ all_said (all_names p) p.items f.0 [] (f.1).give in
     record {
       progress = p;
       made = f.0;
-      lines_are = ap (λ (r : Result Passed ExpansionFault). without_fault (r >>= λ (x : Passed). Ok x.progress)) b.1;
+      lines_are = ap (λ (r : Result LinesSoFar ExpansionFault). without_fault (r >>= λ (x : LinesSoFar). Ok x.progress)) b.1;
       kept = source_made files name (start_of files name) b.0 b.1;
       give = (f.1).give;
       module_is = sym (ap (λ (x : Assembled). x.contents) same) ∙ (f.1).module_is;

@@ -13,7 +13,7 @@ use Rattle.c25_meaning_objects.specs.Module as modules
 use Rattle.c25_meaning_objects.specs.Module.{Contents, SectionData, body_words}
 use Rattle.c25_meaning_assembly.specs.ModuleOfSource.{Assembled, assembled}
 use Rattle.c25_meaning_linking.specs.Place.{Place, page_of, part_base}
-use Rattle.c25_meaning_assembly.specs.Sections.{LaidContent, Progress}
+use Rattle.c25_meaning_assembly.specs.Sections.{PendingItem, Progress}
 use Rattle.c25_meaning_linking.specs.Words.{HasWord, linked_word, section_base, section_page}
 use Rattle.c25_module_laws.proofs.Emitted.{Give, Made, filled_from, words_at}
 use Rattle.c25_laws.proofs.ItemsLinked.{code, item_count, item_linked, stands}
@@ -49,12 +49,12 @@ own_word ws k same word l e f = slice_get-get_or ws k 0 l ∙ ap Some (sym e ∙
 -- a word of an item is one of the program
 abbrev Forth : List Contents → List Place → ℕ → ℕ → ℕ → ℕ → Contents → Progress → Type 0
 Forth all places number page address word owner lines =
-    (i : LaidContent) (within : ℕ) → slice_get all number ≡ Some owner → Contains lines.items i → slice_get (item_words all places number owner lines.names i i.content) within ≡ Some word
+    (i : PendingItem) (within : ℕ) → slice_get all number ≡ Some owner → Contains lines.items i → slice_get (item_words all places number owner lines.names i i.content) within ≡ Some word
     → page ≡ section_page places owner i.section → address ≡ section_base all places number owner i.section + i.offset + within → HasWord all places page address word
 
 -- a word of a section is one of an item
 record FromItem (all : List Contents) (places : List Place) (number : ℕ) (owner : Contents) (lines : Progress) (index offset before : ℕ) : Type 0 where
-  item : LaidContent
+  item : PendingItem
   among : Contains lines.items item
   section_is : item.section ≡ index
   within : ℕ
@@ -105,7 +105,7 @@ module _ (all : List Contents) (places : List Place) (number : ℕ) (p : Progres
       let ws : modules.words_at m.sections index ≡ body_words d.body = ap words_by at in
       ap (λ (xs : List ℕ). slice_index xs o) ws ∙ get_or_from_slice_get (body_words d.body) o before 0 w
 
-  same_word : (i : LaidContent) (j index o before : ℕ) → i.section ≡ index → o ≡ i.offset + j → word_at m index o ≡ before
+  same_word : (i : PendingItem) (j index o before : ℕ) → i.section ≡ index → o ≡ i.offset + j → word_at m index o ≡ before
       → linked_word all places number m i.section (i.offset + j) (word_at m i.section (i.offset + j)) ≡ linked_word all places number m index o before
   same_word i j index o before s e b =
       let there : linked_word all places number m i.section (i.offset + j) (word_at m i.section (i.offset + j)) ≡ linked_word all places number m index o (word_at m index o) =
@@ -210,7 +210,7 @@ module _ (files : Files) (names : List (List ℕ)) (all : List Contents) (of : A
   page_agrees page words has address word = (λ e. program_word page address word ((has address word).0 e), λ h. (has address word).1 (source_word page address word h))
 
 -- each item begins where those before it in its section end
-pub items_laid : (files : Files) (name : List ℕ) (a : Assembled) → assembled files name ≡ Ok a → (before after : List LaidContent) (i : LaidContent) → (lines_in files name).items ≡ before ++ i ∷ after → i.offset ≡ total i.section before
+pub items_laid : (files : Files) (name : List ℕ) (a : Assembled) → assembled files name ≡ Ok a → (before after : List PendingItem) (i : PendingItem) → (lines_in files name).items ≡ before ++ i ∷ after → i.offset ≡ total i.section before
 items_laid files name a e before after i is =
     let h = comes_from files name a e in
     let same : (h.progress).items ≡ before ++ i ∷ after = sym (ap (λ (p : Progress). p.items) h.lines_are) ∙ is in

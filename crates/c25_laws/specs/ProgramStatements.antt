@@ -14,7 +14,7 @@ use Rattle.c25_meaning_objects.specs.Module.{Contents}
 use Rattle.c25_meaning_assembly.specs.ModuleOfSource.{Assembled, assembled, passed_from}
 use Rattle.c25_meaning_linking.specs.Place.{Place}
 use Rattle.c25_meaning_common.specs.Results.{◌>>=◌}
-use Rattle.c25_meaning_assembly.specs.Sections.{Content, Definitions, LaidContent, Operands, Progress, start}
+use Rattle.c25_meaning_assembly.specs.Sections.{Content, Definitions, PendingItem, Operands, Progress, start}
 use Rattle.c25_meaning_language.specs.Statement.{insn_of}
 use Rattle.c25_meaning_processor.specs.State.{World, program_at}
 use Rattle.c25_meaning_processor.specs.Statements.{Copied, Statement, Statements, marks_of, run_mark_of}
@@ -71,7 +71,7 @@ pub record PlacedStatement : Type 0 where
 
 -- the statement of an item, if the item is an instruction: its addresses are its section's part plus its
 -- offset
-abbrev pub item_statements : List Contents → List Place → ℕ → Contents → Definitions → LaidContent → Content → List PlacedStatement
+abbrev pub item_statements : List Contents → List Place → ℕ → Contents → Definitions → PendingItem → Content → List PlacedStatement
 item_statements modules places number m names i (Operands (target.Instruction f) trees) = record {
   section = section_name m i.section;
   page = section_page places m i.section;

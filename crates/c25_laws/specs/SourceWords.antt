@@ -7,7 +7,7 @@ use Rattle.std.specs.Ordering.{nat_cmp}
 use Rattle.c25_meaning_expansion.specs.Files.{Files}
 use Rattle.c25_meaning_objects.specs.Module.{Contents}
 use Rattle.c25_meaning_linking.specs.Place.{Place}
-use Rattle.c25_meaning_assembly.specs.Sections.{Content, Definitions, Exported, LaidContent, Operands, Words, Zeros}
+use Rattle.c25_meaning_assembly.specs.Sections.{Content, Definitions, Exported, PendingItem, Operands, Words, Zeros}
 use Rattle.c25_meaning_language.specs.Statement.{insn_of}
 use Rattle.c25_meaning_instructions.specs.Table.{words}
 use Rattle.c25_meaning_linking.specs.Words.{section_base, section_page}
@@ -15,7 +15,7 @@ use Rattle.c25_meaning_assembly.specs.declared.assembly.Target.TheVariants as ta
 use Rattle.c25_laws.specs.ProgramStatements.{lines_in, numbers_under}
 
 -- the words of an item: an instruction, `.word` and `.int`, `.byte`, the bytes of `.string`, the zeros of `.space`
-abbrev pub item_words : List Contents → List Place → ℕ → Contents → Definitions → LaidContent → Content → List ℕ
+abbrev pub item_words : List Contents → List Place → ℕ → Contents → Definitions → PendingItem → Content → List ℕ
 item_words modules places number m names i (Operands (target.Instruction f) trees) = words (insn_of f (numbers_under modules places number m names i.section i.offset (target.Instruction f) trees))
 item_words modules places number m names i (Operands (target.Data w) trees) = numbers_under modules places number m names i.section i.offset (target.Data w) trees
 item_words modules places number m names i (Words bytes) = bytes
@@ -28,7 +28,7 @@ pub record HasSourceWord (files : Files) (names : List (List ℕ)) (modules : Li
   pub number : ℕ
   pub name : List ℕ
   pub owner : Contents
-  pub item : LaidContent
+  pub item : PendingItem
   pub within : ℕ
   pub name_is : slice_get names number ≡ Some name
   pub owner_is : slice_get modules number ≡ Some owner

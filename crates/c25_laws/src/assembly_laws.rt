@@ -6,7 +6,7 @@ ghost use Rattle.c25_meaning_assembly.specs.InstructionStatements.{Instruction};
 ghost use Rattle.c25_meaning_objects.specs.Module.{Contents};
 ghost use Rattle.c25_meaning_assembly.specs.ModuleOfSource.{Assembled, assembled};
 ghost use Rattle.c25_meaning_linking.specs.Place.{Place};
-ghost use Rattle.c25_meaning_assembly.specs.Sections.{Definitions, LaidContent};
+ghost use Rattle.c25_meaning_assembly.specs.Sections.{Definitions, PendingItem};
 ghost use Rattle.c25_meaning_assembly.specs.ItemPlaces.{total, words_in};
 ghost use Rattle.c25_laws.specs.ModuleStatements.{instructions_in, AreStatements};
 ghost use Rattle.c25_laws.specs.ProgramStatements.{lines_in};
@@ -24,7 +24,7 @@ pub fn modules_are_their_statements()
 /// has as many words under the map as the first phase counted for it.
 pub fn items_stand_behind_one_another()
     ensures places { (files : Files) (name : List ℕ) (a : Assembled) → assembled files name ≡ Ok a
-        → (before after : List LaidContent) (i : LaidContent) → (lines_in files name).items ≡ before ++ i ∷ after → i.offset ≡ total i.section before }
-    ensures sizes { (modules : List Contents) (places : List Place) (number : ℕ) (m : Contents) (names : Definitions) (i : LaidContent)
+        → (before after : List PendingItem) (i : PendingItem) → (lines_in files name).items ≡ before ++ i ∷ after → i.offset ≡ total i.section before }
+    ensures sizes { (modules : List Contents) (places : List Place) (number : ℕ) (m : Contents) (names : Definitions) (i : PendingItem)
         → length (item_words modules places number m names i i.content) ≡ words_in i.content }
 {}

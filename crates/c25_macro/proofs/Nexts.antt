@@ -12,13 +12,13 @@ use Rattle.c25_meaning_language.specs.declared.statement.FaultKind.TheVariants.{
 use Rattle.c25_meaning_expansion.proofs.ExpansionFalls.{same_finishing}
 use Rattle.c25_meaning_expansion.proofs.ExpansionFirst.{comes_to_first}
 use Rattle.c25_macro.specs.Config.{Refuses}
-use Rattle.c25_macro.specs.Scopes.{after}
-use Rattle.c25_macro.specs.declared.scope.Source.{Source}
-use Rattle.c25_macro.specs.declared.refusal.Refusal.{Refusal}
-use Rattle.c25_macro.specs.declared.refusal.Refusal.TheVariants.{Faulty, Missing}
+use Rattle.c25_macro.specs.SourceFrames.{after}
+use Rattle.c25_macro.specs.declared.frames.Source.{Source}
+use Rattle.c25_macro.specs.declared.expansion_fault.ExpansionFault.{ExpansionFault}
+use Rattle.c25_macro.specs.declared.expansion_fault.ExpansionFault.TheVariants.{Faulty, Missing}
 
 -- a refusal, which may be that memory ran out
-pub first_refusing : (files : Files) (s : Table) (n : ℕ) (old mid : Config) (failure : Failure Refusal) → Leads files s n old mid → Refuses (rewrite files s mid) failure → Refuses (first files s old) failure
+pub first_refusing : (files : Files) (s : Table) (n : ℕ) (old mid : Config) (failure : Failure ExpansionFault) → Leads files s n old mid → Refuses (rewrite files s mid) failure → Refuses (first files s old) failure
 first_refusing files s n old mid (NoMemory e) leads h = tt
 first_refusing files s n old mid (Fault (Faulty place kind)) leads h = comes_to_first files s old (Faults place kind) (n, mid, leads, h) tt
 first_refusing files s n old mid (Fault (Missing place name)) leads h = comes_to_first files s old (Misses place (string_bytes name)) (n, mid, leads, h) tt
@@ -28,6 +28,6 @@ pub bounded_finishing : (files : Files) (s : Table) (c d : Config) → IsBounded
 bounded_finishing files s c d bounds e = subst IsBounded (sym (same_finishing files s c d e)) bounds
 
 -- a source that ends while a block is open in it
-pub ends_open : (files : Files) (s : Table) (sources : List Source) (c : Config) → is_closed c ≡ false → front files s (after sources) c ≡ Faults c.scope.last OpenBlock
+pub ends_open : (files : Files) (s : Table) (sources : List Source) (c : Config) → is_closed c ≡ false → front files s (after sources) c ≡ Faults c.frame.last OpenBlock
 ends_open files s [] c h = rw h
 ends_open files s (x ∷ xs) c h = rw h

@@ -14,16 +14,16 @@ use Rattle.c25_meaning_language.specs.Value.{Table}
 use Rattle.c25_meaning_expansion.specs.Trail.{trail_after}
 use Rattle.c25_macro.specs.Config.{Follows, Refuses, refused_by}
 use Rattle.c25_macro.specs.Tracers.{IsToldAs, Moved, Shows, Steps, Trace, fault_in}
-use Rattle.c25_macro.specs.declared.refusal.Refusal.{Refusal}
-use Rattle.c25_macro.specs.declared.state.Progress.{Progress}
-use Rattle.c25_macro.specs.declared.state.Progress.TheVariants as progress
+use Rattle.c25_macro.specs.declared.expansion_fault.ExpansionFault.{ExpansionFault}
+use Rattle.c25_macro.specs.declared.state.LineResult.{LineResult}
+use Rattle.c25_macro.specs.declared.state.LineResult.TheVariants as progress
 use Rattle.c25_macro.specs.declared.tracer.Step.{Step}
 use Rattle.c25_macro.specs.declared.tracer.Step.TheVariants as step
 use Rattle.c25_macro.specs.declared.tracer.StepFault.{StepFault}
 
 module _ (s : Table) (old new : Trace) (files : new.files ≡ old.files) where
-  went : IsBounded old.at → new.trail ≡ trail_after old.at new.at old.trail → rewrite old.files s old.at ≡ Goes new.at → Moved old new
-  went bounded trail e = record {
+  consumed : IsBounded old.at → new.trail ≡ trail_after old.at new.at old.trail → rewrite old.files s old.at ≡ Goes new.at → Moved old new
+  consumed bounded trail e = record {
     files = files;
     trail = trail;
     lighter = (falls_going old.files s old.at new.at e).weighs_less;
@@ -39,20 +39,20 @@ module _ (s : Table) (old new : Trace) (files : new.files ≡ old.files) where
   }
 
   -- the rewriting gives a step
-  pub steps : (p : Progress) (answer : Step) → IsBounded old.at → new.trail ≡ trail_after old.at new.at old.trail → Follows (rewrite old.files s old.at) (Ok p) new.at
+  pub steps : (p : LineResult) (answer : Step) → IsBounded old.at → new.trail ≡ trail_after old.at new.at old.trail → Follows (rewrite old.files s old.at) (Ok p) new.at
       → Shows old.files p answer → Steps s old (Ok answer) new
   steps (progress.Given row) (step.Given line) bounded trail e is = (ap (given_by old.files) e ∙ ap (λ l. Some (l, new.at)) (sym is), gave row bounded trail e)
-  steps (progress.Given row) step.Went bounded trail e is = absurd is
+  steps (progress.Given row) step.Consumed bounded trail e is = absurd is
   steps (progress.Given row) step.Finished bounded trail e is = absurd is
-  steps progress.Went (step.Given line) bounded trail e is = absurd is
-  steps progress.Went step.Went bounded trail e is = (e, went bounded trail e)
-  steps progress.Went step.Finished bounded trail e is = absurd is
+  steps progress.Consumed (step.Given line) bounded trail e is = absurd is
+  steps progress.Consumed step.Consumed bounded trail e is = (e, consumed bounded trail e)
+  steps progress.Consumed step.Finished bounded trail e is = absurd is
   steps progress.Finished (step.Given line) bounded trail e is = absurd is
-  steps progress.Finished step.Went bounded trail e is = absurd is
+  steps progress.Finished step.Consumed bounded trail e is = absurd is
   steps progress.Finished step.Finished bounded trail e is = (new.at, e)
 
   -- the rewriting fails
-  pub stops : (refusal : Failure Refusal) (answer : Failure StepFault) → new.trail ≡ old.trail → Refuses (rewrite old.files s old.at) refusal
+  pub stops : (refusal : Failure ExpansionFault) (answer : Failure StepFault) → new.trail ≡ old.trail → Refuses (rewrite old.files s old.at) refusal
       → IsToldAs old.files refusal answer → Steps s old (Err answer) new
   stops (NoMemory n) (NoMemory m) trail e is = tt
   stops (NoMemory n) (Fault f) trail e is = absurd is

@@ -6,15 +6,15 @@ use Rattle.c25_meaning_expansion.specs.Rows.{Row}
 use Rattle.c25_meaning_expansion.specs.Expansion.{Read}
 use Rattle.c25_meaning_expansion.specs.declared.place.SourcePlace.{SourcePlace}
 use Rattle.c25_meaning_expansion.specs.Trail.{next_place}
-use Rattle.c25_macro.specs.Scopes.{after, scopes}
-use Rattle.c25_macro.specs.declared.scope.Source.{Source}
+use Rattle.c25_macro.specs.SourceFrames.{after, frames}
+use Rattle.c25_macro.specs.declared.frames.Source.{Source}
 
 -- as many as sources
-scopes_length : (sources : List Source) → length (scopes sources) ≡ length sources
+scopes_length : (sources : List Source) → length (frames sources) ≡ length sources
 scopes_length [] = refl
 scopes_length (s ∷ ss) = ap suc (scopes_length ss)
 
-pub length_scopes : (sources : List Source) → length (scopes (reverse sources)) ≡ length sources
+pub length_scopes : (sources : List Source) → length (frames (reverse sources)) ≡ length sources
 length_scopes sources = scopes_length (reverse sources) ∙ length-reverse sources
 
 -- the next line of a source that has one

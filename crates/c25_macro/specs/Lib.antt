@@ -4,7 +4,7 @@ pub mod Config
 pub mod Dictionary
 pub mod Expander
 pub mod Expanders
-pub mod Scopes
+pub mod SourceFrames
 pub mod Macros
 pub mod Refusals
 pub mod Stages

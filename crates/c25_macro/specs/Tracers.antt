@@ -16,11 +16,11 @@ use Rattle.c25_meaning_language.specs.Value.{Table}
 use Rattle.c25_meaning_expansion.specs.Trail.{trail_after}
 use Rattle.c25_macro.specs.Config.{config, refused_by}
 use Rattle.c25_macro.specs.Expander.{shown}
-use Rattle.c25_macro.specs.declared.refusal.Refusal.{Refusal}
-use Rattle.c25_macro.specs.declared.state.Progress.{Progress}
-use Rattle.c25_macro.specs.declared.state.Progress.TheVariants as progress
+use Rattle.c25_macro.specs.declared.expansion_fault.ExpansionFault.{ExpansionFault}
+use Rattle.c25_macro.specs.declared.state.LineResult.{LineResult}
+use Rattle.c25_macro.specs.declared.state.LineResult.TheVariants as progress
 use Rattle.c25_macro.specs.declared.tracer.Step.{Step}
-use Rattle.c25_macro.specs.declared.tracer.Step.TheVariants.{Given, Went, Finished}
+use Rattle.c25_macro.specs.declared.tracer.Step.TheVariants.{Given, Consumed, Finished}
 use Rattle.c25_macro.specs.declared.tracer.StepFault.{StepFault}
 use Rattle.c25_macro.specs.declared.tracer.StepFault.TheVariants.{Faulty, Missing}
 use Rattle.c25_macro.specs.declared.tracer.Tracer.{Tracer}
@@ -61,7 +61,7 @@ pub record Moved (old : Trace) (new : Trace) : Type 0 where
 -- the answer of a step is this rewriting of the old trace, and leads to the new one
 abbrev pub Comes : Rewriting → Trace → Result Step (Failure StepFault) → Trace → Type 0
 Comes r old (Ok (Given line)) new = (given_by old.files r ≡ Some (shown line, new.at)) × Moved old new
-Comes r old (Ok Went) new = (r ≡ Goes new.at) × Moved old new
+Comes r old (Ok Consumed) new = (r ≡ Goes new.at) × Moved old new
 Comes r old (Ok Finished) new = (c : Config) × (r ≡ Finishes c)
 Comes r old (Err (NoMemory n)) new = Unit {0}
 Comes r old (Err (Fault f)) new = (fault_by old.files r ≡ Some (fault_in f)) × (new.trail ≡ old.trail)
@@ -73,14 +73,14 @@ Steps s old result new = Comes (rewrite old.files s old.at) old result new
 -- ---- the answer of a step, by the answer of the expander's state
 
 -- a step says what the state answered, with the name of the line's file
-abbrev pub Shows : Files → Progress → Step → Type 0
+abbrev pub Shows : Files → LineResult → Step → Type 0
 Shows files (progress.Given row) (Given line) = shown line ≡ expanded_line files row
-Shows files progress.Went Went = Unit {0}
+Shows files progress.Consumed Consumed = Unit {0}
 Shows files progress.Finished Finished = Unit {0}
 Shows files progress step = ⊥
 
 -- the failure of a step reports that of the state, with the name of the line's file
-abbrev pub IsToldAs : Files → Failure Refusal → Failure StepFault → Type 0
+abbrev pub IsToldAs : Files → Failure ExpansionFault → Failure StepFault → Type 0
 IsToldAs files (NoMemory n) (NoMemory m) = Unit {0}
 IsToldAs files (Fault refusal) (Fault f) = fault_by files (refused_by refusal) ≡ Some (fault_in f)
 IsToldAs files refusal told = ⊥

@@ -1,6 +1,6 @@
 //! Macros, loops and copied files.
 //!
-//! `State` and its other methods: `state.rt` says where they are.
+//! `ExpanderState` and its other methods: `state.rt` says where they are.
 
 ghost use Rattle.std.specs.Prelude.{◌≡◌, ◌<◌, ◌^◌, ◌||◌, is_some};
 ghost use Rattle.std.specs.Option.{option_map};
@@ -11,12 +11,12 @@ ghost use Rattle.c25_meaning_instructions.specs.Spellings.{spelling_of};
 ghost use Rattle.c25_expr.specs.View.{tree_of};
 ghost use Rattle.c25_macro.specs.Acts.{bytes_of_names};
 ghost use Rattle.c25_macro.specs.Config.{config, GoesOn};
-ghost use Rattle.c25_macro.specs.Scopes.{test_of};
+ghost use Rattle.c25_macro.specs.SourceFrames.{test_of};
 ghost use Rattle.c25_macro.specs.declared.state.Mode.TheVariants as modes;
 
-use crate::refusal::{Refusal, fault};
-use crate::scope::{Block, Branches, Kind, Scope, Source};
-use crate::state::{Mode, State};
+use crate::expansion_fault::{ExpansionFault, fault};
+use crate::frames::{ExitTarget, Branches, Kind, SourceFrame, Source};
+use crate::state::{Mode, ExpanderState};
 use crate::values::{is_zero, number};
 use c25_expr::symbols::Symbols;
 use c25_expr::tree::Expr;
@@ -45,7 +45,7 @@ fn is_mnemonic(name: &str) -> bool
     mnemonic(name).is_some()
 }
 
-impl<'a> State<'a> {
+impl<'a> ExpanderState<'a> {
     /// Whether a name is that of a macro or of a mnemonic.
     fn is_taken(&self, name: &str) -> bool
         ensures { result ≡ (is_some (exp.macro_named (config self.now).names name.now) || is_some (spelling_of name.now)) }
@@ -60,7 +60,7 @@ impl<'a> State<'a> {
         place: SourcePlace,
         name: String,
         parameters: Vec<String>,
-    ) -> Result<(), Failure<Refusal>>
+    ) -> Result<(), Failure<ExpansionFault>>
         ensures { GoesOn (rule.begins_macro place (string_bytes name) (bytes_of_names parameters.items) (config self.old)) result (config self.new) }
     {
         if self.is_taken(name.as_str()) {
@@ -82,7 +82,7 @@ impl<'a> State<'a> {
         place: SourcePlace,
         body: Rows<'a>,
         arguments: Arguments,
-    ) -> Result<(), Failure<Refusal>>
+    ) -> Result<(), Failure<ExpansionFault>>
         requires expansions { (config self.old).names.count < 2 ^ 31 }
         requires reading { self.old.mode ≡ modes.Reading }
         ensures { GoesOn (rule.begins_expansion place body.entry arguments (config self.old)) result (config self.new) }
@@ -99,9 +99,9 @@ impl<'a> State<'a> {
     /// that it opened.
     pub(crate) fn leave_block(
         &mut self,
-        block: Block,
+        block: ExitTarget,
         place: SourcePlace,
-    ) -> Result<(), Failure<Refusal>>
+    ) -> Result<(), Failure<ExpansionFault>>
         requires reading { self.old.mode ≡ modes.Reading }
         ensures { GoesOn (rule.leaves (test_of block) place (config self.old)) result (config self.new) }
     {
@@ -113,7 +113,7 @@ impl<'a> State<'a> {
     }
 
     /// Collects the lines that follow, as the body of a loop of so many turns.
-    fn collect(&mut self, place: SourcePlace, turns: usize) -> Result<(), Failure<Refusal>>
+    fn collect(&mut self, place: SourcePlace, turns: usize) -> Result<(), Failure<ExpansionFault>>
         ensures { GoesOn (rule.collects place turns (config self.old)) result (config self.new) }
     {
         if self.is_full() {
@@ -131,7 +131,7 @@ impl<'a> State<'a> {
         symbols: &Symbols,
         place: SourcePlace,
         count: Option<Expr>,
-    ) -> Result<(), Failure<Refusal>>
+    ) -> Result<(), Failure<ExpansionFault>>
         ensures { GoesOn (rule.begins_loop symbols.now place (option_map tree_of count) (config self.old)) result (config self.new) }
     {
         match count {
@@ -144,15 +144,15 @@ impl<'a> State<'a> {
     }
 
     /// `.break`, given whether its condition holds.
-    fn break_if(&mut self, holds: bool, place: SourcePlace) -> Result<(), Failure<Refusal>>
+    fn break_if(&mut self, holds: bool, place: SourcePlace) -> Result<(), Failure<ExpansionFault>>
         requires reading { self.old.mode ≡ modes.Reading }
         ensures { GoesOn (rule.breaks_if holds place (config self.old)) result (config self.new) }
     {
-        if !self.stands_in(Block::Turn) {
+        if !self.stands_in(ExitTarget::Turn) {
             return Err(fault(FaultKind::StrayEnd, place));
         }
         if holds {
-            self.leave_block(Block::Turn, place)
+            self.leave_block(ExitTarget::Turn, place)
         } else {
             Ok(())
         }
@@ -165,7 +165,7 @@ impl<'a> State<'a> {
         symbols: &Symbols,
         place: SourcePlace,
         condition: Option<Expr>,
-    ) -> Result<(), Failure<Refusal>>
+    ) -> Result<(), Failure<ExpansionFault>>
         requires reading { self.old.mode ≡ modes.Reading }
         ensures { GoesOn (rule.breaks symbols.now place (option_map tree_of condition) (config self.old)) result (config self.new) }
     {
@@ -179,7 +179,7 @@ impl<'a> State<'a> {
     }
 
     /// `.asg`
-    pub(crate) fn assign(&mut self, name: &str, text: String) -> Result<(), Failure<Refusal>>
+    pub(crate) fn assign(&mut self, name: &str, text: String) -> Result<(), Failure<ExpansionFault>>
         ensures { GoesOn (exp.Goes (record (config self.old) { names = exp.assigned name.now (string_bytes text) (config self.old).names })) result (config self.new) }
     {
         self.names.assign(name, text).map_err(Failure::NoMemory)
@@ -193,7 +193,7 @@ impl<'a> State<'a> {
         place: SourcePlace,
         expression: Expr,
         name: &str,
-    ) -> Result<(), Failure<Refusal>>
+    ) -> Result<(), Failure<ExpansionFault>>
         ensures { GoesOn (rule.evaluates symbols.now place (tree_of expression) name.now (config self.old)) result (config self.new) }
     {
         let number = match number(symbols, expression) {
@@ -211,7 +211,7 @@ impl<'a> State<'a> {
         files: &'a Files,
         place: SourcePlace,
         name: String,
-    ) -> Result<(), Failure<Refusal>>
+    ) -> Result<(), Failure<ExpansionFault>>
         requires reading { self.old.mode ≡ modes.Reading }
         ensures { GoesOn (rule.copies files.now place (string_bytes name) (config self.old)) result (config self.new) }
     {
@@ -224,19 +224,19 @@ impl<'a> State<'a> {
                 let last = rows.last_place(place);
                 self.open(Kind::Copied, last, rows)
             }
-            None => Err(Failure::Fault(Refusal::Missing { place, name })),
+            None => Err(Failure::Fault(ExpansionFault::Missing { place, name })),
         }
     }
 
     /// `.end`
     #[tactic(auto, unfolding(c25_meaning_expansion::specs::ExpansionRules::ends_all))]
-    pub(crate) fn end_all(&mut self, place: SourcePlace) -> Result<(), Failure<Refusal>>
+    pub(crate) fn end_all(&mut self, place: SourcePlace) -> Result<(), Failure<ExpansionFault>>
         requires reading { self.old.mode ≡ modes.Reading }
         ensures { GoesOn (rule.ends_all place (config self.old)) result (config self.new) }
     {
         self.top = Source {
             lines: Rows::none().into_passage(),
-            scope: Scope {
+            frame: SourceFrame {
                 kind: Kind::Copied,
                 last: place,
                 branches: Branches::new(self.alloc),

@@ -1,6 +1,6 @@
 //! Lines that are collected as the body of a macro or of a loop.
 //!
-//! `State` and its other methods: `state.rt` says where they are.
+//! `ExpanderState` and its other methods: `state.rt` says where they are.
 
 ghost use Rattle.std.specs.Prelude.{◌≡◌, ◌<◌, ◌^◌};
 ghost use Rattle.std.specs.String.{string_bytes};
@@ -12,15 +12,15 @@ ghost use Rattle.c25_macro.specs.declared.state.Mode.TheVariants as modes;
 
 use crate::directive::directive_in;
 use crate::macros::Macro;
-use crate::refusal::Refusal;
-use crate::scope::Kind;
-use crate::state::{Mode, State};
+use crate::expansion_fault::ExpansionFault;
+use crate::frames::Kind;
+use crate::state::{Mode, ExpanderState};
 use c25_files::{Row, Rows};
 use c25_meaning_common::failure::Failure;
 use c25_meaning_expansion::expansion::Directive;
 use c25_meaning_expansion::place::SourcePlace;
 
-impl<'a> State<'a> {
+impl<'a> ExpanderState<'a> {
     /// Takes one line while a macro is collected: a line of the body, or the `.endm` that ends it.
     #[tactic(auto, unfolding(c25_meaning_expansion::specs::ExpansionRules::in_macro))]
     pub(crate) fn collect_macro(
@@ -29,7 +29,7 @@ impl<'a> State<'a> {
         name: String,
         parameters: Vec<String>,
         nested: usize,
-    ) -> Result<(), Failure<Refusal>>
+    ) -> Result<(), Failure<ExpansionFault>>
         requires few { nested < 2 ^ 32 }
         requires reading { self.old.mode ≡ modes.Reading }
         ensures { ForBody self.old.top.lines.passed row.entry (λ body. GoesOn (rule.in_macro row.entry (rule.directive_in (first_word row.entry.text)) (string_bytes name) (bytes_of_names parameters.items) body nested (config self.old)) result (config self.new)) }
@@ -63,7 +63,7 @@ impl<'a> State<'a> {
         place: SourcePlace,
         turns: usize,
         body: Rows<'a>,
-    ) -> Result<(), Failure<Refusal>>
+    ) -> Result<(), Failure<ExpansionFault>>
         requires reading { self.old.mode ≡ modes.Reading }
         ensures { GoesOn (rule.turns_begin place turns body.entry (config self.old)) result (config self.new) }
     {
@@ -83,7 +83,7 @@ impl<'a> State<'a> {
         row: Row<'a>,
         turns: usize,
         nested: usize,
-    ) -> Result<(), Failure<Refusal>>
+    ) -> Result<(), Failure<ExpansionFault>>
         requires few { nested < 2 ^ 32 }
         requires reading { self.old.mode ≡ modes.Reading }
         ensures { ForBody self.old.top.lines.passed row.entry (λ body. GoesOn (rule.in_loop row.entry (rule.directive_in (first_word row.entry.text)) turns body nested (config self.old)) result (config self.new)) }

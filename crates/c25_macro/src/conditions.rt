@@ -1,15 +1,15 @@
 //! Conditional lines: `.if`, `.elseif`, `.else`, `.endif`.
 //!
-//! `State` and its other methods: `state.rt` says where they are.
+//! `ExpanderState` and its other methods: `state.rt` says where they are.
 
 ghost use Rattle.std.specs.Prelude.{◌≡◌};
 ghost use Rattle.c25_meaning_expansion.specs.ExpansionRules as rule;
 ghost use Rattle.c25_expr.specs.View.{tree_of};
 ghost use Rattle.c25_macro.specs.Config.{config, GoesOn};
-ghost use Rattle.c25_macro.specs.Scopes.{other_branches};
+ghost use Rattle.c25_macro.specs.SourceFrames.{other_branches};
 
-use crate::refusal::{Refusal, fault};
-use crate::state::State;
+use crate::expansion_fault::{ExpansionFault, fault};
+use crate::state::ExpanderState;
 use crate::values::{is_zero, number};
 use c25_expr::symbols::Symbols;
 use c25_expr::tree::Expr;
@@ -39,7 +39,7 @@ fn phase_of(number: i32) -> Phase
     }
 }
 
-impl State<'_> {
+impl ExpanderState<'_> {
     /// `.if`
     #[tactic(auto, unfolding(c25_meaning_expansion::specs::ExpansionRules::begins_if))]
     pub(crate) fn begin_if(
@@ -47,7 +47,7 @@ impl State<'_> {
         symbols: &Symbols,
         place: SourcePlace,
         condition: Expr,
-    ) -> Result<(), Failure<Refusal>>
+    ) -> Result<(), Failure<ExpansionFault>>
         ensures { GoesOn (rule.begins_if symbols.now place (tree_of condition) (config self.old)) result (config self.new) }
     {
         let number = match number(symbols, condition) {
@@ -61,15 +61,15 @@ impl State<'_> {
             phase: phase_of(number),
             nested: 0,
         };
-        let branches = &mut self.top.scope.branches;
+        let branches = &mut self.top.frame.branches;
         branches.push(branch).map_err(Failure::NoMemory)
     }
 
     /// Lets the innermost `.if` go on in this phase.
-    pub(crate) fn enter(&mut self, branch: Branch, phase: Phase) -> Result<(), Failure<Refusal>>
-        ensures { GoesOn (rule.enters branch (other_branches (config self.old).scope.branches) (config self.old) phase) result (config self.new) }
+    pub(crate) fn enter(&mut self, branch: Branch, phase: Phase) -> Result<(), Failure<ExpansionFault>>
+        ensures { GoesOn (rule.enters branch (other_branches (config self.old).frame.branches) (config self.old) phase) result (config self.new) }
     {
-        let branches = &mut self.top.scope.branches;
+        let branches = &mut self.top.frame.branches;
         branches
             .replace(Branch { phase, ..branch })
             .map_err(Failure::NoMemory)
@@ -81,8 +81,8 @@ impl State<'_> {
         place: SourcePlace,
         number: Result<i32, FaultKind>,
         branch: Branch,
-    ) -> Result<(), Failure<Refusal>>
-        ensures { GoesOn (rule.with_number place number (λ number. rule.enters branch (other_branches (config self.old).scope.branches) (config self.old) (rule.phase_of number))) result (config self.new) }
+    ) -> Result<(), Failure<ExpansionFault>>
+        ensures { GoesOn (rule.with_number place number (λ number. rule.enters branch (other_branches (config self.old).frame.branches) (config self.old) (rule.phase_of number))) result (config self.new) }
     {
         match number {
             Ok(number) => self.enter(branch, phase_of(number)),
@@ -96,13 +96,13 @@ impl State<'_> {
         symbols: &Symbols,
         place: SourcePlace,
         condition: Expr,
-    ) -> Result<(), Failure<Refusal>>
-        ensures { GoesOn (rule.elseif_by symbols.now place (tree_of condition) (config self.old).scope.branches (config self.old)) result (config self.new) }
+    ) -> Result<(), Failure<ExpansionFault>>
+        ensures { GoesOn (rule.elseif_by symbols.now place (tree_of condition) (config self.old).frame.branches (config self.old)) result (config self.new) }
     {
         // A fault of the condition is reported only where no condition has held so far, or where no `.if` is
         // open.
         let number = number(symbols, condition);
-        let Some(branch) = self.top.scope.branches.innermost() else {
+        let Some(branch) = self.top.frame.branches.innermost() else {
             return match number {
                 Ok(_) => Err(fault(FaultKind::StrayEnd, place)),
                 Err(kind) => Err(fault(kind, place)),
@@ -116,10 +116,10 @@ impl State<'_> {
     }
 
     /// `.else`
-    pub(crate) fn pass_else(&mut self, place: SourcePlace) -> Result<(), Failure<Refusal>>
-        ensures { GoesOn (rule.else_by place (config self.old).scope.branches (config self.old)) result (config self.new) }
+    pub(crate) fn pass_else(&mut self, place: SourcePlace) -> Result<(), Failure<ExpansionFault>>
+        ensures { GoesOn (rule.else_by place (config self.old).frame.branches (config self.old)) result (config self.new) }
     {
-        let Some(branch) = self.top.scope.branches.innermost() else {
+        let Some(branch) = self.top.frame.branches.innermost() else {
             return Err(fault(FaultKind::StrayEnd, place));
         };
         match branch.phase {
@@ -130,10 +130,10 @@ impl State<'_> {
     }
 
     /// `.endif`
-    pub(crate) fn end_if(&mut self, place: SourcePlace) -> Result<(), Failure<Refusal>>
-        ensures { GoesOn (rule.endif_by place (config self.old).scope.branches (config self.old)) result (config self.new) }
+    pub(crate) fn end_if(&mut self, place: SourcePlace) -> Result<(), Failure<ExpansionFault>>
+        ensures { GoesOn (rule.endif_by place (config self.old).frame.branches (config self.old)) result (config self.new) }
     {
-        match self.top.scope.branches.pop() {
+        match self.top.frame.branches.pop() {
             Some(_) => Ok(()),
             None => Err(fault(FaultKind::StrayEnd, place)),
         }

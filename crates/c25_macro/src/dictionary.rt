@@ -9,12 +9,12 @@ ghost use Rattle.c25_meaning_expansion.specs.ExpansionRules as rule;
 ghost use Rattle.c25_meaning_language.specs.Texts.{with_name};
 ghost use Rattle.c25_macro.specs.Acts.{macro_of};
 ghost use Rattle.c25_macro.specs.Dictionary.{dictionary_of};
-ghost use Rattle.c25_macro.specs.Scopes.{kind_of};
+ghost use Rattle.c25_macro.specs.SourceFrames.{kind_of};
 ghost use Rattle.c25_substitution.specs.View.{names_of};
 
 use crate::expansions::{Expansion, Expansions};
 use crate::macros::{Macro, Macros};
-use crate::scope::Kind;
+use crate::frames::Kind;
 use c25_meaning_common::no_memory::NoMemory;
 use c25_substitution::parameters::Arguments;
 use c25_substitution::texts::SubstitutionTexts;

@@ -1,6 +1,6 @@
 //! What is done with a line that is read: it is skipped or substituted, and then given or consumed.
 //!
-//! `State` and its other methods: `state.rt` says where they are.
+//! `ExpanderState` and its other methods: `state.rt` says where they are.
 
 ghost use Rattle.std.specs.Prelude.{◌≡◌, ◌<◌, ◌^◌, Result};
 ghost use Rattle.std.specs.Cow.{cow_str_bytes};
@@ -13,7 +13,7 @@ ghost use Rattle.c25_meaning_common.specs.Results.{Meets};
 ghost use Rattle.c25_macro.specs.Acts.{act_of, order_of};
 ghost use Rattle.c25_macro.specs.Config.{config, Follows, GoesOn};
 ghost use Rattle.c25_macro.specs.Dictionary.{dictionary_of};
-ghost use Rattle.c25_macro.specs.Scopes.{other_branches};
+ghost use Rattle.c25_macro.specs.SourceFrames.{other_branches};
 ghost use Rattle.c25_macro.specs.declared.state.Mode.TheVariants as modes;
 
 use crate::act::{ExpansionAct, Order};
@@ -21,9 +21,9 @@ use crate::conditions::takes_lines;
 use crate::directive::directive_in;
 use crate::line::Line;
 use crate::orders::{read_call, read_order};
-use crate::refusal::{Refusal, at_place, fault};
-use crate::scope::Block;
-use crate::state::{Mode, Progress, State, went};
+use crate::expansion_fault::{ExpansionFault, at_place, fault};
+use crate::frames::ExitTarget;
+use crate::state::{Mode, LineResult, ExpanderState, consumed};
 use c25_expr::symbols::Symbols;
 use c25_files::Row;
 use c25_files::files::Files;
@@ -35,7 +35,7 @@ use c25_meaning_language::statement::FaultKind;
 use c25_substitution::substitution::{substitute, substitute_before_comma, unsubstituted};
 use std::borrow::CowStr;
 
-impl<'a> State<'a> {
+impl<'a> ExpanderState<'a> {
     /// Does what a line asks for.
     #[tactic(auto, unfolding(c25_meaning_expansion::specs::ExpansionRules::acts))]
     pub(crate) fn act(
@@ -44,7 +44,7 @@ impl<'a> State<'a> {
         symbols: &Symbols,
         place: SourcePlace,
         act: ExpansionAct<'a>,
-    ) -> Result<(), Failure<Refusal>>
+    ) -> Result<(), Failure<ExpansionFault>>
         requires expansions { (config self.old).names.count < 2 ^ 31 }
         requires reading { self.old.mode ≡ modes.Reading }
         ensures { GoesOn (rule.acts files.now symbols.now place (act_of act.entry) (config self.old)) result (config self.new) }
@@ -56,7 +56,7 @@ impl<'a> State<'a> {
             ExpansionAct::EndIf => self.end_if(place),
             ExpansionAct::Define { name, parameters } => self.begin_macro(place, name, parameters),
             ExpansionAct::Stray => Err(fault(FaultKind::StrayEnd, place)),
-            ExpansionAct::Exit => self.leave_block(Block::Expansion, place),
+            ExpansionAct::Exit => self.leave_block(ExitTarget::Expansion, place),
             ExpansionAct::Loop(count) => self.begin_loop(symbols, place, count),
             ExpansionAct::Break(condition) => self.break_loop(symbols, place, condition),
             ExpansionAct::Assign { text, name } => self.assign(name.as_str(), text),
@@ -76,7 +76,7 @@ impl<'a> State<'a> {
         symbols: &Symbols,
         place: SourcePlace,
         order: Order<'a>,
-    ) -> Result<Progress<'a>, Failure<Refusal>>
+    ) -> Result<LineResult<'a>, Failure<ExpansionFault>>
         requires expansions { (config self.old).names.count < 2 ^ 31 }
         requires reading { self.old.mode ≡ modes.Reading }
         ensures { Follows (rule.labelled files.now symbols.now place (order_of order.entry).label (order_of order.entry).act (config self.old)) result (config self.new) }
@@ -85,9 +85,9 @@ impl<'a> State<'a> {
         match label {
             Some(name) => {
                 self.look(Mode::Acting { place, act });
-                Ok(Progress::Given(Line::new(place, CowStr::Owned(name))))
+                Ok(LineResult::Given(Line::new(place, CowStr::Owned(name))))
             }
-            None => went(self.act(files, symbols, place, act)),
+            None => consumed(self.act(files, symbols, place, act)),
         }
     }
 
@@ -98,7 +98,7 @@ impl<'a> State<'a> {
         symbols: &Symbols,
         place: SourcePlace,
         order: Result<Order<'a>, Failure<FaultKind>>,
-    ) -> Result<Progress<'a>, Failure<Refusal>>
+    ) -> Result<LineResult<'a>, Failure<ExpansionFault>>
         requires expansions { (config self.old).names.count < 2 ^ 31 }
         requires reading { self.old.mode ≡ modes.Reading }
         ensures { (told : Result acts.Order FaultKind) → Meets order_of told order.entry
@@ -116,7 +116,7 @@ impl<'a> State<'a> {
         files: &'a Files,
         symbols: &Symbols,
         line: Line<'a>,
-    ) -> Result<Progress<'a>, Failure<Refusal>>
+    ) -> Result<LineResult<'a>, Failure<ExpansionFault>>
         requires expansions { (config self.old).names.count < 2 ^ 31 }
         requires reading { self.old.mode ≡ modes.Reading }
         ensures { Follows (rule.calls files.now symbols.now line.entry (rule.macro_of (first_word line.entry.text) (config self.old).names) (config self.old)) result (config self.new) }
@@ -127,7 +127,7 @@ impl<'a> State<'a> {
                 let order = read_call(alloc, called, line.text());
                 self.consume(files, symbols, line.place(), order)
             }
-            None => Ok(Progress::Given(line)),
+            None => Ok(LineResult::Given(line)),
         }
     }
 
@@ -137,7 +137,7 @@ impl<'a> State<'a> {
         files: &'a Files,
         symbols: &Symbols,
         line: Line<'a>,
-    ) -> Result<Progress<'a>, Failure<Refusal>>
+    ) -> Result<LineResult<'a>, Failure<ExpansionFault>>
         requires expansions { (config self.old).names.count < 2 ^ 31 }
         requires reading { self.old.mode ≡ modes.Reading }
         ensures { Follows (rule.uses files.now symbols.now line.entry (rule.directive_in (first_word line.entry.text)) (config self.old)) result (config self.new) }
@@ -174,7 +174,7 @@ impl<'a> State<'a> {
         symbols: &Symbols,
         row: Row<'a>,
         directive: Option<Directive>,
-    ) -> Result<Progress<'a>, Failure<Refusal>>
+    ) -> Result<LineResult<'a>, Failure<ExpansionFault>>
         requires expansions { (config self.old).names.count < 2 ^ 31 }
         requires reading { self.old.mode ≡ modes.Reading }
         ensures { Follows (rule.used files.now symbols.now row.entry directive (config self.old)) result (config self.new) }
@@ -194,7 +194,7 @@ impl<'a> State<'a> {
         place: SourcePlace,
         directive: Directive,
         text: &str,
-    ) -> Result<Progress<'a>, Failure<Refusal>>
+    ) -> Result<LineResult<'a>, Failure<ExpansionFault>>
         requires expansions { (config self.old).names.count < 2 ^ 31 }
         requires reading { self.old.mode ≡ modes.Reading }
         ensures { Follows (rule.consumed files.now symbols.now place (acts.order_of directive text.now) (config self.old)) result (config self.new) }
@@ -211,7 +211,7 @@ impl<'a> State<'a> {
         symbols: &Symbols,
         row: Row<'a>,
         directive: Directive,
-    ) -> Result<Progress<'a>, Failure<Refusal>>
+    ) -> Result<LineResult<'a>, Failure<ExpansionFault>>
         requires expansions { (config self.old).names.count < 2 ^ 31 }
         requires reading { self.old.mode ≡ modes.Reading }
         ensures { Follows (rule.resumes files.now symbols.now row.entry directive (config self.old)) result (config self.new) }
@@ -224,12 +224,12 @@ impl<'a> State<'a> {
     }
 
     /// Sets how many `.if`s are nested in the skipped lines of the innermost `.if`.
-    fn nest(&mut self, branch: Branch, nested: usize) -> Result<Progress<'a>, Failure<Refusal>>
-        ensures { Follows (rule.nests nested branch (other_branches (config self.old).scope.branches) (config self.old)) result (config self.new) }
+    fn nest(&mut self, branch: Branch, nested: usize) -> Result<LineResult<'a>, Failure<ExpansionFault>>
+        ensures { Follows (rule.nests nested branch (other_branches (config self.old).frame.branches) (config self.old)) result (config self.new) }
     {
-        let branches = &mut self.top.scope.branches;
+        let branches = &mut self.top.frame.branches;
         let replaced = branches.replace(Branch { nested, ..branch });
-        went(replaced.map_err(Failure::NoMemory))
+        consumed(replaced.map_err(Failure::NoMemory))
     }
 
     /// A line that is `.elseif` before substitution.
@@ -239,14 +239,14 @@ impl<'a> State<'a> {
         symbols: &Symbols,
         row: Row<'a>,
         branch: Branch,
-    ) -> Result<Progress<'a>, Failure<Refusal>>
+    ) -> Result<LineResult<'a>, Failure<ExpansionFault>>
         requires expansions { (config self.old).names.count < 2 ^ 31 }
         requires reading { self.old.mode ≡ modes.Reading }
-        ensures { Follows (rule.reads_elseif files.now symbols.now row.entry branch (other_branches (config self.old).scope.branches) (config self.old)) result (config self.new) }
+        ensures { Follows (rule.reads_elseif files.now symbols.now row.entry branch (other_branches (config self.old).frame.branches) (config self.old)) result (config self.new) }
     {
         match branch.phase {
             Phase::Seeking => self.resume(files, symbols, row, Directive::ElseIf),
-            Phase::Taking | Phase::Passing => went(self.enter(branch, Phase::Passing)),
+            Phase::Taking | Phase::Passing => consumed(self.enter(branch, Phase::Passing)),
             Phase::ElseTaking | Phase::ElsePassing => Err(fault(FaultKind::StrayEnd, row.place())),
         }
     }
@@ -258,7 +258,7 @@ impl<'a> State<'a> {
         symbols: &Symbols,
         row: Row<'a>,
         branch: Branch,
-    ) -> Result<Progress<'a>, Failure<Refusal>>
+    ) -> Result<LineResult<'a>, Failure<ExpansionFault>>
         requires expansions { (config self.old).names.count < 2 ^ 31 }
         requires reading { self.old.mode ≡ modes.Reading }
         ensures { Follows (rule.else_in branch.phase row.entry.place (λ _. rule.resumes files.now symbols.now row.entry Directive.Else (config self.old))) result (config self.new) }
@@ -279,17 +279,17 @@ impl<'a> State<'a> {
         row: Row<'a>,
         directive: Option<Directive>,
         branch: Branch,
-    ) -> Result<Progress<'a>, Failure<Refusal>>
+    ) -> Result<LineResult<'a>, Failure<ExpansionFault>>
         requires expansions { (config self.old).names.count < 2 ^ 31 }
         requires reading { self.old.mode ≡ modes.Reading }
-        ensures { Follows (rule.skips_outer files.now symbols.now row.entry directive branch (other_branches (config self.old).scope.branches) (config self.old)) result (config self.new) }
+        ensures { Follows (rule.skips_outer files.now symbols.now row.entry directive branch (other_branches (config self.old).frame.branches) (config self.old)) result (config self.new) }
     {
         match directive {
             Some(Directive::If) => self.nest(branch, 1),
             Some(Directive::ElseIf) => self.read_elseif(files, symbols, row, branch),
             Some(Directive::Else) => self.skip_else(files, symbols, row, branch),
             Some(Directive::EndIf) => self.resume(files, symbols, row, Directive::EndIf),
-            _ => Ok(Progress::Went),
+            _ => Ok(LineResult::Consumed),
         }
     }
 
@@ -298,15 +298,15 @@ impl<'a> State<'a> {
         &mut self,
         directive: Option<Directive>,
         branch: Branch,
-    ) -> Result<Progress<'a>, Failure<Refusal>>
+    ) -> Result<LineResult<'a>, Failure<ExpansionFault>>
         requires some { 0 < branch.nested }
         requires few { branch.nested < 2 ^ 31 }
-        ensures { Follows (rule.skips_nested directive branch (other_branches (config self.old).scope.branches) (config self.old)) result (config self.new) }
+        ensures { Follows (rule.skips_nested directive branch (other_branches (config self.old).frame.branches) (config self.old)) result (config self.new) }
     {
         match directive {
             Some(Directive::If) => self.nest(branch, branch.nested + 1),
             Some(Directive::EndIf) => self.nest(branch, branch.nested - 1),
-            _ => Ok(Progress::Went),
+            _ => Ok(LineResult::Consumed),
         }
     }
 
@@ -319,11 +319,11 @@ impl<'a> State<'a> {
         row: Row<'a>,
         directive: Option<Directive>,
         branch: Branch,
-    ) -> Result<Progress<'a>, Failure<Refusal>>
+    ) -> Result<LineResult<'a>, Failure<ExpansionFault>>
         requires expansions { (config self.old).names.count < 2 ^ 31 }
         requires reading { self.old.mode ≡ modes.Reading }
         requires few { branch.nested < 2 ^ 31 }
-        ensures { Follows (rule.skips files.now symbols.now row.entry directive branch (other_branches (config self.old).scope.branches) (config self.old)) result (config self.new) }
+        ensures { Follows (rule.skips files.now symbols.now row.entry directive branch (other_branches (config self.old).frame.branches) (config self.old)) result (config self.new) }
     {
         if branch.nested == 0 {
             self.skip_outer(files, symbols, row, directive, branch)
@@ -340,10 +340,10 @@ impl<'a> State<'a> {
         row: Row<'a>,
         directive: Option<Directive>,
         branch: Branch,
-    ) -> Result<Progress<'a>, Failure<Refusal>>
+    ) -> Result<LineResult<'a>, Failure<ExpansionFault>>
         requires expansions { (config self.old).names.count < 2 ^ 31 }
         requires reading { self.old.mode ≡ modes.Reading }
-        ensures { Follows (rule.takes files.now symbols.now row.entry directive branch (other_branches (config self.old).scope.branches) (config self.old)) result (config self.new) }
+        ensures { Follows (rule.takes files.now symbols.now row.entry directive branch (other_branches (config self.old).frame.branches) (config self.old)) result (config self.new) }
     {
         match directive {
             Some(Directive::ElseIf) => self.read_elseif(files, symbols, row, branch),
@@ -357,14 +357,14 @@ impl<'a> State<'a> {
         files: &'a Files,
         symbols: &Symbols,
         row: Row<'a>,
-    ) -> Result<Progress<'a>, Failure<Refusal>>
+    ) -> Result<LineResult<'a>, Failure<ExpansionFault>>
         requires expansions { (config self.old).names.count < 2 ^ 31 }
         requires reading { self.old.mode ≡ modes.Reading }
-        requires nested { nesting (config self.old).scope.branches < 2 ^ 31 }
-        ensures { Follows (rule.reads_by files.now symbols.now row.entry (rule.directive_in (first_word row.entry.text)) (config self.old).scope.branches (config self.old)) result (config self.new) }
+        requires nested { nesting (config self.old).frame.branches < 2 ^ 31 }
+        ensures { Follows (rule.reads_by files.now symbols.now row.entry (rule.directive_in (first_word row.entry.text)) (config self.old).frame.branches (config self.old)) result (config self.new) }
     {
         let directive = directive_in(row.text());
-        match self.top.scope.branches.innermost() {
+        match self.top.frame.branches.innermost() {
             None => self.use_line(files, symbols, row, directive),
             Some(branch) if takes_lines(branch.phase) => {
                 self.take(files, symbols, row, directive, branch)

@@ -10,9 +10,9 @@ ghost use Rattle.c25_macro.specs.Stages.{stage_of, IsRefused};
 
 use crate::answer::{ExpLine, ExpandFault};
 use crate::line::Line;
-use crate::refusal::Refusal;
-use crate::standing::Standing;
-use crate::state::State;
+use crate::expansion_fault::ExpansionFault;
+use crate::bounded_state::BoundedState;
+use crate::state::ExpanderState;
 use c25_expr::symbols::Symbols;
 use c25_files::files::Files;
 use c25_meaning_common::failure::Failure;
@@ -28,7 +28,7 @@ pub(crate) enum Stage<'a> {
     /// Before the first line.
     Before,
     /// After a line was given, or after the end.
-    Standing(Standing<'a>),
+    BoundedState(BoundedState<'a>),
     /// The module is not there.
     NoModule,
     /// Memory ran out.
@@ -69,12 +69,12 @@ fn no_file(file: &str, line: usize) -> ExpandFault<'_>
 }
 
 /// The stage after a refusal, and the answer that reports it.
-fn refuse<'a>(files: &'a Files, name: &'a str, failure: Failure<Refusal>) -> (Stage<'a>, Answer<'a>)
+fn refuse<'a>(files: &'a Files, name: &'a str, failure: Failure<ExpansionFault>) -> (Stage<'a>, Answer<'a>)
     ensures { IsRefused files.now name.now failure result.0 result.1 }
 {
     match failure {
         Failure::NoMemory(error) => (Stage::NoMemory(error), Err(Failure::NoMemory(error))),
-        Failure::Fault(Refusal::Faulty { place, kind }) => {
+        Failure::Fault(ExpansionFault::Faulty { place, kind }) => {
             let place = FileLine {
                 file: files.name(place.file),
                 line: place.line,
@@ -82,7 +82,7 @@ fn refuse<'a>(files: &'a Files, name: &'a str, failure: Failure<Refusal>) -> (St
             let fault = Placed { place, fault: kind };
             (Stage::Faulty(fault), Err(Failure::Fault(fault)))
         }
-        Failure::Fault(Refusal::Missing { place, name }) => {
+        Failure::Fault(ExpansionFault::Missing { place, name }) => {
             let file = files.name(place.file);
             let line = place.line;
             (
@@ -97,7 +97,7 @@ fn refuse<'a>(files: &'a Files, name: &'a str, failure: Failure<Refusal>) -> (St
 fn go_on<'a>(
     files: &'a Files,
     name: &'a str,
-    state: Box<State<'a>>,
+    state: Box<ExpanderState<'a>>,
     symbols: &Symbols,
 ) -> (Stage<'a>, Answer<'a>)
     requires { IsBounded (config state.value) }
@@ -108,9 +108,9 @@ fn go_on<'a>(
     match state.next(files, symbols) {
         Ok(Some(given)) => {
             let line = show(files, given);
-            (Stage::Standing(Standing { state }), Ok(Some(line)))
+            (Stage::BoundedState(BoundedState { state }), Ok(Some(line)))
         }
-        Ok(None) => (Stage::Standing(Standing { state }), Ok(None)),
+        Ok(None) => (Stage::BoundedState(BoundedState { state }), Ok(None)),
         Err(failure) => refuse(files, name, failure),
     }
 }
@@ -126,7 +126,7 @@ fn begin<'a>(
     ensures kept { IsKept (stage_of files.now name.now result.0) }
 {
     match files.find(name) {
-        Some((file, text)) => match Box::new(alloc, State::new(alloc, file, text)) {
+        Some((file, text)) => match Box::new(alloc, ExpanderState::new(alloc, file, text)) {
             Ok(state) => go_on(files, name, state, symbols),
             Err(error) => refuse(files, name, Failure::NoMemory(NoMemory::from(error))),
         },
@@ -147,7 +147,7 @@ pub(crate) fn advance<'a>(
 {
     match stage {
         Stage::Before => begin(alloc, files, name, symbols),
-        Stage::Standing(Standing { state }) => go_on(files, name, state, symbols),
+        Stage::BoundedState(BoundedState { state }) => go_on(files, name, state, symbols),
         Stage::NoModule => (Stage::NoModule, Err(Failure::Fault(no_file(name, 0)))),
         Stage::NoMemory(error) => (Stage::NoMemory(error), Err(Failure::NoMemory(error))),
         Stage::Faulty(fault) => (Stage::Faulty(fault), Err(Failure::Fault(fault))),

@@ -1,5 +1,5 @@
 //! What an expander works on: the sources that are open, and how the next line is looked at. The methods of
-//! `State` are in one file for each rule: `conditions.rt` has `.if`, `blocks.rt` macros, loops and copied
+//! `ExpanderState` are in one file for each rule: `conditions.rt` has `.if`, `blocks.rt` macros, loops and copied
 //! files, `bodies.rt` their bodies, `lines.rt` what is done with a line that is read; `step.rt` goes on until
 //! a line is given.
 
@@ -7,14 +7,14 @@ ghost use Rattle.std.specs.Prelude.{◌≡◌, ◌<◌, ◌^◌, ◌++◌, Some,
 ghost use Rattle.c25_meaning_expansion.specs.Expansion as exp;
 ghost use Rattle.c25_meaning_expansion.specs.ExpansionRuns.{start};
 ghost use Rattle.c25_macro.specs.Config.{config, mode_of, Follows, GoesOn};
-ghost use Rattle.c25_macro.specs.Scopes.{kind_of, test_of};
+ghost use Rattle.c25_macro.specs.SourceFrames.{kind_of, test_of};
 ghost use Rattle.c25_macro.specs.declared.state.Mode.TheVariants as modes;
 
 use crate::act::ExpansionAct;
 use crate::dictionary::Dictionary;
 use crate::line::Line;
-use crate::refusal::Refusal;
-use crate::scope::{Block, Branches, Kind, Scope, Source, Stack};
+use crate::expansion_fault::ExpansionFault;
+use crate::frames::{ExitTarget, Branches, Kind, SourceFrame, Source, Stack};
 use c25_files::Rows;
 use c25_files::text::Text;
 use c25_meaning_common::failure::Failure;
@@ -48,28 +48,28 @@ pub(crate) enum Mode<'a> {
 
 /// What one rewriting gives.
 #[derive(Drop)]
-pub(crate) enum Progress<'a> {
+pub(crate) enum LineResult<'a> {
     /// A line is given.
     Given(Line<'a>),
     /// No line is given, and expansion goes on.
-    Went,
+    Consumed,
     /// No line is left.
     Finished,
 }
 
 /// The progress of a rewriting that gives no line.
-pub(crate) fn went<'a>(done: Result<(), Failure<Refusal>>) -> Result<Progress<'a>, Failure<Refusal>>
+pub(crate) fn consumed<'a>(done: Result<(), Failure<ExpansionFault>>) -> Result<LineResult<'a>, Failure<ExpansionFault>>
     ensures { (r : exp.Rewriting) (new : exp.Config) → GoesOn r done new → Follows r result new }
 {
     match done {
-        Ok(()) => Ok(Progress::Went),
+        Ok(()) => Ok(LineResult::Consumed),
         Err(failure) => Err(failure),
     }
 }
 
 /// The state of an expansion before its next line.
 #[derive(Drop)]
-pub(crate) struct State<'a> {
+pub(crate) struct ExpanderState<'a> {
     pub(crate) alloc: Global,
     /// The innermost open file, expansion or turn.
     pub(crate) top: Source<'a>,
@@ -87,18 +87,18 @@ const MOST_LINES: usize = 200_000;
 /// How many blocks may be open at once.
 pub(crate) const MOST_OPEN: usize = 32;
 
-impl<'a> State<'a> {
+impl<'a> ExpanderState<'a> {
     /// The state before the first line of a file with this text.
-    pub(crate) fn new(alloc: Global, file: usize, text: &'a Text) -> State<'a>
+    pub(crate) fn new(alloc: Global, file: usize, text: &'a Text) -> ExpanderState<'a>
         ensures { config result ≡ start file text.now }
     {
         let rows = text.rows(file);
         let last = rows.last_place(SourcePlace { file, line: 0 });
-        State {
+        ExpanderState {
             alloc,
             top: Source {
                 lines: rows.into_passage(),
-                scope: Scope {
+                frame: SourceFrame {
                     kind: Kind::Copied,
                     last,
                     branches: Branches::new(alloc),
@@ -125,13 +125,13 @@ impl<'a> State<'a> {
         kind: Kind<'a>,
         last: SourcePlace,
         rows: Rows<'a>,
-    ) -> Result<(), Failure<Refusal>>
+    ) -> Result<(), Failure<ExpansionFault>>
         requires reading { self.old.mode ≡ modes.Reading }
         ensures { GoesOn (exp.Goes (exp.source_opened (kind_of kind.entry) last rows.entry (config self.old))) result (config self.new) }
     {
         let source = Source {
             lines: rows.into_passage(),
-            scope: Scope {
+            frame: SourceFrame {
                 kind,
                 last,
                 branches: Branches::new(self.alloc),
@@ -145,29 +145,29 @@ impl<'a> State<'a> {
     pub(crate) fn is_full(&self) -> bool
         ensures { result ≡ exp.is_full (config self.now) }
     {
-        self.top.scope.branches.len().min(MOST_OPEN) + self.below.count() >= MOST_OPEN
+        self.top.frame.branches.len().min(MOST_OPEN) + self.below.count() >= MOST_OPEN
     }
 
     /// Whether a block of this kind is open.
-    pub(crate) fn stands_in(&self, block: Block) -> bool
+    pub(crate) fn stands_in(&self, block: ExitTarget) -> bool
         ensures { result ≡ exp.stands_in (test_of block) (config self.now) }
     {
-        self.top.scope.kind.is(block) || self.below.has(block)
+        self.top.frame.kind.is(block) || self.below.has(block)
     }
 
     /// Makes the source current in which the innermost block of this kind was opened, and closes all that was
     /// opened after it. False where no such block is open.
     #[tactic(auto, using(crate::proofs::Lists::after_closes))]
-    pub(crate) fn leave(&mut self, block: Block) -> bool
+    pub(crate) fn leave(&mut self, block: ExitTarget) -> bool
         requires reading { self.old.mode ≡ modes.Reading }
         ensures { MatchBool result
-            (exp.left_through (test_of block) (config self.old).lines (config self.old).scope (config self.old).outer (config self.old).names (config self.old) ≡ Some (config self.new))
-            (exp.left_through (test_of block) (config self.old).lines (config self.old).scope (config self.old).outer (config self.old).names (config self.old) ≡ None) }
+            (exp.left_through (test_of block) (config self.old).lines (config self.old).frame (config self.old).outer (config self.old).names (config self.old) ≡ Some (config self.new))
+            (exp.left_through (test_of block) (config self.old).lines (config self.old).frame (config self.old).outer (config self.old).names (config self.old) ≡ None) }
     {
         while let Some(source) = self.below.pop() {
             let ended = mem::replace(&mut self.top, source);
-            self.names.end(&ended.scope.kind);
-            if ended.scope.kind.is(block) {
+            self.names.end(&ended.frame.kind);
+            if ended.frame.kind.is(block) {
                 return true;
             }
         }

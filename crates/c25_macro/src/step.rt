@@ -1,6 +1,6 @@
 //! Rewriting the lines still to come until one is given.
 //!
-//! `State` and its other methods: `state.rt` says where they are.
+//! `ExpanderState` and its other methods: `state.rt` says where they are.
 
 ghost use Rattle.std.specs.Prelude.{◌≡◌, ◌<◌, ◌^◌, [], OnOk};
 ghost use Rattle.std.specs.String.{string_bytes};
@@ -14,9 +14,9 @@ ghost use Rattle.c25_macro.specs.Config.{config, Follows, IsNextRow, Answers};
 ghost use Rattle.c25_macro.specs.declared.state.Mode.TheVariants as modes;
 
 use crate::line::Line;
-use crate::refusal::{Refusal, fault};
-use crate::scope::Kind;
-use crate::state::{Mode, Progress, State, went};
+use crate::expansion_fault::{ExpansionFault, fault};
+use crate::frames::Kind;
+use crate::state::{Mode, LineResult, ExpanderState, consumed};
 use c25_expr::symbols::Symbols;
 use c25_files::Row;
 use c25_files::files::Files;
@@ -24,12 +24,12 @@ use c25_meaning_common::failure::Failure;
 use c25_meaning_language::statement::FaultKind;
 use std::mem;
 
-impl<'a> State<'a> {
+impl<'a> ExpanderState<'a> {
     /// The next line of the innermost file, expansion or turn, if it has one. It counts among the lines that
     /// may be read.
-    fn next_row(&mut self) -> Result<Option<Row<'a>>, Failure<Refusal>>
+    fn next_row(&mut self) -> Result<Option<Row<'a>>, Failure<ExpansionFault>>
         ensures next { IsNextRow self.old result self.new }
-        ensures scope { self.new.top.scope ≡ self.old.top.scope }
+        ensures frame { self.new.top.frame ≡ self.old.top.frame }
         ensures below { self.new.below ≡ self.old.below }
         ensures mode { self.new.mode ≡ self.old.mode }
         ensures names { self.new.names ≡ self.old.names }
@@ -46,34 +46,34 @@ impl<'a> State<'a> {
 
     /// Begins the next turn of a loop, or goes back to what stands after the file, expansion or turn that
     /// ends here.
-    fn end_source(&mut self) -> Result<Progress<'a>, Failure<Refusal>>
+    fn end_source(&mut self) -> Result<LineResult<'a>, Failure<ExpansionFault>>
         requires ended { self.old.top.lines.rest ≡ [] }
         requires reading { self.old.mode ≡ modes.Reading }
         ensures { (files : meaning.Files) (s : Table) → Follows (runs.front files s (config self.old).lines (config self.old)) result (config self.new) }
     {
-        if !self.top.scope.branches.is_empty() {
-            return Err(fault(FaultKind::OpenBlock, self.top.scope.last));
+        if !self.top.frame.branches.is_empty() {
+            return Err(fault(FaultKind::OpenBlock, self.top.frame.last));
         }
         if self.below.is_empty() {
-            return Ok(Progress::Finished);
+            return Ok(LineResult::Finished);
         }
-        if let Kind::Turn { body, more } = &self.top.scope.kind
+        if let Kind::Turn { body, more } = &self.top.frame.kind
             && *more > 0
             && !body.is_empty()
         {
             let body = body.copy();
             let more = *more - 1;
             self.top.lines = body.copy().into_passage();
-            self.top.scope.kind = Kind::Turn { body, more };
-            return Ok(Progress::Went);
+            self.top.frame.kind = Kind::Turn { body, more };
+            return Ok(LineResult::Consumed);
         }
         match self.below.pop() {
             Some(source) => {
                 let ended = mem::replace(&mut self.top, source);
-                self.names.end(&ended.scope.kind);
-                Ok(Progress::Went)
+                self.names.end(&ended.frame.kind);
+                Ok(LineResult::Consumed)
             }
-            None => Ok(Progress::Finished),
+            None => Ok(LineResult::Finished),
         }
     }
 
@@ -82,7 +82,7 @@ impl<'a> State<'a> {
         &mut self,
         files: &'a Files,
         symbols: &Symbols,
-    ) -> Result<Progress<'a>, Failure<Refusal>>
+    ) -> Result<LineResult<'a>, Failure<ExpansionFault>>
         requires bounded { IsBounded (config self.old) }
         requires reading { self.old.mode ≡ modes.Reading }
         ensures { Follows (runs.front files.now symbols.now (config self.old).lines (config self.old)) result (config self.new) }
@@ -101,14 +101,14 @@ impl<'a> State<'a> {
         name: String,
         parameters: Vec<String>,
         nested: usize,
-    ) -> Result<Progress<'a>, Failure<Refusal>>
+    ) -> Result<LineResult<'a>, Failure<ExpansionFault>>
         requires collected { nested < 2 ^ 31 }
         requires reading { self.old.mode ≡ modes.Reading }
         ensures { (files : meaning.Files) (s : Table) → Follows (runs.front files s (config self.old).lines (record (config self.old) { mode = exp.InMacro (string_bytes name) (bytes_of_names parameters.items) self.old.top.lines.passed nested })) result (config self.new) }
     {
         match self.next_row() {
-            Ok(Some(row)) => went(self.collect_macro(row, name, parameters, nested)),
-            Ok(None) => Err(fault(FaultKind::OpenBlock, self.top.scope.last)),
+            Ok(Some(row)) => consumed(self.collect_macro(row, name, parameters, nested)),
+            Ok(None) => Err(fault(FaultKind::OpenBlock, self.top.frame.last)),
             Err(refusal) => Err(refusal),
         }
     }
@@ -118,14 +118,14 @@ impl<'a> State<'a> {
         &mut self,
         turns: usize,
         nested: usize,
-    ) -> Result<Progress<'a>, Failure<Refusal>>
+    ) -> Result<LineResult<'a>, Failure<ExpansionFault>>
         requires collected { nested < 2 ^ 31 }
         requires reading { self.old.mode ≡ modes.Reading }
         ensures { (files : meaning.Files) (s : Table) → Follows (runs.front files s (config self.old).lines (record (config self.old) { mode = exp.InLoop turns self.old.top.lines.passed nested })) result (config self.new) }
     {
         match self.next_row() {
-            Ok(Some(row)) => went(self.collect_loop(row, turns, nested)),
-            Ok(None) => Err(fault(FaultKind::OpenBlock, self.top.scope.last)),
+            Ok(Some(row)) => consumed(self.collect_loop(row, turns, nested)),
+            Ok(None) => Err(fault(FaultKind::OpenBlock, self.top.frame.last)),
             Err(refusal) => Err(refusal),
         }
     }
@@ -136,13 +136,13 @@ impl<'a> State<'a> {
         &mut self,
         files: &'a Files,
         symbols: &Symbols,
-    ) -> Result<Progress<'a>, Failure<Refusal>>
+    ) -> Result<LineResult<'a>, Failure<ExpansionFault>>
         requires { IsBounded (config self.old) }
         ensures { Follows (runs.rewrite files.now symbols.now (config self.old)) result (config self.new) }
     {
         match mem::replace(&mut self.mode, Mode::Reading) {
             Mode::Reading => self.read(files, symbols),
-            Mode::Acting { place, act } => went(self.act(files, symbols, place, act)),
+            Mode::Acting { place, act } => consumed(self.act(files, symbols, place, act)),
             Mode::InMacro {
                 name,
                 parameters,
@@ -157,16 +157,16 @@ impl<'a> State<'a> {
         &mut self,
         files: &'a Files,
         symbols: &Symbols,
-    ) -> Result<Option<Line<'a>>, Failure<Refusal>>
+    ) -> Result<Option<Line<'a>>, Failure<ExpansionFault>>
         requires { IsBounded (config self.old) }
         ensures answer { Answers (runs.first files.now symbols.now (config self.old)) result (config self.new) }
         ensures bounded { OnOk result (IsBounded (config self.new)) }
     {
         loop {
             match self.step(files, symbols) {
-                Ok(Progress::Given(row)) => return Ok(Some(row)),
-                Ok(Progress::Finished) => return Ok(None),
-                Ok(Progress::Went) => {}
+                Ok(LineResult::Given(row)) => return Ok(Some(row)),
+                Ok(LineResult::Finished) => return Ok(None),
+                Ok(LineResult::Consumed) => {}
                 Err(failure) => return Err(failure),
             }
         }

@@ -1,7 +1,7 @@
 //! An expansion that says which lines opened what is open.
 
 use crate::answer::{ExpLine, ExpandFault};
-use crate::state::State;
+use crate::state::ExpanderState;
 use c25_files::files::Files;
 use c25_meaning_expansion::place::SourcePlace;
 
@@ -10,7 +10,7 @@ use c25_meaning_expansion::place::SourcePlace;
 #[derive(Drop)]
 pub struct Tracer<'a> {
     pub(crate) files: &'a Files,
-    pub(crate) state: Box<State<'a>>,
+    pub(crate) state: Box<ExpanderState<'a>>,
     /// The places of these lines, the outermost first.
     pub(crate) trail: Vec<SourcePlace>,
 }
@@ -21,7 +21,7 @@ pub enum Step<'a> {
     /// A line is given.
     Given(ExpLine<'a>),
     /// No line is given, and expansion goes on.
-    Went,
+    Consumed,
     /// No line is left.
     Finished,
 }

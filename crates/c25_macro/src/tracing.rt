@@ -7,9 +7,9 @@ ghost use Rattle.c25_meaning_expansion.specs.Trail.{line_of, next_place};
 ghost use Rattle.c25_macro.specs.Config.{config, refused_by};
 ghost use Rattle.c25_macro.specs.Tracers.{Begins, IsToldAs, Shows, Steps, fault_in, trace_of};
 
-use crate::refusal::Refusal;
+use crate::expansion_fault::ExpansionFault;
 use crate::stage::show;
-use crate::state::{Mode, Progress, State};
+use crate::state::{Mode, LineResult, ExpanderState};
 use crate::tracer::{Step, StepFault, Tracer};
 use c25_expr::symbols::Symbols;
 use c25_files::files::Files;
@@ -19,14 +19,14 @@ use c25_meaning_common::placed::{FileLine, Placed};
 use c25_meaning_expansion::place::SourcePlace;
 use std::alloc::Global;
 
-impl State<'_> {
+impl ExpanderState<'_> {
     /// The place of the next line, or of the last one where the source ends.
     fn next_place(&self) -> SourcePlace
-        ensures { result ≡ next_place (config self.now).lines (config self.now).scope.last }
+        ensures { result ≡ next_place (config self.now).lines (config self.now).frame.last }
     {
         match self.top.lines.next_place() {
             Some(place) => place,
-            None => self.top.scope.last,
+            None => self.top.frame.last,
         }
     }
 
@@ -44,18 +44,18 @@ impl State<'_> {
 }
 
 /// The fault that reports a refusal, with the name of the line's file.
-fn told(files: &Files, refusal: Refusal) -> StepFault<'_>
+fn told(files: &Files, refusal: ExpansionFault) -> StepFault<'_>
     ensures { fault_by files.now (refused_by refusal) ≡ Some (fault_in result) }
 {
     match refusal {
-        Refusal::Faulty { place, kind } => {
+        ExpansionFault::Faulty { place, kind } => {
             let place = FileLine {
                 file: files.name(place.file),
                 line: place.line,
             };
             StepFault::Faulty(Placed { place, fault: kind })
         }
-        Refusal::Missing { place, name } => {
+        ExpansionFault::Missing { place, name } => {
             let file = files.name(place.file);
             let line = place.line;
             StepFault::Missing { file, line, name }
@@ -64,7 +64,7 @@ fn told(files: &Files, refusal: Refusal) -> StepFault<'_>
 }
 
 /// The failure that reports a refusal, or that memory ran out, with the name of the line's file.
-fn told_failure(files: &Files, failure: Failure<Refusal>) -> Failure<StepFault<'_>>
+fn told_failure(files: &Files, failure: Failure<ExpansionFault>) -> Failure<StepFault<'_>>
     ensures { IsToldAs files.now failure result }
 {
     match failure {
@@ -74,13 +74,13 @@ fn told_failure(files: &Files, failure: Failure<Refusal>) -> Failure<StepFault<'
 }
 
 /// The step that a rewriting gives, with the name of the line's file.
-fn shown<'a>(files: &'a Files, progress: Progress<'a>) -> Step<'a>
+fn shown<'a>(files: &'a Files, progress: LineResult<'a>) -> Step<'a>
     ensures { Shows files.now progress.entry result }
 {
     match progress {
-        Progress::Given(given) => Step::Given(show(files, given)),
-        Progress::Went => Step::Went,
-        Progress::Finished => Step::Finished,
+        LineResult::Given(given) => Step::Given(show(files, given)),
+        LineResult::Consumed => Step::Consumed,
+        LineResult::Finished => Step::Finished,
     }
 }
 
@@ -111,7 +111,7 @@ impl<'a> Tracer<'a> {
         let Some((file, text)) = files.find(name) else {
             return Ok(None);
         };
-        let state = Box::new(alloc, State::new(alloc, file, text))?;
+        let state = Box::new(alloc, ExpanderState::new(alloc, file, text))?;
         let trail = Vec::new(alloc);
         Ok(Some(Tracer {
             files,

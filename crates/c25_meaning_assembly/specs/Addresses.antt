@@ -26,38 +26,38 @@ use Rattle.c25_meaning_language.specs.declared.value.Base.TheVariants.{Absolute,
 
 -- the operands of a line: the numbers of its expressions, 0 where a value is an address, and the addresses
 -- among them
-pub record Sheet : Type 0 where
+pub record OperandValues : Type 0 where
   pub numbers : List ℕ
   pub addresses : List Address
 
 -- no operands: before the first expression
-abbrev pub no_operands : Sheet
+abbrev pub no_operands : OperandValues
 no_operands = record { numbers = []; addresses = [] }
 
 -- the operands with one more number
-abbrev pub with_number : ℕ → Sheet → Sheet
+abbrev pub with_number : ℕ → OperandValues → OperandValues
 with_number n s = record s { numbers = s.numbers ++ n ∷ [] }
 
 -- the operands with one more address, if the field takes one
-abbrev pub with_address : Option RelocationKind → RelocationBase → ℤ → Sheet → Result Sheet FaultKind
+abbrev pub with_address : Option RelocationKind → RelocationBase → ℤ → OperandValues → Result OperandValues FaultKind
 with_address None base addend s = Err fault.NotRelocatable
 with_address (Some kind) base addend s =
     Ok (record { numbers = s.numbers ++ 0 ∷ []; addresses = s.addresses ++ record { operand = length s.numbers; kind = kind; base = base; addend = addend } ∷ [] })
 
 -- the operands with one more value, a number or an address, if the field takes it
-abbrev pub with_value : Base → Field → ℤ → Sheet → Result Sheet FaultKind
+abbrev pub with_value : Base → Field → ℤ → OperandValues → Result OperandValues FaultKind
 with_value Absolute field z s = number_in field z >>= λ n. Ok (with_number n s)
 with_value (Section number) field z s = with_address (relocation_of field) (relocated.Section number) z s
 with_value (Loaded number) field z s = with_address (relocation_of field) (relocated.Loaded number) z s
 with_value (External number) field z s = with_address (relocation_of field) (relocated.External number) z s
 
 -- the operands with one more expression
-unfoldable pub taken : Target → Table → Sheet → Tree → Result Sheet FaultKind
+unfoldable pub taken : Target → Table → OperandValues → Tree → Result OperandValues FaultKind
 taken t table s e = valued table e >>= λ v. with_value v.base (field_of t (length s.numbers)) v.offset s
 
 -- the operands of a line: all its expressions, from left to right
-abbrev pub sheet_of : Target → Table → List Tree → Result Sheet FaultKind
-sheet_of t table trees = fold_ok (taken t table) no_operands trees
+abbrev pub operand_values : Target → Table → List Tree → Result OperandValues FaultKind
+operand_values t table trees = fold_ok (taken t table) no_operands trees
 
 -- the field of each address lies in one of the first `size` words of the line
 abbrev pub AreWithin : Target → ℕ → List Address → Type 0

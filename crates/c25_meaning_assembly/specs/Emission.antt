@@ -2,11 +2,11 @@
 use Rattle.std.specs.Prelude.{ℕ, ◌+◌, Bool, true, false, if◌then◌else◌, List, [], ◌∷◌, ◌++◌, length, map, replicate, Option, Some, None, Result, Ok, Err, pos}
 use Rattle.std.specs.List.{flat_map, fold, list_all, position_or_len}
 use Rattle.std.specs.Str.{bytes_eq}
-use Rattle.c25_meaning_assembly.specs.Addresses.{Sheet, sheet_of, words_of, relocations_of}
+use Rattle.c25_meaning_assembly.specs.Addresses.{OperandValues, operand_values, words_of, relocations_of}
 use Rattle.c25_meaning_language.specs.ExpansionFault.{ExpansionFault, Faulty}
 use Rattle.c25_meaning_objects.specs.Module.{Contents, SectionBody, Uninitialised, Initialised, SectionData, SymbolData}
 use Rattle.c25_meaning_common.specs.Results.{◌>>=◌, fold_ok, told}
-use Rattle.c25_meaning_assembly.specs.Sections.{Definitions, Section, Content, Operands, Words, Zeros, Exported, Origin, LaidContent, Progress, changed, imports, is_in, once, place}
+use Rattle.c25_meaning_assembly.specs.Sections.{Definitions, Section, Content, Operands, Words, Zeros, Exported, Origin, PendingItem, Progress, changed, imports, is_in, once, place}
 use Rattle.c25_meaning_language.specs.Value.{Table, value_named, start_of_text}
 use Rattle.c25_meaning_assembly.specs.declared.assembly.Target.{Target}
 use Rattle.c25_meaning_objects.specs.declared.object.LineMark.{LineMark}
@@ -65,14 +65,14 @@ abbrev pub table_at : Definitions → ℕ → ℕ → Table
 table_at names section offset = record { entries = names; here = place section offset }
 
 -- the sections with the words and relocations of a line's operands at the end of one of them
-abbrev pub with_sheet : Target → ℕ → ℕ → List Section → Sheet → List Section
-with_sheet t section offset sections s =
+abbrev pub with_operand_values : Target → ℕ → ℕ → List Section → OperandValues → List Section
+with_operand_values t section offset sections s =
     changed (extended (words_of t s.numbers) (relocations_of t section offset s.addresses)) sections section
 
 -- the sections with what one item adds; names of `.def` add nothing and must be defined here
 abbrev pub emit : Definitions → ℕ → ℕ → List Section → Content → Result (List Section) FaultKind
 emit names section offset sections (Operands t trees) =
-    sheet_of t (table_at names section offset) trees >>= λ s. Ok (with_sheet t section offset sections s)
+    operand_values t (table_at names section offset) trees >>= λ s. Ok (with_operand_values t section offset sections s)
 emit names section offset sections (Words words) = Ok (changed (extended words []) sections section)
 emit names section offset sections (Zeros count) = Ok (changed (extended (replicate count 0) []) sections section)
 emit names section offset sections (Exported exported) =
@@ -83,11 +83,11 @@ abbrev pub at_origin : {A : Type 0} → Origin → Result A FaultKind → Result
 at_origin origin r = told (λ kind. Faulty origin.file origin.line kind) r
 
 -- the sections with what one more item adds, or the fault of its line
-abbrev pub emitted : Definitions → List Section → LaidContent → Result (List Section) ExpansionFault
+abbrev pub emitted : Definitions → List Section → PendingItem → Result (List Section) ExpansionFault
 emitted names sections item = at_origin item.origin (emit names item.section item.offset sections item.content)
 
 -- the sections with what all items add, in the order of lines
-abbrev pub emit_all : Definitions → List Section → List LaidContent → Result (List Section) ExpansionFault
+abbrev pub emit_all : Definitions → List Section → List PendingItem → Result (List Section) ExpansionFault
 emit_all names sections items = fold_ok (emitted names) sections items
 
 -- ---- the module

@@ -14,12 +14,12 @@ use Rattle.c25_meaning_common.specs.Results.{◌>>=◌}
 use Rattle.c25_meaning_assembly.specs.Sections.{Origin, Progress, start, table, size_at, pass}
 
 -- what the lines so far have made, and their entries in the listing
-pub record Passed : Type 0 where
+pub record LinesSoFar : Type 0 where
   pub progress : Progress
   pub entries : List Entry
 
 -- before the first line: no lines so far
-abbrev pub no_lines : Passed
+abbrev pub no_lines : LinesSoFar
 no_lines = record { progress = start; entries = [] }
 
 -- the file and number of an expanded line
@@ -41,25 +41,25 @@ abbrev pub read_and_pass : ExpandedLine → Progress → Result Progress Expansi
 read_and_pass l p = at_origin (origin_of l) (read_statement l.text >>= λ s. pass (origin_of l) s p)
 
 -- the lines so far with one more, and its entry in the listing
-unfoldable pub pass_line : ExpandedLine → Passed → Result Passed ExpansionFault
+unfoldable pub pass_line : ExpandedLine → LinesSoFar → Result LinesSoFar ExpansionFault
 pass_line l a =
     read_and_pass l a.progress >>= λ p. Ok (record { progress = p; entries = a.entries ++ entry_of l a.progress p ∷ [] })
 
 -- what follows an answer of expansion: its fault, a line, after which `go_on` goes on, or the end
-abbrev pub passed_by : Option ExpansionFault → Option (ExpandedLine × Config) → (Config → Passed → Result Passed ExpansionFault) → Passed → Result Passed ExpansionFault
+abbrev pub passed_by : Option ExpansionFault → Option (ExpandedLine × Config) → (Config → LinesSoFar → Result LinesSoFar ExpansionFault) → LinesSoFar → Result LinesSoFar ExpansionFault
 passed_by (Some f) given go_on a = Err f
 passed_by None None go_on a = Ok a
 passed_by None (Some (l, c)) go_on a = pass_line l a >>= λ b. go_on c b
 
 -- the lines that expansion gives from a configuration on, at most `n`
-unfoldable pub passed : Files → ℕ → Config → Passed → Result Passed ExpansionFault
+unfoldable pub passed : Files → ℕ → Config → LinesSoFar → Result LinesSoFar ExpansionFault
 passed files zero c a = Ok a
 passed files (suc n) c a =
     passed_by (fault_by files (first files (table a.progress) c)) (given_by files (first files (table a.progress) c)) (passed files n) a
 
 -- the lines of the module whose expansion starts so, or Missing if there is no file of this name; expansion
 -- gives at most 200,000
-abbrev pub passed_from : Files → List ℕ → Option Config → Result Passed ExpansionFault
+abbrev pub passed_from : Files → List ℕ → Option Config → Result LinesSoFar ExpansionFault
 passed_from files name None = Err (Missing name 0 name)
 passed_from files name (Some c) = passed files 200001 c no_lines
 
@@ -69,7 +69,7 @@ pub record Assembled : Type 0 where
   pub entries : List Entry
 
 -- the module of these lines with its listing, or the first fault of an operand
-abbrev pub completed : Passed → Result Assembled ExpansionFault
+abbrev pub completed : LinesSoFar → Result Assembled ExpansionFault
 completed a = finished a.progress >>= λ m. Ok (record { contents = m; entries = a.entries })
 
 -- the module of the source of this name, or its first fault: that of the first line that is faulty with the

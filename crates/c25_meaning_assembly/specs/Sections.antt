@@ -51,7 +51,7 @@ pub data Content : Type 0 where
   Exported : (names : List (List ℕ)) → Content
 
 -- an item: its content, the line that it comes from, and where it begins
-pub record LaidContent : Type 0 where
+pub record PendingItem : Type 0 where
   pub origin : Origin
   pub section : ℕ
   pub offset : ℕ
@@ -69,7 +69,7 @@ pub record Progress : Type 0 where
   pub exported : List (List ℕ)
   -- whether there has been a `.mmregs`
   pub registers : Bool
-  pub items : List LaidContent
+  pub items : List PendingItem
   -- the names of the files that hold instructions
   pub files : List (List ℕ)
 

@@ -11,7 +11,7 @@ use Rattle.c25_meaning_expansion.specs.Files.{Files, text_named}
 use Rattle.c25_meaning_expansion.specs.Rows.{Row, file_number}
 use Rattle.c25_meaning_language.specs.Texts.{SubstitutionTexts}
 use Rattle.c25_meaning_expansion.specs.Acts.{ExpansionAct, If, ElseIf, Else, EndIf, Define, Stray, Exit, Loop, Break, Assign, Evaluate, Copy, End, Call}
-use Rattle.c25_meaning_expansion.specs.Expansion.{LineOrEnd, Kind, Copied, Expanded, Turn, Scope, Expansion, Mode, Dictionary, Config, Rewriting, Gives, Goes, Faults, Misses, unless, depth, is_full, with_branches, left_through, after_close, without_ended, is_expansion, is_turn, stands_in, macro_named, assigned, assigned_by}
+use Rattle.c25_meaning_expansion.specs.Expansion.{LineOrEnd, Kind, Copied, Expanded, Turn, SourceFrame, Expansion, Mode, Dictionary, Config, Rewriting, Gives, Goes, Faults, Misses, unless, depth, is_full, with_branches, left_through, after_close, without_ended, is_expansion, is_turn, stands_in, macro_named, assigned, assigned_by}
 use Rattle.c25_meaning_expansion.specs.ExpansionRules.{absolute_number, with_number, needed, phase_of, elseif_in, else_in, begins_if, enters, elseif_by, else_by, endif_by, begins_macro, begins_expansion, leaves, turns_of, collects, begins_loop, breaks_if, breaks, evaluates, copies_by, copies, ends_all, acts}
 use Rattle.c25_meaning_expansion.specs.ExpansionBounds.{nested_of, pending, collecting, nesting, deepest, skipping}
 use Rattle.c25_meaning_expansion.specs.declared.place.SourcePlace.{SourcePlace}
@@ -75,7 +75,7 @@ pub record IsIdle (m : Mode) : Type 0 where
 -- what acting on a line changes
 pub record Acted (c d : Config) : Type 0 where
   pub left : d.left ≡ c.left
-  pub scopes : length d.outer ≤ length c.outer + 1
+  pub frames : length d.outer ≤ length c.outer + 1
   pub nothing_waits : pending d.mode ≡ 0
   pub nested : nested_of d.mode ≡ 0
   pub skipped : skipping d ≤ skipping c
@@ -90,7 +90,7 @@ not_full : (c : Config) → is_full c ≡ false → depth c < 32
 not_full c h = grind (arith, nat_tests)
 
 -- the blocks open in a file, expansion or turn, and those around it
-pub blocks_in : (f : Scope) (fs : List Scope) → sum_by (λ g. length g.branches + 1) (f ∷ fs) ≡ length f.branches + 1 + sum_by (λ g. length g.branches + 1) fs
+pub blocks_in : (f : SourceFrame) (fs : List SourceFrame) → sum_by (λ g. length g.branches + 1) (f ∷ fs) ≡ length f.branches + 1 + sum_by (λ g. length g.branches + 1) fs
 blocks_in f fs = sum_by-cons (λ g. length g.branches + 1) f fs
 
 acted_if : (s : Table) (place : SourcePlace) (e : Tree) (c : Config) → IsIdle c.mode → Comes (Acted c) Never (begins_if s place e c)
@@ -98,22 +98,22 @@ unfolding begins_if
 acted_if s place e c h = comes_needed s place e _ (λ number. comes_unless (is_full c) fault.Depth place _ (λ room. goes (omega (arith, not_full c room))))
 
 -- other `.if`s in the innermost file, expansion or turn
-acted_branches : (new old : List Branch) (c : Config) → IsIdle c.mode → old ≡ c.scope.branches → nesting new ≤ nesting old → length new ≤ length old → Acted c (with_branches new c)
+acted_branches : (new old : List Branch) (c : Config) → IsIdle c.mode → old ≡ c.frame.branches → nesting new ≤ nesting old → length new ≤ length old → Acted c (with_branches new c)
 acted_branches new old c h e n l = omega (arith, ap nesting e, ap length e)
 
-acted_enters : (b : Branch) (bs : List Branch) (c : Config) (phase : Phase) → IsIdle c.mode → b ∷ bs ≡ c.scope.branches → Comes (Acted c) Never (enters b bs c phase)
+acted_enters : (b : Branch) (bs : List Branch) (c : Config) (phase : Phase) → IsIdle c.mode → b ∷ bs ≡ c.frame.branches → Comes (Acted c) Never (enters b bs c phase)
 acted_enters b bs c phase h same = goes (acted_branches (record b { phase = phase } ∷ bs) (b ∷ bs) c h same (omega arith) (omega arith))
 
-acted_elseif : (s : Table) (place : SourcePlace) (e : Tree) (bs : List Branch) (c : Config) → IsIdle c.mode → bs ≡ c.scope.branches → Comes (Acted c) Never (elseif_by s place e bs c)
+acted_elseif : (s : Table) (place : SourcePlace) (e : Tree) (bs : List Branch) (c : Config) → IsIdle c.mode → bs ≡ c.frame.branches → Comes (Acted c) Never (elseif_by s place e bs c)
 acted_elseif s place e [] c h same = comes_needed s place e _ (λ number. faults)
 acted_elseif s place e (b ∷ bs) c h same = comes_elseif b.phase place (enters b bs c) _ (λ phase. acted_enters b bs c phase h same)
     (comes_needed s place e _ (λ number. acted_enters b bs c (phase_of number) h same))
 
-acted_else : (place : SourcePlace) (bs : List Branch) (c : Config) → IsIdle c.mode → bs ≡ c.scope.branches → Comes (Acted c) Never (else_by place bs c)
+acted_else : (place : SourcePlace) (bs : List Branch) (c : Config) → IsIdle c.mode → bs ≡ c.frame.branches → Comes (Acted c) Never (else_by place bs c)
 acted_else place [] c h same = faults
 acted_else place (b ∷ bs) c h same = comes_else b.phase place (enters b bs c) (λ phase. acted_enters b bs c phase h same)
 
-acted_endif : (place : SourcePlace) (bs : List Branch) (c : Config) → IsIdle c.mode → bs ≡ c.scope.branches → Comes (Acted c) Never (endif_by place bs c)
+acted_endif : (place : SourcePlace) (bs : List Branch) (c : Config) → IsIdle c.mode → bs ≡ c.frame.branches → Comes (Acted c) Never (endif_by place bs c)
 acted_endif place [] c h same = faults
 acted_endif place (b ∷ bs) c h same = goes (acted_branches bs (b ∷ bs) c h same (omega arith) (omega arith))
 
@@ -124,7 +124,7 @@ acted_define place name parameters c h =
 
 acted_call : (place : SourcePlace) (body : List Row) (arguments : SubstitutionTexts) (c : Config) → IsIdle c.mode → Comes (Acted c) Never (begins_expansion place body arguments c)
 unfolding begins_expansion
-acted_call place body arguments c h = comes_unless (is_full c) fault.Depth place _ (λ room. goes (omega (arith, not_full c room, blocks_in c.scope c.outer)))
+acted_call place body arguments c h = comes_unless (is_full c) fault.Depth place _ (λ room. goes (omega (arith, not_full c room, blocks_in c.frame c.outer)))
 
 -- the end of an expansion leaves the number of those that there have been
 pub count_stays : (kind : Kind) (names : Dictionary) → (without_ended kind names).count ≡ names.count
@@ -132,20 +132,20 @@ count_stays Copied names = refl
 count_stays Expanded names = refl
 count_stays (Turn body more) names = refl
 
-acted_left : (test : Kind → Bool) (lines : List LineOrEnd) (scope : Scope) (outer : List Scope) (names : Dictionary) (c : Config) → IsIdle c.mode →
-    length outer ≤ length c.outer → deepest (scope ∷ outer) ≤ skipping c → names.count ≡ c.names.count →
-    length scope.branches + sum_by (λ g. length g.branches + 1) outer ≤ depth c → IfSome (left_through test lines scope outer names c) (Acted c)
-acted_left test lines scope [] names c h l k n b = tt
-acted_left test lines scope (f ∷ fs) names c h l k n b =
-    let count = count_stays scope.kind names in
+acted_left : (test : Kind → Bool) (lines : List LineOrEnd) (frame : SourceFrame) (outer : List SourceFrame) (names : Dictionary) (c : Config) → IsIdle c.mode →
+    length outer ≤ length c.outer → deepest (frame ∷ outer) ≤ skipping c → names.count ≡ c.names.count →
+    length frame.branches + sum_by (λ g. length g.branches + 1) outer ≤ depth c → IfSome (left_through test lines frame outer names c) (Acted c)
+acted_left test lines frame [] names c h l k n b = tt
+acted_left test lines frame (f ∷ fs) names c h l k n b =
+    let count = count_stays frame.kind names in
     let blocks = blocks_in f fs in
-    elim (test scope.kind) as (λ t. IfSome (if t then Some (record c { lines = after_close lines; scope = f; outer = fs; names = without_ended scope.kind names }) else left_through test (after_close lines) f fs (without_ended scope.kind names) c) (Acted c)) [
+    elim (test frame.kind) as (λ t. IfSome (if t then Some (record c { lines = after_close lines; frame = f; outer = fs; names = without_ended frame.kind names }) else left_through test (after_close lines) f fs (without_ended frame.kind names) c) (Acted c)) [
       | true ↦ omega arith
-      | false ↦ acted_left test (after_close lines) f fs (without_ended scope.kind names) c h (omega arith) (omega arith) (omega arith) (omega arith)
+      | false ↦ acted_left test (after_close lines) f fs (without_ended frame.kind names) c h (omega arith) (omega arith) (omega arith) (omega arith)
     ]
 
 acted_leaves : (test : Kind → Bool) (place : SourcePlace) (c : Config) → IsIdle c.mode → Comes (Acted c) Never (leaves test place c)
-acted_leaves test place c h = comes_some (left_through test c.lines c.scope c.outer c.names c) _ faults (acted_left test c.lines c.scope c.outer c.names c h (omega arith) (omega arith) refl (omega arith))
+acted_leaves test place c h = comes_some (left_through test c.lines c.frame c.outer c.names c) _ faults (acted_left test c.lines c.frame c.outer c.names c h (omega arith) (omega arith) refl (omega arith))
 
 acted_collects : (place : SourcePlace) (turns : ℕ) (c : Config) → IsIdle c.mode → Comes (Acted c) Never (collects place turns c)
 acted_collects place turns c h = comes_unless (is_full c) fault.Depth place _ (λ room. goes (omega (arith, not_full c room)))
@@ -181,15 +181,15 @@ acted_evaluate s place e name c h = comes_needed s place e _ (λ number. goes (a
 
 acted_copy : (text : Option (List ℕ)) (file : ℕ) (place : SourcePlace) (name : List ℕ) (c : Config) → IsIdle c.mode → Comes (Acted c) Never (copies_by text file place name c)
 acted_copy None file place name c h = misses
-acted_copy (Some text) file place name c h = comes_unless (is_full c) fault.Depth place _ (λ room. goes (omega (arith, not_full c room, blocks_in c.scope c.outer)))
+acted_copy (Some text) file place name c h = comes_unless (is_full c) fault.Depth place _ (λ room. goes (omega (arith, not_full c room, blocks_in c.frame c.outer)))
 
 -- the result of acting on a line
 pub acted : (files : Files) (s : Table) (place : SourcePlace) (act : ExpansionAct) (c : Config) → IsIdle c.mode → Comes (Acted c) Never (acts files s place act c)
 unfolding acts copies ends_all
 acted files s place (If e) c h = acted_if s place e c h
-acted files s place (ElseIf e) c h = acted_elseif s place e c.scope.branches c h refl
-acted files s place Else c h = acted_else place c.scope.branches c h refl
-acted files s place EndIf c h = acted_endif place c.scope.branches c h refl
+acted files s place (ElseIf e) c h = acted_elseif s place e c.frame.branches c h refl
+acted files s place Else c h = acted_else place c.frame.branches c h refl
+acted files s place EndIf c h = acted_endif place c.frame.branches c h refl
 acted files s place (Define name parameters) c h = acted_define place name parameters c h
 acted files s place Stray c h = faults
 acted files s place Exit c h = acted_leaves is_expansion place c h

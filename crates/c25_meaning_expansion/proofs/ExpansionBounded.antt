@@ -21,7 +21,7 @@ pub bounded_giving : (files : Files) (s : Table) (c d : Config) (row : Row) → 
 bounded_giving files s c d row bounds e = (falls_giving files s c d row e).bounded bounds
 
 -- one more may be nested in the innermost `.if` while lines may be read
-pub innermost_bounded : (c : Config) (b : Branch) (bs : List Branch) → IsBounded c → c.scope.branches ≡ b ∷ bs → b.nested + c.left ≤ 200000
+pub innermost_bounded : (c : Config) (b : Branch) (bs : List Branch) → IsBounded c → c.frame.branches ≡ b ∷ bs → b.nested + c.left ≤ 200000
 innermost_bounded c b bs bounds e = omega (arith, bounds, ap nesting e)
 
 -- ---- many

@@ -6,7 +6,7 @@ use Rattle.c25_meaning_language.specs.Value.{Table}
 use Rattle.c25_meaning_expansion.specs.Files.{Files}
 use Rattle.c25_meaning_expansion.specs.Rows.{Row, is_empty}
 use Rattle.c25_meaning_expansion.specs.Acts.{ExpansionAct}
-use Rattle.c25_meaning_expansion.specs.Expansion.{LineOrEnd, Read, Close, Kind, Copied, Expanded, Turn, Scope, Mode, Reading, Acting, InMacro, InLoop, Config, Rewriting, Gives, Goes, Finishes, Faults, Misses}
+use Rattle.c25_meaning_expansion.specs.Expansion.{LineOrEnd, Read, Close, Kind, Copied, Expanded, Turn, SourceFrame, Mode, Reading, Acting, InMacro, InLoop, Config, Rewriting, Gives, Goes, Finishes, Faults, Misses}
 use Rattle.c25_meaning_expansion.specs.ExpansionRules.{acts}
 use Rattle.c25_meaning_expansion.specs.ExpansionRuns.{read_by, is_closed, back, ended, front, rewrite_by, rewrite, front_weight, mode_weight, weight}
 use Rattle.c25_meaning_expansion.specs.ExpansionBounds.{nested_of, pending, collecting, deepest, IsBounded}
@@ -80,16 +80,16 @@ after_took row rest c _ some misses = tt
 
 -- ---- an end
 
-after_back : (rest : List LineOrEnd) (outer : List Scope) (c : Config) → front_weight c.lines ≡ 1 → c.outer ≡ outer → After c (back rest outer c)
+after_back : (rest : List LineOrEnd) (outer : List SourceFrame) (c : Config) → front_weight c.lines ≡ 1 → c.outer ≡ outer → After c (back rest outer c)
 after_back rest [] c e same = refl
 after_back rest (f ∷ fs) c e same =
-    let scopes = ap length same in
+    let frames = ap length same in
     let deep = ap deepest same in
     let around = ap (sum_by (λ g. length g.branches + 1)) same in
     record {
       weighs_less = omega (arith, front_small rest);
       left = omega arith;
-      bounded = λ bounds. omega (arith, bounds, blocks_in f fs, count_stays c.scope.kind c.names);
+      bounded = λ bounds. omega (arith, bounds, blocks_in f fs, count_stays c.frame.kind c.names);
     }
 
 after_cond : (c : Config) (b : Bool) (x y : Rewriting) → (b ≡ true → After c x) → (b ≡ false → After c y) → After c (if b then x else y)
@@ -97,7 +97,7 @@ after_cond c true x y h k = h refl
 after_cond c false x y h k = k refl
 
 after_turn : (body : List Row) (more : ℕ) (rest : List LineOrEnd) (c : Config) (b : Bool) → b ≡ (nat_lt 0 more && not (is_empty body)) → front_weight c.lines ≡ 1 →
-    After c (if b then Goes (record c { lines = map Read body ++ Close ∷ rest; scope = record { kind = Turn body (more - 1); last = c.scope.last; branches = [] } }) else back rest c.outer c)
+    After c (if b then Goes (record c { lines = map Read body ++ Close ∷ rest; frame = record { kind = Turn body (more - 1); last = c.frame.last; branches = [] } }) else back rest c.outer c)
 after_turn [] more rest c true e f = absurd (none (nat_lt 0 more) e)
   where
     none : (b : Bool) → true ≡ (b && false) → ⊥
@@ -122,7 +122,7 @@ module _ (files : Files) (s : Table) where
   after_front : (items : List LineOrEnd) (c : Config) → c.lines ≡ items → After c (front files s items c)
   after_front (Read row ∷ rest) c e = after_cond c (c.left == 0) _ (read_by files s row c.mode (record c { lines = rest; mode = Reading; left = c.left - 1 })) (λ _. tt)
       (λ some. after_took row rest c _ (grind (arith, nat_tests)) (takes_read files s row c.mode (record c { lines = rest; mode = Reading; left = c.left - 1 }) idle))
-  after_front (Close ∷ rest) c e = after_cond c (is_closed c) (ended c.scope.kind rest c) _ (λ _. after_ended c.scope.kind rest c (ap front_weight e)) (λ _. tt)
+  after_front (Close ∷ rest) c e = after_cond c (is_closed c) (ended c.frame.kind rest c) _ (λ _. after_ended c.frame.kind rest c (ap front_weight e)) (λ _. tt)
   after_front [] c e = after_cond c (is_closed c) (Finishes c) _ (λ _. refl) (λ _. tt)
 
   after_by : (m : Mode) (c : Config) → c.mode ≡ m → After c (rewrite_by files s m c)

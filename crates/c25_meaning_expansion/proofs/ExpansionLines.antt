@@ -20,7 +20,7 @@ use Rattle.c25_meaning_language.specs.declared.statement.FaultKind.{FaultKind}
 -- what a line that was read in this mode changes
 pub record Took (m : Mode) (c d : Config) : Type 0 where
   pub left : d.left ≡ c.left
-  pub scopes : length d.outer + 2 * pending d.mode ≤ length c.outer + 2
+  pub frames : length d.outer + 2 * pending d.mode ≤ length c.outer + 2
   pub nested : nested_of d.mode ≤ nested_of m + 1
   pub skipped : skipping d ≤ skipping c + 1
   pub expansions : d.names.count + pending d.mode ≤ c.names.count + 1
@@ -70,34 +70,34 @@ module _ (files : Files) (s : Table) (m : Mode) where
   -- ---- lines that are skipped
 
   -- the innermost `.if` goes on so
-  took_branch : (new b : Branch) (bs : List Branch) (c : Config) → IsIdle c.mode → b ∷ bs ≡ c.scope.branches → new.nested ≤ b.nested + 1 → Took m c (with_branches (new ∷ bs) c)
+  took_branch : (new b : Branch) (bs : List Branch) (c : Config) → IsIdle c.mode → b ∷ bs ≡ c.frame.branches → new.nested ≤ b.nested + 1 → Took m c (with_branches (new ∷ bs) c)
   took_branch new b bs c h same n = omega (arith, ap nesting same, ap length same)
 
-  takes_elseif : (row : Row) (b : Branch) (bs : List Branch) (c : Config) → IsIdle c.mode → b ∷ bs ≡ c.scope.branches → Takes m c (reads_elseif files s row b bs c)
+  takes_elseif : (row : Row) (b : Branch) (bs : List Branch) (c : Config) → IsIdle c.mode → b ∷ bs ≡ c.frame.branches → Takes m c (reads_elseif files s row b bs c)
   takes_elseif row b bs c h same = comes_elseif b.phase row.place (enters b bs c) _
       (λ phase. goes (took_branch (record b { phase = phase }) b bs c h same (omega arith))) (takes_resumes row directive.ElseIf c h)
 
-  takes_outer : (row : Row) (d : Option Directive) (b : Branch) (bs : List Branch) (c : Config) → IsIdle c.mode → b ∷ bs ≡ c.scope.branches → Takes m c (skips_outer files s row d b bs c)
+  takes_outer : (row : Row) (d : Option Directive) (b : Branch) (bs : List Branch) (c : Config) → IsIdle c.mode → b ∷ bs ≡ c.frame.branches → Takes m c (skips_outer files s row d b bs c)
   takes_outer row (Some directive.If) b bs c h same = goes (took_branch (record b { nested = 1 }) b bs c h same (omega arith))
   takes_outer row (Some directive.ElseIf) b bs c h same = takes_elseif row b bs c h same
   takes_outer row (Some directive.Else) b bs c h same = comes_else b.phase row.place _ (λ phase. takes_resumes row directive.Else c h)
   takes_outer row (Some directive.EndIf) b bs c h same = takes_resumes row directive.EndIf c h
   takes_outer row _ b bs c h same = goes (omega arith)
 
-  takes_nested : (d : Option Directive) (b : Branch) (bs : List Branch) (c : Config) → IsIdle c.mode → b ∷ bs ≡ c.scope.branches → Takes m c (skips_nested d b bs c)
+  takes_nested : (d : Option Directive) (b : Branch) (bs : List Branch) (c : Config) → IsIdle c.mode → b ∷ bs ≡ c.frame.branches → Takes m c (skips_nested d b bs c)
   takes_nested (Some directive.If) b bs c h same = goes (took_branch (record b { nested = b.nested + 1 }) b bs c h same (omega arith))
   takes_nested (Some directive.EndIf) b bs c h same = goes (took_branch (record b { nested = b.nested - 1 }) b bs c h same (omega arith))
   takes_nested _ b bs c h same = goes (omega arith)
 
-  takes_skipped : (row : Row) (d : Option Directive) (b : Branch) (bs : List Branch) (c : Config) → IsIdle c.mode → b ∷ bs ≡ c.scope.branches → Takes m c (skips files s row d b bs c)
+  takes_skipped : (row : Row) (d : Option Directive) (b : Branch) (bs : List Branch) (c : Config) → IsIdle c.mode → b ∷ bs ≡ c.frame.branches → Takes m c (skips files s row d b bs c)
   unfolding skips
   takes_skipped row d b bs c h same = comes_if (b.nested == 0) _ _ (takes_outer row d b bs c h same) (takes_nested d b bs c h same)
 
-  takes_taken : (row : Row) (d : Option Directive) (b : Branch) (bs : List Branch) (c : Config) → IsIdle c.mode → b ∷ bs ≡ c.scope.branches → Takes m c (takes files s row d b bs c)
+  takes_taken : (row : Row) (d : Option Directive) (b : Branch) (bs : List Branch) (c : Config) → IsIdle c.mode → b ∷ bs ≡ c.frame.branches → Takes m c (takes files s row d b bs c)
   takes_taken row (Some directive.ElseIf) b bs c h same = takes_elseif row b bs c h same
   takes_taken row d b bs c h same = takes_used row d c h
 
-  takes_by : (row : Row) (d : Option Directive) (bs : List Branch) (c : Config) → IsIdle c.mode → bs ≡ c.scope.branches → Takes m c (reads_by files s row d bs c)
+  takes_by : (row : Row) (d : Option Directive) (bs : List Branch) (c : Config) → IsIdle c.mode → bs ≡ c.frame.branches → Takes m c (reads_by files s row d bs c)
   takes_by row d [] c h same = takes_used row d c h
   takes_by row d (b ∷ bs) c h same = comes_if (takes_lines b.phase) _ _ (takes_taken row d b bs c h same) (takes_skipped row d b bs c h same)
 
@@ -113,7 +113,7 @@ takes_in_loop : (row : Row) (d : Option Directive) (turns : ℕ) (body : List Ro
 unfolding in_loop
 takes_in_loop row (Some directive.Loop) turns body nested c h = goes (omega arith)
 takes_in_loop row (Some directive.EndLoop) turns body nested c h = comes_if (nested == 0) _ _
-    (comes_if (turns == 0) _ _ (goes (omega arith)) (goes (omega (arith, blocks_in c.scope c.outer))))
+    (comes_if (turns == 0) _ _ (goes (omega arith)) (goes (omega (arith, blocks_in c.frame c.outer))))
     (goes (omega arith))
 takes_in_loop row _ turns body nested c h = goes (omega arith)
 
@@ -121,4 +121,4 @@ takes_in_loop row _ turns body nested c h = goes (omega arith)
 pub takes_read : (files : Files) (s : Table) (row : Row) (m : Mode) (c : Config) → IsIdle c.mode → Takes m c (read_by files s row m c)
 takes_read files s row (InMacro name parameters body nested) c h = takes_in_macro row (directive_in (first_word row.text)) name parameters body nested c h
 takes_read files s row (InLoop turns body nested) c h = takes_in_loop row (directive_in (first_word row.text)) turns body nested c h
-takes_read files s row m c h = takes_by files s m row (directive_in (first_word row.text)) c.scope.branches c h refl
+takes_read files s row m c h = takes_by files s m row (directive_in (first_word row.text)) c.frame.branches c h refl

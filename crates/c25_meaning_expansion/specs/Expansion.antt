@@ -27,7 +27,7 @@ pub data Kind : Type 0 where
 
 -- an open file, expansion or turn: the place of its last line, and the `.if`s that began in it and are open,
 -- the innermost first
-pub record Scope : Type 0 where
+pub record SourceFrame : Type 0 where
   pub kind : Kind
   pub last : SourcePlace
   pub branches : List Branch
@@ -58,9 +58,9 @@ pub record Dictionary : Type 0 where
 -- the state of expansion between two rewritings
 pub record Config : Type 0 where
   pub lines : List LineOrEnd
-  pub scope : Scope
+  pub frame : SourceFrame
   -- the files, expansions and turns round that one, the innermost first
-  pub outer : List Scope
+  pub outer : List SourceFrame
   pub mode : Mode
   pub names : Dictionary
   -- how many lines may still be read
@@ -83,7 +83,7 @@ unless test kind place next = if test then Faults place kind else next
 
 -- how many expansions, copied files, loops and `.if`s are open
 abbrev pub depth : Config → ℕ
-depth c = length c.scope.branches + sum_by (λ f. length f.branches + 1) c.outer
+depth c = length c.frame.branches + sum_by (λ f. length f.branches + 1) c.outer
 
 -- whether 32 blocks are open, so that no more may be opened
 abbrev pub is_full : Config → Bool
@@ -92,11 +92,11 @@ is_full c = nat_le 32 (depth c)
 -- a file, expansion or turn with these lines is opened: they come next, and then an end
 abbrev pub source_opened : Kind → SourcePlace → List Row → Config → Config
 source_opened kind last rows c =
-    record c { lines = map Read rows ++ Close ∷ c.lines; scope = record { kind = kind; last = last; branches = [] }; outer = c.scope ∷ c.outer }
+    record c { lines = map Read rows ++ Close ∷ c.lines; frame = record { kind = kind; last = last; branches = [] }; outer = c.frame ∷ c.outer }
 
 -- the configuration with these `.if`s open in the innermost file, expansion or turn
 abbrev pub with_branches : List Branch → Config → Config
-with_branches branches c = record c { scope = record { kind = c.scope.kind; last = c.scope.last; branches = branches } }
+with_branches branches c = record c { frame = record { kind = c.frame.kind; last = c.frame.last; branches = branches } }
 
 -- the lines after the next end
 abbrev pub after_close : List LineOrEnd → List LineOrEnd
@@ -112,12 +112,12 @@ without_ended (Turn body more) names = names
 
 -- the configuration after the innermost file, expansion or turn that passes the test, with all that is open
 -- inside it, has been left and its lines dropped, if one passes
-abbrev pub left_through : (Kind → Bool) → List LineOrEnd → Scope → List Scope → Dictionary → Config → Option Config
-left_through test lines scope [] names c = None
-left_through test lines scope (f ∷ fs) names c =
-    if test scope.kind
-    then Some (record c { lines = after_close lines; scope = f; outer = fs; names = without_ended scope.kind names })
-    else left_through test (after_close lines) f fs (without_ended scope.kind names) c
+abbrev pub left_through : (Kind → Bool) → List LineOrEnd → SourceFrame → List SourceFrame → Dictionary → Config → Option Config
+left_through test lines frame [] names c = None
+left_through test lines frame (f ∷ fs) names c =
+    if test frame.kind
+    then Some (record c { lines = after_close lines; frame = f; outer = fs; names = without_ended frame.kind names })
+    else left_through test (after_close lines) f fs (without_ended frame.kind names) c
 
 -- whether it is an expansion
 abbrev pub is_expansion : Kind → Bool
@@ -133,7 +133,7 @@ is_turn Copied = false
 
 -- whether a file, expansion or turn that passes the test is open
 abbrev pub stands_in : (Kind → Bool) → Config → Bool
-stands_in test c = test c.scope.kind || list_any (λ f. test f.kind) c.outer
+stands_in test c = test c.frame.kind || list_any (λ f. test f.kind) c.outer
 
 -- ---- names
 

@@ -4,7 +4,7 @@ use Rattle.std.specs.Prelude.{◌≡◌, ℕ, ◌+◌, ◌≤◌, max, List, [],
 use Rattle.c25_meaning_expansion.specs.Files.{Files}
 use Rattle.c25_meaning_expansion.specs.Rows.{Row}
 use Rattle.c25_meaning_language.specs.Value.{Table}
-use Rattle.c25_meaning_expansion.specs.Expansion.{Scope, Mode, Reading, Acting, InMacro, InLoop, Config, Rewriting, Gives, Goes, Finishes, Faults, Misses, depth}
+use Rattle.c25_meaning_expansion.specs.Expansion.{SourceFrame, Mode, Reading, Acting, InMacro, InLoop, Config, Rewriting, Gives, Goes, Finishes, Faults, Misses, depth}
 use Rattle.c25_meaning_expansion.specs.ExpansionRuns.{rewrite}
 use Rattle.c25_meaning_expansion.specs.declared.expansion.Branch.{Branch}
 
@@ -45,13 +45,13 @@ nesting [] = 0
 nesting (b ∷ bs) = max b.nested (nesting bs)
 
 -- the largest such number in these files, expansions and turns
-abbrev pub deepest : List Scope → ℕ
+abbrev pub deepest : List SourceFrame → ℕ
 deepest [] = 0
 deepest (f ∷ fs) = max (nesting f.branches) (deepest fs)
 
 -- the largest such number in all files, expansions and turns that are open
 abbrev pub skipping : Config → ℕ
-skipping c = deepest (c.scope ∷ c.outer)
+skipping c = deepest (c.frame ∷ c.outer)
 
 -- the bounds of a configuration: each nested block and each call took one line of the 200,000 that may be
 -- read, and at most 32 blocks are open

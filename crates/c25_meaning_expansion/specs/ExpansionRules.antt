@@ -103,7 +103,7 @@ phase_of number = if is_zero number then Seeking else Taking
 -- `.if`: one more is open
 unfoldable pub begins_if : Table → SourcePlace → Tree → Config → Rewriting
 begins_if s place e c = needed s place e (λ number.
-    unless (is_full c) fault.Depth place (Goes (with_branches (record { phase = phase_of number; nested = 0 } ∷ c.scope.branches) c)))
+    unless (is_full c) fault.Depth place (Goes (with_branches (record { phase = phase_of number; nested = 0 } ∷ c.frame.branches) c)))
 
 -- the innermost `.if` goes on in this phase
 abbrev pub enters : Branch → List Branch → Config → Phase → Rewriting
@@ -140,7 +140,7 @@ begins_expansion place body arguments c =
 -- the innermost file, expansion or turn that passes the test is left: its lines are dropped; where none is
 -- open that passes, StrayEnd
 abbrev pub leaves : (Kind → Bool) → SourcePlace → Config → Rewriting
-leaves test place c = elim (left_through test c.lines c.scope c.outer c.names c) [ None ↦ Faults place fault.StrayEnd | Some rest ↦ Goes rest ]
+leaves test place c = elim (left_through test c.lines c.frame c.outer c.names c) [ None ↦ Faults place fault.StrayEnd | Some rest ↦ Goes rest ]
 
 -- how many turns a count asks for: none if it is negative
 abbrev pub turns_of : ℤ → ℕ
@@ -184,14 +184,14 @@ copies files place name c = copies_by (text_named files name) (file_number files
 
 -- `.end`: no lines are left and all blocks are closed
 unfoldable pub ends_all : SourcePlace → Config → Rewriting
-ends_all place c = Goes (record c { lines = []; scope = record { kind = Copied; last = place; branches = [] }; outer = []; names = record c.names { expansions = [] } })
+ends_all place c = Goes (record c { lines = []; frame = record { kind = Copied; last = place; branches = [] }; outer = []; names = record c.names { expansions = [] } })
 
 -- the result of what a line asks for
 unfoldable pub acts : Files → Table → SourcePlace → ExpansionAct → Config → Rewriting
 acts files s place (If e) c = begins_if s place e c
-acts files s place (ElseIf e) c = elseif_by s place e c.scope.branches c
-acts files s place Else c = else_by place c.scope.branches c
-acts files s place EndIf c = endif_by place c.scope.branches c
+acts files s place (ElseIf e) c = elseif_by s place e c.frame.branches c
+acts files s place Else c = else_by place c.frame.branches c
+acts files s place EndIf c = endif_by place c.frame.branches c
 acts files s place (Define name parameters) c = begins_macro place name parameters c
 acts files s place Stray c = Faults place fault.StrayEnd
 acts files s place Exit c = leaves is_expansion place c

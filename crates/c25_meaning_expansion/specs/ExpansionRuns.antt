@@ -5,7 +5,7 @@ use Rattle.c25_meaning_language.specs.Line.{first_word}
 use Rattle.c25_meaning_language.specs.Value.{Table}
 use Rattle.c25_meaning_expansion.specs.Files.{Files, text_named}
 use Rattle.c25_meaning_expansion.specs.Rows.{Row, rows_of, last_place, file_number, is_empty}
-use Rattle.c25_meaning_expansion.specs.Expansion.{LineOrEnd, Read, Close, Kind, Copied, Expanded, Turn, Scope, Mode, Reading, Acting, InMacro, InLoop, Config, Rewriting, Gives, Goes, Finishes, Faults, Misses, unless, without_ended}
+use Rattle.c25_meaning_expansion.specs.Expansion.{LineOrEnd, Read, Close, Kind, Copied, Expanded, Turn, SourceFrame, Mode, Reading, Acting, InMacro, InLoop, Config, Rewriting, Gives, Goes, Finishes, Faults, Misses, unless, without_ended}
 use Rattle.c25_meaning_expansion.specs.ExpansionRules.{acts, directive_in, reads_by, in_macro, in_loop}
 use Rattle.c25_meaning_language.specs.declared.statement.FaultKind.TheVariants as fault
 
@@ -15,7 +15,7 @@ use Rattle.c25_meaning_language.specs.declared.statement.FaultKind.TheVariants a
 abbrev pub read_by : Files → Table → Row → Mode → Config → Rewriting
 read_by files s row (InMacro name parameters body nested) c = in_macro row (directive_in (first_word row.text)) name parameters body nested c
 read_by files s row (InLoop turns body nested) c = in_loop row (directive_in (first_word row.text)) turns body nested c
-read_by files s row _ c = reads_by files s row (directive_in (first_word row.text)) c.scope.branches c
+read_by files s row _ c = reads_by files s row (directive_in (first_word row.text)) c.frame.branches c
 
 -- whether no body is being collected
 abbrev pub is_reading : Mode → Bool
@@ -26,20 +26,20 @@ is_reading (InLoop turns body nested) = false
 
 -- whether no block is open that began in the innermost file, expansion or turn
 abbrev pub is_closed : Config → Bool
-is_closed c = is_reading c.mode && is_empty c.scope.branches
+is_closed c = is_reading c.mode && is_empty c.frame.branches
 
 -- what follows once the innermost file, expansion or turn has ended: the lines after it in the one round it,
 -- or the end of the source
-abbrev pub back : List LineOrEnd → List Scope → Config → Rewriting
+abbrev pub back : List LineOrEnd → List SourceFrame → Config → Rewriting
 back rest [] c = Finishes c
-back rest (f ∷ fs) c = Goes (record c { lines = rest; scope = f; outer = fs; names = without_ended c.scope.kind c.names })
+back rest (f ∷ fs) c = Goes (record c { lines = rest; frame = f; outer = fs; names = without_ended c.frame.kind c.names })
 
 -- the end of a file, expansion or turn: a loop that has more turns, and lines, begins the next turn; else
 -- what stands after it comes
 abbrev pub ended : Kind → List LineOrEnd → Config → Rewriting
 ended (Turn body more) rest c =
     if nat_lt 0 more && not (is_empty body)
-    then Goes (record c { lines = map Read body ++ Close ∷ rest; scope = record { kind = Turn body (more - 1); last = c.scope.last; branches = [] } })
+    then Goes (record c { lines = map Read body ++ Close ∷ rest; frame = record { kind = Turn body (more - 1); last = c.frame.last; branches = [] } })
     else back rest c.outer c
 ended Copied rest c = back rest c.outer c
 ended Expanded rest c = back rest c.outer c
@@ -47,13 +47,13 @@ ended Expanded rest c = back rest c.outer c
 -- what follows, unless a block is open that began in the innermost file, expansion or turn: then OpenBlock,
 -- at its last line
 abbrev pub closes : Rewriting → Config → Rewriting
-closes next c = if is_closed c then next else Faults c.scope.last fault.OpenBlock
+closes next c = if is_closed c then next else Faults c.frame.last fault.OpenBlock
 
 -- one rewriting of the front of the list: a line is read, at most 200,000 in all, or an end is passed
 abbrev pub front : Files → Table → List LineOrEnd → Config → Rewriting
 front files s (Read row ∷ rest) c =
     unless (c.left == 0) fault.Lines row.place (read_by files s row c.mode (record c { lines = rest; mode = Reading; left = c.left - 1 }))
-front files s (Close ∷ rest) c = closes (ended c.scope.kind rest c) c
+front files s (Close ∷ rest) c = closes (ended c.frame.kind rest c) c
 front files s [] c = closes (Finishes c) c
 
 -- one rewriting by the mode: a line whose label was given is acted on, or else the front of the list is
@@ -117,7 +117,7 @@ first files s c = last_within files s (weight c) c
 abbrev pub start : ℕ → List ℕ → Config
 start file text = record {
   lines = map Read (rows_of file text);
-  scope = record { kind = Copied; last = last_place (record { file = file; line = 0 }) (rows_of file text); branches = [] };
+  frame = record { kind = Copied; last = last_place (record { file = file; line = 0 }) (rows_of file text); branches = [] };
   outer = [];
   mode = Reading;
   names = record { macros = []; texts = []; expansions = []; count = 0 };

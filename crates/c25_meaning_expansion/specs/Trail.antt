@@ -13,7 +13,7 @@ next_place _ place = place
 -- else the next line; at an end, the last line before it
 abbrev pub line_by : Mode → Config → SourcePlace
 line_by (Acting place act) c = place
-line_by _ c = next_place c.lines c.scope.last
+line_by _ c = next_place c.lines c.frame.last
 
 -- `line_by` on the parts of a configuration
 abbrev pub line_of : Config → SourcePlace

@@ -28,13 +28,13 @@ pub data Frame : Type 0 where
 
 -- the frames, the innermost first; the operand after them, if it has been read; and the items of all their
 -- trees in postfix order, the last first
-pub record State : Type 0 where
+pub record ParserState : Type 0 where
   pub frames : List Frame
   pub current : Option Tree
   pub items : List PostfixItem
 
 -- the state before the first token
-abbrev pub start : State
+abbrev pub start : ParserState
 start = record { frames = []; current = None; items = [] }
 
 -- a sign as an operator before an operand
@@ -75,7 +75,7 @@ is_close sign.CloseParenthesis = true
 is_close _ = false
 
 -- the state after a whole operand: the operators directly before it take it
-abbrev pub settle : List Frame → Tree → List PostfixItem → State
+abbrev pub settle : List Frame → Tree → List PostfixItem → ParserState
 settle [] e is = record { frames = []; current = Some e; items = is }
 settle (Open ∷ fs) e is = record { frames = Open ∷ fs; current = Some e; items = is }
 settle (Pending op ∷ fs) e is = settle fs (Unary op e) (Apply op ∷ is)
@@ -83,7 +83,7 @@ settle (After l op ∷ fs) e is = record { frames = After l op ∷ fs; current =
 
 -- the state once the operators of level `n` or tighter that wait for a right operand have taken it, the
 -- innermost first
-abbrev pub reduced : ℕ → List Frame → Tree → List PostfixItem → State
+abbrev pub reduced : ℕ → List Frame → Tree → List PostfixItem → ParserState
 reduced n [] e is = record { frames = []; current = Some e; items = is }
 reduced n (Open ∷ fs) e is = record { frames = Open ∷ fs; current = Some e; items = is }
 reduced n (Pending op ∷ fs) e is = record { frames = Pending op ∷ fs; current = Some e; items = is }
@@ -97,38 +97,38 @@ loosest = 8
 
 -- the state after a sign where an operand has to come: an operator before it, or an open parenthesis; other
 -- signs are not allowed
-abbrev pub operand_begun : List Frame → List PostfixItem → Option UnaryOperator → Bool → Option State
+abbrev pub operand_begun : List Frame → List PostfixItem → Option UnaryOperator → Bool → Option ParserState
 operand_begun fs is (Some op) b = Some (record { frames = Pending op ∷ fs; current = None; items = is })
 operand_begun fs is None true = Some (record { frames = Open ∷ fs; current = None; items = is })
 operand_begun fs is None false = None
 
 -- the state in which the last operand is the left one of an operator, which waits for its right one
-abbrev pub waiting_by : BinaryOperator → List Frame → Option Tree → List PostfixItem → State
+abbrev pub waiting_by : BinaryOperator → List Frame → Option Tree → List PostfixItem → ParserState
 waiting_by op fs (Some e) is = record { frames = After e op ∷ fs; current = None; items = is }
 waiting_by op fs None is = record { frames = fs; current = None; items = is }
 
 -- `waiting_by` on the parts of a state
-abbrev pub waiting : BinaryOperator → State → State
+abbrev pub waiting : BinaryOperator → ParserState → ParserState
 waiting op s = waiting_by op s.frames s.current s.items
 
 -- the state after a closing parenthesis, if the innermost frame is an open one
-abbrev pub closed_by : List Frame → Option Tree → List PostfixItem → Option State
+abbrev pub closed_by : List Frame → Option Tree → List PostfixItem → Option ParserState
 closed_by (Open ∷ fs) (Some e) is = Some (settle fs (Group e) (Wrap ∷ is))
 closed_by _ _ is = None
 
 -- `closed_by` on the parts of a state
-abbrev pub closed : State → Option State
+abbrev pub closed : ParserState → Option ParserState
 closed s = closed_by s.frames s.current s.items
 
 -- the state after a sign that follows an operand: an operator, or a closing parenthesis; other signs are not
 -- allowed
-abbrev pub followed : List Frame → Tree → List PostfixItem → Option BinaryOperator → Bool → Option State
+abbrev pub followed : List Frame → Tree → List PostfixItem → Option BinaryOperator → Bool → Option ParserState
 followed fs e is (Some op) b = Some (waiting op (reduced (level_of op) fs e is))
 followed fs e is None true = closed (reduced loosest fs e is)
 followed fs e is None false = None
 
 -- the state after one more token, if the token may stand there
-abbrev pub step_by : List Frame → Option Tree → List PostfixItem → Mark → Option State
+abbrev pub step_by : List Frame → Option Tree → List PostfixItem → Mark → Option ParserState
 step_by fs None is (Operand l) = Some (settle fs (Single l) (Push l ∷ is))
 step_by fs None is (Signed s) = operand_begun fs is (unary_of s) (is_open s)
 step_by fs None is Stray = None
@@ -137,7 +137,7 @@ step_by fs (Some e) is (Signed s) = followed fs e is (binary_of s) (is_close s)
 step_by fs (Some e) is Stray = None
 
 -- `step_by` on the parts of a state
-abbrev pub step : State → Mark → Option State
+abbrev pub step : ParserState → Mark → Option ParserState
 step s m = step_by s.frames s.current s.items m
 
 -- a tree, with its items in postfix order, the last first
@@ -151,7 +151,7 @@ whole_by [] (Some e) is = Some (record { tree = e; items = is })
 whole_by _ _ is = None
 
 -- `whole_by` on the parts of a state
-abbrev pub whole : State → Option Found
+abbrev pub whole : ParserState → Option Found
 whole s = whole_by s.frames s.current s.items
 
 -- the tree after the last token: all operators that wait take their operands
@@ -160,11 +160,11 @@ finished_by fs None is = None
 finished_by fs (Some e) is = whole (reduced loosest fs e is)
 
 -- `finished_by` on the parts of a state
-abbrev pub finished : State → Option Found
+abbrev pub finished : ParserState → Option Found
 finished s = finished_by s.frames s.current s.items
 
 -- the tree after these tokens, from a state on
-abbrev pub run : List Mark → State → Option Found
+abbrev pub run : List Mark → ParserState → Option Found
 run [] s = finished s
 run (m ∷ ms) s = option_and_then (run ms) (step s m)
 

@@ -5,7 +5,7 @@ use Rattle.std.specs.Prelude.{ℕ, ◌-◌, true, false, List, [], ◌∷◌, le
 use Rattle.std.specs.Str.{str_eq_ignore_ascii_case}
 use Rattle.c25_meaning_processor.specs.declared.schedule.Event.{Event}
 use Rattle.c25_meaning_processor.specs.declared.schedule.Event.TheVariants.{Latch, Bio}
-use Rattle.c25_meaning_processor.specs.declared.schedule.Entry.{Entry}
+use Rattle.c25_meaning_processor.specs.declared.schedule.ScheduleEntry.{ScheduleEntry}
 use Rattle.c25_meaning_common.specs.Digits.{decimal_of}
 use Rattle.c25_meaning_common.specs.Items.{ItemOf, items_of}
 
@@ -21,19 +21,19 @@ event_of word =
     else None))))
 
 -- the step of the last entry so far, 0 where there is none
-abbrev pub last_step : List Entry → ℕ
+abbrev pub last_step : List ScheduleEntry → ℕ
 last_step before = unwrap_or (option_map (λ entry. entry.step) (slice_get before (length before - 1))) 0
 
 -- the entry of a step and an event, if both are valid and the step is not less than the last
-abbrev pub timed : ℕ → Option ℕ → Option Event → Option Entry
+abbrev pub timed : ℕ → Option ℕ → Option Event → Option ScheduleEntry
 timed last (Some step) (Some event) = if nat_lt step last then None else Some (record { step = step; event = event })
 timed last _ _ = None
 
 -- the entry of a line after these entries, if its two parts are a step, in decimal, and an event
-abbrev pub entry_of : ItemOf Entry
+abbrev pub entry_of : ItemOf ScheduleEntry
 entry_of before (step ∷ event ∷ []) = timed (last_step before) (decimal_of 4294967295 step) (event_of event)
 entry_of before _ = None
 
 -- the schedule of a text, or the number of its first faulty line
-abbrev pub schedule_of : List ℕ → Result (List Entry) ℕ
+abbrev pub schedule_of : List ℕ → Result (List ScheduleEntry) ℕ
 schedule_of = items_of entry_of

@@ -2,11 +2,11 @@
 use Rattle.std.specs.Prelude.{ℕ, ◌==◌, Bool, true, List, [], ◌∷◌, filter, map, bit_or, nat_le}
 use Rattle.c25_meaning_processor.specs.declared.schedule.Event.{Event}
 use Rattle.c25_meaning_processor.specs.declared.schedule.Event.TheVariants.{Latch, Bio}
-use Rattle.c25_meaning_processor.specs.declared.schedule.Entry.{Entry}
+use Rattle.c25_meaning_processor.specs.declared.schedule.ScheduleEntry.{ScheduleEntry}
 use Rattle.c25_meaning_processor.specs.Run.{Signals}
 
 -- the events of those entries whose step passes a test, in order
-abbrev pub events_at : (ℕ → Bool) → List Entry → List Event
+abbrev pub events_at : (ℕ → Bool) → List ScheduleEntry → List Event
 events_at is_meant entries = map (λ entry. entry.event) (filter (λ entry. is_meant entry.step) entries)
 
 -- a set of interrupt lines, with the lines that some events latch
@@ -23,7 +23,7 @@ level_after level (Bio next ∷ events) = level_after next events
 
 -- the signals of a schedule: in step k the interrupt lines that events of step k latch, and the BIO level of
 -- the last event up to step k, 1 before the first
-abbrev pub signals_of : List Entry → Signals
+abbrev pub signals_of : List ScheduleEntry → Signals
 signals_of entries =
     record {
       lines = λ k. record { 0 = lines_after 0 (events_at (λ step. step == k) entries) };

@@ -14,7 +14,7 @@ pub enum Event {
 
 /// An event, and the step before which it happens.
 #[derive(Clone, Copy)]
-pub struct Entry {
+pub struct ScheduleEntry {
     /// The step, counted from 0.
     pub step: u32,
     pub event: Event,

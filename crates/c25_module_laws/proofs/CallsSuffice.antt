@@ -10,14 +10,14 @@ use Rattle.c25_meaning_expansion.specs.ExpansionRuns.{first, start, start_of}
 use Rattle.c25_meaning_expansion.specs.Files.{Files, text_named}
 use Rattle.c25_meaning_expansion.specs.Rows.{file_number}
 use Rattle.c25_meaning_language.specs.ExpansionFault.{ExpansionFault}
-use Rattle.c25_meaning_assembly.specs.ModuleOfSource.{Passed, no_lines, pass_line, passed, passed_by}
+use Rattle.c25_meaning_assembly.specs.ModuleOfSource.{LinesSoFar, no_lines, pass_line, passed, passed_by}
 
-same_behind : (r : Result Passed ExpansionFault) (f g : Passed → Result Passed ExpansionFault) → ((b : Passed) → f b ≡ g b) → (r >>= f) ≡ (r >>= g)
+same_behind : (r : Result LinesSoFar ExpansionFault) (f g : LinesSoFar → Result LinesSoFar ExpansionFault) → ((b : LinesSoFar) → f b ≡ g b) → (r >>= f) ≡ (r >>= g)
 same_behind (Ok b) f g h = h b
 same_behind (Err e) f g h = refl
 
-same_passed : (files : Files) (c : Config) (a : Passed) (f g : Config → Passed → Result Passed ExpansionFault) (r : Rewriting) → first files (table a.progress) c ≡ r
-    → ((d : Config) (b : Passed) → d.left < c.left → f d b ≡ g d b) → passed_by (fault_by files r) (given_by files r) f a ≡ passed_by (fault_by files r) (given_by files r) g a
+same_passed : (files : Files) (c : Config) (a : LinesSoFar) (f g : Config → LinesSoFar → Result LinesSoFar ExpansionFault) (r : Rewriting) → first files (table a.progress) c ≡ r
+    → ((d : Config) (b : LinesSoFar) → d.left < c.left → f d b ≡ g d b) → passed_by (fault_by files r) (given_by files r) f a ≡ passed_by (fault_by files r) (given_by files r) g a
 same_passed files c a f g (Gives row d) e h =
     let fewer = (first_giving files (table a.progress) c d row e).1 in
     same_behind (pass_line (expanded_line files row) a) (f d) (g d) (λ b. h d b fewer)
@@ -26,7 +26,7 @@ same_passed files c a f g (Finishes d) e h = refl
 same_passed files c a f g (Faults place kind) e h = refl
 same_passed files c a f g (Misses place name) e h = refl
 
-pub calls_suffice : (files : Files) (n m : ℕ) (c : Config) (a : Passed) → c.left < n → c.left < m → passed files n c a ≡ passed files m c a
+pub calls_suffice : (files : Files) (n m : ℕ) (c : Config) (a : LinesSoFar) → c.left < n → c.left < m → passed files n c a ≡ passed files m c a
 unfolding passed
 calls_suffice files zero m c a few more = absurd (omega (arith, few))
 calls_suffice files (suc n) zero c a few more = absurd (omega (arith, more))

@@ -3,10 +3,10 @@ use Rattle.std.proofs.Common.{◌≡◌, ℕ, zero, suc, ◌+◌, ◌<◌, cond,
 use Rattle.std.specs.List.{slice_get, list_all}
 use Rattle.std.proofs.lemmas.List.{append-nil, append_assoc}
 use Rattle.std.proofs.lemmas.Bool.{eq-eqb, ne_eqb}
-use Rattle.c25_meaning_assembly.specs.Addresses.{Sheet, sheet_of, words_of, relocations_of}
-use Rattle.c25_meaning_assembly.specs.Emission.{extended, emit, emitted, emit_all, at_origin, is_here, table_at, with_sheet}
+use Rattle.c25_meaning_assembly.specs.Addresses.{OperandValues, operand_values, words_of, relocations_of}
+use Rattle.c25_meaning_assembly.specs.Emission.{extended, emit, emitted, emit_all, at_origin, is_here, table_at, with_operand_values}
 use Rattle.c25_meaning_common.specs.Results.{◌>>=◌, fold_ok}
-use Rattle.c25_meaning_assembly.specs.Sections.{Definitions, Section, Content, Operands, Words, Zeros, Exported, Origin, LaidContent, changed, changed_by}
+use Rattle.c25_meaning_assembly.specs.Sections.{Definitions, Section, Content, Operands, Words, Zeros, Exported, Origin, PendingItem, changed, changed_by}
 use Rattle.c25_meaning_objects.specs.declared.object.Relocation.{Relocation}
 use Rattle.c25_meaning_language.specs.declared.statement.FaultKind.{FaultKind}
 use Rattle.c25_meaning_language.specs.declared.statement.FaultKind.TheVariants as fault
@@ -21,9 +21,9 @@ pub record Made : Type 0 where
   pub relocations : List Relocation
 
 -- what an item gives its section
-abbrev pub made_by : Definitions → LaidContent → Content → Result Made FaultKind
+abbrev pub made_by : Definitions → PendingItem → Content → Result Made FaultKind
 made_by names i (Operands t trees) =
-    sheet_of t (table_at names i.section i.offset) trees >>= λ s.
+    operand_values t (table_at names i.section i.offset) trees >>= λ s.
     Ok (record { section = i.section; offset = i.offset; words = words_of t s.numbers; relocations = relocations_of t i.section i.offset s.addresses })
 made_by names i (Words words) = Ok (record { section = i.section; offset = i.offset; words = words; relocations = [] })
 made_by names i (Zeros count) = Ok (record { section = i.section; offset = i.offset; words = replicate count 0; relocations = [] })
@@ -31,7 +31,7 @@ made_by names i (Exported exported) =
     cond (list_all (is_here names) exported) (Ok (record { section = i.section; offset = i.offset; words = []; relocations = [] })) (Err fault.Undefined)
 
 -- items give these
-abbrev pub Give : Definitions → List LaidContent → List Made → Type 0
+abbrev pub Give : Definitions → List PendingItem → List Made → Type 0
 Give names [] [] = Unit {0}
 Give names [] (m ∷ ms) = ⊥
 Give names (i ∷ is) [] = ⊥
@@ -122,13 +122,13 @@ told_ok : {A : Type 0} (origin : Origin) (r : Result A FaultKind) (x : A) → at
 told_ok origin (Ok y) x e = let q : y ≡ x = cc in ap Ok q
 told_ok origin (Err f) x e = absurd (cc)
 
-emit_made : (names : Definitions) (i : LaidContent) (c : Content) (sections out : List Section) → emit names i.section i.offset sections c ≡ Ok out
+emit_made : (names : Definitions) (i : PendingItem) (c : Content) (sections out : List Section) → emit names i.section i.offset sections c ≡ Ok out
     → (m : Made) × (made_by names i c ≡ Ok m) × (m.section ≡ i.section) × (changed (extended m.words m.relocations) sections i.section ≡ out)
 emit_made names i (Operands t trees) sections out e =
-    let s = bound (sheet_of t (table_at names i.section i.offset) trees) (λ s. Ok (with_sheet t i.section i.offset sections s)) out e in
+    let s = bound (operand_values t (table_at names i.section i.offset) trees) (λ s. Ok (with_operand_values t i.section i.offset sections s)) out e in
     let m : Made = record { section = i.section; offset = i.offset; words = words_of t (s.0).numbers; relocations = relocations_of t i.section i.offset (s.0).addresses } in
-    let same : with_sheet t i.section i.offset sections s.0 ≡ out = let last = s.2 in cc in
-    (m, ap (λ (r : Result Sheet FaultKind). r >>= λ (s : Sheet). Ok (record { section = i.section; offset = i.offset; words = words_of t s.numbers; relocations = relocations_of t i.section i.offset s.addresses })) s.1, refl, same)
+    let same : with_operand_values t i.section i.offset sections s.0 ≡ out = let last = s.2 in cc in
+    (m, ap (λ (r : Result OperandValues FaultKind). r >>= λ (s : OperandValues). Ok (record { section = i.section; offset = i.offset; words = words_of t s.numbers; relocations = relocations_of t i.section i.offset s.addresses })) s.1, refl, same)
 emit_made names i (Words words) sections out e = (record { section = i.section; offset = i.offset; words = words; relocations = [] }, refl, refl, let q : changed (extended words []) sections i.section ≡ out = cc in q)
 emit_made names i (Zeros count) sections out e = (record { section = i.section; offset = i.offset; words = replicate count 0; relocations = [] }, refl, refl, let q : changed (extended (replicate count 0) []) sections i.section ≡ out = cc in q)
 emit_made names i (Exported exported) sections out e =
@@ -137,7 +137,7 @@ emit_made names i (Exported exported) sections out e =
     (m, ap (λ b. cond b (Ok m) (Err fault.Undefined)) p.0, refl, changed_none sections i.section ∙ p.1)
 
 -- where all is emitted, the items give words and relocations, and these are in their sections
-pub all_emitted : (names : Definitions) (sections : List Section) (is : List LaidContent) (out : List Section) → emit_all names sections is ≡ Ok out
+pub all_emitted : (names : Definitions) (sections : List Section) (is : List PendingItem) (out : List Section) → emit_all names sections is ≡ Ok out
     → (ms : List Made) × Give names is ms × (out ≡ filled_from 0 sections ms)
 all_emitted names sections [] out e = let q : sections ≡ out = cc in ([], tt, sym q ∙ sym (filled_none 0 sections))
 all_emitted names sections (i ∷ is) out e =

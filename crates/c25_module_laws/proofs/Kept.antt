@@ -5,7 +5,7 @@ use Rattle.std.specs.Str.{bytes_eq}
 use Rattle.std.proofs.lemmas.List.{append-nil, append_assoc}
 use Rattle.std.proofs.lemmas.Bool.{and_from, and_parts, eq-eqb, ne_eqb}
 use Rattle.c25_meaning_objects.specs.Module.{each_fits, is_section_name}
-use Rattle.c25_meaning_assembly.specs.Sections.{Definitions, Section, Content, Operands, Words, Zeros, Exported, Origin, LaidContent, Progress, changed, changed_by, is_file_name, is_in, is_line_number, are_distinct}
+use Rattle.c25_meaning_assembly.specs.Sections.{Definitions, Section, Content, Operands, Words, Zeros, Exported, Origin, PendingItem, Progress, changed, changed_by, is_file_name, is_in, is_line_number, are_distinct}
 use Rattle.c25_meaning_language.specs.Statement.{form_row}
 use Rattle.c25_meaning_instructions.specs.Table.{size}
 use Rattle.c25_meaning_assembly.specs.declared.assembly.Target.TheVariants as target
@@ -59,30 +59,30 @@ IsGoodContent (Zeros count) = Unit {0}
 IsGoodContent (Exported names) = Unit {0}
 
 -- each item begins where those before it end, so many words being there
-abbrev pub AreLaid : (ℕ → ℕ) → List LaidContent → Type 0
+abbrev pub AreLaid : (ℕ → ℕ) → List PendingItem → Type 0
 AreLaid used [] = Unit {0}
 AreLaid used (i ∷ is) = (i.offset ≡ used i.section) × AreLaid (λ k. used k + part k i) is
 
 -- ---- marks
 
 -- the mark of an item that is an instruction
-abbrev pub mark_by : LaidContent → Content → List ModuleMark
+abbrev pub mark_by : PendingItem → Content → List ModuleMark
 mark_by i (Operands (target.Instruction f) trees) = record { section = i.section; offset = i.offset; size = size (form_row f) } ∷ []
 mark_by i _ = []
 
 -- the mark that an item has in a section
-abbrev pub marks_part : ℕ → LaidContent → List ModuleMark
+abbrev pub marks_part : ℕ → PendingItem → List ModuleMark
 marks_part k i = cond (eqb i.section k) (mark_by i i.content) []
 
 -- the marks that items have in a section
-abbrev pub marks_in : ℕ → List LaidContent → List ModuleMark
+abbrev pub marks_in : ℕ → List PendingItem → List ModuleMark
 marks_in k [] = []
 marks_in k (i ∷ is) = marks_part k i ++ marks_in k is
 
 -- ---- all of it
 
 -- a section, by its number, with these items, of which these are marked
-pub record IsKept (items marked : List LaidContent) (k : ℕ) (s : Section) : Type 0 where
+pub record IsKept (items marked : List PendingItem) (k : ℕ) (s : Section) : Type 0 where
   pub small : s.size ≤ 65536
   pub laid : s.initialised ≡ true → s.size ≡ total k items
   pub marks : s.marks ≡ marks_in k marked
@@ -120,7 +120,7 @@ pub record AreDeclared (declared exported : List (List ℕ)) : Type 0 where
   pub seen : AllByRecursion (λ d. is_in exported d ≡ true) declared
 
 -- the items, the sections' sizes, and their marks of these items
-pub record AreItems (sections : List Section) (items marked : List LaidContent) : Type 0 where
+pub record AreItems (sections : List Section) (items marked : List PendingItem) : Type 0 where
   pub each : Each (IsKept items marked) sections
   pub laid : AreLaid (λ k. 0) items
   pub codes : AllByRecursion (λ i. is_code (heads sections) i.section ≡ true) items
@@ -155,7 +155,7 @@ pub record AreTold (files : List (List ℕ)) (sections : List Section) : Type 0 
   pub each : Each (IsTold files) sections
 
 -- all that the lines so far have made, where these items are marked
-pub record AllBut (marked : List LaidContent) (p : Progress) : Type 0 where
+pub record AllBut (marked : List PendingItem) (p : Progress) : Type 0 where
   pub sections : AreSections p.sections p.current
   pub names : AreNames (length p.sections) p.names
   pub declared : AreDeclared p.declared p.exported
@@ -267,36 +267,36 @@ changed_twice f g (s ∷ ss) (suc i) =
 
 -- ---- items that come
 
-pub total_push : (k : ℕ) (is : List LaidContent) (i : LaidContent) → total k (is ++ i ∷ []) ≡ total k is + part k i
+pub total_push : (k : ℕ) (is : List PendingItem) (i : PendingItem) → total k (is ++ i ∷ []) ≡ total k is + part k i
 total_push k [] i = omega arith
 total_push k (j ∷ js) i = let h = total_push k js i in omega (arith, h)
 
-pub laid_push : (used : ℕ → ℕ) (is : List LaidContent) (i : LaidContent) → AreLaid used is → i.offset ≡ used i.section + total i.section is → AreLaid used (is ++ i ∷ [])
+pub laid_push : (used : ℕ → ℕ) (is : List PendingItem) (i : PendingItem) → AreLaid used is → i.offset ≡ used i.section + total i.section is → AreLaid used (is ++ i ∷ [])
 laid_push used [] i h at = (omega (arith, at), tt)
 laid_push used (j ∷ js) i h at = (h.0, laid_push (λ k. used k + part k j) js i h.1 (omega (arith, at)))
 
-pub part_here : (k : ℕ) (i : LaidContent) → i.section ≡ k → part k i ≡ words_in i.content
+pub part_here : (k : ℕ) (i : PendingItem) → i.section ≡ k → part k i ≡ words_in i.content
 part_here k i e = ap (λ b. cond b (words_in i.content) 0) (eq-eqb i.section k e)
 
-pub part_there : (k : ℕ) (i : LaidContent) → (k ≡ i.section → ⊥) → part k i ≡ 0
+pub part_there : (k : ℕ) (i : PendingItem) → (k ≡ i.section → ⊥) → part k i ≡ 0
 part_there k i e = ap (λ b. cond b (words_in i.content) 0) (ne_eqb i.section k (λ q. e (sym q)))
 
 -- ---- marks that come
 
-pub marks_push : (k : ℕ) (is : List LaidContent) (i : LaidContent) → marks_in k (is ++ i ∷ []) ≡ marks_in k is ++ marks_part k i
+pub marks_push : (k : ℕ) (is : List PendingItem) (i : PendingItem) → marks_in k (is ++ i ∷ []) ≡ marks_in k is ++ marks_part k i
 marks_push k [] i = append-nil (marks_part k i)
 marks_push k (j ∷ js) i = ap (λ ms. marks_part k j ++ ms) (marks_push k js i) ∙ sym (append_assoc (marks_part k j) (marks_in k js) (marks_part k i))
 
-pub mark_here : (k : ℕ) (i : LaidContent) → i.section ≡ k → marks_part k i ≡ mark_by i i.content
+pub mark_here : (k : ℕ) (i : PendingItem) → i.section ≡ k → marks_part k i ≡ mark_by i i.content
 mark_here k i e = ap (λ b. cond b (mark_by i i.content) []) (eq-eqb i.section k e)
 
-pub mark_there : (k : ℕ) (i : LaidContent) → (k ≡ i.section → ⊥) → marks_part k i ≡ []
+pub mark_there : (k : ℕ) (i : PendingItem) → (k ≡ i.section → ⊥) → marks_part k i ≡ []
 mark_there k i e = ap (λ b. cond b (mark_by i i.content) []) (ne_eqb i.section k (λ q. e (sym q)))
 
-no_mark_by : (b : Bool) (i : LaidContent) → mark_by i i.content ≡ [] → cond b (mark_by i i.content) [] ≡ []
+no_mark_by : (b : Bool) (i : PendingItem) → mark_by i i.content ≡ [] → cond b (mark_by i i.content) [] ≡ []
 no_mark_by true i h = h
 no_mark_by false i h = refl
 
 -- an item without a mark
-pub marks_same : (k : ℕ) (is : List LaidContent) (i : LaidContent) → mark_by i i.content ≡ [] → marks_in k (is ++ i ∷ []) ≡ marks_in k is
+pub marks_same : (k : ℕ) (is : List PendingItem) (i : PendingItem) → mark_by i i.content ≡ [] → marks_in k (is ++ i ∷ []) ≡ marks_in k is
 marks_same k is i h = marks_push k is i ∙ ap (λ ms. marks_in k is ++ ms) (no_mark_by (eqb i.section k) i h) ∙ append-nil (marks_in k is)

@@ -7,7 +7,7 @@ use Rattle.std.proofs.lemmas.List.{map-append, length-append, length-map}
 use Rattle.std.proofs.lemmas.Bool.{and_from, and_parts, ltb-true, ltb-false, leb-true, leb-false, cond_both, le-ltb, lt-ltb, not_from_false, not-true}
 use Rattle.c25_meaning_objects.specs.Module.{each_fits}
 use Rattle.c25_meaning_assembly.specs.Sections as meaning
-use Rattle.c25_meaning_assembly.specs.Sections.{Definitions, Section, Content, Operands, Words, Zeros, Exported, Origin, LaidContent, Progress, changed, longer, with_mark, is_in, are_distinct, once, all_once, stands, define, label, here, table, place_in, same_kind, of_kind, section_opened, grow, lay, loaded_here, with_item, size_at, size_by, empty_section, is_called, count_in, reserve, register_names, value_of_number, define_pair}
+use Rattle.c25_meaning_assembly.specs.Sections.{Definitions, Section, Content, Operands, Words, Zeros, Exported, Origin, PendingItem, Progress, changed, longer, with_mark, is_in, are_distinct, once, all_once, stands, define, label, here, table, place_in, same_kind, of_kind, section_opened, grow, lay, loaded_here, with_item, size_at, size_by, empty_section, is_called, count_in, reserve, register_names, value_of_number, define_pair}
 use Rattle.c25_meaning_language.specs.Statement.{valued}
 use Rattle.c25_meaning_language.specs.Tree.{Tree}
 use Rattle.c25_meaning_language.specs.Value.{named_by, predefined, defined, upper}
@@ -204,7 +204,7 @@ no_head name (s ∷ ss) h = on (bytes_eq name s.name) (turned s.name name) (no_h
     on true is go h = absurd (cc)
     on false is go h = ap (λ b. b || has_head (heads ss) name) is ∙ go h
 
-total_none : (sections : List Section) (items : List LaidContent) → AllByRecursion (λ i. is_code (heads sections) i.section ≡ true) items → total (length sections) items ≡ 0
+total_none : (sections : List Section) (items : List PendingItem) → AllByRecursion (λ i. is_code (heads sections) i.section ≡ true) items → total (length sections) items ≡ 0
 total_none sections [] h = refl
 total_none sections (i ∷ is) h =
     let l = code_within sections i.section h.0 in
@@ -212,7 +212,7 @@ total_none sections (i ∷ is) h =
     let b = total_none sections is h.1 in
     omega (arith, a, b)
 
-marks_none : (sections : List Section) (items : List LaidContent) → AllByRecursion (λ i. is_code (heads sections) i.section ≡ true) items → marks_in (length sections) items ≡ []
+marks_none : (sections : List Section) (items : List PendingItem) → AllByRecursion (λ i. is_code (heads sections) i.section ≡ true) items → marks_in (length sections) items ≡ []
 marks_none sections [] h = refl
 marks_none sections (i ∷ is) h =
     let l = code_within sections i.section h.0 in
@@ -252,7 +252,7 @@ push_kept name initialised p section new few kept =
           | inr e ↦ kept.items.each k t e
         ];
         laid = kept.items.laid;
-        codes = weaker _ _ (λ (i : LaidContent) h. subst (λ (hs : List Head). is_code hs i.section ≡ true) (sym more) (code_before (heads p.sections) (head_of s ∷ []) i.section h)) p.items kept.items.codes;
+        codes = weaker _ _ (λ (i : PendingItem) h. subst (λ (hs : List Head). is_code hs i.section ≡ true) (sym more) (code_before (heads p.sections) (head_of s ∷ []) i.section h)) p.items kept.items.codes;
         good = kept.items.good;
       };
       told = told_push name initialised p.files p.sections kept.told;

@@ -12,10 +12,10 @@ use Rattle.c25_meaning_language.specs.ExpansionFault.{ExpansionFault}
 use Rattle.c25_meaning_expansion.specs.ExpansionRuns.{first}
 use Rattle.c25_meaning_expansion.specs.Files.{Files}
 use Rattle.c25_meaning_objects.specs.Module.{each_fits}
-use Rattle.c25_meaning_assembly.specs.ModuleOfSource.{Passed, no_lines, entry_of, origin_of, pass_line, passed, passed_by, passed_from, read_and_pass}
+use Rattle.c25_meaning_assembly.specs.ModuleOfSource.{LinesSoFar, no_lines, entry_of, origin_of, pass_line, passed, passed_by, passed_from, read_and_pass}
 use Rattle.c25_meaning_common.specs.Results.{◌>>=◌, fold_ok}
 use Rattle.c25_meaning_assembly.specs.Sections as meaning
-use Rattle.c25_meaning_assembly.specs.Sections.{Definitions, Section, Content, Operands, Words, Zeros, Exported, Origin, LaidContent, Progress, changed, longer, with_block, with_mark, use_line, block, block_allowed, flag_in, is_in, are_distinct, once, all_once, stands, define, label, here, loaded_here, table, place_in, same_kind, of_kind, section_opened, grow, lay, with_item, size_at, size_by, is_called, count_in, reserve, reserve_room, register_names, define_pair, name_count, few, pass, allowed, act}
+use Rattle.c25_meaning_assembly.specs.Sections.{Definitions, Section, Content, Operands, Words, Zeros, Exported, Origin, PendingItem, Progress, changed, longer, with_block, with_mark, use_line, block, block_allowed, flag_in, is_in, are_distinct, once, all_once, stands, define, label, here, loaded_here, table, place_in, same_kind, of_kind, section_opened, grow, lay, with_item, size_at, size_by, is_called, count_in, reserve, reserve_room, register_names, define_pair, name_count, few, pass, allowed, act}
 use Rattle.c25_meaning_language.specs.Statement.{valued, form_row}
 use Rattle.c25_meaning_instructions.specs.Table.{size}
 use Rattle.c25_meaning_language.specs.Tree.{Tree}
@@ -50,10 +50,10 @@ sections_changed f sections i current same h = record {
 names_changed : (f : Section → Section) (sections : List Section) (i : ℕ) (names : Definitions) → AreNames (length sections) names → AreNames (length (changed f sections i)) names
 names_changed f sections i names h = subst (λ (n : ℕ). AreNames n names) (sym (length_changed f sections i)) h
 
-codes_changed : (f : Section → Section) (sections : List Section) (i : ℕ) (items : List LaidContent) → ((s : Section) → head_of (f s) ≡ head_of s)
+codes_changed : (f : Section → Section) (sections : List Section) (i : ℕ) (items : List PendingItem) → ((s : Section) → head_of (f s) ≡ head_of s)
     → AllByRecursion (λ i. is_code (heads sections) i.section ≡ true) items → AllByRecursion (λ j. is_code (heads (changed f sections i)) j.section ≡ true) items
 codes_changed f sections i items same h =
-    subst (λ (hs : List Head). AllByRecursion (λ (j : LaidContent). is_code hs j.section ≡ true) items) (sym (heads_changed f sections i same)) h
+    subst (λ (hs : List Head). AllByRecursion (λ (j : PendingItem). is_code hs j.section ≡ true) items) (sym (heads_changed f sections i same)) h
 
 grow_files : (i n : ℕ) (p q : Progress) → grow i n p ≡ Ok q → q.files ≡ p.files
 unfolding grow
@@ -140,11 +140,11 @@ offset_is p kept =
     omega (arith, a, b)
 
 -- an item at the current place
-abbrev laid_item : Origin → Content → Progress → LaidContent
+abbrev laid_item : Origin → Content → Progress → PendingItem
 laid_item origin content p = record { origin = origin; section = p.current; offset = size_at p.sections p.current; content = content }
 
 -- one item more, whose mark is still to come
-record IsLaid (item : LaidContent) (p q : Progress) : Type 0 where
+record IsLaid (item : PendingItem) (p q : Progress) : Type 0 where
   kept : AllBut p.items q
   items : q.items ≡ p.items ++ item ∷ []
   current : q.current ≡ p.current
@@ -183,8 +183,8 @@ lay_kept origin content n p q count good kept e =
                 relocations = h.relocations;
               });
           laid = laid_push (λ k. 0) p.items item kept.items.laid (offset_is p kept);
-          good = pushed (λ (i : LaidContent). IsGoodContent i.content) p.items item kept.items.good good;
-          codes = codes_changed (longer n) p.sections c items (λ _. refl) (pushed (λ (i : LaidContent). is_code (heads p.sections) i.section ≡ true) p.items item kept.items.codes kept.sections.code);
+          good = pushed (λ (i : PendingItem). IsGoodContent i.content) p.items item kept.items.good good;
+          codes = codes_changed (longer n) p.sections c items (λ _. refl) (pushed (λ (i : PendingItem). is_code (heads p.sections) i.section ≡ true) p.items item kept.items.codes kept.sections.code);
         };
         told = told_longer p.files p.sections c n kept.told;
       };
@@ -193,7 +193,7 @@ lay_kept origin content n p q count good kept e =
     })
 
 -- other items that have the same marks
-remarked : (old new : List LaidContent) (p : Progress) → ((k : ℕ) → marks_in k old ≡ marks_in k new) → AllBut old p → AllBut new p
+remarked : (old new : List PendingItem) (p : Progress) → ((k : ℕ) → marks_in k old ≡ marks_in k new) → AllBut old p → AllBut new p
 remarked old new p same kept = record {
   sections = kept.sections;
   names = kept.names;
@@ -208,7 +208,7 @@ remarked old new p same kept = record {
 }
 
 -- an item without a mark
-unmarked : (item : LaidContent) (p q : Progress) → mark_by item item.content ≡ [] → IsLaid item p q → AllKept q
+unmarked : (item : PendingItem) (p q : Progress) → mark_by item item.content ≡ [] → IsLaid item p q → AllKept q
 unmarked item p q none h =
     remarked p.items q.items q (λ k. sym (ap (marks_in k) h.items ∙ marks_same k p.items item none)) h.kept
 
@@ -323,7 +323,7 @@ declare_kept names p q symbols kept e =
 export_kept : (origin : Origin) (names : List (List ℕ)) (p q : Progress) → AllKept p → meaning.export origin names p ≡ Ok q → AllKept q
 export_kept origin names p q kept e =
     let c = p.current in
-    let item : LaidContent = record { origin = origin; section = c; offset = size_at p.sections c; content = Exported names } in
+    let item : PendingItem = record { origin = origin; section = c; offset = size_at p.sections c; content = Exported names } in
     let made : Progress = record p { exported = all_once p.exported names; items = p.items ++ item ∷ [] } in
     let a = refused (list_any meaning.is_predefined names) fault.Defined made q e in
     subst AllKept a.1 (record {
@@ -345,8 +345,8 @@ export_kept origin names p q kept e =
               relocations = h.relocations;
             };
         laid = laid_push (λ k. 0) p.items item kept.items.laid (offset_is p kept);
-        good = pushed (λ (i : LaidContent). IsGoodContent i.content) p.items item kept.items.good tt;
-        codes = pushed (λ (i : LaidContent). is_code (heads p.sections) i.section ≡ true) p.items item kept.items.codes kept.sections.code;
+        good = pushed (λ (i : PendingItem). IsGoodContent i.content) p.items item kept.items.good tt;
+        codes = pushed (λ (i : PendingItem). is_code (heads p.sections) i.section ≡ true) p.items item kept.items.codes kept.sections.code;
       };
       told = kept.told;
     })
@@ -482,26 +482,26 @@ untold : {A : Type 0} (origin : Origin) (r : Result A FaultKind) (x : A) → at_
 untold origin (Ok y) x e = let q : y ≡ x = cc in ap Ok q
 untold origin (Err f) x e = absurd (cc)
 
-line_made : (l : ExpandedLine) (a b : Passed) → IsMade a.progress → pass_line l a ≡ Ok b → IsMade b.progress
+line_made : (l : ExpandedLine) (a b : LinesSoFar) → IsMade a.progress → pass_line l a ≡ Ok b → IsMade b.progress
 unfolding pass_line
 line_made l a b made e =
-    let with_entry : Progress → Passed = λ p. record { progress = p; entries = a.entries ++ entry_of l a.progress p ∷ [] } in
+    let with_entry : Progress → LinesSoFar = λ p. record { progress = p; entries = a.entries ++ entry_of l a.progress p ∷ [] } in
     let x = bound (read_and_pass l a.progress) (λ p. Ok (with_entry p)) b e in
     let y = untold (origin_of l) (read_statement l.text >>= λ s. pass (origin_of l) s a.progress) x.0 x.1 in
     let z = bound (read_statement l.text) (λ s. pass (origin_of l) s a.progress) x.0 y in
     let same : with_entry x.0 ≡ b = let last = x.2 in cc in
-    subst (λ (w : Passed). IsMade w.progress) same (pass_kept (origin_of l) z.0 a.progress x.0 (read_good l.text z.0 z.1) made.kept z.2)
+    subst (λ (w : LinesSoFar). IsMade w.progress) same (pass_kept (origin_of l) z.0 a.progress x.0 (read_good l.text z.0 z.1) made.kept z.2)
 
-all_made : (files : Files) (n : ℕ) (c : Config) (a b : Passed) → IsMade a.progress → passed files n c a ≡ Ok b → IsMade b.progress
+all_made : (files : Files) (n : ℕ) (c : Config) (a b : LinesSoFar) → IsMade a.progress → passed files n c a ≡ Ok b → IsMade b.progress
 unfolding passed
-all_made files zero c a b made e = let same : a ≡ b = cc in subst (λ (x : Passed). IsMade x.progress) same made
+all_made files zero c a b made e = let same : a ≡ b = cc in subst (λ (x : LinesSoFar). IsMade x.progress) same made
 all_made files (suc n) c a b made e =
     on (fault_by files (first files (table a.progress) c)) (given_by files (first files (table a.progress) c)) (λ d x m h. all_made files n d x b m h) e
   where
-    on : (f : Option ExpansionFault) (given : Option (ExpandedLine × Config)) → ((d : Config) (x : Passed) → IsMade x.progress → passed files n d x ≡ Ok b → IsMade b.progress)
+    on : (f : Option ExpansionFault) (given : Option (ExpandedLine × Config)) → ((d : Config) (x : LinesSoFar) → IsMade x.progress → passed files n d x ≡ Ok b → IsMade b.progress)
         → passed_by f given (passed files n) a ≡ Ok b → IsMade b.progress
     on (Some f) given go e = absurd (cc)
-    on None None go e = let same : a ≡ b = cc in subst (λ (x : Passed). IsMade x.progress) same made
+    on None None go e = let same : a ≡ b = cc in subst (λ (x : LinesSoFar). IsMade x.progress) same made
     on None (Some l) go e =
         let x = bound (pass_line l.0 a) (λ w. passed files n l.1 w) b e in
         go l.1 x.0 (line_made l.0 a x.0 made x.1) x.2
@@ -531,6 +531,6 @@ begun = record {
     told_section (suc k) s at = absurd (cc)
 
 -- all that the lines of a source have made
-pub source_made : (files : Files) (name : List ℕ) (o : Option Config) (a : Passed) → passed_from files name o ≡ Ok a → IsMade a.progress
+pub source_made : (files : Files) (name : List ℕ) (o : Option Config) (a : LinesSoFar) → passed_from files name o ≡ Ok a → IsMade a.progress
 source_made files name None a e = absurd (cc)
 source_made files name (Some c) a e = all_made files 200001 c no_lines a begun e

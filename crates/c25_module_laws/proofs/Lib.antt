@@ -12,7 +12,7 @@ pub mod LineWords
 pub mod LinesTold
 pub mod ModuleFits
 pub mod ModulesOfSources
-pub mod OperandSheets
+pub mod OperandsValued
 pub mod ResultSteps
 pub mod SectionsFilled
 pub mod Spoken

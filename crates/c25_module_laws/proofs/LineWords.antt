@@ -27,7 +27,7 @@ use Rattle.c25_meaning_language.specs.declared.value.Base.{Base}
 use Rattle.c25_module_laws.proofs.AddressFields.{IsAlone, alone, form_fields, form_size, long_mem_first, word_in_form}
 use Rattle.c25_module_laws.proofs.Chains.{Chain, chain_bound}
 use Rattle.c25_module_laws.proofs.Counted.{FitForm, IsCount}
-use Rattle.c25_module_laws.proofs.OperandSheets.{AreAddresses, HoldsOf, IsAddress}
+use Rattle.c25_module_laws.proofs.OperandsValued.{AreAddresses, HoldsOf, IsAddress}
 use Rattle.c25_module_laws.proofs.Spoken.{AreWords}
 
 -- ---- words

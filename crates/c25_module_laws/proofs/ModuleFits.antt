@@ -17,7 +17,7 @@ use Rattle.c25_meaning_objects.specs.declared.object.Version.TheVariants.{Two}
 use Rattle.c25_module_laws.proofs.Emitted.{Made, filled_from, relocations_at, words_at}
 use Rattle.c25_module_laws.proofs.Kept.{Head, begins, get_last, has_head, head_fits, head_of, heads}
 use Rattle.c25_module_laws.proofs.LineWords.{AreFilled, IsFilled}
-use Rattle.c25_module_laws.proofs.OperandSheets.{HoldsOf}
+use Rattle.c25_module_laws.proofs.OperandsValued.{HoldsOf}
 use Rattle.c25_module_laws.proofs.SectionsFilled.{AreMarks, is_size}
 use Rattle.c25_module_laws.proofs.Symbols.{IsBase}
 

@@ -10,8 +10,8 @@ use Rattle.c25_meaning_expansion.specs.ExpansionRuns.{start_of}
 use Rattle.c25_meaning_expansion.specs.Files.{Files}
 use Rattle.c25_meaning_objects.specs.Module as modules
 use Rattle.c25_meaning_objects.specs.Module.{Contents, IsModule, IsSized, SectionData, SymbolData, block_fits, body_words, each_fits, has_symbol, is_module, mark_fits, relocation_fits, section_fits, symbol_fits, used}
-use Rattle.c25_meaning_assembly.specs.ModuleOfSource.{Assembled, Passed, assembled, completed, passed_from}
-use Rattle.c25_meaning_assembly.specs.Sections.{Definitions, LaidContent, Progress, Section, place}
+use Rattle.c25_meaning_assembly.specs.ModuleOfSource.{Assembled, LinesSoFar, assembled, completed, passed_from}
+use Rattle.c25_meaning_assembly.specs.Sections.{Definitions, PendingItem, Progress, Section, place}
 use Rattle.c25_meaning_objects.specs.declared.object.ModuleMark.{ModuleMark}
 use Rattle.c25_meaning_objects.specs.declared.object.Relocation.{Relocation}
 use Rattle.c25_meaning_objects.specs.declared.object.Version.TheVariants.{Two}
@@ -31,7 +31,7 @@ use Rattle.c25_module_laws.proofs.Valued.{IsGoodValue, natural_fits}
 
 -- ---- sections without items
 
-none_total : (hs : List Head) (k : ℕ) (is : List LaidContent) → is_code hs k ≡ false → AllByRecursion (λ i. is_code hs i.section ≡ true) is → total k is ≡ 0
+none_total : (hs : List Head) (k : ℕ) (is : List PendingItem) → is_code hs k ≡ false → AllByRecursion (λ i. is_code hs i.section ≡ true) is → total k is ≡ 0
 none_total hs k [] bare h = refl
 none_total hs k (i ∷ is) bare h =
     let a = part_there k i (λ e. false≢true (sym bare ∙ ap (is_code hs) e ∙ h.0)) in
@@ -61,7 +61,7 @@ finished_is p m e =
 abbrev pub base_in : Progress → Base → Type 0
 base_in p = IsBase (length p.sections) (map (symbol_of p.exported) (all_names p))
 
-item_placed : (p : Progress) (i : LaidContent) → AllKept p → is_code (heads p.sections) i.section ≡ true → i.offset ≤ 0 + total i.section p.items → IsGoodValue (base_in p) (place i.section i.offset)
+item_placed : (p : Progress) (i : PendingItem) → AllKept p → is_code (heads p.sections) i.section ≡ true → i.offset ≤ 0 + total i.section p.items → IsGoodValue (base_in p) (place i.section i.offset)
 item_placed p i kept code within =
     let s = code_section p.sections i.section code in
     let h = kept.items.each i.section s.0 s.1 in
@@ -69,7 +69,7 @@ item_placed p i kept code within =
     let small = h.small in
     (code_within p.sections i.section code, natural_fits i.offset (omega (arith, within, l, small)))
 
-pub items_placed : (p : Progress) (is : List LaidContent) → AllKept p → AllByRecursion (λ i. is_code (heads p.sections) i.section ≡ true) is → AllByRecursion (λ i. i.offset ≤ 0 + total i.section p.items) is
+pub items_placed : (p : Progress) (is : List PendingItem) → AllKept p → AllByRecursion (λ i. is_code (heads p.sections) i.section ≡ true) is → AllByRecursion (λ i. i.offset ≤ 0 + total i.section p.items) is
     → AllByRecursion (λ i. IsGoodValue (base_in p) (place i.section i.offset)) is
 items_placed p [] kept g h = tt
 items_placed p (i ∷ is) kept g h = (item_placed p i kept g.0 h.0, items_placed p is kept g.1 h.1)
@@ -220,7 +220,7 @@ source_good files name a e =
     subst (λ (x : Assembled). IsModule x.contents) q (finished_good (b.0).progress c.0 (source_made files name (start_of files name) b.0 b.1) c.1)
 
 -- a source's instructions stand in as many files as records can count
-pub few_files : (files : Files) (name : List ℕ) (a : Passed) → passed_from files name (start_of files name) ≡ Ok a → length (lines_in (a.progress).sections).files ≤ 65535
+pub few_files : (files : Files) (name : List ℕ) (a : LinesSoFar) → passed_from files name (start_of files name) ≡ Ok a → length (lines_in (a.progress).sections).files ≤ 65535
 few_files files name a e =
     let p = a.progress in
     let made = source_made files name (start_of files name) a e in

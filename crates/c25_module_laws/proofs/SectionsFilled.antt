@@ -4,11 +4,11 @@ use Rattle.std.proofs.Common.{◌≡◌, ℕ, zero, suc, ◌+◌, ◌≤◌, ◌
 use Rattle.std.specs.List.{AllByRecursion, list_all}
 use Rattle.std.proofs.lemmas.List.{append_assoc, length-append, get_or_append_left, get_or-append-add}
 use Rattle.std.proofs.lemmas.Bool.{eqb-true, eqb-false}
-use Rattle.c25_meaning_assembly.specs.Addresses.{sheet_of, words_of, relocations_of}
+use Rattle.c25_meaning_assembly.specs.Addresses.{operand_values, words_of, relocations_of}
 use Rattle.c25_meaning_assembly.specs.OperandFields.{target_size}
 use Rattle.c25_meaning_assembly.specs.Emission.{is_here, table_at}
 use Rattle.c25_meaning_common.specs.Fields.{field_values}
-use Rattle.c25_meaning_assembly.specs.Sections.{Definitions, Content, Operands, Words, Zeros, Exported, LaidContent, place}
+use Rattle.c25_meaning_assembly.specs.Sections.{Definitions, Content, Operands, Words, Zeros, Exported, PendingItem, place}
 use Rattle.c25_meaning_language.specs.Statement.{form_row}
 use Rattle.c25_meaning_instructions.specs.Table.{size}
 use Rattle.c25_meaning_language.specs.Value.{named_by, predefined, defined}
@@ -27,7 +27,7 @@ use Rattle.c25_module_laws.proofs.Counted.{IsCount}
 use Rattle.c25_module_laws.proofs.Emitted.{Made, made_by, Give, words_at, words_here, words_there, relocations_at, relocations_here, relocations_there}
 use Rattle.c25_module_laws.proofs.Kept.{AreLaid, IsGoodContent, mark_by, mark_here, mark_there, marks_in, marks_part, part, part_here, part_there, total, words_in}
 use Rattle.c25_module_laws.proofs.LineWords.{AreFilled, IsFilled, line_filled, line_size, line_words}
-use Rattle.c25_module_laws.proofs.OperandSheets.{sheet_made}
+use Rattle.c25_module_laws.proofs.OperandsValued.{sheet_made}
 use Rattle.c25_module_laws.proofs.ResultSteps.{bound, permitted}
 use Rattle.c25_module_laws.proofs.Spoken.{AreWords}
 use Rattle.c25_module_laws.proofs.Valued.{IsGoodValue}
@@ -58,14 +58,14 @@ row_size (family.LongMem name) = refl
 row_size (family.Jump name) = refl
 row_size (family.Plain name) = refl
 
-marks_behind : (k high : ℕ) (i : LaidContent) (c : Content) (ms : List ModuleMark) → i.section ≡ k → AreMarks k (i.offset + words_in c) high ms → AreMarks k i.offset high (mark_by i c ++ ms)
+marks_behind : (k high : ℕ) (i : PendingItem) (c : Content) (ms : List ModuleMark) → i.section ≡ k → AreMarks k (i.offset + words_in c) high ms → AreMarks k i.offset high (mark_by i c ++ ms)
 marks_behind k high i (Operands (target.Instruction f) trees) ms is h = (is, row_size (form_row f), omega arith, h)
 marks_behind k high i (Operands (target.Data w) trees) ms is h = marks_lower k i.offset (i.offset + length trees) high ms (omega arith) h
 marks_behind k high i (Words words) ms is h = marks_lower k i.offset (i.offset + length words) high ms (omega arith) h
 marks_behind k high i (Zeros count) ms is h = marks_lower k i.offset (i.offset + count) high ms (omega arith) h
 marks_behind k high i (Exported names) ms is h = marks_lower k i.offset (i.offset + 0) high ms (omega arith) h
 
-pub section_marks : (k : ℕ) (used : ℕ → ℕ) (is : List LaidContent) → AreLaid used is → AreMarks k (used k) (used k + total k is) (marks_in k is)
+pub section_marks : (k : ℕ) (used : ℕ → ℕ) (is : List PendingItem) → AreLaid used is → AreMarks k (used k) (used k + total k is) (marks_in k is)
 section_marks k used [] laid = omega arith
 section_marks k used (i ∷ is) laid = by (eqb i.section k) refl (section_marks k (λ n. used n + part n i) is laid.1)
   where
@@ -88,14 +88,14 @@ section_marks k used (i ∷ is) laid = by (eqb i.section k) refl (section_marks 
 
 -- ---- an item's words and relocations
 
-pub record IsMadeOf (B : Base → Type 0) (i : LaidContent) (m : Made) : Type 0 where
+pub record IsMadeOf (B : Base → Type 0) (i : PendingItem) (m : Made) : Type 0 where
   pub section_is : m.section ≡ i.section
   pub offset_is : m.offset ≡ i.offset
   pub count : length m.words ≡ words_in i.content
   pub words : AreWords m.words
   pub filled : AreFilled B m.section m.offset m.words m.offset (m.offset + length m.words) m.relocations
 
-abbrev pub AreMadeOf : (Base → Type 0) → List LaidContent → List Made → Type 0
+abbrev pub AreMadeOf : (Base → Type 0) → List PendingItem → List Made → Type 0
 AreMadeOf B [] [] = Unit {0}
 AreMadeOf B [] (m ∷ ms) = ⊥
 AreMadeOf B (i ∷ is) [] = ⊥
@@ -110,16 +110,16 @@ zero_count zero = refl
 zero_count (suc n) = ap suc (zero_count n)
 
 module _ (B : Base → Type 0) (none : B Absolute) (names : Definitions) (known : (name : List ℕ) (w : Value) → named_by (predefined name) (defined names name) ≡ Some w → IsGoodValue B w) where
-  bare : (i : LaidContent) (m : Made) (c : Content) (words : List ℕ) → ◌≡◌ {A = Result Made FaultKind} (Ok (record { section = i.section; offset = i.offset; words = words; relocations = [] })) (Ok m)
+  bare : (i : PendingItem) (m : Made) (c : Content) (words : List ℕ) → ◌≡◌ {A = Result Made FaultKind} (Ok (record { section = i.section; offset = i.offset; words = words; relocations = [] })) (Ok m)
       → i.content ≡ c → length words ≡ words_in c → AreWords words → IsMadeOf B i m
   bare i m c words e is size h =
       let made : Made = record { section = i.section; offset = i.offset; words = words; relocations = [] } in
       let q : made ≡ m = cc in
       subst (λ (x : Made). IsMadeOf B i x) q (record { section_is = refl; offset_is = refl; count = size ∙ ap words_in (sym is); words = h; filled = omega arith })
 
-  made_of : (i : LaidContent) (m : Made) (c : Content) → i.content ≡ c → IsGoodContent c → IsGoodValue B (place i.section i.offset) → made_by names i c ≡ Ok m → IsMadeOf B i m
+  made_of : (i : PendingItem) (m : Made) (c : Content) → i.content ≡ c → IsGoodContent c → IsGoodValue B (place i.section i.offset) → made_by names i c ≡ Ok m → IsMadeOf B i m
   made_of i m (Operands t trees) is good here e =
-      let s = bound (sheet_of t (table_at names i.section i.offset) trees) (λ s. Ok (record { section = i.section; offset = i.offset; words = words_of t s.numbers; relocations = relocations_of t i.section i.offset s.addresses })) m e in
+      let s = bound (operand_values t (table_at names i.section i.offset) trees) (λ s. Ok (record { section = i.section; offset = i.offset; words = words_of t s.numbers; relocations = relocations_of t i.section i.offset s.addresses })) m e in
       let sheet = sheet_made B none t (table_at names i.section i.offset) known here trees s.0 s.1 in
       let made : Made = record { section = i.section; offset = i.offset; words = words_of t (s.0).numbers; relocations = relocations_of t i.section i.offset (s.0).addresses } in
       let q : made ≡ m = let last = s.2 in cc in
@@ -138,7 +138,7 @@ module _ (B : Base → Type 0) (none : B Absolute) (names : Definitions) (known 
       bare i m (Exported exported) [] (ap Ok p.1) is refl tt
 
   -- items and what they give
-  pub all_made_of : (is : List LaidContent) (ms : List Made) → AllByRecursion (λ i. IsGoodContent i.content) is → AllByRecursion (λ i. IsGoodValue B (place i.section i.offset)) is → Give names is ms → AreMadeOf B is ms
+  pub all_made_of : (is : List PendingItem) (ms : List Made) → AllByRecursion (λ i. IsGoodContent i.content) is → AllByRecursion (λ i. IsGoodValue B (place i.section i.offset)) is → Give names is ms → AreMadeOf B is ms
   all_made_of [] [] good here give = tt
   all_made_of [] (m ∷ ms) good here give = give
   all_made_of (i ∷ is) [] good here give = give
@@ -151,7 +151,7 @@ both_words [] ys g h = h
 both_words (x ∷ xs) ys g h = (g.0, both_words xs ys g.1 h)
 
 module _ (B : Base → Type 0) (k : ℕ) where
-  pub section_words : (is : List LaidContent) (ms : List Made) → AreMadeOf B is ms → AreWords (words_at k ms)
+  pub section_words : (is : List PendingItem) (ms : List Made) → AreMadeOf B is ms → AreWords (words_at k ms)
   section_words [] [] h = tt
   section_words [] (m ∷ ms) h = absurd h
   section_words (i ∷ is) [] h = absurd h
@@ -161,7 +161,7 @@ module _ (B : Base → Type 0) (k : ℕ) where
       by true rest = both_words m.words (words_at k ms) (h.0).words rest
       by false rest = rest
 
-  pub section_size : (is : List LaidContent) (ms : List Made) → AreMadeOf B is ms → length (words_at k ms) ≡ total k is
+  pub section_size : (is : List PendingItem) (ms : List Made) → AreMadeOf B is ms → length (words_at k ms) ≡ total k is
   section_size [] [] h = refl
   section_size [] (m ∷ ms) h = absurd h
   section_size (i ∷ is) [] h = absurd h
@@ -192,7 +192,7 @@ module _ (B : Base → Type 0) (k : ℕ) where
         fits = h.fits;
       }
 
-  pub section_filled : (used : ℕ → ℕ) (pre : List ℕ) (is : List LaidContent) (ms : List Made) → length pre ≡ used k → AreLaid used is → AreMadeOf B is ms
+  pub section_filled : (used : ℕ → ℕ) (pre : List ℕ) (is : List PendingItem) (ms : List Made) → length pre ≡ used k → AreLaid used is → AreMadeOf B is ms
       → AreFilled B k 0 (pre ++ words_at k ms) (used k) (used k + total k is) (relocations_at k ms)
   section_filled used pre [] [] at laid h = omega arith
   section_filled used pre [] (m ∷ ms) at laid h = absurd h
@@ -238,13 +238,13 @@ module _ (B : Base → Type 0) (k : ℕ) where
           (subst (λ (n : ℕ). AreFilled B k 0 (pre ++ words_at k ms) (used k) n (relocations_at k ms)) high lower))
 
 -- each item begins within what its section is filled to
-pub laid_within : (used : ℕ → ℕ) (is : List LaidContent) → AreLaid used is → AllByRecursion (λ i. i.offset ≤ used i.section + total i.section is) is
+pub laid_within : (used : ℕ → ℕ) (is : List PendingItem) → AreLaid used is → AllByRecursion (λ i. i.offset ≤ used i.section + total i.section is) is
 laid_within used [] h = tt
 laid_within used (i ∷ is) h = (
   let o = h.0 in omega (arith, o),
-  weaken is (λ (j : LaidContent). used j.section + part j.section i + total j.section is) (λ (j : LaidContent). used j.section + (part j.section i + total j.section is)) (λ j. omega arith) (laid_within (λ n. used n + part n i) is h.1),
+  weaken is (λ (j : PendingItem). used j.section + part j.section i + total j.section is) (λ (j : PendingItem). used j.section + (part j.section i + total j.section is)) (λ j. omega arith) (laid_within (λ n. used n + part n i) is h.1),
 )
   where
-    weaken : (js : List LaidContent) (f g : LaidContent → ℕ) → ((j : LaidContent) → f j ≤ g j) → AllByRecursion (λ j. j.offset ≤ f j) js → AllByRecursion (λ j. j.offset ≤ g j) js
+    weaken : (js : List PendingItem) (f g : PendingItem → ℕ) → ((j : PendingItem) → f j ≤ g j) → AllByRecursion (λ j. j.offset ≤ f j) js → AllByRecursion (λ j. j.offset ≤ g j) js
     weaken [] f g l h = tt
     weaken (j ∷ js) f g l h = (let a = h.0 in let b = l j in omega (arith, a, b), weaken js f g l h.1)

@@ -5,7 +5,7 @@ ghost use Rattle.c25_meaning_expansion.specs.Expansion.{Config};
 ghost use Rattle.c25_meaning_expansion.specs.ExpansionRuns.{start_of};
 ghost use Rattle.c25_meaning_expansion.specs.Files.{Files};
 ghost use Rattle.c25_meaning_objects.specs.Module.{IsModule};
-ghost use Rattle.c25_meaning_assembly.specs.ModuleOfSource.{Assembled, Passed, assembled, no_lines, passed};
+ghost use Rattle.c25_meaning_assembly.specs.ModuleOfSource.{Assembled, LinesSoFar, assembled, no_lines, passed};
 
 /// What assembling a source gives is a module: its sections, marks, symbols, relocations, files, lines and
 /// blocks are in order and in their ranges.
@@ -19,5 +19,5 @@ pub fn sources_make_modules()
 pub fn calls_of_the_definition_never_end_a_source()
     ensures source { (files : Files) (name : List ℕ) (c : Config) (n : ℕ) → start_of files name ≡ Some c → 200001 ≤ n
         → passed files n c no_lines ≡ passed files 200001 c no_lines }
-    ensures lines { (files : Files) (n m : ℕ) (c : Config) (a : Passed) → c.left < n → c.left < m → passed files n c a ≡ passed files m c a }
+    ensures lines { (files : Files) (n m : ℕ) (c : Config) (a : LinesSoFar) → c.left < n → c.left < m → passed files n c a ≡ passed files m c a }
 {}

@@ -6,5 +6,5 @@ pub mod Listed
 pub mod Passed
 pub mod Reversed
 pub mod Runs
-pub mod Sheets
+pub mod OperandsValued
 pub mod Unmoved

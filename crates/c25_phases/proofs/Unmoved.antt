@@ -1,9 +1,9 @@
 -- Words and relocations leave the lines of marks as they are.
 use Rattle.std.proofs.Common.{◌≡◌, ℕ, zero, suc, Bool, true, false, cond, List, [], ◌∷◌, ◌++◌, set, replicate, Option, Some, None, Result, Ok, Err, refl, sym, ap, ◌∙◌}
 use Rattle.std.specs.List.{flat_map, list_all, slice_get}
-use Rattle.c25_meaning_assembly.specs.Addresses.{Sheet, sheet_of}
-use Rattle.c25_meaning_assembly.specs.Emission.{at_origin, emit, emit_all, emitted, extended, is_here, lines_in, lines_of, table_at, with_sheet}
-use Rattle.c25_meaning_assembly.specs.Sections.{Content, Definitions, Exported, LaidContent, Operands, Origin, Section, Words, Zeros, changed, changed_by}
+use Rattle.c25_meaning_assembly.specs.Addresses.{OperandValues, operand_values}
+use Rattle.c25_meaning_assembly.specs.Emission.{at_origin, emit, emit_all, emitted, extended, is_here, lines_in, lines_of, table_at, with_operand_values}
+use Rattle.c25_meaning_assembly.specs.Sections.{Content, Definitions, Exported, PendingItem, Operands, Origin, Section, Words, Zeros, changed, changed_by}
 use Rattle.c25_meaning_common.specs.Results.{◌>>=◌, fold_ok}
 use Rattle.c25_meaning_language.specs.declared.statement.FaultKind.{FaultKind}
 use Rattle.c25_meaning_language.specs.declared.statement.FaultKind.TheVariants as fault
@@ -27,10 +27,10 @@ changed_keeps ss i words rs = on (slice_get ss i) refl
     on (Some s) is = set_keeps ss i words rs s is
 
 emit_keeps : (names : Definitions) (section offset : ℕ) (ss out : List Section) (c : Content) → emit names section offset ss c ≡ Ok out → lines out ≡ lines ss
-emit_keeps names section offset ss out (Operands t trees) e = on (sheet_of t (table_at names section offset) trees) e
+emit_keeps names section offset ss out (Operands t trees) e = on (operand_values t (table_at names section offset) trees) e
   where
-    on : (r : Result Sheet FaultKind) → (r >>= λ s. Ok (with_sheet t section offset ss s)) ≡ Ok out → lines out ≡ lines ss
-    on (Ok s) h = let same : with_sheet t section offset ss s ≡ out = cc in ap lines (sym same) ∙ changed_keeps ss section _ _
+    on : (r : Result OperandValues FaultKind) → (r >>= λ s. Ok (with_operand_values t section offset ss s)) ≡ Ok out → lines out ≡ lines ss
+    on (Ok s) h = let same : with_operand_values t section offset ss s ≡ out = cc in ap lines (sym same) ∙ changed_keeps ss section _ _
     on (Err f) h = absurd (cc)
 emit_keeps names section offset ss out (Words words) e = let same : changed (extended words []) ss section ≡ out = cc in ap lines (sym same) ∙ changed_keeps ss section words []
 emit_keeps names section offset ss out (Zeros count) e =
@@ -41,7 +41,7 @@ emit_keeps names section offset ss out (Exported exported) e = on (list_all (is_
     on true h = let same : ss ≡ out = cc in ap lines (sym same)
     on false h = absurd (cc)
 
-all_keep : (names : Definitions) (is : List LaidContent) (ss out : List Section) → fold_ok (emitted names) ss is ≡ Ok out → lines out ≡ lines ss
+all_keep : (names : Definitions) (is : List PendingItem) (ss out : List Section) → fold_ok (emitted names) ss is ≡ Ok out → lines out ≡ lines ss
 all_keep names [] ss out e = let same : ss ≡ out = cc in ap lines (sym same)
 all_keep names (i ∷ is) ss out e = on (emit names i.section i.offset ss i.content) refl e (λ next. all_keep names is next out)
   where
@@ -51,6 +51,6 @@ all_keep names (i ∷ is) ss out e = on (emit names i.section i.offset ss i.cont
     on (Err f) was h go = absurd (cc)
 
 -- the files and lines of marks stay as they are
-pub lines_stay : (names : Definitions) (is : List LaidContent) (ss out : List Section) → emit_all names ss is ≡ Ok out → lines_in out ≡ lines_in ss
+pub lines_stay : (names : Definitions) (is : List PendingItem) (ss out : List Section) → emit_all names ss is ≡ Ok out → lines_in out ≡ lines_in ss
 unfolding lines
 lines_stay names is ss out e = ap lines_of (all_keep names is ss out e)

@@ -2,7 +2,7 @@
 use Rattle.std.specs.Prelude.{ℕ, List, [], ◌∷◌, ◌++◌, Option, Result, Ok}
 use Rattle.c25_meaning_assembly.specs.AssemblyLine.{AssemblyAct, read_statement}
 use Rattle.c25_meaning_common.specs.Results.{◌>>=◌}
-use Rattle.c25_meaning_assembly.specs.Sections.{LaidContent, Origin, Progress, act, allowed, changed, few, label, pass, use_line, with_mark}
+use Rattle.c25_meaning_assembly.specs.Sections.{PendingItem, Origin, Progress, act, allowed, changed, few, label, pass, use_line, with_mark}
 use Rattle.c25_meaning_objects.specs.declared.object.ModuleMark.{ModuleMark}
 use Rattle.c25_meaning_language.specs.declared.statement.FaultKind.{FaultKind}
 
@@ -23,5 +23,5 @@ abbrev pub carried_out : Origin → AssemblyAct → Progress → Result Progress
 carried_out origin a p = act origin a p >>= λ q. few q >>= λ _. Ok q
 
 -- one item more is left for the second phase
-abbrev pub waited : LaidContent → Progress → Result Progress FaultKind
+abbrev pub waited : PendingItem → Progress → Result Progress FaultKind
 waited item p = Ok (record p { items = p.items ++ item ∷ [] })

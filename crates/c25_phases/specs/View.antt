@@ -12,7 +12,7 @@ use Rattle.c25_phases.specs.declared.fault.AsmFault.{AsmFault}
 use Rattle.c25_phases.specs.declared.fault.AsmFault.TheVariants as fault
 use Rattle.c25_phases.specs.declared.item.Content.{Content}
 use Rattle.c25_phases.specs.declared.item.Content.TheVariants as content
-use Rattle.c25_phases.specs.declared.item.LaidContent.{LaidContent}
+use Rattle.c25_phases.specs.declared.item.PendingItem.{PendingItem}
 use Rattle.c25_phases.specs.declared.progress.Progress.{Progress}
 
 -- the content of an item
@@ -23,7 +23,7 @@ content_of (content.Zeros count) = sections.Zeros count
 content_of (content.Exported names) = sections.Exported (bytes_of_names names.items)
 
 -- an item: its content, its line, and where it begins
-abbrev pub item_of : LaidContent → sections.LaidContent
+abbrev pub item_of : PendingItem → sections.PendingItem
 item_of i = record { origin = origin_of i.origin; section = i.section; offset = i.offset; content = content_of i.content }
 
 -- what the lines so far have made

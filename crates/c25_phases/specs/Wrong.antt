@@ -1,7 +1,7 @@
 -- The first item that is wrong.
 use Rattle.std.specs.Prelude.{ℕ, ◌+◌, List, [], ◌∷◌, Option, Some, None, Ok, Err}
 use Rattle.c25_meaning_assembly.specs.Emission.{all_names, emit}
-use Rattle.c25_meaning_assembly.specs.Sections.{Definitions, Section, Origin, LaidContent, Progress}
+use Rattle.c25_meaning_assembly.specs.Sections.{Definitions, Section, Origin, PendingItem, Progress}
 use Rattle.c25_meaning_language.specs.declared.statement.FaultKind.{FaultKind}
 use Rattle.c25_phases.specs.Origins.{origin_of}
 use Rattle.c25_phases.specs.declared.wrong.WrongItem.{WrongItem}
@@ -13,7 +13,7 @@ pub record Wrong : Type 0 where
   pub kind : FaultKind
 
 -- the first of these items that is wrong, if there is one; this many items come before them
-abbrev pub wrong_from : ℕ → Definitions → List Section → List LaidContent → Option Wrong
+abbrev pub wrong_from : ℕ → Definitions → List Section → List PendingItem → Option Wrong
 wrong_from number names sections [] = None
 wrong_from number names sections (item ∷ items) = elim (emit names item.section item.offset sections item.content) [
   | Ok next ↦ wrong_from (number + 1) names next items

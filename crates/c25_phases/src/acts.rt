@@ -15,7 +15,7 @@ ghost use Rattle.c25_phases.specs.Steps.{begun, carried_out};
 ghost use Rattle.c25_phases.specs.View.{progress_of};
 
 use crate::counts::block_allowed;
-use crate::item::{Content, LaidContent, Origin};
+use crate::item::{Content, PendingItem, Origin};
 use crate::names::copied;
 use crate::progress::Progress;
 use crate::targets::target_size;
@@ -271,7 +271,7 @@ impl<'a> Progress<'a> {
         let names = copied(self.alloc, names)?;
         let section = self.current;
         let offset = self.sections.size_at(section);
-        self.wait(LaidContent {
+        self.wait(PendingItem {
             origin,
             section,
             offset,

@@ -13,11 +13,11 @@ ghost use Rattle.c25_phases.specs.View.{content_of, fault_of, item_of};
 
 use crate::fault::AsmFault;
 use crate::first_phase::place;
-use crate::item::{Content, LaidContent};
+use crate::item::{Content, PendingItem};
 use crate::names::DistinctNames;
 use crate::refusal::at_origin;
 use crate::sections::Sections;
-use crate::sheet::Sheet;
+use crate::operand_values::OperandValues;
 use crate::targets::{ends_first, field_of, word_of};
 use c25_expr::symbols::{Defined, Symbols};
 use c25_isa::encode;
@@ -147,13 +147,13 @@ fn relocations_of(
 fn put_sheet(
     alloc: Global,
     sections: &mut Sections<'_>,
-    item: &LaidContent<'_>,
+    item: &PendingItem<'_>,
     target: Target,
-    sheet: &Sheet,
+    sheet: &OperandValues,
 ) -> Result<(), NoMemory>
     requires fits { fields.FitsTarget target sheet.now.numbers }
     requires within { All (λ a. item.now.offset + fields.word_of (fields.field_of target a.operand) a.operand < 65536) sheet.now.addresses }
-    ensures { OnOk result (sections.new ≡ emission.with_sheet target item.now.section item.now.offset sections.old sheet.now) }
+    ensures { OnOk result (sections.new ≡ emission.with_operand_values target item.now.section item.now.offset sections.old sheet.now) }
 {
     let section = item.section;
     let relocations = relocations_of(alloc, target, section, item.offset, sheet.addresses())?;
@@ -178,8 +178,8 @@ pub(crate) fn emit(
     alloc: Global,
     symbols: &mut Symbols,
     sections: &mut Sections<'_>,
-    sheet: &mut Sheet,
-    item: &LaidContent<'_>,
+    sheet: &mut OperandValues,
+    item: &PendingItem<'_>,
 ) -> Result<(), Failure<FaultKind>>
     ensures told { Meets (λ _. sections.new) (emission.emit symbols.old.entries item.now.section item.now.offset sections.old (content_of item.now.content)) result }
     ensures names { symbols.new.entries ≡ symbols.old.entries }
@@ -215,8 +215,8 @@ pub(crate) fn emit_all<'a>(
     alloc: Global,
     symbols: &mut Symbols,
     sections: &mut Sections<'_>,
-    sheet: &mut Sheet,
-    items: &[LaidContent<'a>],
+    sheet: &mut OperandValues,
+    items: &[PendingItem<'a>],
 ) -> Result<(), Failure<AsmFault<'a>>>
     ensures told { MeetsBy fault_of (λ _. sections.new) (emission.emit_all symbols.old.entries sections.old (map item_of items.now)) result }
     ensures names { symbols.new.entries ≡ symbols.old.entries }

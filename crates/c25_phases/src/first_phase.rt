@@ -13,12 +13,12 @@ ghost use Rattle.c25_phases.specs.Steps.{marked, waited};
 ghost use Rattle.c25_phases.specs.View.{content_of, item_of, progress_of, symbols_of};
 
 use crate::counts::{count_of, flag_of, is_file_name, is_line_number};
-use crate::item::{Content, LaidContent, Origin, SourceLine};
+use crate::item::{Content, PendingItem, Origin, SourceLine};
 use crate::names::DistinctNames;
 use crate::progress::Progress;
 use crate::section::Section;
 use crate::sections::Sections;
-use crate::sheet::valued;
+use crate::operand_values::valued;
 use c25_expr::symbols::{Defined, Symbols};
 use c25_expr::tree::Expr;
 use c25_meaning_common::failure::Failure;
@@ -223,7 +223,7 @@ impl<'a> Progress<'a> {
         let section = self.current;
         let offset = self.sections.size_at(section);
         match self.grow(section, words) {
-            Ok(()) => self.wait(LaidContent {
+            Ok(()) => self.wait(PendingItem {
                 origin,
                 section,
                 offset,
@@ -234,7 +234,7 @@ impl<'a> Progress<'a> {
     }
 
     /// Keeps one item more for the second phase.
-    pub(crate) fn wait(&mut self, item: LaidContent<'a>) -> Result<(), Failure<FaultKind>>
+    pub(crate) fn wait(&mut self, item: PendingItem<'a>) -> Result<(), Failure<FaultKind>>
         ensures { Meets (λ _. progress_of self.new) (waited (item_of item.entry) (progress_of self.old)) result }
     {
         self.items.push(item)?;

@@ -39,7 +39,7 @@ pub(crate) enum Content {
 
 /// An item: its content, its line, and the place where it begins.
 #[derive(Drop)]
-pub(crate) struct LaidContent<'a> {
+pub(crate) struct PendingItem<'a> {
     pub(crate) origin: Origin<'a>,
     pub(crate) section: u16,
     pub(crate) offset: u32,

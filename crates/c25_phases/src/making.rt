@@ -10,11 +10,11 @@ ghost use Rattle.c25_phases.specs.View.{fault_of, item_of, progress_of};
 
 use crate::emission::{emit_all, import_all};
 use crate::fault::AsmFault;
-use crate::laid::Laid;
+use crate::second_phase::SecondPhase;
 use crate::names::DistinctNames;
 use crate::progress::Progress;
 use crate::sections::Sections;
-use crate::sheet::Sheet;
+use crate::operand_values::OperandValues;
 use c25_expr::symbols::Symbols;
 use c25_meaning_common::failure::Failure;
 use c25_meaning_common::no_memory::NoMemory;
@@ -109,7 +109,7 @@ fn module_with(
     })
 }
 
-impl<'a> Laid<'a> {
+impl<'a> SecondPhase<'a> {
     /// Gives the sections the words and relocations of all items.
     fn emit(&mut self) -> Result<(), Failure<AsmFault<'a>>>
         requires { name_count self.old.symbols.entries self.old.declared ≤ 65535 }
@@ -118,7 +118,7 @@ impl<'a> Laid<'a> {
         ensures exported { self.new.exported ≡ self.old.exported }
     {
         import_all(&mut self.symbols, &self.declared)?;
-        let mut sheet = Sheet::new(self.alloc);
+        let mut sheet = OperandValues::new(self.alloc);
         emit_all(
             self.alloc,
             &mut self.symbols,
@@ -149,7 +149,7 @@ pub fn finish(progress: Progress<'_>) -> Result<Parts, Failure<AsmFault<'_>>>
     requires files { length (emission.lines_in (progress_of progress).sections).files ≤ 65535 }
     ensures { MeetsBy fault_of contents (emission.finished (progress_of progress.entry)) result }
 {
-    let mut laid = Laid::of(progress);
+    let mut laid = SecondPhase::of(progress);
     let parts = laid.take_parts();
     // Only the module is kept of what the lines have made.
     mem::drop(laid);

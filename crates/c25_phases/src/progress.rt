@@ -4,7 +4,7 @@
 ghost use Rattle.std.specs.Prelude.{◌≡◌, length};
 ghost use Rattle.c25_meaning_assembly.specs.Sections.{imports};
 
-use crate::item::LaidContent;
+use crate::item::PendingItem;
 use crate::names::DistinctNames;
 use crate::sections::Sections;
 use c25_expr::symbols::Symbols;
@@ -26,7 +26,7 @@ pub struct Progress<'a> {
     pub(crate) exported: DistinctNames,
     /// Whether there was a `.mmregs`.
     pub(crate) registers: bool,
-    pub(crate) items: Vec<LaidContent<'a>>,
+    pub(crate) items: Vec<PendingItem<'a>>,
     /// The names of the files that hold instructions.
     pub(crate) files: DistinctNames,
     /// The number of the last instruction's file among `files`, so that most instructions need no look-up of

@@ -8,11 +8,11 @@ ghost use Rattle.c25_phases.specs.View.{item_of, progress_of};
 ghost use Rattle.c25_phases.specs.Wrong.{first_wrong, wrong_from, wrong_of};
 
 use crate::emission::{emit, import_all};
-use crate::item::{LaidContent, Origin};
-use crate::laid::Laid;
+use crate::item::{PendingItem, Origin};
+use crate::second_phase::SecondPhase;
 use crate::progress::Progress;
 use crate::sections::Sections;
-use crate::sheet::Sheet;
+use crate::operand_values::OperandValues;
 use c25_expr::symbols::Symbols;
 use c25_meaning_common::failure::Failure;
 use c25_meaning_common::no_memory::NoMemory;
@@ -34,8 +34,8 @@ fn wrong_among<'a>(
     alloc: Global,
     symbols: &mut Symbols,
     sections: &mut Sections<'_>,
-    sheet: &mut Sheet,
-    items: &[LaidContent<'a>],
+    sheet: &mut OperandValues,
+    items: &[PendingItem<'a>],
 ) -> Result<Option<WrongItem<'a>>, NoMemory>
     ensures { IfOk result (λ wrong. option_map wrong_of wrong ≡ wrong_from 0 symbols.old.entries sections.old (map item_of items.now)) }
 {
@@ -57,14 +57,14 @@ fn wrong_among<'a>(
     Ok(None)
 }
 
-impl<'a> Laid<'a> {
+impl<'a> SecondPhase<'a> {
     /// The first item that is wrong when all names are known.
     fn wrong_item(&mut self) -> Result<Option<WrongItem<'a>>, NoMemory>
         requires { name_count self.old.symbols.entries self.old.declared ≤ 65535 }
         ensures { IfOk result (λ wrong. option_map wrong_of wrong ≡ wrong_from 0 (names_with self.old.symbols.entries self.old.declared) self.old.sections (map item_of self.old.items.items)) }
     {
         import_all(&mut self.symbols, &self.declared)?;
-        let mut sheet = Sheet::new(self.alloc);
+        let mut sheet = OperandValues::new(self.alloc);
         wrong_among(
             self.alloc,
             &mut self.symbols,
@@ -80,7 +80,7 @@ pub fn first_wrong(progress: Progress<'_>) -> Result<Option<WrongItem<'_>>, NoMe
     requires { name_count (progress_of progress).names (progress_of progress).declared ≤ 65535 }
     ensures { IfOk result (λ wrong. option_map wrong_of wrong ≡ first_wrong (progress_of progress.entry)) }
 {
-    let mut laid = Laid::of(progress);
+    let mut laid = SecondPhase::of(progress);
     let wrong = laid.wrong_item();
     // Only the answer is kept of what the lines have made.
     mem::drop(laid);

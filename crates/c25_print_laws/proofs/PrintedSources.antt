@@ -20,8 +20,8 @@ use Rattle.c25_meaning_objects.specs.declared.object.ModuleMark.{ModuleMark}
 use Rattle.c25_meaning_assembly.specs.AssemblyLine.{Put}
 use Rattle.c25_meaning_assembly.specs.Emission.{finished, module_with}
 use Rattle.c25_meaning_assembly.specs.OperandFields.{target_size}
-use Rattle.c25_meaning_assembly.specs.Sections.{LaidContent, Origin, Progress, is_file_name, is_line_number, pass, table}
-use Rattle.c25_meaning_assembly.specs.ModuleOfSource.{Assembled, Passed, assembled, completed, entry_of, no_lines, origin_of, pass_line, passed, passed_by, passed_from}
+use Rattle.c25_meaning_assembly.specs.Sections.{PendingItem, Origin, Progress, is_file_name, is_line_number, pass, table}
+use Rattle.c25_meaning_assembly.specs.ModuleOfSource.{Assembled, LinesSoFar, assembled, completed, entry_of, no_lines, origin_of, pass_line, passed, passed_by, passed_from}
 use Rattle.c25_print_laws.specs.ExpansionLaws.{IsPlain}
 use Rattle.c25_print_laws.proofs.PlainLines.{behind_lines, finishes_empty, first_plain}
 use Rattle.c25_print_laws.specs.Saying.{Makes}
@@ -92,10 +92,10 @@ module _ (files : Files) (number : ℕ) (text : List ℕ) (good : is_file_name (
   from_lines line ps left = behind_lines files (table (no_lines).progress) number text (rows line ps) left
 
   -- what lines have made that have these words
-  record Made (a : Passed) (ws : List ℕ) : Type 0 where
+  record Made (a : LinesSoFar) (ws : List ℕ) : Type 0 where
     pub marks : List ModuleMark
     pub origins : List Origin
-    pub items : List LaidContent
+    pub items : List PendingItem
     pub names : List (List ℕ)
     pub used : IsUsed (file_name files number) names
     pub is : a.progress ≡ standing (length ws) marks origins items names
@@ -105,8 +105,8 @@ module _ (files : Files) (number : ℕ) (text : List ℕ) (good : is_file_name (
   read_plain line ws h = record { no_directive = h.quiet.unmoved; no_macro = no_macro_there (first_word line); no_name = λ k. refl; no_mark = λ k. never_mark line k h.quiet.quiet; short = h.quiet.short }
 
   -- a line is passed
-  passed_line : (line : List ℕ) (at : ℕ) (more ws : List ℕ) (a : Passed) → IsRead line more → is_line_number at ≡ true → length ws + length more ≤ 65536 → Made a ws
-      → (b : Passed) × (pass_line (record { file = file_name files number; line = at; text = line }) a ≡ Ok b) × Made b (ws ++ more)
+  passed_line : (line : List ℕ) (at : ℕ) (more ws : List ℕ) (a : LinesSoFar) → IsRead line more → is_line_number at ≡ true → length ws + length more ≤ 65536 → Made a ws
+      → (b : LinesSoFar) × (pass_line (record { file = file_name files number; line = at; text = line }) a ≡ Ok b) × Made b (ws ++ more)
   unfolding pass_line
   passed_line line at more ws a h numbered few m =
       let makes = h.makes in
@@ -132,8 +132,8 @@ module _ (files : Files) (number : ℕ) (text : List ℕ) (good : is_file_name (
       )
 
   -- all lines are
-  passed_all : (ps : List Printed) (line fuel left : ℕ) (ws : List ℕ) (a : Passed) → AllRead ps → length ps < fuel → length ps ≤ left → 1 ≤ line → line + length ps < 2 ^ 32 → length ws + length (flat_map words_in ps) ≤ 65536 → Made a ws
-      → (b : Passed) × (passed files fuel (from_lines line ps left) a ≡ Ok b) × Made b (ws ++ flat_map words_in ps)
+  passed_all : (ps : List Printed) (line fuel left : ℕ) (ws : List ℕ) (a : LinesSoFar) → AllRead ps → length ps < fuel → length ps ≤ left → 1 ≤ line → line + length ps < 2 ^ 32 → length ws + length (flat_map words_in ps) ≤ 65536 → Made a ws
+      → (b : LinesSoFar) × (passed files fuel (from_lines line ps left) a ≡ Ok b) × Made b (ws ++ flat_map words_in ps)
   unfolding passed
   passed_all ps line zero left ws a h some room low high few m = absurd (omega (arith, some))
   passed_all [] line (suc fuel) left ws a h some room low high few m = (
@@ -173,7 +173,7 @@ from_start files name ps h quiet =
     ∙ ap (λ ls. Some (behind_lines files (table (no_lines).progress) (file_number files name) (source_of ps) (rows_from (file_number files name) 1 ls) 200000)) (source_lines ps quiet)
 
 -- the module of what lines have made
-completed_as : (a : Passed) (n : ℕ) (marks : List ModuleMark) (origins : List Origin) (items : List LaidContent) (names : List (List ℕ)) (ws : List ℕ) → a.progress ≡ standing n marks origins items names → Emits items ws
+completed_as : (a : LinesSoFar) (n : ℕ) (marks : List ModuleMark) (origins : List Origin) (items : List PendingItem) (names : List (List ℕ)) (ws : List ℕ) → a.progress ≡ standing n marks origins items names → Emits items ws
     → completed a ≡ Ok (record { contents = module_with (filled (text_section n marks origins) ws ∷ []) [] []; entries = a.entries })
 unfolding finished
 completed_as a n marks origins items names ws is emits =

@@ -13,7 +13,7 @@ use Rattle.c25_meaning_language.specs.declared.expression.UnaryOperator.TheVaria
 use Rattle.c25_meaning_language.specs.declared.statement.Field.TheVariants as field
 use Rattle.c25_meaning_language.specs.declared.value.Base.TheVariants.{Absolute}
 use Rattle.c25_print_laws.specs.Saying.{HasNumbers}
-use Rattle.c25_meaning_assembly.specs.Addresses.{Sheet, no_operands, taken, with_number}
+use Rattle.c25_meaning_assembly.specs.Addresses.{OperandValues, no_operands, taken, with_number}
 use Rattle.c25_meaning_assembly.specs.OperandFields.{field_of}
 use Rattle.c25_meaning_assembly.specs.declared.assembly.Target.{Target}
 
@@ -122,7 +122,7 @@ whole_word n h = let same : n % 65536 ≡ n = omega arith in rw same refl
 
 -- ---- sheets
 
-taken_number : (t : Target) (table : Table) (s : Sheet) (e : Tree) (z : ℤ) (n : ℕ) → IsNumber e z → number_in (field_of t (length s.numbers)) z ≡ Ok n
+taken_number : (t : Target) (table : Table) (s : OperandValues) (e : Tree) (z : ℤ) (n : ℕ) → IsNumber e z → number_in (field_of t (length s.numbers)) z ≡ Ok n
     → taken t table s e ≡ Ok (with_number n s)
 unfolding taken
 taken_number t table s e z n v f = rw (v table, f) refl

@@ -6,7 +6,7 @@ use Rattle.c25_meaning_language.specs.Statement.{insn_of}
 use Rattle.c25_meaning_language.specs.Tree.{Tree}
 use Rattle.c25_meaning_language.specs.Value.{Table}
 use Rattle.c25_meaning_language.specs.declared.statement.Form.{Form}
-use Rattle.c25_meaning_assembly.specs.Addresses.{sheet_of, words_of}
+use Rattle.c25_meaning_assembly.specs.Addresses.{operand_values, words_of}
 use Rattle.c25_meaning_assembly.specs.AssemblyLine.{Put, read_statement}
 use Rattle.c25_meaning_assembly.specs.declared.assembly.Target.{Target}
 use Rattle.c25_meaning_assembly.specs.declared.assembly.Target.TheVariants.{Instruction}
@@ -14,7 +14,7 @@ use Rattle.c25_meaning_assembly.specs.declared.assembly.Target.TheVariants.{Inst
 -- the operands have these numbers, which their fields take, and none is an address, whatever symbols there
 -- are
 abbrev pub HasNumbers : Target → List Tree → List ℕ → Type 0
-HasNumbers t trees numbers = (table : Table) → sheet_of t table trees ≡ Ok (record { numbers = numbers; addresses = [] })
+HasNumbers t trees numbers = (table : Table) → operand_values t table trees ≡ Ok (record { numbers = numbers; addresses = [] })
 
 -- a line has no label, and puts these numbers into the fields of its instruction or data
 pub record Puts (text : List ℕ) (t : Target) (numbers : List ℕ) : Type 0 where

@@ -20,7 +20,7 @@ use Rattle.c25_meaning_processor.specs.State.{State, World}
 use Rattle.c25_meaning_processor.specs.WordStep.{IsFetchedBy, mark_found}
 use Rattle.c25_meaning_processor.specs.Samples.{samples_at}
 use Rattle.c25_meaning_processor.specs.Signals.{signals_of}
-use Rattle.c25_meaning_processor.specs.declared.schedule.Entry.{Entry}
+use Rattle.c25_meaning_processor.specs.declared.schedule.ScheduleEntry.{ScheduleEntry}
 use Rattle.c25_run_laws.specs.Behind.{behind, world_behind}
 use Rattle.c25_report.specs.Ending as report
 use Rattle.c25_report.specs.declared.ending.Ending as report_ending
@@ -41,20 +41,20 @@ module _ (fetched : FetchedBehind) (o : List (ℕ × ℕ)) (image : ImageData) (
   where_behind None text h = h
   where_behind (Some m) text (i, found, line) = (i, fetched o s.registers.cnf s.world s.registers.pc (Some m) i found, line_behind m i text line)
 
-  pub tells_behind : (entries : List Entry) (steps : ℕ) (text : List ℕ) → TellsWhere image entries steps s text → TellsWhere image entries steps (behind o s) text
+  pub tells_behind : (entries : List ScheduleEntry) (steps : ℕ) (text : List ℕ) → TellsWhere image entries steps s text → TellsWhere image entries steps (behind o s) text
   tells_behind entries steps text (q, (first, rest, m, regs, (place, more, r, stands, none, joined_rest), joined)) =
       let there : Point = record { steps = steps; state = behind o s; breaks = [] } in
       let mark = mark_found s.registers.cnf s.world s.registers.pc in
       let at = subst (λ (p : Point). IsWhereBy image p.state (mark_found p.state.registers.cnf p.state.world p.state.registers.pc) place) regs.1 stands.0 in
       (there, (first, rest, there, (regs.0, refl), (place, more, there, (where_behind mark place at, refl), (none.0, refl), joined_rest), joined))
 
-pub tells_end : (fetched : FetchedBehind) (outputs : List (ℕ × ℕ)) (image : ImageData) (entries : List Entry) (n steps : ℕ) (s : State) (end : Ending) (text : List ℕ)
+pub tells_end : (fetched : FetchedBehind) (outputs : List (ℕ × ℕ)) (image : ImageData) (entries : List ScheduleEntry) (n steps : ℕ) (s : State) (end : Ending) (text : List ℕ)
     → steps ≡ steps_of n end → last_state end ≡ behind outputs s → TellsWhere image entries steps s text → TellsWhere image entries (steps_of n end) (last_state end) text
 tells_end fetched outputs image entries n steps s end text count last told =
     subst (λ (x : State). TellsWhere image entries (steps_of n end) x text) (sym last)
     (subst (λ (k : ℕ). TellsWhere image entries k (behind outputs s) text) count (tells_behind fetched outputs image s entries steps text told))
 
-pub reports_end : (fetched : FetchedBehind) (regs : Bool) (image : ImageData) (entries : List Entry) (steps : ℕ) (s : State) (o : Outcome) (e : report_ending.Ending) (text : List ℕ)
+pub reports_end : (fetched : FetchedBehind) (regs : Bool) (image : ImageData) (entries : List ScheduleEntry) (steps : ℕ) (s : State) (o : Outcome) (e : report_ending.Ending) (text : List ℕ)
     → regs ≡ true → e ≡ report.ending_of o → TellsWhere image entries steps s text
     → (n : ℕ) (end : Ending) (outputs : List (ℕ × ℕ)) → o ≡ outcome_of end → steps ≡ steps_of n end → last_state end ≡ behind outputs s → TellsEnd regs image entries n end e text
 reports_end fetched regs image entries steps s o e text asked is where_is n end outputs same count last =

@@ -15,7 +15,7 @@ use Rattle.c25_meaning_processor.specs.Run.{Ending, Runs}
 use Rattle.c25_meaning_processor.specs.State.{State}
 use Rattle.c25_meaning_processor.specs.WordStep.{WordStep}
 use Rattle.c25_meaning_processor.specs.Signals.{signals_of}
-use Rattle.c25_meaning_processor.specs.declared.schedule.Entry.{Entry}
+use Rattle.c25_meaning_processor.specs.declared.schedule.ScheduleEntry.{ScheduleEntry}
 use Rattle.c25_report.specs.Ending as report
 use Rattle.c25_report.specs.declared.ending.Ending as report_ending
 use Rattle.c25_report.specs.Ending.{HasFront, IsShort}
@@ -32,7 +32,7 @@ Printing = report_ending.Ending → (note : List ℕ) → (old new : Option (Lis
 
 -- what is told of a run whose text is printed: how it ended, and where the registers are asked for what a debugger answers to `regs` and
 -- `where` in the state in which it ended, so many steps done, unless memory runs out for that
-abbrev pub TellsOutcome : (regs : Bool) → ImageData → List Entry → Outcome → (steps : ℕ) → State → Telling
+abbrev pub TellsOutcome : (regs : Bool) → ImageData → List ScheduleEntry → Outcome → (steps : ℕ) → State → Telling
 TellsOutcome false image entries o steps t e note = (e ≡ report.ending_of o) × (note ≡ [])
 TellsOutcome true image entries o steps t e note = ((e ≡ report.ending_of o) × TellsWhere image entries steps t note) ⊎ (IsShort e × (note ≡ []))
 
@@ -47,11 +47,11 @@ IsShortBefore e note old new = IsShort e × (note ≡ []) × Keeps old new
 -- ---- by the end of the program's words
 
 -- what is told of n steps that ended so
-abbrev pub TellsEnd : (regs : Bool) → ImageData → List Entry → ℕ → Ending → Telling
+abbrev pub TellsEnd : (regs : Bool) → ImageData → List ScheduleEntry → ℕ → Ending → Telling
 TellsEnd regs image entries n end = TellsOutcome regs image entries (outcome_of end) (steps_of n end) (last_state end)
 
 -- their text is printed so
-abbrev pub PrintsEnd : (regs : Bool) → ImageData → List Entry → ℕ → Ending → Printing
+abbrev pub PrintsEnd : (regs : Bool) → ImageData → List ScheduleEntry → ℕ → Ending → Printing
 PrintsEnd regs image entries n end = PrintsText (end_text n end) (TellsEnd regs image entries n end)
 
 -- n steps of a program that is ready are printed so, under its samples and its schedule
@@ -80,7 +80,7 @@ PrintsAnswer given n regs e note old new =
 -- ---- what the code has
 
 -- the same from a state on, in which no output was put out, where a writer that fails is told by the steps that were done
-abbrev pub PrintsFrom : (regs : Bool) → ImageData → List Entry → ℕ → State → Printing
+abbrev pub PrintsFrom : (regs : Bool) → ImageData → List ScheduleEntry → ℕ → State → Printing
 PrintsFrom regs image entries n s e note old new =
     ((end : Ending) × Runs WordStep (signals_of entries) 0 n s end × Appends old new (end_text n end) × TellsEnd regs image entries n end e note)
     ⊎ (((e ≡ ending.Unprinted) × (note ≡ []) × PrintsFront (signals_of entries) n s old new) ⊎ IsShortBefore e note old new)

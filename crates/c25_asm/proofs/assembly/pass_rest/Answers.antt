@@ -1,7 +1,7 @@
 use Rattle.std.proofs.Common.{ap, refl, sym, ◌∙◌}
 use Rattle.std.proofs.lemmas.Result.{err_from_is_err_and}
 use Rattle.c25_macro.specs.Expanders.{expansion_of}
-use Rattle.c25_meaning_assembly.specs.ModuleOfSource.{Passed}
+use Rattle.c25_meaning_assembly.specs.ModuleOfSource.{LinesSoFar}
 use Rattle.c25_meaning_assembly.specs.Sections.{table}
 use Rattle.c25_listing.specs.View.{entries_of}
 use Rattle.c25_phases.specs.View.{progress_of, symbols_of}
@@ -19,7 +19,7 @@ loop-line-preserved c =
     let old = expansion_of c.loop-line.expander in
     let new = expansion_of c.next_line.new.self in
     let known = c.loop-line.invariant in
-    let a : Passed = record { progress = progress_of c.move_here.new.self; entries = entries_of c.loop-line.passed.entries.items } in
+    let a : LinesSoFar = record { progress = progress_of c.move_here.new.self; entries = entries_of c.loop-line.passed.entries.items } in
     record {
       coming = λ meant begun. goes_on c.args.listed files name old.stage new.stage c.symbols.result.now a (passed_of c.in_ok-passed-in-Ok-Some.passed) meant c.in-Ok-Some.line
           (c.symbols.ensures ∙ ap symbols_of c.deref.ensures ∙ c.move_here.ensures.here ∙ ap table (sym c.move_here.ensures.same))
@@ -38,7 +38,7 @@ returns-in_err-passed-in-Ok-Some c =
     let old = expansion_of c.loop-line.expander in
     let new = expansion_of c.next_line.new.self in
     let known = c.loop-line.invariant in
-    let a : Passed = record { progress = progress_of c.move_here.new.self; entries = entries_of c.loop-line.passed.entries.items } in
+    let a : LinesSoFar = record { progress = progress_of c.move_here.new.self; entries = entries_of c.loop-line.passed.entries.items } in
     let p = err_from_is_err_and c.from_residual.result c.from_residual.ensures.1 in
     λ meant begun. rw (p.1, p.2) (line_refused c.args.listed files name old.stage new.stage c.symbols.result.now a meant c.in-Ok-Some.line c.in_err-passed-in-Ok-Some.field-0.0
     (c.symbols.ensures ∙ ap symbols_of c.deref.ensures ∙ c.move_here.ensures.here ∙ ap table (sym c.move_here.ensures.same))
@@ -53,7 +53,7 @@ returns-in-Ok-None c =
     let old = expansion_of c.loop-line.expander in
     let new = expansion_of c.next_line.new.self in
     let known = c.loop-line.invariant in
-    let a : Passed = record { progress = progress_of c.move_here.new.self; entries = entries_of c.loop-line.passed.entries.items } in
+    let a : LinesSoFar = record { progress = progress_of c.move_here.new.self; entries = entries_of c.loop-line.passed.entries.items } in
     λ meant begun. ends c.args.listed files name old.stage new.stage c.symbols.result.now a meant
     (c.symbols.ensures ∙ ap symbols_of c.deref.ensures ∙ c.move_here.ensures.here ∙ ap table (sym c.move_here.ensures.same))
     (moved c.args.listed files name old.stage (progress_of c.loop-line.passed.progress.value) a.progress a.entries meant (c.move_here.ensures.same ∙ ap progress_of c.deref_mut.ensures.value) (known.coming meant begun))
@@ -66,7 +66,7 @@ returns-in-Err c =
     let old = expansion_of c.loop-line.expander in
     let new = expansion_of c.next_line.new.self in
     let known = c.loop-line.invariant in
-    let a : Passed = record { progress = progress_of c.move_here.new.self; entries = entries_of c.loop-line.passed.entries.items } in
+    let a : LinesSoFar = record { progress = progress_of c.move_here.new.self; entries = entries_of c.loop-line.passed.entries.items } in
     λ meant begun. expansion_fails c.args.listed files name old.stage new.stage c.symbols.result.now a meant c.in-Err.failure c.missing.result c.told.result
     (c.symbols.ensures ∙ ap symbols_of c.deref.ensures ∙ c.move_here.ensures.here ∙ ap table (sym c.move_here.ensures.same))
     (moved c.args.listed files name old.stage (progress_of c.loop-line.passed.progress.value) a.progress a.entries meant (c.move_here.ensures.same ∙ ap progress_of c.deref_mut.ensures.value) (known.coming meant begun))

@@ -6,11 +6,11 @@ use Rattle.c25_phases.specs.declared.progress.Progress.{Progress}
 use Rattle.c25_asm.proofs.Walking.{gives_line, goes_on}
 use Rattle.c25_asm.proofs.walk.advance.Goals as goal
 
-pub returns-in-Ok-Went : goal.returns-in-Ok-Went
-returns-in-Ok-Went c =
+pub returns-in-Ok-Consumed : goal.returns-in-Ok-Consumed
+returns-in-Ok-Consumed c =
     goes_on (trace_of c.args.tracer.now) (trace_of c.step.new.self) c.symbols.result.now (progress_of c.args.progress.value) c.args.sought
     (c.symbols.ensures ∙ ap symbols_of c.deref.ensures ∙ c.move_here.ensures.here ∙ ap (λ (p : Progress). table (progress_of p)) c.deref_mut.ensures.value) c.requires.few c.requires.before (progress_of c.move_here.new.self) (c.move_here.ensures.same ∙ ap progress_of c.deref_mut.ensures.value)
-    (rw c.in-Ok-Went.field-0-is at c.in-Ok-Went.ensures)
+    (rw c.in-Ok-Consumed.field-0-is at c.in-Ok-Consumed.ensures)
 
 pub returns-in-Ok-Given : goal.returns-in-Ok-Given
 returns-in-Ok-Given c =

@@ -2,7 +2,7 @@ use Rattle.std.proofs.Common.{◌≡◌, ℕ, ◌+◌, ◌-◌, List, length, ge
 use Rattle.std.specs.Option.{is_none}
 use Rattle.std.proofs.lemmas.List.{take_rest}
 use Rattle.std.proofs.lemmas.Result.{err_from_is_err_and, IfOk-weaker}
-use Rattle.c25_meaning_language.specs.Reading.{State, step, finished}
+use Rattle.c25_meaning_language.specs.Reading.{ParserState, step, finished}
 use Rattle.c25_meaning_language.specs.Tree.{mark_of}
 use Rattle.c25_text.specs.View.{piece_of}
 use Rattle.c25_text.specs.declared.tokens.Token.{Token}
@@ -14,7 +14,7 @@ use Rattle.c25_expr.proofs.Reach.{reach-step}
 use Rattle.c25_expr.proofs.expression_reader.read_expr.Goals as goal
 
 -- the tokens after a place complete what the slice from there on does
-rest_completes : (ts : List Token) (i : ℕ) (t : State) → completes (marks_of (drop i ts)) (is_none t.current) (opens t.frames) ≡ completes (marks_of (take (length ts - i) (drop i ts))) (is_none t.current) (opens t.frames)
+rest_completes : (ts : List Token) (i : ℕ) (t : ParserState) → completes (marks_of (drop i ts)) (is_none t.current) (opens t.frames) ≡ completes (marks_of (take (length ts - i) (drop i ts))) (is_none t.current) (opens t.frames)
 rest_completes ts i t = ap (λ us. completes (marks_of us) (is_none t.current) (opens t.frames)) (sym (take_rest ts i))
 
 -- the token has no place after those before it

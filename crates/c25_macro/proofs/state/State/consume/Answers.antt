@@ -1,6 +1,6 @@
 use Rattle.c25_macro.specs.Config.{config}
 use Rattle.c25_macro.proofs.Consuming.{refused}
-use Rattle.c25_macro.proofs.state.State.consume.Goals as goal
+use Rattle.c25_macro.proofs.state.ExpanderState.consume.Goals as goal
 
 pub returns-in-Err : goal.returns-in-Err
 returns-in-Err c = λ told tells.

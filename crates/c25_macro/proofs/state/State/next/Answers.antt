@@ -6,16 +6,16 @@ use Rattle.c25_meaning_expansion.proofs.ExpansionFalls.{falls_going}
 use Rattle.c25_meaning_expansion.proofs.ExpansionFirst.{comes_to_first}
 use Rattle.c25_macro.specs.Config.{config}
 use Rattle.c25_macro.proofs.Nexts.{first_refusing, bounded_finishing}
-use Rattle.c25_macro.proofs.state.State.next.Goals as goal
+use Rattle.c25_macro.proofs.state.ExpanderState.next.Goals as goal
 
 pub loop-row-smaller : goal.loop-row-smaller
 loop-row-smaller c =
-    let e : rewrite c.args.files.now c.args.symbols.now (config c.loop-row.self) ≡ Goes (config c.step.new.self) = rw (c.in-Ok-Went.is, c.in-Ok-Went.field-0-is) at c.step.ensures in
+    let e : rewrite c.args.files.now c.args.symbols.now (config c.loop-row.self) ≡ Goes (config c.step.new.self) = rw (c.in-Ok-Consumed.is, c.in-Ok-Consumed.field-0-is) at c.step.ensures in
     (falls_going c.args.files.now c.args.symbols.now _ _ e).weighs_less
 
 pub loop-row-preserved : goal.loop-row-preserved
 loop-row-preserved c =
-    let e : rewrite c.args.files.now c.args.symbols.now (config c.loop-row.self) ≡ Goes (config c.step.new.self) = rw (c.in-Ok-Went.is, c.in-Ok-Went.field-0-is) at c.step.ensures in
+    let e : rewrite c.args.files.now c.args.symbols.now (config c.loop-row.self) ≡ Goes (config c.step.new.self) = rw (c.in-Ok-Consumed.is, c.in-Ok-Consumed.field-0-is) at c.step.ensures in
     let leads = c.loop-row.invariant.leads in
     record { bounded = bounded_going c.args.files.now c.args.symbols.now _ _ c.loop-row.invariant.bounded e; leads = (suc leads.0, (config c.loop-row.self, leads.1, e)) }
 

@@ -2,7 +2,7 @@ use Rattle.std.proofs.Common.{ℕ}
 use Rattle.c25_meaning_expansion.specs.ExpansionBounds.{IsBounded}
 use Rattle.c25_meaning_expansion.specs.ExpansionRuns.{Leads, weight}
 use Rattle.c25_macro.specs.Config.{config}
-use Rattle.c25_macro.proofs.state.State.next.Given as goal
+use Rattle.c25_macro.proofs.state.ExpanderState.next.Given as goal
 
 abbrev pub invariant-loop-row : goal.invariant-loop-row
 invariant-loop-row l = record {

@@ -2,7 +2,7 @@ use Rattle.std.proofs.Common.{◌≡◌, ◌∷◌, ◌-◌, Ok, drop, if◌then
 use Rattle.c25_meaning_expansion.specs.ExpansionRuns.{rewrite}
 use Rattle.c25_meaning_expansion.specs.Trail.{line_of}
 use Rattle.c25_macro.specs.Config.{Follows, config}
-use Rattle.c25_macro.specs.Scopes.{scopes}
+use Rattle.c25_macro.specs.SourceFrames.{frames}
 use Rattle.c25_macro.specs.Tracers.{Trace, trace_of}
 use Rattle.c25_macro.proofs.Stepping.{steps}
 use Rattle.c25_macro.proofs.tracer.Tracer.step.Goals as goal

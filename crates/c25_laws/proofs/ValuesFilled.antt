@@ -4,7 +4,7 @@ use Rattle.std.specs.List.{AllByRecursion, fold}
 use Rattle.std.proofs.Math.IntN.{+ℤ_idl}
 use Rattle.std.proofs.Math.Seq.{set-append_seam}
 use Rattle.std.proofs.lemmas.List.{append-nil, append_assoc, length-append, length-set, set-append_left}
-use Rattle.c25_meaning_assembly.specs.Addresses.{Sheet, no_operands, with_number, with_value, taken, sheet_of}
+use Rattle.c25_meaning_assembly.specs.Addresses.{OperandValues, no_operands, with_number, with_value, taken, operand_values}
 use Rattle.c25_meaning_assembly.specs.OperandFields.{field_of}
 use Rattle.c25_meaning_assembly.specs.Addresses as sheets
 use Rattle.c25_meaning_assembly.specs.Emission.{table_at}
@@ -65,11 +65,11 @@ module _ (value : Address → ℕ) where
   fill_behind ns (b ∷ list) a = fill_behind (set ns b.operand (value b)) list a
 
 -- a sheet with its addresses filled has these numbers
-pub record ComesTo (value : Address → ℕ) (s : Sheet) (done : List ℕ) : Type 0 where
+pub record ComesTo (value : Address → ℕ) (s : OperandValues) (done : List ℕ) : Type 0 where
   pub below : AreBelow (length s.numbers) s.addresses
   pub filled : fold (numbered value) s.numbers s.addresses ≡ done
 
-module _ (value : Address → ℕ) (s : Sheet) (done : List ℕ) (h : ComesTo value s done) where
+module _ (value : Address → ℕ) (s : OperandValues) (done : List ℕ) (h : ComesTo value s done) where
   as_many : length s.numbers ≡ length done
   as_many = sym (fill_length value s.numbers s.addresses) ∙ ap length h.filled
 
@@ -117,26 +117,26 @@ module _ (modules : List Contents) (places : List Place) (number : ℕ) (m : Con
       (untold (value_of (value_named (table_at all section offset)) (table_at all section offset).here e) v is)
 
   -- one operand more
-  record Grows (s new : Sheet) (done : List ℕ) (n : ℕ) : Type 0 where
+  record Grows (s new : OperandValues) (done : List ℕ) (n : ℕ) : Type 0 where
     comes : ComesTo value new (done ++ n ∷ [])
     more : length new.numbers ≡ length s.numbers + 1
 
-  with_own : (s new : Sheet) (done : List ℕ) (n k : ℕ) → n ≡ k → Grows s new done k → Grows s new done n
+  with_own : (s new : OperandValues) (done : List ℕ) (n k : ℕ) → n ≡ k → Grows s new done k → Grows s new done n
   with_own s new done n k e g = subst (λ (j : ℕ). Grows s new done j) (sym e) g
 
-  grown_address : (s new : Sheet) (done : List ℕ) (e : Tree) (o : Option RelocationKind) (base : RelocationBase) (z : ℤ) → ComesTo value s done → relocation_of (field_of t (length s.numbers)) ≡ o
+  grown_address : (s new : OperandValues) (done : List ℕ) (e : Tree) (o : Option RelocationKind) (base : RelocationBase) (z : ℤ) → ComesTo value s done → relocation_of (field_of t (length s.numbers)) ≡ o
       → is_address (is_place names) e ≡ true → value_under (name_under modules places number m names) here_under e ≡ base_value modules places number m base +ℤ z
       → sheets.with_address o base z s ≡ Ok new → Grows s new done (own (field_of t (length s.numbers)) e)
   grown_address s new done e None base z h rel kind is out = absurd (cc)
   grown_address s new done e (Some k) base z h rel kind is out =
       let a : Address = record { operand = length s.numbers; kind = k; base = base; addend = z } in
-      let made : Sheet = record { numbers = s.numbers ++ 0 ∷ []; addresses = s.addresses ++ a ∷ [] } in
+      let made : OperandValues = record { numbers = s.numbers ++ 0 ∷ []; addresses = s.addresses ++ a ∷ [] } in
       let q : made ≡ new = cc in
       let number_is : own (field_of t (length s.numbers)) e ≡ value a = (λ i. field_value (field_of t (length s.numbers)) (kind i) (is i)) ∙ address_in (field_of t (length s.numbers)) k (base_value modules places number m base +ℤ z) rel in
       let grown : Grows s made done (value a) = record { comes = more_address value s done h a refl; more = length-append s.numbers (0 ∷ []) } in
-      with_own s new done (own (field_of t (length s.numbers)) e) (value a) number_is (subst (λ (x : Sheet). Grows s x done (value a)) q grown)
+      with_own s new done (own (field_of t (length s.numbers)) e) (value a) number_is (subst (λ (x : OperandValues). Grows s x done (value a)) q grown)
 
-  grown : (s new : Sheet) (done : List ℕ) (e : Tree) → ComesTo value s done → taken t (table_at all section offset) s e ≡ Ok new → Grows s new done (own (field_of t (length s.numbers)) e)
+  grown : (s new : OperandValues) (done : List ℕ) (e : Tree) → ComesTo value s done → taken t (table_at all section offset) s e ≡ Ok new → Grows s new done (own (field_of t (length s.numbers)) e)
   unfolding taken
   grown s new done e h is =
       let v = bound (valued (table_at all section offset) e) (λ v. with_value v.base (field_of t (length s.numbers)) v.offset s) new is in
@@ -150,16 +150,16 @@ module _ (modules : List Contents) (places : List Place) (number : ℕ) (m : Con
           let q : with_number k.0 s ≡ new = let last = k.2 in cc in
           let number_is : own (field_of t (length s.numbers)) e ≡ k.0 = (λ i. field_value (field_of t (length s.numbers)) (kind i) ((value_is ∙ +ℤ_idl z) i)) ∙ tested_in (field_of t (length s.numbers)) z k.0 k.1 in
           let grown : Grows s (with_number k.0 s) done k.0 = record { comes = more_number value s done h k.0; more = length-append s.numbers (k.0 ∷ []) } in
-          with_own s new done (own (field_of t (length s.numbers)) e) k.0 number_is (subst (λ (x : Sheet). Grows s x done k.0) q grown)
+          with_own s new done (own (field_of t (length s.numbers)) e) k.0 number_is (subst (λ (x : OperandValues). Grows s x done k.0) q grown)
       by z (Section k) out value_is kind = grown_address s new done e (relocation_of (field_of t (length s.numbers))) (relocated.Section k) z h refl kind value_is out
       by z (Loaded k) out value_is kind = grown_address s new done e (relocation_of (field_of t (length s.numbers))) (relocated.Loaded k) z h refl kind value_is out
       by z (External k) out value_is kind = grown_address s new done e (relocation_of (field_of t (length s.numbers))) (relocated.External k) z h refl kind value_is out
 
-  all_come : (es : List Tree) (s new : Sheet) (k : ℕ) (done : List ℕ) → length s.numbers ≡ k → ComesTo value s done → fold_ok (taken t (table_at all section offset)) s es ≡ Ok new
+  all_come : (es : List Tree) (s new : OperandValues) (k : ℕ) (done : List ℕ) → length s.numbers ≡ k → ComesTo value s done → fold_ok (taken t (table_at all section offset)) s es ≡ Ok new
       → ComesTo value new (done ++ counted_from (λ k e. own (field_of t k) e) k es)
   all_come [] s new k done count h is =
       let q : s ≡ new = cc in
-      subst (λ (x : Sheet). ComesTo value x (done ++ [])) q (subst (ComesTo value s) (sym (append-nil done)) h)
+      subst (λ (x : OperandValues). ComesTo value x (done ++ [])) q (subst (ComesTo value s) (sym (append-nil done)) h)
   all_come (e ∷ es) s new k done count h is =
       let x = bound (taken t (table_at all section offset) s e) (λ next. fold_ok (taken t (table_at all section offset)) next es) new is in
       let g = grown s x.0 done e h x.1 in
@@ -169,6 +169,6 @@ module _ (modules : List Contents) (places : List Place) (number : ℕ) (m : Con
       subst (ComesTo value new) (append_assoc done (n ∷ []) (counted_from (λ k e. own (field_of t k) e) (k + 1) es)) rest
 
   -- the numbers of the operands of a line
-  pub sheet_comes : (es : List Tree) (s : Sheet) → sheet_of t (table_at all section offset) es ≡ Ok s
+  pub sheet_comes : (es : List Tree) (s : OperandValues) → operand_values t (table_at all section offset) es ≡ Ok s
       → fold (numbered (λ (a : Address). field_number a.kind (address_value modules places number m a))) s.numbers s.addresses ≡ numbers_under modules places number m names section offset t es
   sheet_comes es s is = (all_come es no_operands s 0 [] refl (record { below = tt; filled = refl }) is).filled

@@ -5,7 +5,7 @@ use Rattle.std.specs.Int.{w32}
 use Rattle.std.specs.Int.RustNames.{FitsSigned}
 use Rattle.std.proofs.lemmas.List.{length-append}
 use Rattle.c25_meaning_language.proofs.Numbers.{each_push, holds_zero-form, holds_number}
-use Rattle.c25_meaning_assembly.specs.Addresses.{Sheet, no_operands, with_number, with_address, with_value, taken, sheet_of}
+use Rattle.c25_meaning_assembly.specs.Addresses.{OperandValues, no_operands, with_number, with_address, with_value, taken, operand_values}
 use Rattle.c25_meaning_assembly.specs.OperandFields.{field_of, FitsTarget}
 use Rattle.c25_meaning_language.specs.Fits.{Holds}
 use Rattle.c25_meaning_common.specs.Results.{fold_ok}
@@ -43,7 +43,7 @@ abbrev pub AreAddresses : (Base → Type 0) → Target → List ℕ → List Add
 AreAddresses B t ns list = Chain (λ (a : Address). a.operand) (IsAddress B t ns) 0 (length ns) list
 
 -- the numbers and addresses of so many operands
-pub record IsSheet (B : Base → Type 0) (t : Target) (n : ℕ) (s : Sheet) : Type 0 where
+pub record IsSheet (B : Base → Type 0) (t : Target) (n : ℕ) (s : OperandValues) : Type 0 where
   pub fits : FitsTarget t s.numbers
   pub count : length s.numbers ≡ n
   pub addresses : AreAddresses B t s.numbers s.addresses
@@ -72,7 +72,7 @@ module _ (B : Base → Type 0) (none : B Absolute) (t : Target) where
   addresses_stay : (ns : List ℕ) (n : ℕ) (list : List Address) → AreAddresses B t ns list → Chain (λ (a : Address). a.operand) (IsAddress B t (ns ++ n ∷ [])) 0 (length ns) list
   addresses_stay ns n list h = chain_weaker (λ (a : Address). a.operand) (IsAddress B t ns) (IsAddress B t (ns ++ n ∷ [])) 0 (length ns) list (address_stays ns n) h
 
-  more_number : (s : Sheet) (n m : ℕ) → IsSheet B t n s → Holds (field_of t (length s.numbers)) m → IsSheet B t (n + 1) (with_number m s)
+  more_number : (s : OperandValues) (n m : ℕ) → IsSheet B t n s → Holds (field_of t (length s.numbers)) m → IsSheet B t (n + 1) (with_number m s)
   more_number s n m h holds =
       let count = length_push s.numbers m in
       record {
@@ -81,49 +81,49 @@ module _ (B : Base → Type 0) (none : B Absolute) (t : Target) where
         addresses = chain_longer (λ (a : Address). a.operand) (IsAddress B t (s.numbers ++ m ∷ [])) 0 (length s.numbers) (length (s.numbers ++ m ∷ [])) s.addresses (omega (arith, count)) (addresses_stay s.numbers m s.addresses h.addresses);
       }
 
-  more_address : (s new : Sheet) (n : ℕ) (o : Option RelocationKind) (base : RelocationBase) (z : ℤ) → relocation_of (field_of t (length s.numbers)) ≡ o → HoldsOf B base → FitsSigned w32 z
+  more_address : (s new : OperandValues) (n : ℕ) (o : Option RelocationKind) (base : RelocationBase) (z : ℤ) → relocation_of (field_of t (length s.numbers)) ≡ o → HoldsOf B base → FitsSigned w32 z
       → IsSheet B t n s → with_address o base z s ≡ Ok new → IsSheet B t (n + 1) new
   more_address s new n None base z is good fits h e = absurd (cc)
   more_address s new n (Some kind) base z is good fits h e =
       let a : Address = record { operand = length s.numbers; kind = kind; base = base; addend = z } in
-      let made : Sheet = record { numbers = s.numbers ++ 0 ∷ []; addresses = s.addresses ++ a ∷ [] } in
+      let made : OperandValues = record { numbers = s.numbers ++ 0 ∷ []; addresses = s.addresses ++ a ∷ [] } in
       let q : made ≡ new = cc in
       let count = length_push s.numbers 0 in
       let last : IsAddress B t (s.numbers ++ 0 ∷ []) a = record { clear = last_number s.numbers 0; kind = is; base = good; fits = fits } in
-      subst (λ (x : Sheet). IsSheet B t (n + 1) x) q (record {
+      subst (λ (x : OperandValues). IsSheet B t (n + 1) x) q (record {
         fits = each_push (λ k x. Holds (field_of t k) x) s.numbers 0 h.fits (zero_holds t (length s.numbers)) (zero_holds t);
         count = count ∙ ap (λ k. k + 1) h.count;
         addresses = chain_push (λ (b : Address). b.operand) (IsAddress B t (s.numbers ++ 0 ∷ [])) 0 (length (s.numbers ++ 0 ∷ [])) s.addresses a (addresses_stay s.numbers 0 s.addresses h.addresses) last (omega (arith, count));
       })
 
-  more_value : (s new : Sheet) (n : ℕ) (v : Value) → IsGoodValue B v → IsSheet B t n s → with_value v.base (field_of t (length s.numbers)) v.offset s ≡ Ok new → IsSheet B t (n + 1) new
+  more_value : (s new : OperandValues) (n : ℕ) (v : Value) → IsGoodValue B v → IsSheet B t n s → with_value v.base (field_of t (length s.numbers)) v.offset s ≡ Ok new → IsSheet B t (n + 1) new
   more_value s new n v good h e = by v.base refl e
     where
       by : (b : Base) → v.base ≡ b → with_value b (field_of t (length s.numbers)) v.offset s ≡ Ok new → IsSheet B t (n + 1) new
       by Absolute is e =
           let m = bound (number_in (field_of t (length s.numbers)) v.offset) (λ m. Ok (with_number m s)) new e in
           let q : with_number m.0 s ≡ new = let last = m.2 in cc in
-          subst (λ (x : Sheet). IsSheet B t (n + 1) x) q (more_number s n m.0 h (holds_number (field_of t (length s.numbers)) v.offset m.0 m.1))
+          subst (λ (x : OperandValues). IsSheet B t (n + 1) x) q (more_number s n m.0 h (holds_number (field_of t (length s.numbers)) v.offset m.0 m.1))
       by (Section k) is e = more_address s new n (relocation_of (field_of t (length s.numbers))) (relocated.Section k) v.offset refl (subst B is good.0) good.1 h e
       by (Loaded k) is e = more_address s new n (relocation_of (field_of t (length s.numbers))) (relocated.Loaded k) v.offset refl (subst B is good.0) good.1 h e
       by (External k) is e = more_address s new n (relocation_of (field_of t (length s.numbers))) (relocated.External k) v.offset refl (subst B is good.0) good.1 h e
 
   module _ (table : Table) (known : (name : List ℕ) (w : Value) → value_named table name ≡ Some w → IsGoodValue B w) (here : IsGoodValue B table.here) where
-    more_taken : (s new : Sheet) (n : ℕ) (e : Tree) → IsSheet B t n s → taken t table s e ≡ Ok new → IsSheet B t (n + 1) new
+    more_taken : (s new : OperandValues) (n : ℕ) (e : Tree) → IsSheet B t n s → taken t table s e ≡ Ok new → IsSheet B t (n + 1) new
     unfolding taken
     more_taken s new n e h is =
         let v = bound (valued table e) (λ v. with_value v.base (field_of t (length s.numbers)) v.offset s) new is in
         more_value s new n v.0 (good_valued B none table e v.0 known here v.1) h v.2
 
-    all_taken : (es : List Tree) (s new : Sheet) (n : ℕ) → IsSheet B t n s → fold_ok (taken t table) s es ≡ Ok new → IsSheet B t (n + length es) new
-    all_taken [] s new n h is = let q : s ≡ new = cc in let z : n + 0 ≡ n = omega arith in rw z (subst (λ (x : Sheet). IsSheet B t n x) q h)
+    all_taken : (es : List Tree) (s new : OperandValues) (n : ℕ) → IsSheet B t n s → fold_ok (taken t table) s es ≡ Ok new → IsSheet B t (n + length es) new
+    all_taken [] s new n h is = let q : s ≡ new = cc in let z : n + 0 ≡ n = omega arith in rw z (subst (λ (x : OperandValues). IsSheet B t n x) q h)
     all_taken (e ∷ es) s new n h is =
         let m = bound (taken t table s e) (λ next. fold_ok (taken t table) next es) new is in
         let z : n + length (e ∷ es) ≡ n + 1 + length es = omega arith in
         rw z (all_taken es m.0 new (n + 1) (more_taken s m.0 n e h m.1) m.2)
 
     -- what holds of the operands of a line
-    pub sheet_made : (es : List Tree) (s : Sheet) → sheet_of t table es ≡ Ok s → IsSheet B t (length es) s
+    pub sheet_made : (es : List Tree) (s : OperandValues) → operand_values t table es ≡ Ok s → IsSheet B t (length es) s
     sheet_made es s is =
         let z : 0 + length es ≡ length es = omega arith in
         let none : IsSheet B t 0 no_operands = record { fits = zero_holds t; count = refl; addresses = omega arith } in

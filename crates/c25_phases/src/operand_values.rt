@@ -1,7 +1,7 @@
 //! The values of a line's operands, when all names are known.
 
 ghost use Rattle.std.specs.Prelude.{◌≡◌, length, OnOk};
-ghost use Rattle.c25_meaning_assembly.specs.Addresses.{no_operands, with_number, with_address, with_value, taken, sheet_of, AreWithin};
+ghost use Rattle.c25_meaning_assembly.specs.Addresses.{no_operands, with_number, with_address, with_value, taken, operand_values, AreWithin};
 ghost use Rattle.c25_meaning_assembly.specs.OperandFields.{target_size, FitsTarget};
 ghost use Rattle.c25_meaning_common.specs.Results.{Meets};
 ghost use Rattle.c25_meaning_language.specs.Statement.{valued};
@@ -27,15 +27,15 @@ use std::marker::Model;
 /// The numbers of a line's operands, with 0 where a value is an address, and the addresses among the
 /// operands.
 #[derive(Drop)]
-pub(crate) struct Sheet {
+pub(crate) struct OperandValues {
     pub(crate) numbers: Vec<u16>,
     pub(crate) addresses: Vec<Address>,
 }
 
-impl Model for Sheet {
-    ghost use Rattle.c25_meaning_assembly.specs.Addresses.{Sheet};
+impl Model for OperandValues {
+    ghost use Rattle.c25_meaning_assembly.specs.Addresses.{OperandValues};
 
-    ghost Value = { Sheet };
+    ghost Value = { OperandValues };
 
     ghost view = { λ s. record { numbers = s.numbers.items; addresses = s.addresses.items } };
 }
@@ -50,11 +50,11 @@ pub(crate) fn valued(symbols: &Symbols, expr: &Expr) -> Result<Value, FaultKind>
     }
 }
 
-impl Sheet {
-    pub(crate) fn new(alloc: Global) -> Sheet
+impl OperandValues {
+    pub(crate) fn new(alloc: Global) -> OperandValues
         ensures { result ≡ no_operands }
     {
-        Sheet {
+        OperandValues {
             numbers: Vec::new(alloc),
             addresses: Vec::new(alloc),
         }
@@ -156,7 +156,7 @@ impl Sheet {
         symbols: &Symbols,
         exprs: &[Expr],
     ) -> Result<(), Failure<FaultKind>>
-        ensures told { Meets (λ _. self.new) (sheet_of target symbols.now (trees_of exprs.now)) result }
+        ensures told { Meets (λ _. self.new) (operand_values target symbols.now (trees_of exprs.now)) result }
         ensures fits { OnOk result (FitsTarget target self.new.numbers) }
         ensures within { OnOk result (AreWithin target (target_size target (length exprs.now)) self.new.addresses) }
     {

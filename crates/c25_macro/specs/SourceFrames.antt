@@ -1,14 +1,14 @@
 -- What the open files, expansions and turns of an expander stand for.
-use Rattle.c25_macro.specs.declared.scope.Block.{Block}
-use Rattle.c25_macro.specs.declared.scope.Block.TheVariants as blocks
+use Rattle.c25_macro.specs.declared.frames.ExitTarget.{ExitTarget}
+use Rattle.c25_macro.specs.declared.frames.ExitTarget.TheVariants as blocks
 use Rattle.std.specs.Prelude.{Bool, List, [], ◌∷◌, ◌++◌, map}
 use Rattle.c25_meaning_expansion.specs.Expansion as exp
 use Rattle.c25_meaning_expansion.specs.Expansion.{LineOrEnd, Read, Close}
 use Rattle.c25_meaning_expansion.specs.declared.expansion.Branch.{Branch}
-use Rattle.c25_macro.specs.declared.scope.Kind.{Kind}
-use Rattle.c25_macro.specs.declared.scope.Kind.TheVariants as kinds
-use Rattle.c25_macro.specs.declared.scope.Scope.{Scope}
-use Rattle.c25_macro.specs.declared.scope.Source.{Source}
+use Rattle.c25_macro.specs.declared.frames.Kind.{Kind}
+use Rattle.c25_macro.specs.declared.frames.Kind.TheVariants as kinds
+use Rattle.c25_macro.specs.declared.frames.SourceFrame.{SourceFrame}
+use Rattle.c25_macro.specs.declared.frames.Source.{Source}
 
 -- what the lines of a source are: those of a copied file, of an expansion or of a turn
 abbrev pub kind_of : Kind → exp.Kind
@@ -17,7 +17,7 @@ kind_of kinds.Expanded = exp.Expanded
 kind_of (kinds.Turn body more) = exp.Turn body more
 
 -- the scope of the definition that an open file, expansion or turn stands for
-abbrev pub scope_of : Scope → exp.Scope
+abbrev pub scope_of : SourceFrame → exp.SourceFrame
 scope_of f = record { kind = kind_of f.kind; last = f.last; branches = f.branches }
 
 -- the lines still to come from the sources outside the current one, the innermost first, each source after an
@@ -27,12 +27,12 @@ after [] = []
 after (s ∷ ss) = Close ∷ (map Read s.lines.rest ++ after ss)
 
 -- the scopes of the sources outside the current one, the innermost first
-abbrev pub scopes : List Source → List exp.Scope
-scopes [] = []
-scopes (s ∷ ss) = scope_of s.scope ∷ scopes ss
+abbrev pub frames : List Source → List exp.SourceFrame
+frames [] = []
+frames (s ∷ ss) = scope_of s.frame ∷ frames ss
 
 -- the test for blocks of this kind: expansions, or turns
-abbrev pub test_of : Block → exp.Kind → Bool
+abbrev pub test_of : ExitTarget → exp.Kind → Bool
 test_of blocks.Expansion = exp.is_expansion
 test_of blocks.Turn = exp.is_turn
 

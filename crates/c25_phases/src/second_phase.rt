@@ -2,7 +2,7 @@
 
 ghost use Rattle.std.specs.Prelude.{◌≡◌};
 
-use crate::item::LaidContent;
+use crate::item::PendingItem;
 use crate::names::DistinctNames;
 use crate::progress::Progress;
 use crate::sections::Sections;
@@ -12,7 +12,7 @@ use std::mem;
 
 /// The part of the first phase's result that the second phase reads.
 #[derive(Drop)]
-pub(crate) struct Laid<'a> {
+pub(crate) struct SecondPhase<'a> {
     pub(crate) alloc: Global,
     pub(crate) sections: Sections<'a>,
     pub(crate) symbols: Symbols,
@@ -20,12 +20,12 @@ pub(crate) struct Laid<'a> {
     pub(crate) declared: DistinctNames,
     /// The names of `.global`, `.ref` and `.def`.
     pub(crate) exported: DistinctNames,
-    pub(crate) items: Vec<LaidContent<'a>>,
+    pub(crate) items: Vec<PendingItem<'a>>,
 }
 
-impl<'a> Laid<'a> {
+impl<'a> SecondPhase<'a> {
     /// Takes from the first phase's result what the second phase reads.
-    pub(crate) fn of(progress: Progress<'a>) -> Laid<'a>
+    pub(crate) fn of(progress: Progress<'a>) -> SecondPhase<'a>
         ensures sections { result.sections ≡ progress.entry.sections }
         ensures symbols { result.symbols ≡ progress.entry.symbols }
         ensures declared { result.declared ≡ progress.entry.declared }
@@ -44,7 +44,7 @@ impl<'a> Laid<'a> {
         } = progress;
         // The files' names are kept with the marks of the sections.
         mem::drop(files);
-        Laid {
+        SecondPhase {
             alloc,
             sections,
             symbols,

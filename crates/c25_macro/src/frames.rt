@@ -3,7 +3,7 @@
 ghost use Rattle.std.specs.Prelude.{MatchOption, ◌≡◌, ◌∷◌, ◌<◌, OnOk, option_to_list, IfNone, length, ◌++◌, [], false, min, sum_by, ◌+◌};
 ghost use Rattle.std.specs.List.{list_any};
 ghost use Rattle.c25_meaning_expansion.specs.Rows.{is_empty};
-ghost use Rattle.c25_macro.specs.Scopes.{scopes, kind_of, test_of, other_branches};
+ghost use Rattle.c25_macro.specs.SourceFrames.{frames, kind_of, test_of, other_branches};
 
 use c25_files::{Passage, Rows};
 use c25_meaning_common::no_memory::NoMemory;
@@ -92,18 +92,18 @@ pub(crate) enum Kind<'a> {
 
 /// A kind of block that can be left before its end, by `.mexit` or `.break`.
 #[derive(Clone, Copy)]
-pub(crate) enum Block {
+pub(crate) enum ExitTarget {
     Expansion,
     Turn,
 }
 
 impl Kind<'_> {
-    pub(crate) fn is(&self, block: Block) -> bool
+    pub(crate) fn is(&self, block: ExitTarget) -> bool
         ensures { result ≡ test_of block (kind_of self.now) }
     {
         match (block, self) {
-            (Block::Expansion, Kind::Expanded) => true,
-            (Block::Turn, Kind::Turn { .. }) => true,
+            (ExitTarget::Expansion, Kind::Expanded) => true,
+            (ExitTarget::Turn, Kind::Turn { .. }) => true,
             _ => false,
         }
     }
@@ -111,7 +111,7 @@ impl Kind<'_> {
 
 /// A file, expansion or turn that is open.
 #[derive(Drop)]
-pub(crate) struct Scope<'a> {
+pub(crate) struct SourceFrame<'a> {
     pub(crate) kind: Kind<'a>,
     /// The place of its last line.
     pub(crate) last: SourcePlace,
@@ -123,7 +123,7 @@ pub(crate) struct Scope<'a> {
 #[derive(Drop)]
 pub(crate) struct Source<'a> {
     pub(crate) lines: Passage<'a>,
-    pub(crate) scope: Scope<'a>,
+    pub(crate) frame: SourceFrame<'a>,
 }
 
 /// The sources outside the current one, the innermost first.
@@ -134,7 +134,7 @@ pub(crate) struct Stack<'a> {
 
 impl<'a> Model for Stack<'a> {
     ghost use Rattle.std.specs.Prelude.{List, reverse};
-    ghost use Rattle.c25_macro.specs.declared.scope.Source.{Source};
+    ghost use Rattle.c25_macro.specs.declared.frames.Source.{Source};
 
     ghost Value = { List Source };
 
@@ -158,14 +158,14 @@ impl<'a> Stack<'a> {
 
     #[tactic(auto, using(crate::proofs::Trails::length_scopes))]
     pub(crate) fn len(&self) -> usize
-        ensures { result ≡ length (scopes self.now) }
+        ensures { result ≡ length (frames self.now) }
     {
         self.sources.len()
     }
 
     /// Whether one of the sources is a block of this kind.
-    pub(crate) fn has(&self, block: Block) -> bool
-        ensures { result ≡ list_any (λ f. test_of block f.kind) (scopes self.now) }
+    pub(crate) fn has(&self, block: ExitTarget) -> bool
+        ensures { result ≡ list_any (λ f. test_of block f.kind) (frames self.now) }
     {
         has(self.sources.as_slice(), block)
     }
@@ -181,7 +181,7 @@ impl<'a> Stack<'a> {
     /// are more.
     #[tactic(auto, using(crate::proofs::Lists::sum_scopes))]
     pub(crate) fn count(&self) -> usize
-        ensures { result ≡ min 32 (sum_by (λ f. length f.branches + 1) (scopes self.now)) }
+        ensures { result ≡ min 32 (sum_by (λ f. length f.branches + 1) (frames self.now)) }
     {
         count(self.sources.as_slice())
     }
@@ -203,18 +203,18 @@ impl<'a> Stack<'a> {
 }
 
 fn count(sources: &[Source<'_>]) -> usize
-    ensures { result ≡ min 32 (sum_by (λ s. length s.scope.branches + 1) sources.now) }
+    ensures { result ≡ min 32 (sum_by (λ s. length s.frame.branches + 1) sources.now) }
 {
     let mut total = 0;
     for source in sources {
-        let open = source.scope.branches.len().min(32) + 1;
+        let open = source.frame.branches.len().min(32) + 1;
         total = (total + open).min(32);
     }
     total
 }
 
-fn has(sources: &[Source<'_>], block: Block) -> bool
-    ensures { result ≡ list_any (λ s. test_of block (kind_of s.scope.kind)) sources.now }
+fn has(sources: &[Source<'_>], block: ExitTarget) -> bool
+    ensures { result ≡ list_any (λ s. test_of block (kind_of s.frame.kind)) sources.now }
 {
-    sources.iter().any(|source| source.scope.kind.is(block))
+    sources.iter().any(|source| source.frame.kind.is(block))
 }

@@ -3,12 +3,12 @@
 ghost use Rattle.c25_meaning_expansion.specs.ExpansionBounds.{IsBounded};
 ghost use Rattle.c25_macro.specs.Config.{config};
 
-use crate::state::State;
+use crate::state::ExpanderState;
 
 /// A state in which at most 32 blocks are open and at most 200,000 lines and expansions counted. It is boxed,
 /// since it is handed on from line to line.
 #[derive(Drop)]
-pub(crate) struct Standing<'a> {
-    pub(crate) state: Box<State<'a>>,
+pub(crate) struct BoundedState<'a> {
+    pub(crate) state: Box<ExpanderState<'a>>,
     ghost bounded: { IsBounded (config state.value) },
 }

@@ -1,7 +1,7 @@
 use Rattle.std.proofs.Common.{sym, ◌∙◌}
-use Rattle.c25_macro.specs.Scopes.{test_of}
+use Rattle.c25_macro.specs.SourceFrames.{test_of}
 use Rattle.c25_macro.proofs.Lists.{any_scopes}
-use Rattle.c25_macro.proofs.scope.Stack.has.Goals as goal
+use Rattle.c25_macro.proofs.frames.Stack.has.Goals as goal
 
 pub returns : goal.returns
 returns c =

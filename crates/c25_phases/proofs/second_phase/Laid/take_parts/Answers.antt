@@ -2,7 +2,7 @@ use Rattle.std.proofs.Common.{◌≡◌, ◌≤◌, length, map, rules, subst, s
 use Rattle.c25_meaning_assembly.specs.Emission.{Lines, lines_in, names_with}
 use Rattle.c25_phases.specs.View.{item_of}
 use Rattle.c25_phases.proofs.Unmoved.{lines_stay}
-use Rattle.c25_phases.proofs.laid.Laid.take_parts.Goals as goal
+use Rattle.c25_phases.proofs.second_phase.SecondPhase.take_parts.Goals as goal
 
 pub module_with-requires : goal.module_with-requires
 module_with-requires c =

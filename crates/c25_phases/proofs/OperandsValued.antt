@@ -4,7 +4,7 @@ use Rattle.std.specs.List.{All}
 use Rattle.std.proofs.lemmas.List.{length-append}
 use Rattle.std.proofs.lemmas.List.Elements.{All-nil, All-push, All-weaker}
 use Rattle.c25_meaning_language.proofs.Numbers.{each_push, holds_zero-form, holds_number}
-use Rattle.c25_meaning_assembly.specs.Addresses.{Sheet, no_operands, with_number, with_address, with_value, taken, sheet_of, AreWithin}
+use Rattle.c25_meaning_assembly.specs.Addresses.{OperandValues, no_operands, with_number, with_address, with_value, taken, operand_values, AreWithin}
 use Rattle.c25_meaning_assembly.specs.OperandFields.{field_of, word_of, target_size, FitsTarget}
 use Rattle.c25_meaning_language.specs.Fits.{Holds}
 use Rattle.c25_meaning_common.specs.Results.{◌>>=◌, fold_ok}
@@ -40,7 +40,7 @@ unfolding Takes
 takes_more t n a h = (omega (arith, h.0), h.1)
 
 -- what holds of the operands so far
-record Good (t : Target) (s : Sheet) : Type 0 where
+record Good (t : Target) (s : OperandValues) : Type 0 where
   fits : FitsTarget t s.numbers
   takes : All (Takes t (length s.numbers)) s.addresses
 
@@ -59,26 +59,26 @@ takes_all : (t : Target) (ns : List ℕ) (n : ℕ) (addresses : List Address) �
 takes_all t ns n addresses h = rw (length_push ns n) (All-weaker (Takes t (length ns)) (Takes t (length ns + 1)) (takes_more t (length ns)) addresses h)
 
 -- one operand more
-record More (t : Target) (s new : Sheet) : Type 0 where
+record More (t : Target) (s new : OperandValues) : Type 0 where
   good : Good t new
   count : length new.numbers ≡ length s.numbers + 1
 
-more_number : (t : Target) (s : Sheet) (n : ℕ) → Good t s → Holds (field_of t (length s.numbers)) n → More t s (with_number n s)
+more_number : (t : Target) (s : OperandValues) (n : ℕ) → Good t s → Holds (field_of t (length s.numbers)) n → More t s (with_number n s)
 more_number t s n good h = record {
   good = record { fits = fits_more t s.numbers n good.fits h; takes = takes_all t s.numbers n s.addresses good.takes };
   count = length_push s.numbers n;
 }
 
-more_address : (t : Target) (s new : Sheet) (o : Option RelocationKind) (base : RelocationBase) (z : ℤ) → relocation_of (field_of t (length s.numbers)) ≡ o
+more_address : (t : Target) (s new : OperandValues) (o : Option RelocationKind) (base : RelocationBase) (z : ℤ) → relocation_of (field_of t (length s.numbers)) ≡ o
     → Good t s → with_address o base z s ≡ Ok new → More t s new
 unfolding Takes
 more_address t s new None base z is good h = absurd (cc)
 more_address t s new (Some kind) base z is good h =
     let a : Address = record { operand = length s.numbers; kind = kind; base = base; addend = z } in
-    let made : Sheet = record { numbers = s.numbers ++ 0 ∷ []; addresses = s.addresses ++ a ∷ [] } in
+    let made : OperandValues = record { numbers = s.numbers ++ 0 ∷ []; addresses = s.addresses ++ a ∷ [] } in
     let q : made ≡ new = cc in
     let last : Takes t (length (s.numbers ++ 0 ∷ [])) a = rw (length_push s.numbers 0) (omega arith, is) in
-    subst (λ (x : Sheet). More t s x) q (record {
+    subst (λ (x : OperandValues). More t s x) q (record {
       good = record {
         fits = fits_more t s.numbers 0 good.fits (zero_holds t (length s.numbers));
         takes = All-push (Takes t (length (s.numbers ++ 0 ∷ []))) s.addresses a (takes_all t s.numbers 0 s.addresses good.takes) last;
@@ -86,17 +86,17 @@ more_address t s new (Some kind) base z is good h =
       count = length_push s.numbers 0;
     })
 
-more_value : (t : Target) (s new : Sheet) (b : Base) (z : ℤ) → Good t s → with_value b (field_of t (length s.numbers)) z s ≡ Ok new → More t s new
+more_value : (t : Target) (s new : OperandValues) (b : Base) (z : ℤ) → Good t s → with_value b (field_of t (length s.numbers)) z s ≡ Ok new → More t s new
 more_value t s new Absolute z good h = on (number_in (field_of t (length s.numbers)) z) (λ n e. holds_number (field_of t (length s.numbers)) z n e) h
   where
     on : (r : Result ℕ FaultKind) → ((n : ℕ) → r ≡ Ok n → Holds (field_of t (length s.numbers)) n) → (r >>= λ n. Ok (with_number n s)) ≡ Ok new → More t s new
-    on (Ok n) holds e = let q : with_number n s ≡ new = cc in subst (λ (x : Sheet). More t s x) q (more_number t s n good (holds n refl))
+    on (Ok n) holds e = let q : with_number n s ≡ new = cc in subst (λ (x : OperandValues). More t s x) q (more_number t s n good (holds n refl))
     on (Err f) holds e = absurd (cc)
 more_value t s new (Section n) z good h = more_address t s new (relocation_of (field_of t (length s.numbers))) (relocated.Section n) z refl good h
 more_value t s new (Loaded n) z good h = more_address t s new (relocation_of (field_of t (length s.numbers))) (relocated.Loaded n) z refl good h
 more_value t s new (External n) z good h = more_address t s new (relocation_of (field_of t (length s.numbers))) (relocated.External n) z refl good h
 
-more_taken : (t : Target) (table : Table) (s new : Sheet) (e : Tree) → Good t s → taken t table s e ≡ Ok new → More t s new
+more_taken : (t : Target) (table : Table) (s new : OperandValues) (e : Tree) → Good t s → taken t table s e ≡ Ok new → More t s new
 unfolding taken
 more_taken t table s new e good h = on (valued table e) h
   where
@@ -105,16 +105,16 @@ more_taken t table s new e good h = on (valued table e) h
     on (Err f) h = absurd (cc)
 
 -- so many operands
-record Taken (t : Target) (s new : Sheet) (n : ℕ) : Type 0 where
+record Taken (t : Target) (s new : OperandValues) (n : ℕ) : Type 0 where
   good : Good t new
   count : length new.numbers ≡ length s.numbers + n
 
-all_taken : (t : Target) (table : Table) (es : List Tree) (s new : Sheet) → Good t s → fold_ok (taken t table) s es ≡ Ok new → Taken t s new (length es)
-all_taken t table [] s new good h = let q : s ≡ new = cc in subst (λ (x : Sheet). Taken t s x 0) q (record { good = good; count = omega arith })
+all_taken : (t : Target) (table : Table) (es : List Tree) (s new : OperandValues) → Good t s → fold_ok (taken t table) s es ≡ Ok new → Taken t s new (length es)
+all_taken t table [] s new good h = let q : s ≡ new = cc in subst (λ (x : OperandValues). Taken t s x 0) q (record { good = good; count = omega arith })
 all_taken t table (e ∷ es) s new good h = on (taken t table s e) refl h (λ next. all_taken t table es next new)
   where
-    on : (r : Result Sheet FaultKind) → taken t table s e ≡ r → (r >>= λ next. fold_ok (taken t table) next es) ≡ Ok new
-        → ((next : Sheet) → Good t next → fold_ok (taken t table) next es ≡ Ok new → Taken t next new (length es)) → Taken t s new (length (e ∷ es))
+    on : (r : Result OperandValues FaultKind) → taken t table s e ≡ r → (r >>= λ next. fold_ok (taken t table) next es) ≡ Ok new
+        → ((next : OperandValues) → Good t next → fold_ok (taken t table) next es ≡ Ok new → Taken t next new (length es)) → Taken t s new (length (e ∷ es))
     on (Ok next) was h go =
         let m = more_taken t table s next e good was in
         let a = go next m.good h in
@@ -166,11 +166,11 @@ word_within (target.Data width.Word) n a h = h.0
 word_within (target.Data width.Byte) n a h = absurd (cc (h.1))
 
 -- the numbers of all operands fit
-pub fits_sheet : (t : Target) (table : Table) (es : List Tree) (s : Sheet) → sheet_of t table es ≡ Ok s → FitsTarget t s.numbers
+pub fits_sheet : (t : Target) (table : Table) (es : List Tree) (s : OperandValues) → operand_values t table es ≡ Ok s → FitsTarget t s.numbers
 fits_sheet t table es s h = (all_taken t table es no_operands s (no_good t) h).good.fits
 
 -- the fields of all addresses are within the words of the line
-pub within_sheet : (t : Target) (table : Table) (es : List Tree) (s : Sheet) (n : ℕ) → n ≡ length es → sheet_of t table es ≡ Ok s → AreWithin t (target_size t n) s.addresses
+pub within_sheet : (t : Target) (table : Table) (es : List Tree) (s : OperandValues) (n : ℕ) → n ≡ length es → operand_values t table es ≡ Ok s → AreWithin t (target_size t n) s.addresses
 within_sheet t table es s n is h =
     let a = all_taken t table es no_operands s (no_good t) h in
     let e : length s.numbers ≡ n = omega (arith, a.count, is) in

@@ -4,8 +4,8 @@ use Rattle.c25_meaning_assembly.specs.Addresses.{taken}
 use Rattle.c25_meaning_common.specs.Results.{fold_ok}
 use Rattle.c25_expr.specs.View.{tree_of}
 use Rattle.c25_statements.specs.View.{trees_of}
-use Rattle.c25_phases.proofs.Sheets.{fits_sheet, within_sheet}
-use Rattle.c25_phases.proofs.sheet.Sheet.fill.Goals as goal
+use Rattle.c25_phases.proofs.OperandsValued.{fits_sheet, within_sheet}
+use Rattle.c25_phases.proofs.operand_values.OperandValues.fill.Goals as goal
 
 pub returns-clause-fits : goal.returns-clause-fits
 returns-clause-fits c =
