@@ -4,8 +4,8 @@ ghost use Rattle.std.specs.Prelude.{◌≡◌, ◌+◌, ◌<◌, ◌^◌};
 ghost use Rattle.c25_meaning_processor.specs.Goes.{is_met};
 
 use crate::board::Board;
-use crate::ports::{Feed, Sink};
 use crate::breakpoints::Breakpoints;
+use crate::ports::{Feed, Sink};
 use c25_core::Halt;
 use c25_meaning_processor::stop::Stop;
 

@@ -5,10 +5,10 @@ ghost use Rattle.c25_meaning_processor.specs.Samples.{samples_at, samples_of};
 ghost use Rattle.c25_meaning_common.specs.Results.{MeetsBy};
 
 use crate::ports::Feed;
-use c25_texts::{LineFormat, decimal_of, hexadecimal_of, read_items};
 use c25_meaning_common::failure::Failure;
 use c25_meaning_common::placed::Placed;
 use c25_meaning_processor::sample::{BadSamples, Sample};
+use c25_texts::{LineFormat, decimal_of, hexadecimal_of, read_items};
 use std::alloc::Global;
 use std::marker::Model;
 

@@ -4,11 +4,11 @@ ghost use Rattle.std.specs.Prelude.{◌≡◌};
 ghost use Rattle.c25_meaning_processor.specs.Schedule.{event_of, last_step, schedule_of};
 ghost use Rattle.c25_meaning_common.specs.Results.{MeetsBy};
 
-use c25_texts::{LineFormat, decimal_of, is_word, read_items};
 use c25_meaning_common::failure::Failure;
 use c25_meaning_common::placed::Placed;
 use c25_meaning_processor::lines::Lines;
-use c25_meaning_processor::schedule::{BadSchedule, ScheduleEntry, Event};
+use c25_meaning_processor::schedule::{BadSchedule, Event, ScheduleEntry};
+use c25_texts::{LineFormat, decimal_of, is_word, read_items};
 use std::alloc::Global;
 use std::marker::Model;
 

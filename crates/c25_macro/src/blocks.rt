@@ -15,8 +15,8 @@ ghost use Rattle.c25_macro.specs.SourceFrames.{test_of};
 ghost use Rattle.c25_macro.specs.declared.state.Mode.TheVariants as modes;
 
 use crate::expansion_fault::{ExpansionFault, fault};
-use crate::frames::{ExitTarget, Branches, Kind, SourceFrame, Source};
-use crate::state::{Mode, ExpanderState};
+use crate::frames::{Branches, ExitTarget, Kind, Source, SourceFrame};
+use crate::state::{ExpanderState, Mode};
 use crate::values::{is_zero, number};
 use c25_expr::symbols::Symbols;
 use c25_expr::tree::Expr;

@@ -11,10 +11,10 @@ ghost use Rattle.c25_macro.specs.Config.{config, ForBody, GoesOn};
 ghost use Rattle.c25_macro.specs.declared.state.Mode.TheVariants as modes;
 
 use crate::directive::directive_in;
-use crate::macros::Macro;
 use crate::expansion_fault::ExpansionFault;
 use crate::frames::Kind;
-use crate::state::{Mode, ExpanderState};
+use crate::macros::Macro;
+use crate::state::{ExpanderState, Mode};
 use c25_files::{Row, Rows};
 use c25_meaning_common::failure::Failure;
 use c25_meaning_expansion::expansion::Directive;

@@ -66,7 +66,11 @@ impl ExpanderState<'_> {
     }
 
     /// Lets the innermost `.if` go on in this phase.
-    pub(crate) fn enter(&mut self, branch: Branch, phase: Phase) -> Result<(), Failure<ExpansionFault>>
+    pub(crate) fn enter(
+        &mut self,
+        branch: Branch,
+        phase: Phase,
+    ) -> Result<(), Failure<ExpansionFault>>
         ensures { GoesOn (rule.enters branch (other_branches (config self.old).frame.branches) (config self.old) phase) result (config self.new) }
     {
         let branches = &mut self.top.frame.branches;

@@ -13,8 +13,8 @@ ghost use Rattle.c25_macro.specs.SourceFrames.{kind_of};
 ghost use Rattle.c25_substitution.specs.View.{names_of};
 
 use crate::expansions::{Expansion, Expansions};
-use crate::macros::{Macro, Macros};
 use crate::frames::Kind;
+use crate::macros::{Macro, Macros};
 use c25_meaning_common::no_memory::NoMemory;
 use c25_substitution::parameters::Arguments;
 use c25_substitution::texts::SubstitutionTexts;

@@ -19,11 +19,11 @@ ghost use Rattle.c25_macro.specs.declared.state.Mode.TheVariants as modes;
 use crate::act::{ExpansionAct, Order};
 use crate::conditions::takes_lines;
 use crate::directive::directive_in;
-use crate::line::Line;
-use crate::orders::{read_call, read_order};
 use crate::expansion_fault::{ExpansionFault, at_place, fault};
 use crate::frames::ExitTarget;
-use crate::state::{Mode, LineResult, ExpanderState, consumed};
+use crate::line::Line;
+use crate::orders::{read_call, read_order};
+use crate::state::{ExpanderState, LineResult, Mode, consumed};
 use c25_expr::symbols::Symbols;
 use c25_files::Row;
 use c25_files::files::Files;
@@ -224,7 +224,11 @@ impl<'a> ExpanderState<'a> {
     }
 
     /// Sets how many `.if`s are nested in the skipped lines of the innermost `.if`.
-    fn nest(&mut self, branch: Branch, nested: usize) -> Result<LineResult<'a>, Failure<ExpansionFault>>
+    fn nest(
+        &mut self,
+        branch: Branch,
+        nested: usize,
+    ) -> Result<LineResult<'a>, Failure<ExpansionFault>>
         ensures { Follows (rule.nests nested branch (other_branches (config self.old).frame.branches) (config self.old)) result (config self.new) }
     {
         let branches = &mut self.top.frame.branches;

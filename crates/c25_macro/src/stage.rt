@@ -9,9 +9,9 @@ ghost use Rattle.c25_macro.specs.Expander.{shown, begun_at, Comes, IsNextAt, IsK
 ghost use Rattle.c25_macro.specs.Stages.{stage_of, IsRefused};
 
 use crate::answer::{ExpLine, ExpandFault};
-use crate::line::Line;
-use crate::expansion_fault::ExpansionFault;
 use crate::bounded_state::BoundedState;
+use crate::expansion_fault::ExpansionFault;
+use crate::line::Line;
 use crate::state::ExpanderState;
 use c25_expr::symbols::Symbols;
 use c25_files::files::Files;
@@ -69,7 +69,11 @@ fn no_file(file: &str, line: usize) -> ExpandFault<'_>
 }
 
 /// The stage after a refusal, and the answer that reports it.
-fn refuse<'a>(files: &'a Files, name: &'a str, failure: Failure<ExpansionFault>) -> (Stage<'a>, Answer<'a>)
+fn refuse<'a>(
+    files: &'a Files,
+    name: &'a str,
+    failure: Failure<ExpansionFault>,
+) -> (Stage<'a>, Answer<'a>)
     ensures { IsRefused files.now name.now failure result.0 result.1 }
 {
     match failure {

@@ -12,9 +12,9 @@ ghost use Rattle.c25_macro.specs.declared.state.Mode.TheVariants as modes;
 
 use crate::act::ExpansionAct;
 use crate::dictionary::Dictionary;
-use crate::line::Line;
 use crate::expansion_fault::ExpansionFault;
-use crate::frames::{ExitTarget, Branches, Kind, SourceFrame, Source, Stack};
+use crate::frames::{Branches, ExitTarget, Kind, Source, SourceFrame, Stack};
+use crate::line::Line;
 use c25_files::Rows;
 use c25_files::text::Text;
 use c25_meaning_common::failure::Failure;
@@ -58,7 +58,9 @@ pub(crate) enum LineResult<'a> {
 }
 
 /// The progress of a rewriting that gives no line.
-pub(crate) fn consumed<'a>(done: Result<(), Failure<ExpansionFault>>) -> Result<LineResult<'a>, Failure<ExpansionFault>>
+pub(crate) fn consumed<'a>(
+    done: Result<(), Failure<ExpansionFault>>,
+) -> Result<LineResult<'a>, Failure<ExpansionFault>>
     ensures { (r : exp.Rewriting) (new : exp.Config) → GoesOn r done new → Follows r result new }
 {
     match done {

@@ -13,10 +13,10 @@ ghost use Rattle.c25_macro.specs.Acts.{bytes_of_names};
 ghost use Rattle.c25_macro.specs.Config.{config, Follows, IsNextRow, Answers};
 ghost use Rattle.c25_macro.specs.declared.state.Mode.TheVariants as modes;
 
-use crate::line::Line;
 use crate::expansion_fault::{ExpansionFault, fault};
 use crate::frames::Kind;
-use crate::state::{Mode, LineResult, ExpanderState, consumed};
+use crate::line::Line;
+use crate::state::{ExpanderState, LineResult, Mode, consumed};
 use c25_expr::symbols::Symbols;
 use c25_files::Row;
 use c25_files::files::Files;

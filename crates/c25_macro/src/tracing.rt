@@ -9,7 +9,7 @@ ghost use Rattle.c25_macro.specs.Tracers.{Begins, IsToldAs, Shows, Steps, fault_
 
 use crate::expansion_fault::ExpansionFault;
 use crate::stage::show;
-use crate::state::{Mode, LineResult, ExpanderState};
+use crate::state::{ExpanderState, LineResult, Mode};
 use crate::tracer::{Step, StepFault, Tracer};
 use c25_expr::symbols::Symbols;
 use c25_files::files::Files;

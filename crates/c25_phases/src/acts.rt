@@ -15,7 +15,7 @@ ghost use Rattle.c25_phases.specs.Steps.{begun, carried_out};
 ghost use Rattle.c25_phases.specs.View.{progress_of};
 
 use crate::counts::block_allowed;
-use crate::item::{Content, PendingItem, Origin};
+use crate::item::{Content, Origin, PendingItem};
 use crate::names::copied;
 use crate::progress::Progress;
 use crate::targets::target_size;

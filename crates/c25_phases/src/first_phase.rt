@@ -13,12 +13,12 @@ ghost use Rattle.c25_phases.specs.Steps.{marked, waited};
 ghost use Rattle.c25_phases.specs.View.{content_of, item_of, progress_of, symbols_of};
 
 use crate::counts::{count_of, flag_of, is_file_name, is_line_number};
-use crate::item::{Content, PendingItem, Origin, SourceLine};
+use crate::item::{Content, Origin, PendingItem, SourceLine};
 use crate::names::DistinctNames;
+use crate::operand_values::valued;
 use crate::progress::Progress;
 use crate::section::Section;
 use crate::sections::Sections;
-use crate::operand_values::valued;
 use c25_expr::symbols::{Defined, Symbols};
 use c25_expr::tree::Expr;
 use c25_meaning_common::failure::Failure;

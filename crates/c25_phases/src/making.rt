@@ -10,11 +10,11 @@ ghost use Rattle.c25_phases.specs.View.{fault_of, item_of, progress_of};
 
 use crate::emission::{emit_all, import_all};
 use crate::fault::AsmFault;
-use crate::second_phase::SecondPhase;
 use crate::names::DistinctNames;
-use crate::progress::Progress;
-use crate::sections::Sections;
 use crate::operand_values::OperandValues;
+use crate::progress::Progress;
+use crate::second_phase::SecondPhase;
+use crate::sections::Sections;
 use c25_expr::symbols::Symbols;
 use c25_meaning_common::failure::Failure;
 use c25_meaning_common::no_memory::NoMemory;

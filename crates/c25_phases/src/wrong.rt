@@ -8,11 +8,11 @@ ghost use Rattle.c25_phases.specs.View.{item_of, progress_of};
 ghost use Rattle.c25_phases.specs.Wrong.{first_wrong, wrong_from, wrong_of};
 
 use crate::emission::{emit, import_all};
-use crate::item::{PendingItem, Origin};
-use crate::second_phase::SecondPhase;
-use crate::progress::Progress;
-use crate::sections::Sections;
+use crate::item::{Origin, PendingItem};
 use crate::operand_values::OperandValues;
+use crate::progress::Progress;
+use crate::second_phase::SecondPhase;
+use crate::sections::Sections;
 use c25_expr::symbols::Symbols;
 use c25_meaning_common::failure::Failure;
 use c25_meaning_common::no_memory::NoMemory;
