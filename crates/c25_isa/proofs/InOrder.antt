@@ -48,7 +48,7 @@ in_order (x ∷ xs) h = later_are_more x xs h
 
 -- ---- a list of all spellings
 
--- where a list finds each spelling by its letters, it has each
+-- a list that finds each spelling by its letters has each spelling
 module _ (all : List Spelling) (each : map (λ s. found_by letters (letters s) all) spellings ≡ map Some spellings) where
   found_at : (k : ℕ) (s : Spelling) → k < length spellings → get_or spellings k s ≡ s → found_by letters (letters s) all ≡ Some s
   found_at k s below is =
@@ -117,7 +117,7 @@ module _ (xs ys : List ℕ) (a : is_short xs ≡ true) (b : is_short ys ≡ true
   same_digit (suc (suc (suc zero))) l = fourth _ _ _ _ _ _ _ _ (of_xs 0) (of_xs 1) (of_xs 2) (of_xs 3) (of_ys 0) (of_ys 1) (of_ys 2) (of_ys 3) e
   same_digit (suc (suc (suc (suc k)))) l = absurd (omega arith)
 
-  -- texts of one number are one
+  -- two short texts with one number are the same text
   pub one_text : xs ≡ ys
   one_text = by_digits 4 xs ys (few xs a) (few ys b) same_digit
 
@@ -130,7 +130,7 @@ module _ (all : List Spelling) (numbers : List ℕ) (are : numbers ≡ map spell
   number_at : (k : ℕ) (s : Spelling) → k < length all → get_or numbers k 0 ≡ spelling_number (get_or all k s)
   number_at k s below = subst (λ l. get_or l k 0 ≡ spelling_number (get_or all k s)) (sym are) (get_or-map spelling_number all k s 0 below)
 
-  -- a text of more than four letters spells none
+  -- a text of more than four letters is no spelling's
   pub no_long_spelling : (text : List ℕ) → 4 < length text → (s : Spelling) → SameLetters text (spelling_text s) → ⊥
   no_long_spelling text long s same =
       let at = has s in
@@ -146,7 +146,7 @@ module _ (all : List Spelling) (numbers : List ℕ) (are : numbers ≡ map spell
         let is = passes has_short_text all short i d below in
         one_text (lower text) (lower (spelling_text (get_or all i d))) is_name is (sym e ∙ number_at i d below)
 
-    -- a text whose number is not among theirs spells none
+    -- a text whose number is not among the numbers is no spelling's
     no_spelling : (i : ℕ) → ((k : ℕ) → k < i → get_or numbers k 0 < number (lower text)) → ((k : ℕ) → i ≤ k → k < length numbers → number (lower text) < get_or numbers k 0) → length numbers ≡ length all → (s : Spelling) → SameLetters text (spelling_text s) → ⊥
     no_spelling i less more len s same =
         let at = has s in
@@ -165,7 +165,7 @@ module _ (all : List Spelling) (numbers : List ℕ) (are : numbers ≡ map spell
         let found = searched numbers (number (lower text)) (Err i) holds rise in
         no_spelling i found.1 found.2 len
 
-  -- the same of a text as it is written
+  -- what the search finds of a text that equals the one searched for
   pub found_written : (written text : List ℕ) → written ≡ text → is_short (lower written) ≡ true → length numbers ≡ length all → (n : ℕ) → n ≡ number (lower written) → (r : Result ℕ ℕ) (o : Option ℕ) → o ≡ result_ok r → IsBinarySearchResult (λ y. nat_cmp y n) numbers r
       → MatchOption o ((s : Spelling) → SameLetters text (spelling_text s) → ⊥) (λ i. (d : Spelling) → SameLetters text (spelling_text (get_or all i d)))
   found_written written text same short_text len n is r o e holds =

@@ -1,4 +1,4 @@
--- What is said of `None` holds of an option that is no `Some`.
+-- A fact about `None` holds of an option that is no `Some`.
 use Rattle.std.proofs.Common.{◌≡◌, Option, Some, None, refl}
 use Rattle.std.specs.Prelude.{IfNone}
 

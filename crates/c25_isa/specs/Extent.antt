@@ -1,18 +1,18 @@
--- How many first words each row spans, from its own on.
+-- How many first words each row has: those from its base on that differ in operands alone.
 use Rattle.std.specs.Prelude.{ℕ}
 use Rattle.c25_meaning_instructions.specs.declared.mnemonic.ShortName.{ShortName}
 use Rattle.c25_meaning_instructions.specs.declared.mnemonic.ShortName.TheVariants as short
 use Rattle.c25_meaning_instructions.specs.declared.mnemonic.PlainName.{PlainName}
 use Rattle.c25_meaning_instructions.specs.declared.mnemonic.PlainName.TheVariants as plain
 
--- those of a row with a short number: 256 for each 8 bits, and 8 times as many with a register
+-- the first words of a row with a short number: 256 for a number of 8 bits, 8 times as many with a register
 abbrev pub extent : ShortName → ℕ
 extent short.Lark = 2048
 extent short.Ldpk = 512
 extent short.Mpyk = 8192
 extent _ = 256
 
--- those of a row without a data word; NORM's changes stand 16 apart, up to 7
+-- the first words of a row without a data word; NORM's changes are 16 apart, up to 7
 abbrev pub plain_extent : PlainName → ℕ
 plain_extent plain.Spm = 4
 plain_extent plain.Fort = 2

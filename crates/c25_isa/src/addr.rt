@@ -8,13 +8,13 @@ ghost use Rattle.c25_meaning_instructions.specs.declared.insn.Change.{Change};
 use c25_bits::Field;
 use c25_meaning_instructions::insn::{Addr, Change};
 
-/// The bits of the change of an auxiliary register.
+/// The bits of an indirect operand byte that say how the auxiliary register changes.
 type ChangeField = Field<4, 3>;
 
-/// The bits of the next register.
+/// The bits of an indirect operand byte that name the next auxiliary register.
 type LowField = Field<0, 4>;
 
-/// The number of a change.
+/// The code of a change of the auxiliary register in an operand byte.
 pub(crate) fn number_of_change(change: Change) -> u16
     ensures value { result ≡ change_number change }
     ensures small { result < 8 }
@@ -30,7 +30,7 @@ pub(crate) fn number_of_change(change: Change) -> u16
     }
 }
 
-/// The change of a number; 3 is reserved.
+/// The change of the auxiliary register that has a code; 3 is reserved.
 pub(crate) fn change_of_number(number: u16) -> Option<Change>
     ensures found { IfSome result (λ change. change_number change ≡ number) }
     ensures none { IfNone result ((change : Change) → change_number change ≡ number → ⊥) }
@@ -73,8 +73,8 @@ pub(crate) fn byte_of_addr(addr: Addr) -> u16
     }
 }
 
-/// The change and the next register of the byte of an indirect operand. Without a next register the
-/// low bits are 0.
+/// The change and the next register of an indirect operand byte. Where the byte names no next register, its
+/// low bits must be 0.
 pub(crate) fn indirect_of_byte(byte: u16) -> Option<(Change, Option<u16>)>
     requires low { 128 ≤ byte }
     requires high { byte < 256 }
@@ -91,7 +91,7 @@ pub(crate) fn indirect_of_byte(byte: u16) -> Option<(Change, Option<u16>)>
     }
 }
 
-/// The operand of a byte.
+/// The operand that a byte stands for.
 pub(crate) fn addr_of_byte(byte: u16) -> Option<Addr>
     requires { byte < 256 }
     ensures found { IfSome result (λ addr. AddrInRange addr × (operand_byte addr ≡ byte)) }

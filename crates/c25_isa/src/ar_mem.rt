@@ -32,7 +32,7 @@ fn base_of(name: ArMemName) -> u16
     ar_mem_rows!(base_of name)
 }
 
-/// The row of a first word, and the number in its high byte.
+/// The row of a first word, and the register in its high byte.
 fn row_of(first: u16) -> Option<(ArMemName, u16)>
     ensures found { IfSome result (λ found. (found.1 < 8)
         × ((ar_mem_row found.0).base + found.1 * 2 ^ 8 + first % 256 ≡ first)) }
@@ -65,7 +65,7 @@ pub(crate) fn encode(name: ArMemName, register: u16, addr: Addr) -> u16
     base_of(name) + (register << 8) + addr::byte_of_addr(addr)
 }
 
-/// The instruction of this family that a first word reads as.
+/// The instruction of this family that has a first word.
 pub(crate) fn decode(first: u16) -> Option<Insn>
     ensures found { (second : ℕ) → IfSome result (Reads first second) }
     ensures none { IfNone result ((second : ℕ) (name : ArMemName) (register : ℕ) (addr : Addr)

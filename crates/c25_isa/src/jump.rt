@@ -75,7 +75,7 @@ pub(crate) fn encode(name: JumpName, word: u16, change: Change, next: Option<u16
     base_of(name) + addr::byte_of_indirect(change, next)
 }
 
-/// The instruction of this family that two words read as.
+/// The instruction of this family that two words make.
 pub(crate) fn decode(first: u16, second: u16) -> Option<Insn>
     ensures found { IfSome result (Reads first second) }
     ensures none { IfNone result ((name : JumpName) (word : ℕ) (change : Change) (next : Option ℕ)

@@ -77,10 +77,10 @@ pub fn encode(insn: &Insn) -> Code
     code
 }
 
-/// The instruction that two words read as, the second being the word behind the first. An
-/// instruction of one word leaves the second free. `None` where no row of the table has the words:
-/// the reserved change of an auxiliary register, low bits without a next register, and words of no
-/// opcode. No memory is taken.
+/// The instruction at a word, whose next word is `second`; an instruction of one word leaves `second` free.
+///
+/// `None` where no row of the table has the words: the reserved change of an auxiliary register, low bits
+/// without a next register, and words of no opcode. No memory is taken.
 pub fn decode(first: u16, second: u16) -> Option<Insn>
     ensures found { IfSome result (Reads first second) }
     ensures all { (insn : Insn) → Reads first second insn → result ≡ Some insn }
@@ -115,7 +115,7 @@ pub fn decode(first: u16, second: u16) -> Option<Insn>
     plain::decode(first)
 }
 
-/// How many words the instructions of a row have, 1 or 2.
+/// How many words the instructions of a row have: 1 or 2.
 pub fn size_of(mnemonic: Mnemonic) -> u16
     ensures { result ≡ size mnemonic }
 {

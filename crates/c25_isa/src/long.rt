@@ -66,7 +66,7 @@ pub(crate) fn encode(name: LongName, number: u16, high: u16) -> u16
     base_of(name) + (high << 8)
 }
 
-/// The instruction of this family that two words read as.
+/// The instruction of this family that two words make.
 pub(crate) fn decode(first: u16, second: u16) -> Option<Insn>
     ensures found { IfSome result (Reads first second) }
     ensures none { IfNone result ((name : LongName) (number high : ℕ)

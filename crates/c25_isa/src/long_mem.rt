@@ -1,5 +1,5 @@
-//! Instructions with a long address and a memory operand: two words, the first like those with a
-//! memory operand alone.
+//! Instructions with a long address and a memory operand: two words, the first like that of an instruction
+//! with a memory operand alone.
 
 ghost use Rattle.std.specs.Prelude.{◌≡◌, ℕ, ◌+◌, ◌*◌, ◌++◌, ◌≤◌, ◌^◌, IfSome, IfNone, OnOk, string_bytes};
 ghost use Rattle.c25_meaning_instructions.specs.Table.{long_mem_row, size, opcode_word, Reads, AddrInRange};
@@ -65,7 +65,7 @@ pub(crate) fn encode(name: LongMemName, word: u16, addr: Addr) -> u16
     base_of(name) + addr::byte_of_addr(addr)
 }
 
-/// The instruction of this family that two words read as.
+/// The instruction of this family that two words make.
 pub(crate) fn decode(first: u16, second: u16) -> Option<Insn>
     ensures found { IfSome result (Reads first second) }
     ensures none { IfNone result ((name : LongMemName) (word : ℕ) (addr : Addr)

@@ -103,7 +103,7 @@ pub(crate) fn encode(name: MemName, addr: Addr) -> u16
     base_of(name) + addr::byte_of_addr(addr)
 }
 
-/// The instruction of this family that a first word reads as.
+/// The instruction of this family that has a first word.
 pub(crate) fn decode(first: u16) -> Option<Insn>
     ensures found { (second : ℕ) → IfSome result (Reads first second) }
     ensures none { IfNone result ((second : ℕ) (name : MemName) (addr : Addr)

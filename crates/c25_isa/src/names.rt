@@ -40,8 +40,8 @@ fn joined(first: u64, second: u64, third: u64, fourth: u64) -> u64
     (first << 27) + (second << 18) + (third << 9) + fourth
 }
 
-/// The letters of a text of at most four as one number, the same in either case of letters. The
-/// numbers of texts are in alphabetical order. `None` for a longer text.
+/// The number of a text of at most four letters, the same in upper and in lower case: the numbers of texts
+/// are in alphabetical order. `None` for a longer text.
 #[inline]
 fn number_of(text: &[u8]) -> Option<u64>
     ensures value { IfSome result (λ number. number ≡ letters.number (lower text.now)) }
@@ -58,9 +58,8 @@ fn number_of(text: &[u8]) -> Option<u64>
     }
 }
 
-/// What a mnemonic stands for: one of the 130 rows, or `ZAC`, `NOP` or `LARP`, its letters in
-/// either case. `None` for any other text, also with a blank before or behind the name. No memory
-/// is taken.
+/// What a mnemonic stands for: one of the 130 rows, or `ZAC`, `NOP` or `LARP`, its letters in either case.
+/// `None` for any other text, also with a blank before or after the name. No memory is taken.
 pub fn mnemonic(text: &str) -> Option<Spelling>
     ensures found { IfSome result (λ spelling. SameLetters text.now (spelling_text spelling)) }
     ensures all { (spelling : Spelling) → SameLetters text.now (spelling_text spelling)

@@ -95,7 +95,7 @@ fn name_at(first: u16) -> Option<PlainName>
     plain_rows!(name_at first)
 }
 
-/// The operand that adds a number to a row's first word.
+/// The operand of a row whose first word is a number above the row's base.
 fn operand_of(name: PlainName, number: u16) -> Option<PlainOperand>
     requires { number < plain_extent name }
     ensures found { IfSome result
@@ -131,7 +131,7 @@ pub(crate) fn encode(name: PlainName, operand: PlainOperand) -> u16
     base_of(name) + number_of(name, operand)
 }
 
-/// The instruction of this family that a first word reads as.
+/// The instruction of this family that has a first word.
 pub(crate) fn decode(first: u16) -> Option<Insn>
     ensures found { (second : ℕ) → IfSome result (Reads first second) }
     ensures none { IfNone result ((second : ℕ) (name : PlainName) (operand : PlainOperand)

@@ -1,11 +1,10 @@
-//! What a family's list of rows expands to. The macro of a family holds its rows, once, and hands
-//! them to one of the macros here, each of which makes one `match` of them, as in
+//! The `match`es that a family's list of rows expands to. A family's macro, as `mem_rows!`, holds its rows
+//! once and hands them to one of the macros here, each of which makes one `match` of them:
 //! `mem_rows!(words_of name)`.
 //!
-//! A list begins with the family's enum and the number of words that its instructions have. A row
-//! is a name, its text, and the high byte of its first word, or the first and the last such byte.
-//! The families with long numbers and without a data word have the whole first word in place of its
-//! high byte.
+//! A list begins with the family's enum and the number of words that its instructions have. A row is a name,
+//! its text, and the high byte of its first word, or the first and the last such byte. The families with long
+//! numbers and without a data word have the whole first word in place of its high byte.
 
 /// A name's first word where every operand is 0.
 macro_rules! base_of {
@@ -16,7 +15,7 @@ macro_rules! base_of {
     };
 }
 
-/// The same, where the rows have the first word whole.
+/// A name's first word where every operand is 0, of rows that have the whole first word.
 macro_rules! word_of {
     ($names:ident $words:literal $name:expr; $($row:ident $text:literal $word:literal $($last:literal)?,)*) => {
         match $name {
@@ -25,7 +24,7 @@ macro_rules! word_of {
     };
 }
 
-/// The name that has a high byte or a word.
+/// The name whose row has this high byte or word.
 macro_rules! name_at {
     ($names:ident $words:literal $value:expr; $($row:ident $text:literal $first:literal $($last:literal)?,)*) => {
         match $value {
@@ -35,7 +34,7 @@ macro_rules! name_at {
     };
 }
 
-/// The name that has a high byte or a word, and how far that is above the row's first.
+/// The name whose row has this high byte or word, and how far the value is above the row's first one.
 macro_rules! numbered_at {
     ($names:ident $words:literal $value:expr; $($row:ident $text:literal $first:literal $($last:literal)?,)*) => {
         match $value {
@@ -45,7 +44,7 @@ macro_rules! numbered_at {
     };
 }
 
-/// How many words an instruction has.
+/// How many words an instruction of a family has.
 macro_rules! words_of {
     ($names:ident $words:literal $name:expr; $($row:ident $text:literal $($number:literal)+,)*) => {
         match $name {

@@ -34,7 +34,7 @@ fn base_of(name: ShiftedName) -> u16
     shifted_rows!(base_of name)
 }
 
-/// The row of a first word, and the number in its high byte.
+/// The row of a first word, and the shift in its high byte.
 fn row_of(first: u16) -> Option<(ShiftedName, u16)>
     ensures found { IfSome result (λ found. (found.1 < shift_limit found.0)
         × ((shifted_row found.0).base + found.1 * 2 ^ 8 + first % 256 ≡ first)) }
@@ -67,7 +67,7 @@ pub(crate) fn encode(name: ShiftedName, addr: Addr, shift: u16) -> u16
     base_of(name) + (shift << 8) + addr::byte_of_addr(addr)
 }
 
-/// The instruction of this family that a first word reads as.
+/// The instruction of this family that has a first word.
 pub(crate) fn decode(first: u16) -> Option<Insn>
     ensures found { (second : ℕ) → IfSome result (Reads first second) }
     ensures none { IfNone result ((second : ℕ) (name : ShiftedName) (addr : Addr) (shift : ℕ)

@@ -81,7 +81,7 @@ pub(crate) fn encode(name: ShortName, register: u16, number: i16) -> u16
     base_of(name) + bits_of(name, register, number)
 }
 
-/// The instruction of this family that a first word reads as.
+/// The instruction of this family that has a first word.
 pub(crate) fn decode(first: u16) -> Option<Insn>
     ensures found { (second : ℕ) → IfSome result (Reads first second) }
     ensures none { IfNone result ((second : ℕ) (name : ShortName) (register : ℕ) (number : ℤ)

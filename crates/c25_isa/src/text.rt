@@ -19,7 +19,7 @@ pub(crate) fn push_long(out: &mut String, number: u16) -> Result<(), AllocError>
     write!(out, "0{high:02X}{low:02X}h")
 }
 
-/// An indirect form.
+/// The printed text of an indirect form.
 pub(crate) fn text_of_change(change: Change) -> &'static str
     ensures { result.now ≡ change_text change }
 {
@@ -34,7 +34,7 @@ pub(crate) fn text_of_change(change: Change) -> &'static str
     }
 }
 
-/// Appends a direct address, or an indirect form.
+/// Appends a memory operand: a direct address or an indirect form.
 #[tactic(auto, using(std::proofs::lemmas::Fmt::hex_byte))]
 pub(crate) fn push_place(out: &mut String, addr: Addr) -> Result<(), AllocError>
     ensures { OnOk result (string_bytes out.new ≡ string_bytes out.old ++ place_text addr) }
@@ -45,7 +45,7 @@ pub(crate) fn push_place(out: &mut String, addr: Addr) -> Result<(), AllocError>
     }
 }
 
-/// Appends a next register, where there is one.
+/// Appends a comma and the next register, where there is one.
 pub(crate) fn push_next(out: &mut String, next: Option<u16>) -> Result<(), AllocError>
     ensures { OnOk result (string_bytes out.new ≡ string_bytes out.old ++ next_text next) }
 {
@@ -55,7 +55,7 @@ pub(crate) fn push_next(out: &mut String, next: Option<u16>) -> Result<(), Alloc
     }
 }
 
-/// Appends the next register of an operand, where there is one.
+/// Appends the next register of a memory operand, where there is one.
 pub(crate) fn push_tail(out: &mut String, addr: Addr) -> Result<(), AllocError>
     ensures { OnOk result (string_bytes out.new ≡ string_bytes out.old ++ tail_text addr) }
 {
@@ -65,7 +65,7 @@ pub(crate) fn push_tail(out: &mut String, addr: Addr) -> Result<(), AllocError>
     }
 }
 
-/// Appends a mnemonic and, behind a blank, a direct address or an indirect form.
+/// Appends a mnemonic, a blank, and a direct address or an indirect form.
 pub(crate) fn push_with_place(out: &mut String, name: &str, addr: Addr) -> Result<(), AllocError>
     ensures { OnOk result
         (string_bytes out.new ≡ string_bytes out.old ++ name.now ++ codes " " ++ place_text addr) }
@@ -75,7 +75,7 @@ pub(crate) fn push_with_place(out: &mut String, name: &str, addr: Addr) -> Resul
     push_place(out, addr)
 }
 
-/// Appends a mnemonic and, behind a blank, a word as a hexadecimal constant.
+/// Appends a mnemonic, a blank, and a word as a hexadecimal constant.
 pub(crate) fn push_with_long(out: &mut String, name: &str, number: u16) -> Result<(), AllocError>
     ensures { OnOk result
         (string_bytes out.new ≡ string_bytes out.old ++ name.now ++ codes " " ++ long_text number) }
@@ -103,12 +103,11 @@ fn push(out: &mut String, insn: &Insn) -> Result<(), AllocError>
     }
 }
 
-/// The text of an instruction: its mnemonic, a blank, and its operands in the order of the syntax,
-/// joined by commas. Addresses and long numbers are hexadecimal constants, auxiliary registers
-/// `AR1`, ports `PA1`, other numbers decimal. A shift of 0 is printed, and so is the indirect form
-/// of a jump or of `NORM`.
+/// The text of an instruction: its mnemonic, a blank, and its operands in the order of the syntax, joined by
+/// commas. Addresses and long numbers are hexadecimal constants, auxiliary registers `AR1`, ports `PA1`,
+/// other numbers decimal. A shift of 0 is printed, and so is the indirect form of a jump or of `NORM`.
 ///
-/// `NoMemory` where a growth of the text was refused.
+/// `NoMemory` where memory runs out.
 pub fn show(alloc: Global, insn: &Insn) -> Result<String, NoMemory>
     ensures { IfOk result (λ text. string_bytes text ≡ show insn.now) }
 {

@@ -1,4 +1,4 @@
--- Each family finds its own instruction that the words read as, and no words read as two.
+-- Each family finds its own instruction of two words, and no words are two instructions.
 use Rattle.std.proofs.Common.{◌≡◌, ℕ, Option, Some, None, ap, refl}
 use Rattle.std.specs.Prelude.{IfSome}
 use Rattle.c25_meaning_instructions.specs.Table.{Reads}
@@ -8,11 +8,11 @@ use Rattle.c25_meaning_instructions.proofs.Readings.{one_reading}
 use Rattle.c25_isa.proofs.Options.{none_left}
 use Rattle.c25_isa.proofs.decode.Goals as goal
 
--- what the words read as is all that they read as
+-- two words are no other instruction than the one they are read as
 only : (first second : ℕ) (x : Insn) → Reads first second x → (i : Insn) → Reads first second i → Some x ≡ Some i
 only first second x found i reads = ap Some (one_reading first second x i found reads)
 
--- an answer that is not `None` is what they read as
+-- an answer that is not `None` is the instruction of the words
 settled : (first second : ℕ) (r : Option Insn) (i : Insn) → IfSome r (Reads first second) → Reads first second i → (r ≡ None → ⊥) → r ≡ Some i
 settled first second None i found reads some = absurd (some refl)
 settled first second (Some x) i found reads some = only first second x found i reads
@@ -62,7 +62,7 @@ returns-in-Some-decode-7-clause-all c = only c.args.first c.args.second _ c.in-S
 pub returns-in-Some-decode-8-clause-all : goal.returns-in-Some-decode-8-clause-all
 returns-in-Some-decode-8-clause-all c = only c.args.first c.args.second _ c.in-Some-decode-8.ensures.found
 
--- a family that answered `None` has no instruction that the words read as
+-- where a family answers `None`, none of its instructions has the words
 pub returns-clause-all : goal.returns-clause-all
 returns-clause-all c = λ i. elim i as (λ i. Reads c.args.first c.args.second i → c.decode-10.result ≡ Some i) [
   | insn.Mem name addr ↦ λ reads. absurd (none_left _ _ c.decode.ensures.none c.in_default.not-Some c.args.second name addr reads)
