@@ -77,7 +77,7 @@ left_of next port samples =
 is_not : (a b : ℕ) → (a ≡ b → ⊥) → (a == b) ≡ false
 is_not a b h = elim (eqb_tells a b) [ inl p ↦ absurd (h p.1) | inr q ↦ q.0 ]
 
--- a port that is none has no samples
+-- a number that is not a port's has no samples
 pub none_left : (next : List ℕ) (port place : ℕ) (samples : List Sample) → 16 ≤ port → HavePorts samples → samples_at (left_from next place samples) port ≡ []
 none_left next port place [] far have = refl
 none_left next port place (s ∷ samples) far have =
@@ -113,7 +113,7 @@ module _ (next : List ℕ) (port place word : ℕ) (samples : List Sample) (in_r
 
 -- the same of samples that are seen as those left, and of an index that is the port
 module _ (now items given : List Sample) (next : List ℕ) (port index : ℕ) (view : left_from next 0 items ≡ now) (same : given ≡ items) (is_port : index ≡ port) where
-  -- what the port has left stands behind its place
+  -- what the port has left comes after its index
   pub has_left : samples_at now port ≡ samples_at (drop (slice_index next index) given) port
   has_left =
       ap (λ (l : List Sample). samples_at l port) (sym view) ∙ left_of next port items

@@ -1,4 +1,4 @@
--- What a board is once its sink or its feed, which it lent, is given back.
+-- What a board is after its sink or its feed was borrowed.
 use Rattle.std.specs.Borrow.{Fml, Lends, MutBor, RattleType}
 use Rattle.c25_board.specs.contracts.board.Board.{the_row}
 use Rattle.c25_board.specs.declared.board.Board.{Board}

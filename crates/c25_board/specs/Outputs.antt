@@ -2,6 +2,6 @@
 use Rattle.std.specs.Prelude.{ℕ, List}
 use Rattle.c25_board.specs.declared.ports.ListSink.{ListSink}
 
--- each a port and a word, oldest first
+-- the outputs, each a port and a word, oldest first
 abbrev pub outputs_of : ListSink → List (ℕ × ℕ)
 outputs_of sink = sink.words.items

@@ -3,18 +3,17 @@
 ghost use Rattle.std.specs.Prelude.{◌≡◌, ◌≢◌, ℕ, ◌/◌, ◌%◌, ◌^◌, true, false};
 ghost use Rattle.c25_board.specs.Bits.{bit_of};
 
-/// How many words of 64 bits make a bit for each of 65,536 addresses.
+/// How many words of 64 bits hold a bit for each of 65,536 addresses.
 const WORDS: usize = 1024;
 
-/// A bit for each address: that of an address is bit `address % 64`, the lowest being 0, of word
-/// `address / 64`.
+/// A bit for each address: bit `address % 64`, 0 being the lowest, of word `address / 64`.
 #[derive(Drop)]
 pub struct Bits {
     words: [u64; WORDS],
 }
 
 impl Bits {
-    /// No address has its bit set.
+    /// Bits of which none is set.
     pub fn new() -> Self
         ensures { (address : ℕ) → bit_of result.words address ≡ false }
     {
@@ -48,7 +47,7 @@ impl Bits {
     }
 }
 
-/// The number of the word in which the bit of an address is.
+/// The number of the word that holds the bit of an address.
 #[inline(always)]
 fn word_of(address: u16) -> usize
     ensures { result ≡ address / 64 }
@@ -56,7 +55,7 @@ fn word_of(address: u16) -> usize
     usize::from(address / 64)
 }
 
-/// A word with the bit of an address alone.
+/// A word in which only the bit of an address is set.
 #[inline(always)]
 fn mask_of(address: u16) -> u64
     ensures { result ≡ 2 ^ (address % 64) }

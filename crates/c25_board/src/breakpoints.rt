@@ -11,8 +11,8 @@ use std::marker::Model;
 /// How many breakpoints are set at most.
 pub const MOST: usize = 64;
 
-/// The breakpoints that are set, which are program addresses. Clauses see them as a list in the order
-/// of setting. They take no memory besides the value itself, of about 8 KiB.
+/// The breakpoints that are set, which are program addresses. Contracts see them as a list in the order of
+/// setting. The value itself has about 8 KiB, and takes no other memory.
 #[derive(Drop)]
 pub struct Breakpoints {
     list: ArrayVec<u16, MOST>,
@@ -31,7 +31,7 @@ impl Model for Breakpoints {
 }
 
 impl Breakpoints {
-    /// No breakpoint is set.
+    /// A list without breakpoints.
     pub fn new() -> Self
         ensures { result ≡ [] }
     {
@@ -41,8 +41,8 @@ impl Breakpoints {
         }
     }
 
-    /// Sets a breakpoint, and tells whether it is set then: one that is set stays, and where 64 are
-    /// set no other is.
+    /// Sets a breakpoint, and says whether it is set now: one that was set stays set, and where 64 others are
+    /// set it is not.
     pub fn set(&mut self, address: u16) -> bool
         ensures breakpoints { self.new ≡ with_breakpoint self.old address }
         ensures answer { result ≡ can_set self.old address }
@@ -58,7 +58,7 @@ impl Breakpoints {
         true
     }
 
-    /// Clears a breakpoint, and tells whether it was set.
+    /// Clears a breakpoint, and says whether it was set.
     pub fn clear(&mut self, address: u16) -> bool
         ensures breakpoints { self.new ≡ without_breakpoint self.old address }
         ensures answer { result ≡ is_breakpoint self.old address }

@@ -14,9 +14,9 @@ use c25_meaning_image::mark::RunMark;
 use c25_meaning_image::marks::is_load;
 use c25_meaning_image::word_map::WordMap;
 
-/// What lies around the processor. Each memory has 65,536 words; those of data memory hold block
-/// B0's at 200h to 2FFh, wherever B0 is seen. Beside program memory stands what each of its words is
-/// for the instructions that run there, and the places of those that run in B0.
+/// What is around the processor. Each memory has 65,536 words; the words of block B0 are at 200h to 2FFh of
+/// data memory under any CNF. `places` says what each word of program memory is for the instructions there,
+/// and `run_marks` has the places of the instructions that run in B0.
 #[derive(Drop)]
 pub(crate) struct Devices<F: Feed + Drop, S: Sink + Drop> {
     pub(crate) words: Vec<u16>,
@@ -32,7 +32,7 @@ pub(crate) struct Devices<F: Feed + Drop, S: Sink + Drop> {
     ghost runs_fit: { run_fit (marks_in 0 places.items) run_marks.items ≡ true },
 }
 
-/// Fills a list that is empty yet with the words of a page, and 0 at all other addresses.
+/// Fills an empty list with the words of a page, and 0 at all other addresses.
 pub(crate) fn fill_words(memory: &mut Vec<u16>, page: &WordMap) -> Result<(), NoMemory>
     requires { memory.old.items ≡ [] }
     ensures full { OnOk result (vec_len memory.new ≡ 65536) }

@@ -8,7 +8,7 @@ use crate::ports::Sink;
 use arrayvec::ArrayVec;
 use c25_core::SinkFailed;
 
-/// A list of at most CAP outputs, which takes no memory. It refuses a word where CAP of them stand.
+/// A list of at most CAP outputs, which takes no memory. It refuses a word once it holds CAP.
 #[derive(Drop)]
 pub struct FixedSink<const CAP: usize> {
     words: ArrayVec<(u16, u16), CAP>,
@@ -16,7 +16,7 @@ pub struct FixedSink<const CAP: usize> {
 }
 
 impl<const CAP: usize> FixedSink<CAP> {
-    /// An empty list.
+    /// A list without outputs.
     pub fn new() -> FixedSink<CAP>
         ensures words { result.words.items ≡ [] }
         ensures failures { result.failures ≡ 0 }
@@ -27,14 +27,14 @@ impl<const CAP: usize> FixedSink<CAP> {
         }
     }
 
-    /// What was put since it was made or last cleared: each a port and a word, oldest first.
+    /// The outputs since the sink was made or last cleared: each a port and a word, oldest first.
     pub fn words(&self) -> &[(u16, u16)]
         ensures { result.now ≡ self.now.words.items }
     {
         self.words.as_slice()
     }
 
-    /// Forgets what was put. Its failures stay counted.
+    /// Removes all outputs. The count of failures stays.
     pub fn clear(&mut self)
         ensures words { self.new.words.items ≡ [] }
         ensures failures { self.new.failures ≡ self.old.failures }

@@ -1,4 +1,5 @@
-//! The board: memories, ports, runs under a schedule, broken off at breakpoints or not; samples and schedules read.
+//! The board: memories and ports around the processor, runs under a schedule, with breakpoints or without;
+//! samples and schedules, read from texts.
 #![tactic(auto)]
 
 mod bits;
@@ -16,3 +17,9 @@ mod quick;
 pub mod run_to;
 pub mod samples;
 pub mod schedule;
+
+pub use board::{Board, Outcome};
+pub use fixed_sink::FixedSink;
+pub use ports::{Feed, ListSink, NoSamples, Sink};
+pub use samples::{Samples, read_samples};
+pub use schedule::{Schedule, read_schedule};

@@ -1,4 +1,4 @@
-//! What gives samples and takes outputs.
+//! Where samples come from, and where outputs go.
 
 ghost use Rattle.std.specs.Prelude.{◌≡◌, ℕ, ◌∷◌, [], ◌++◌, List, OnSome, IfNone, OnOk, OnErr, slice_get};
 ghost use Rattle.std.specs.Option.{ForNone};
@@ -14,8 +14,7 @@ pub trait Feed {
     /// The samples that each port has left.
     ghost left: { Self → ℕ → List ℕ };
 
-    /// Takes the next sample of a port, 0 to 15. It is None only where the port has none left, and
-    /// then nothing changes.
+    /// Takes the next sample of a port, 0 to 15. None says that the port has none left; then nothing changes.
     fn take(&mut self, port: u16) -> Option<u16>
         ensures sample { result ≡ slice_get (left self.old port) 0 }
         ensures some { OnSome result (left self.new ≡ taken (left self.old) port) }
@@ -24,13 +23,13 @@ pub trait Feed {
 
 /// Where outputs go.
 pub trait Sink {
-    /// What was put, oldest first: each a port and a word.
+    /// All outputs, oldest first: each a port and a word.
     ghost written: { Self → List (ℕ × ℕ) };
 
-    /// How often the sink has refused, up to 2^64 - 1.
+    /// How often the sink has failed, up to 2^64 - 1.
     ghost failures: { Self → ℕ };
 
-    /// Puts a word out at a port, 0 to 15. A refused one writes nothing, and is counted.
+    /// Puts a word out at a port, 0 to 15. Where that fails nothing is written, and the failure is counted.
     fn put(&mut self, port: u16, word: u16) -> Result<(), SinkFailed>
         ensures ok { OnOk result (written self.new ≡ written self.old ++ (port, word) ∷ []) }
         ensures steady { OnOk result (failures self.new ≡ failures self.old) }
@@ -38,7 +37,7 @@ pub trait Sink {
         ensures failed { OnErr result (HasFailed (failures self.old) (failures self.new)) };
 }
 
-/// No samples at any port.
+/// A feed without samples.
 #[derive(Clone, Copy)]
 pub struct NoSamples;
 
@@ -50,8 +49,7 @@ impl Feed for NoSamples {
     }
 }
 
-/// A list that grows with each output. It refuses one where memory is refused, and keeps that
-/// refusal.
+/// A list that grows with each output. It fails where its growth is out of memory, and keeps that error.
 #[derive(Drop)]
 pub struct ListSink {
     words: Vec<(u16, u16)>,
@@ -75,14 +73,14 @@ impl ListSink {
         }
     }
 
-    /// What was put: each a port and a word, oldest first.
+    /// All outputs: each a port and a word, oldest first.
     pub fn words(&self) -> &[(u16, u16)]
         ensures { result.now ≡ outputs_of self.now }
     {
         self.words.as_slice()
     }
 
-    /// The refused growth for which the last output was refused, if one was.
+    /// The error for which the last output failed, if one has failed.
     pub fn refused(&self) -> Option<NoMemory>
         ensures { IfNone result (self.now.failures ≡ 0) }
     {

@@ -1,4 +1,4 @@
-//! Runs that are broken off at a breakpoint.
+//! Runs that end at a breakpoint.
 
 ghost use Rattle.std.specs.Prelude.{◌≡◌, ◌+◌, ◌<◌, ◌^◌};
 ghost use Rattle.c25_meaning_processor.specs.Goes.{is_met};
@@ -9,14 +9,14 @@ use crate::ports::{Feed, Sink};
 use c25_core::Halt;
 use c25_meaning_processor::stop::Stop;
 
-/// How a run that may be broken off at a breakpoint ended.
+/// How a run that may end at a breakpoint ended. Steps are counted from 0 since the board was made.
 #[derive(Clone, Copy, PartialEq, Debug)]
 pub enum Halted {
-    /// All its steps were done, and no breakpoint was met.
+    /// All steps were done, and no breakpoint was met.
     Ran,
-    /// A breakpoint was met behind the last step that was done.
+    /// A breakpoint was met after the last step that was done.
     Met,
-    /// The step of this number, counted from 0 since the board was made, stopped.
+    /// The step of this number stopped.
     Left(u32, Stop),
     /// The sink refused a word in the step of this number.
     SinkFault(u32),
@@ -26,7 +26,8 @@ impl<F: Feed + Drop, S: Sink + Drop> Board<F, S> {
     ghost use Rattle.c25_board.specs.Board.{entries, signals, state, steps};
     ghost use Rattle.c25_board.specs.RunTo.{IsRunTo};
 
-    /// Whether a breakpoint is met. The breakpoint is asked for first, since most often there is none.
+    /// Whether a breakpoint is met: one is set at PC, and the next step begins an instruction. The breakpoint
+    /// is tested first, since there is seldom one.
     #[inline(always)]
     fn meets(&self, breaks: &Breakpoints) -> bool
         ensures { result ≡ is_met breaks.now (state self.now) }
@@ -34,9 +35,9 @@ impl<F: Feed + Drop, S: Sink + Drop> Board<F, S> {
         breaks.contains(self.pc()) && self.settled()
     }
 
-    /// The next n steps, or those up to the one behind which a breakpoint is met or that stops, each
-    /// with the interrupt lines and the BIO level that the schedule has for it. Before the first step
-    /// no breakpoint is looked for, so a run from one goes on.
+    /// The next n steps, or those up to the one after which a breakpoint is met or that halts, each with the
+    /// interrupt lines and the BIO level that the schedule has for it. A breakpoint is not looked for before
+    /// the first step, so that a run that starts at one goes on.
     pub fn run_to(&mut self, n: u32, breaks: &Breakpoints) -> Halted
         requires { steps self.old + n < 2 ^ 32 }
         ensures run { IsRunTo (signals self.old) breaks.now (steps self.old) n (state self.old) result

@@ -1,4 +1,4 @@
-//! Texts of samples: a port and a word a line.
+//! Texts of samples: each line is a port in decimal and a word in hexadecimal.
 
 ghost use Rattle.std.specs.Prelude.{◌≡◌, ◌+◌, ◌<◌, [], ◌∷◌, length, drop, IfSome, IfNone};
 ghost use Rattle.c25_meaning_processor.specs.Samples.{samples_at, samples_of};
@@ -15,11 +15,12 @@ use std::marker::Model;
 /// How many input ports there are.
 const PORTS: usize = 16;
 
-/// Samples, which each port takes in order. Contracts see them as the list of those that are left.
+/// Samples, which each port takes in the order of the text. Contracts see them as the list of those that are
+/// left.
 #[derive(Drop)]
 pub struct Samples {
     samples: Vec<Sample>,
-    /// The place behind the last sample that each port took.
+    /// For each port the index after the last sample that it took.
     next: [usize; PORTS],
 }
 
@@ -39,7 +40,7 @@ impl Samples {
     ghost use Rattle.std.specs.Prelude.{◌≡◌};
     ghost use Rattle.c25_board.specs.SamplesLeft.{HavePorts};
 
-    /// All of these samples.
+    /// A feed with all of these samples.
     fn new(samples: Vec<Sample>) -> Samples
         requires { HavePorts samples.items }
         ensures { result ≡ samples.items }
@@ -49,7 +50,7 @@ impl Samples {
     }
 }
 
-/// The place of a port's first sample at a place or behind it, with its word.
+/// The index of a port's first sample at an index or after it, with its word.
 fn find(samples: &[Sample], from: usize, port: u16) -> Option<(usize, u16)>
     ensures place { IfSome result (λ found. found.0 < length samples.now) }
     ensures found { IfSome result (λ found. samples_at (drop from samples.now) port ≡ found.1 ∷ samples_at (drop (found.0 + 1) samples.now) port) }
@@ -81,7 +82,7 @@ impl Feed for Samples {
     }
 }
 
-/// One sample a line.
+/// The format of a text of samples: one sample a line.
 struct SampleLines;
 
 impl LineFormat for SampleLines {
@@ -109,7 +110,8 @@ impl LineFormat for SampleLines {
     }
 }
 
-/// The samples of a text, or the first line that is neither blank nor a sample.
+/// The samples of a text. `BadSamples` comes with the first line that is neither blank nor a sample, counted
+/// from 1.
 pub fn read_samples(
     alloc: Global,
     text: &str,

@@ -1,4 +1,4 @@
-//! Schedules: a step and an event a line.
+//! Schedules: each line is a step in decimal and an event.
 
 ghost use Rattle.std.specs.Prelude.{◌≡◌};
 ghost use Rattle.c25_meaning_processor.specs.Schedule.{event_of, last_step, schedule_of};
@@ -12,7 +12,7 @@ use c25_texts::{LineFormat, decimal_of, is_word, read_items};
 use std::alloc::Global;
 use std::marker::Model;
 
-/// Events by steps that do not fall. Contracts see it as the list of its entries.
+/// Events in the order of their steps. Contracts see it as the list of its entries.
 #[derive(Drop)]
 pub struct Schedule {
     entries: Vec<ScheduleEntry>,
@@ -43,7 +43,7 @@ impl Schedule {
     }
 }
 
-/// The event that a word names.
+/// The event of a name: `int0`, `int1`, `int2`, `bio0` or `bio1`.
 #[tactic(auto, unfolding(c25_meaning_processor::specs::Schedule::event_of))]
 fn event_of(word: &[u8]) -> Option<Event>
     ensures { result ≡ event_of word.now }
@@ -70,7 +70,7 @@ fn last_step(before: &[ScheduleEntry]) -> u32
     before.last().map_or(0, |entry| entry.step)
 }
 
-/// One entry a line.
+/// The format of a schedule: one entry a line.
 struct EntryLines;
 
 impl LineFormat for EntryLines {
@@ -102,8 +102,8 @@ impl LineFormat for EntryLines {
     }
 }
 
-/// The schedule of a text, or the first line that is neither blank nor an entry at a step that may
-/// follow the one before.
+/// The schedule of a text. `BadSchedule` comes with the first line, counted from 1, that is neither blank nor
+/// an entry, or whose step is less than the one before it.
 pub fn read_schedule(
     alloc: Global,
     text: &str,

@@ -2,7 +2,5 @@ pub mod Settle
 pub mod Advanced
 pub mod Prepared
 pub mod Alone
-pub mod Numbers
-pub mod Powers
 pub mod Steady
 pub mod Between

@@ -5,7 +5,7 @@ ghost use Rattle.c25_bits.specs.Cut.{cut, signed};
 ghost use Rattle.c25_meaning_processor.specs.Arithmetic.{scaled};
 ghost use Rattle.c25_meaning_processor.specs.Effect.{become, minus, minus_high, minus_product, plus, plus_high, plus_product, product_word, word_product};
 
-use crate::alu::{add, product, scaled, shifted_product, subtract};
+use c25_alu::{add, product, scaled, shifted_product, subtract};
 use c25_meaning_processor::registers::Registers;
 
 /// A word with its sign.
@@ -23,7 +23,7 @@ pub fn word_product(first: u16, second: u16) -> u32
     product(signed_word(first), signed_word(second))
 }
 
-/// P as PM hands it on.
+/// P, shifted as PM says.
 #[inline(always)]
 pub fn product_word(registers: &Registers) -> u32
     ensures { result ≡ product_word registers.now }
@@ -111,7 +111,7 @@ pub fn minus_product(registers: &mut Registers)
     minus(registers, product_word(registers))
 }
 
-/// A += a high word, where C stays without a carry.
+/// A += a high word. C is set where there is a carry, and otherwise stays as it is.
 #[inline(always)]
 pub fn plus_high(registers: &mut Registers, word: u16)
     ensures { registers.new ≡ plus_high word registers.old }
@@ -121,7 +121,7 @@ pub fn plus_high(registers: &mut Registers, word: u16)
     registers.acc.c = carry || registers.acc.c;
 }
 
-/// A -= a high word, where C stays without a borrow.
+/// A -= a high word. C is cleared where there is a borrow, and otherwise stays as it is.
 #[inline(always)]
 pub fn minus_high(registers: &mut Registers, word: u16)
     ensures { registers.new ≡ minus_high word registers.old }
@@ -147,7 +147,7 @@ pub fn high_half(value: u32) -> u16
     (value / 0x1_0000) as u16
 }
 
-/// The bit of a word that a code names, from bit 15 down.
+/// The bit of a word that a bit code names: code 0 is bit 15, code 15 is bit 0.
 pub fn bit_of(word: u16, code: u16) -> bool
     ensures { result ≡ (word / 2 ^ (15 - code % 16) % 2 == 1) }
 {

@@ -1,12 +1,12 @@
-//! The way of PC from one instruction to the next.
+//! How PC moves from one instruction to the next.
 
 ghost use Rattle.std.specs.Prelude.{◌≡◌, ◌<◌, ℕ, true, false};
 ghost use Rattle.c25_meaning_processor.specs.Step.{advanced};
 
 use c25_meaning_processor::registers::Registers;
 
-/// Moves PC behind an instruction of this size, or in a repeat counts the repetition and leaves PC
-/// until the last one; the shadow of `EINT` ends.
+/// Moves PC past an instruction of this size. In a repeat the repetition is counted, and PC stays until the
+/// last one. The shadow of `EINT` ends.
 pub fn advance(registers: &mut Registers, size: u16)
     ensures { registers.new ≡ advanced size registers.old }
 {
@@ -21,8 +21,8 @@ pub fn advance(registers: &mut Registers, size: u16)
     registers.repeated = 0;
 }
 
-/// The same where it is known beforehand whether a repeat is running: outside a repeat its fields
-/// are not asked for.
+/// Moves PC past an instruction of this size, where the caller knows whether a repeat is running: outside a
+/// repeat the fields of the repeat are not read.
 #[inline(always)]
 #[tactic(auto, using(crate::proofs::Alone::alone))]
 pub fn move_on(registers: &mut Registers, repeating: bool, size: u16)
@@ -38,7 +38,8 @@ pub fn move_on(registers: &mut Registers, repeating: bool, size: u16)
     registers.repeated = 0;
 }
 
-/// The same where neither a repeat nor the shadow of `EINT` is: PC alone moves.
+/// Moves PC past an instruction of this size, outside a repeat and outside the shadow of `EINT`: nothing but
+/// PC changes.
 #[inline(always)]
 #[tactic(auto, using(crate::proofs::Alone::moved))]
 pub fn go_on(registers: &mut Registers, size: u16)
@@ -50,7 +51,7 @@ pub fn go_on(registers: &mut Registers, size: u16)
     registers.pc = registers.pc.wrapping_add(size);
 }
 
-/// The same in a repeat, before its last repetition: that is counted.
+/// Counts a repetition that is not the last one of its repeat. PC stays.
 #[inline(always)]
 #[tactic(auto, using(crate::proofs::Alone::counted))]
 pub fn count(registers: &mut Registers)
@@ -63,7 +64,7 @@ pub fn count(registers: &mut Registers)
     registers.repeated = registers.repeated.wrapping_add(1);
 }
 
-/// The same behind the last repetition of a repeat, which ends.
+/// Ends a repeat after its last repetition, and moves PC past its instruction, which has this size.
 #[inline(always)]
 #[tactic(auto, using(crate::proofs::Alone::ended))]
 pub fn end_repeat(registers: &mut Registers, size: u16)

@@ -1,4 +1,4 @@
-//! What the processor needs around it.
+//! The bus: what the processor needs around it.
 
 ghost use Rattle.std.specs.Prelude.{◌≡◌, ◌∷◌, [], ◌++◌, ℕ, OnOk, OnErr, slice_get, OnSome, IfNone};
 ghost use Rattle.c25_meaning_processor.specs.State.{World, loaded_marks, taken};
@@ -10,13 +10,13 @@ use c25_meaning_image::mark::RunMark;
 use c25_meaning_processor::stop::Stop;
 use thiserror::Error;
 
-/// Why a step was not done. Core and bus are then as before it, the sink's count of failures apart.
+/// Why a step was not done. Core and bus are then as before the step, but for the sink's count of failures.
 #[derive(Clone, Copy, PartialEq, Debug, Error)]
 pub enum Halt {
-    /// The code was left.
+    /// The processor stopped.
     #[error("the code was left: {0}")]
     Stop(Stop),
-    /// The sink failed to take a word in this very step.
+    /// The sink failed to take a word in this step.
     #[error("the sink failed")]
     Sink,
 }
@@ -24,9 +24,9 @@ pub enum Halt {
 /// What a step did.
 #[derive(Clone, Copy, PartialEq, Debug)]
 pub enum Tick {
-    /// It ran one instruction, or one repetition of one.
+    /// The step ran one instruction, or one repetition of one.
     Ran,
-    /// It ran none, since the processor sleeps.
+    /// The step ran no instruction, since the processor sleeps.
     Slept,
 }
 
@@ -35,8 +35,8 @@ pub enum Tick {
 #[error("the sink failed")]
 pub struct SinkFailed;
 
-/// Data and program memory, the places of the instructions, and ports. Block B0 is always at data
-/// addresses 200h to 2FFh here: the processor itself finds it where CNF puts it.
+/// Data and program memory, the places of the instructions, and ports. On the bus, block B0 is always at data
+/// addresses 200h to 2FFh: the processor itself maps it to where CNF puts it.
 pub trait Bus {
     /// The memories, places, samples and outputs that the bus stands for.
     ghost world: { Self → World };
@@ -68,16 +68,16 @@ pub trait Bus {
     fn size_at(&self, address: u16) -> Option<u16>
         ensures { result ≡ size_at (world self.now).marks address };
 
-    /// The place of the instruction that runs at a program address of B0, where one does once it is copied
-    /// there.
+    /// The place of the instruction that runs at a program address of block B0 once its words are moved
+    /// there, if there is one.
     fn run_at(&self, address: u16) -> Option<RunMark>
         ensures { result ≡ run_at (world self.now).run_marks address };
 
-    /// Whether a program word belongs to an instruction where its words are loaded.
+    /// Whether a program word belongs to an instruction, at the address where the instruction is loaded.
     fn is_code(&self, address: u16) -> bool
         ensures { result ≡ is_code (loaded_marks (world self.now)) address };
 
-    /// Takes the next sample of a port, or None where no sample is left there.
+    /// Takes the next sample of a port, or None where the port has no sample left.
     fn input(&mut self, port: u16) -> Option<u16>
         ensures sample { result ≡ slice_get ((world self.old).samples port) 0 }
         ensures some { OnSome result (world self.new

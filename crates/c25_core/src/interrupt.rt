@@ -28,14 +28,14 @@ fn enter(registers: &mut Registers, line: Lines, vector: u16)
     registers.asleep = false;
 }
 
-/// Whether a line waits and the mask has its bit.
+/// Whether a line is latched and its bit in the mask is set.
 pub fn asks(registers: &Registers, mask: u16, line: Lines) -> bool
     ensures { result ≡ (has registers.now.latched.0 line.0 && has mask line.0) }
 {
     registers.latched.contains(line) && mask & u16::from(line.bits()) == u16::from(line.bits())
 }
 
-/// Takes the interrupt of the lowest line that waits and has its bit in the mask.
+/// Takes the interrupt of the lowest line that is latched and has its bit in the mask set.
 #[tactic(auto, unfolding(c25_meaning_processor::specs::Step::taken_under))]
 fn take_under(registers: &mut Registers, mask: u16)
     ensures { registers.new ≡ taken_under mask registers.old }

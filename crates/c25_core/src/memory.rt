@@ -16,7 +16,7 @@ fn is_in_b0(address: u16) -> bool
     0x200 <= address && address < 0x300
 }
 
-/// Whether B0 is seen at a program address under CNF 1.
+/// Whether a program address is one of block B0 under CNF 1.
 fn is_in_program_b0(address: u16) -> bool
     ensures { result ≡ in_program_b0 address }
 {
@@ -55,7 +55,8 @@ fn touches_b0(cnf: bool, address: u16) -> bool
     cnf && 0x1FF <= address && address < 0x300
 }
 
-/// Writes a data word at the next address, and tells it. Where neither is in B0, that is asked for once.
+/// Copies a data word to the next address, and gives the word. Where neither address is in block B0, one test
+/// finds it.
 #[inline(always)]
 #[tactic(auto, unfolding(c25_meaning_processor::specs::State::data_at, c25_meaning_processor::specs::State::with_data))]
 pub fn move_up<B: Bus>(bus: &mut B, cnf: bool, address: u16) -> u16
@@ -74,7 +75,7 @@ pub fn move_up<B: Bus>(bus: &mut B, cnf: bool, address: u16) -> u16
     word
 }
 
-/// A program word. Under CNF 1 the highest 256 are those of B0.
+/// A program word. Under CNF 1 the highest 256 addresses are those of B0.
 #[tactic(auto, unfolding(c25_meaning_processor::specs::State::program_at))]
 pub fn read_program<B: Bus>(bus: &B, cnf: bool, address: u16) -> u16
     ensures { result ≡ program_at cnf (B.world bus.now) address }
@@ -85,7 +86,7 @@ pub fn read_program<B: Bus>(bus: &B, cnf: bool, address: u16) -> u16
     bus.program(address)
 }
 
-/// Writes a program word. Under CNF 1 the highest 256 are those of B0.
+/// Writes a program word. Under CNF 1 the highest 256 addresses are those of B0.
 #[tactic(auto, unfolding(c25_meaning_processor::specs::State::with_program))]
 fn write_program<B: Bus>(bus: &mut B, cnf: bool, address: u16, word: u16)
     ensures after { B.world bus.new ≡ with_program cnf (B.world bus.old) address word }
@@ -97,7 +98,7 @@ fn write_program<B: Bus>(bus: &mut B, cnf: bool, address: u16, word: u16)
     bus.set_program(address, word)
 }
 
-/// Writes a program word that belongs to no instruction.
+/// Writes a program word, unless it belongs to an instruction, which is a stop.
 pub fn store_program<B: Bus>(
     registers: &Registers,
     bus: &mut B,

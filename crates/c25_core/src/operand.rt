@@ -43,8 +43,8 @@ fn changed_by_ar0(change: Change, ar: u16, ar0: u16) -> u16
     }
 }
 
-/// An auxiliary register after its change. The usual ones are asked for one by one; those by AR0 have
-/// code of their own.
+/// An auxiliary register after its change. The usual changes are tested one by one; those by AR0 are a
+/// function of their own.
 #[inline(always)]
 fn changed(change: Change, ar: u16, ar0: u16) -> u16
     ensures { result ≡ changed change ar ar0 }

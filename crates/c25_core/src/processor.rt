@@ -15,14 +15,14 @@ use crate::memory::{read_data, read_program};
 use crate::status::regs_of;
 use crate::step::turn;
 use bitflags::Flags;
-use c25_meaning_processor::accumulator::{Acc, ProductShift};
 use c25_meaning_image::mark::RunMark;
 use c25_meaning_instructions::insn::Insn;
+use c25_meaning_processor::accumulator::{Acc, ProductShift};
 use c25_meaning_processor::lines::Lines;
 use c25_meaning_processor::registers::{ArNumber, DataPage, Registers, Regs};
 use std::marker::Model;
 
-/// The processor: all that it holds between two steps. Memories and ports are the bus's.
+/// The processor: all that it holds between two steps. Memories and ports belong to the bus.
 #[derive(Clone, Copy)]
 pub struct Core {
     pub(crate) registers: Registers,
@@ -118,32 +118,32 @@ impl Core {
         read_data(bus, self.registers.cnf, address)
     }
 
-    /// A program word as the processor reads it: under CNF 1 the highest 256 are those of block B0.
+    /// A program word as the processor reads it: under CNF 1 the highest 256 addresses are those of block B0.
     pub fn program_at<B: Bus>(&self, address: u16, bus: &B) -> u16
         ensures { result ≡ program_at self.now.cnf (B.world bus.now) address }
     {
         read_program(bus, self.registers.cnf, address)
     }
 
-    /// The place of the instruction that runs at PC in block B0, under CNF 1 alone.
+    /// The place of the instruction that runs at PC in block B0; None under CNF 0.
     pub fn run_mark<B: Bus>(&self, bus: &B) -> Option<RunMark>
         ensures { result ≡ mark_found self.now.cnf (B.world bus.now) self.now.pc }
     {
         mark_found(&self.registers, bus)
     }
 
-    /// The instruction of such a place, where B0 holds its words and they read as it.
+    /// The instruction that runs at a place in block B0, where B0 holds its words and they decode to an
+    /// instruction of its size.
     pub fn copied<B: Bus>(&self, mark: &RunMark, bus: &B) -> Option<Insn>
         ensures { (cnf : Bool) (pc : ℕ) → IsFetchedBy cnf (B.world bus.now) pc (Some mark.now) result }
     {
         fetch_copied(mark, bus)
     }
 
-    /// One step: latches the interrupt lines of the step, takes an interrupt where one may be
-    /// taken, and, unless asleep, runs the instruction at PC. `bio` is the level of the BIO pin,
-    /// true for 1. `Halt::Stop` tells why the code was left, `Halt::Sink` that the bus did not
-    /// take an output. After either all is as before the step, but for the sink's count of
-    /// failures.
+    /// One step: latches the interrupt lines of the step, takes an interrupt where one may be taken, and,
+    /// unless asleep, runs the instruction at PC. `bio` is the level of the BIO pin, true for 1. `Halt::Stop`
+    /// says why the processor stopped, `Halt::Sink` that the bus did not take an output. After either error
+    /// core and bus are as before the step, but for the sink's count of failures.
     pub fn step<B: Bus>(&mut self, lines: Lines, bio: bool, bus: &mut B) -> Result<Tick, Halt>
         ensures step { (outcome : StepResult)
             × WordStep lines bio (state_of self.old (B.world bus.old)) outcome

@@ -28,7 +28,7 @@ pub fn push(registers: &mut Registers, word: u16)
     registers.stack = pushed(registers.stack, word);
 }
 
-/// Pushes PC and goes on elsewhere.
+/// Pushes PC and continues at a target.
 pub fn call(registers: &mut Registers, target: u16)
     ensures { registers.new ≡ call target registers.old }
 {

@@ -1,4 +1,4 @@
-//! One step, once its lines are latched and its instruction is fetched.
+//! One step, after its lines are latched and its instruction is fetched.
 
 ghost use Rattle.std.specs.Prelude.{◌≡◌, ◌↔◌, true, IfOk};
 ghost use Rattle.std.specs.Option.{ForSome};

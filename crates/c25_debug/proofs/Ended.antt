@@ -1,4 +1,4 @@
--- What a run to a breakpoint comes to is what is answered to it.
+-- The answer to a run that may end at a breakpoint says how the run ended.
 use Rattle.std.proofs.Common.{◌≡◌, ◌∙◌, ◌++◌, ℕ, Bool, List, [], Result, Ok, Err, refl, sym, ap, subst}
 use Rattle.std.specs.Prelude.{IfOk, string_bytes}
 use Rattle.c25_board.specs.Run.{Puts}
@@ -11,7 +11,7 @@ use Rattle.c25_meaning_debugger.specs.Texts.{sink_text}
 use Rattle.c25_meaning_processor.specs.Run.{Signals}
 use Rattle.c25_meaning_processor.specs.State.{State}
 use Rattle.c25_debug.specs.Told.{StepsTold, end_text, is_sunk}
-use Rattle.c25_debug.specs.declared.steps.Told.{Told}
+use Rattle.c25_debug.specs.declared.steps.Answer.{Answer}
 
 pub ended : (signals : Signals) (breaks kept : List ℕ) (n k j before now : ℕ) (s t : State) (h : Halted) (text : List ℕ) (refused : Bool)
     → IsRunTo signals breaks k (tried k n) s h j t before now → text ≡ end_text h j t.registers.pc → refused ≡ is_sunk h
@@ -35,7 +35,7 @@ ended signals breaks kept n k j before now s t (halted.SinkFault at) text refuse
     })
 
 -- the same of an answer that may be refused
-pub told_of : {E : Type 0} (signals : Signals) (breaks : List ℕ) (n k m j before now steps pc : ℕ) (s t : State) (h : Halted) (empty : List ℕ) (r : Result Told E)
+pub told_of : {E : Type 0} (signals : Signals) (breaks : List ℕ) (n k m j before now steps pc : ℕ) (s t : State) (h : Halted) (empty : List ℕ) (r : Result Answer E)
     → m ≡ tried k n → IsRunTo signals breaks k m s h j t before now → empty ≡ [] → steps ≡ j → pc ≡ t.registers.pc
     → IfOk r (λ told. string_bytes told.text ≡ empty ++ end_text h steps pc) → IfOk r (λ told. told.is_refused ≡ is_sunk h)
     → IfOk r (λ told. (kept : List ℕ) → StepsTold signals breaks n (record { steps = k; state = s; breaks = kept }) (string_bytes told.text) (record { steps = j; state = t; breaks = kept }) told.is_refused before now)

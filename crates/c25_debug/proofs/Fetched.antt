@@ -8,7 +8,7 @@ use Rattle.c25_meaning_image.specs.declared.mark.RunMark.{RunMark}
 use Rattle.c25_meaning_linking.specs.Linking.{ImageData}
 use Rattle.c25_meaning_processor.specs.State.{State}
 use Rattle.c25_meaning_processor.specs.WordStep.{IsFetchedBy}
-use Rattle.c25_debug.specs.declared.steps.Told.{Told}
+use Rattle.c25_debug.specs.declared.steps.Answer.{Answer}
 
 -- a text that was empty has the line of an address, which is PC
 pub only_line : (line : ℕ → List ℕ) (address pc : ℕ) (empty text : List ℕ) → address ≡ pc → empty ≡ [] → text ≡ empty ++ line address → text ≡ line pc
@@ -20,7 +20,7 @@ pub where_by : (image : ImageData) (s : State) (found : Option RunMark) (m : Run
 where_by image s found m text is shown = subst (λ (f : Option RunMark). IsWhereBy image s f text) (sym is) shown
 
 -- nothing is fetched of it: an answer that may be refused has the line of the mark at PC
-pub nothing_fetched : {E : Type 0} (image : ImageData) (s : State) (found : Option RunMark) (m : RunMark) (address : ℕ) (r : Result Told E)
+pub nothing_fetched : {E : Type 0} (image : ImageData) (s : State) (found : Option RunMark) (m : RunMark) (address : ℕ) (r : Result Answer E)
     → found ≡ Some m → IsFetchedBy s.registers.cnf s.world s.registers.pc (Some m) None → address ≡ s.registers.pc
     → IfOk r (λ told. IsWhere image.program (source_line_at image) address (size_at image.marks address) (string_bytes told.text))
     → IfOk r (λ told. IsWhereBy image s found (string_bytes told.text))

@@ -7,12 +7,13 @@ use Rattle.std.specs.FinMap as map
 use Rattle.c25_meaning_image.specs.declared.mark.Mark.{Mark}
 use Rattle.c25_meaning_debugger.specs.Texts.{AreLinesOf, IsLineOf, SourceLine, marks_from}
 
--- behind what stood there before, a text is the lines of the marks asked for, once those of the first of the marks that are left stand behind it
+-- after what was there before, a text is the lines of the marks asked for, once the lines of the marks that
+-- are left come after the line of the first
 abbrev pub Finishes : map.FinMap nat_cmp ℕ → (ℕ → SourceLine) → List Mark → ℕ → ℕ → List ℕ → List Mark → ℕ → List ℕ → Type 0
 Finishes words sources marks address count before more left text =
     (rest : List ℕ) → AreLinesOf words sources (marks_from more address left) rest → (lines : List ℕ) × AreLinesOf words sources (marks_from marks address count) lines × (text ++ rest ≡ before ++ lines)
 
--- behind what stood there before, a text is the lines of the marks asked for
+-- after what was there before, a text is the lines of the marks asked for
 abbrev pub AreListed : map.FinMap nat_cmp ℕ → (ℕ → SourceLine) → List Mark → ℕ → ℕ → List ℕ → List ℕ → Type 0
 AreListed words sources marks address count before text =
     (lines : List ℕ) × AreLinesOf words sources (marks_from marks address count) lines × (text ≡ before ++ lines)

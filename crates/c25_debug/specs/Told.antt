@@ -1,4 +1,5 @@
--- What a session's answers say: those of the definition, or that the sink refused a word in one of the steps (own).
+-- What a session's answers say: what the definition says, or that the sink refused a word in one of the steps
+-- (own).
 use Rattle.std.specs.Prelude.{◌≡◌, ◌<◌, ℕ, ◌+◌, Bool, true, false, List, []}
 use Rattle.c25_board.specs.Board.{state, steps}
 use Rattle.c25_board.specs.Run.{Puts}
@@ -21,8 +22,8 @@ use Rattle.c25_meaning_processor.specs.declared.script.Cmd.TheVariants as cmd
 abbrev pub point_of : {F S : Type 0} {feed : feeds.Ghosts F} {sink : sinks.Ghosts S} → Board F S feed sink → List ℕ → Point
 point_of board breaks = record { steps = steps board; state = state board; breaks = breaks }
 
--- the sink refused a word in one of n steps from a point on, none past one of these breakpoints; its refusals were so many before and
--- are so many now
+-- the sink refused a word in one of n steps from a point on, none past one of these breakpoints; it had
+-- failed so often before and so often now
 pub record IsSunk (signals : Signals) (breaks : List ℕ) (n : ℕ) (p : Point) (text : List ℕ) (q : Point) (before now : ℕ) : Type 0 where
   pub done : ℕ
   pub below : done < tried p.steps n
@@ -45,12 +46,12 @@ abbrev pub is_sunk : Halted → Bool
 is_sunk (halted.SinkFault at) = true
 is_sunk _ = false
 
--- what is answered to n steps: their end, or that the sink refused a word
+-- the answer to n steps: how they ended, or that the sink refused a word
 abbrev pub StepsTold : Signals → List ℕ → ℕ → Point → List ℕ → Point → Bool → ℕ → ℕ → Type 0
 StepsTold signals breaks n p text q false before now = Steps WordStep signals breaks n p text q × (now ≡ before)
 StepsTold signals breaks n p text q true before now = IsSunk signals breaks n p text q before now
 
--- what is answered to a command
+-- the answer to a command
 abbrev pub Told : Signals → ImageData → Cmd → Point → List ℕ → Point → Bool → ℕ → ℕ → Type 0
 Told signals image (cmd.Step n) p text q refused before now = StepsTold signals [] n p text q refused before now
 Told signals image (cmd.Run n) p text q refused before now = StepsTold signals p.breaks n p text q refused before now

@@ -1,4 +1,4 @@
--- Commands that show only words that there are.
+-- Commands that show only words within the memory.
 use Rattle.std.specs.Prelude.{◌+◌, ◌≤◌, List}
 use Rattle.std.specs.List.{AllByRecursion}
 use Rattle.c25_meaning_processor.specs.declared.script.Cmd.{Cmd}
@@ -10,6 +10,6 @@ IsWithin (cmd.Data address count) = address + count ≤ 65536
 IsWithin (cmd.Prog address count) = address + count ≤ 65536
 IsWithin _ = Unit {0}
 
--- all commands do so
+-- the words that each of these commands shows end within the 65,536 of their memory
 abbrev pub AreWithin : List Cmd → Type 0
 AreWithin commands = AllByRecursion IsWithin commands

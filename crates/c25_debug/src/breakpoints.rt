@@ -6,26 +6,26 @@ ghost use Rattle.c25_meaning_processor.specs.Set.{can_set, with_breakpoint, with
 ghost use Rattle.c25_meaning_debugger.specs.Texts.{cleared_text, set_text};
 
 use crate::answers::{push_cleared, push_set};
-use crate::steps::{Told, shown};
+use crate::steps::{Answer, shown};
 use c25_board::breakpoints::{Breakpoints, MOST};
 use c25_meaning_common::no_memory::NoMemory;
 use std::alloc::Global;
 
-/// Whether a breakpoint is set once it was asked for: it is set already, or there is room.
+/// Whether a breakpoint can be set: it is set already, or fewer than the most are.
 fn can_be_set(breakpoints: &Breakpoints, address: u16) -> bool
     ensures { result ≡ can_set breakpoints.now address }
 {
     breakpoints.contains(address) || breakpoints.as_slice().len() < MOST
 }
 
-/// Sets a breakpoint, and tells whether it is set.
-pub(crate) fn tell_set(
+/// Sets a breakpoint, and answers whether it is set.
+pub(crate) fn answer_set(
     alloc: Global,
     breakpoints: &mut Breakpoints,
     address: u16,
-) -> Result<Told, NoMemory>
-    ensures text { IfOk result (λ told. string_bytes told.text ≡ set_text (can_set breakpoints.old address) address) }
-    ensures refused { IfOk result (λ told. told.is_refused ≡ false) }
+) -> Result<Answer, NoMemory>
+    ensures text { IfOk result (λ answer. string_bytes answer.text ≡ set_text (can_set breakpoints.old address) address) }
+    ensures refused { IfOk result (λ answer. answer.is_refused ≡ false) }
     ensures breakpoints { OnOk result (breakpoints.new ≡ with_breakpoint breakpoints.old address) }
     ensures kept { OnErr result (breakpoints.new ≡ breakpoints.old) }
 {
@@ -35,14 +35,14 @@ pub(crate) fn tell_set(
     Ok(shown(text))
 }
 
-/// Clears a breakpoint, and tells whether one was there.
-pub(crate) fn tell_cleared(
+/// Clears a breakpoint, and answers whether there was one.
+pub(crate) fn answer_cleared(
     alloc: Global,
     breakpoints: &mut Breakpoints,
     address: u16,
-) -> Result<Told, NoMemory>
-    ensures text { IfOk result (λ told. string_bytes told.text ≡ cleared_text (is_breakpoint breakpoints.old address) address) }
-    ensures refused { IfOk result (λ told. told.is_refused ≡ false) }
+) -> Result<Answer, NoMemory>
+    ensures text { IfOk result (λ answer. string_bytes answer.text ≡ cleared_text (is_breakpoint breakpoints.old address) address) }
+    ensures refused { IfOk result (λ answer. answer.is_refused ≡ false) }
     ensures breakpoints { OnOk result (breakpoints.new ≡ without_breakpoint breakpoints.old address) }
     ensures kept { OnErr result (breakpoints.new ≡ breakpoints.old) }
 {

@@ -1,4 +1,4 @@
-//! The debugger: scripts read, and a session over a board that answers their commands.
+//! The debugger: scripts, read from texts, and sessions over a board that answer their commands.
 #![tactic(auto)]
 
 mod answers;
@@ -8,3 +8,6 @@ pub mod script;
 pub mod session;
 mod shown;
 mod steps;
+
+pub use script::{Script, read_script};
+pub use session::Session;

@@ -4,15 +4,15 @@ ghost use Rattle.std.specs.Prelude.{◌≡◌};
 ghost use Rattle.c25_meaning_processor.specs.Script.{words_in_memory, plain_command, command_with_one, command_with_two, script_of};
 ghost use Rattle.c25_meaning_common.specs.Results.{MeetsBy};
 
-use c25_texts::{LineFormat, decimal_of, hexadecimal_of, is_word, read_items};
 use c25_meaning_common::failure::Failure;
 use c25_meaning_common::placed::Placed;
 use c25_meaning_processor::script::{BadCommand, Cmd};
+use c25_texts::{LineFormat, decimal_of, hexadecimal_of, is_word, read_items};
 use std::alloc::Global;
 use std::marker::Model;
 
-/// The commands of a script, in order; no `data` and no `prog` goes on past the memory. Contracts see
-/// it as their list.
+/// The commands of a script, in order. The words that a `data` or a `prog` asks for all lie in the memory.
+/// Contracts see it as the list of its commands.
 #[derive(Drop)]
 pub struct Script {
     commands: Vec<Cmd>,
@@ -43,7 +43,7 @@ impl Script {
     }
 }
 
-/// The command that is one word.
+/// The command of a line of one word.
 #[tactic(auto, unfolding(c25_meaning_processor::specs::Script::plain_command))]
 fn plain_command(word: &[u8]) -> Option<Cmd>
     ensures { result ≡ plain_command word.now }
@@ -61,7 +61,7 @@ fn plain_command(word: &[u8]) -> Option<Cmd>
     }
 }
 
-/// The command that is a word and a count or an address.
+/// The command of a line of a name and a number: a count in decimal, or an address in hexadecimal.
 #[tactic(auto, unfolding(c25_meaning_processor::specs::Script::command_with_one))]
 fn command_with_one(word: &[u8], number: &[u8]) -> Option<Cmd>
     ensures { result ≡ command_with_one word.now number.now }
@@ -81,7 +81,7 @@ fn command_with_one(word: &[u8], number: &[u8]) -> Option<Cmd>
     }
 }
 
-/// An address and a count of words from there on, which all lie in the memory.
+/// An address in hexadecimal and a count of words in decimal, where all words lie in the memory.
 #[tactic(auto, unfolding(c25_meaning_processor::specs::Script::words_in_memory))]
 fn words_in_memory(address: &[u8], count: &[u8]) -> Option<(u16, u32)>
     ensures { result ≡ words_in_memory address.now count.now }
@@ -95,7 +95,7 @@ fn words_in_memory(address: &[u8], count: &[u8]) -> Option<(u16, u32)>
     }
 }
 
-/// The command that is a word, an address and a count.
+/// The command of a line of a name, an address and a count.
 #[tactic(auto, unfolding(c25_meaning_processor::specs::Script::command_with_two))]
 fn command_with_two(word: &[u8], address: &[u8], count: &[u8]) -> Option<Cmd>
     ensures { result ≡ command_with_two word.now address.now count.now }
@@ -111,7 +111,7 @@ fn command_with_two(word: &[u8], address: &[u8], count: &[u8]) -> Option<Cmd>
     }
 }
 
-/// One command a line.
+/// The format of a script: one command a line.
 struct CommandLines;
 
 impl LineFormat for CommandLines {
@@ -137,7 +137,8 @@ impl LineFormat for CommandLines {
     }
 }
 
-/// The script of a text, or the first line that is neither blank nor a command.
+/// The script of a text. `BadCommand` comes with the first line that is neither blank nor a command, counted
+/// from 1.
 pub fn read_script(alloc: Global, text: &str) -> Result<Script, Failure<Placed<usize, BadCommand>>>
     ensures { MeetsBy (λ f. f.place) (λ x. x) (script_of text.now) result }
 {

@@ -3,14 +3,14 @@
 ghost use Rattle.std.specs.Prelude.{◌≡◌, ◌≤◌, ◌+◌, [], false, IfOk, OnErr, string_bytes};
 ghost use Rattle.c25_debug.specs.WithinMemory.{IsWithin};
 
-use crate::breakpoints::{tell_cleared, tell_set};
+use crate::breakpoints::{answer_cleared, answer_set};
 use crate::shown::{
     show_data, show_list, show_place, show_program, show_registers, show_stack, show_symbols,
 };
-use crate::steps::{Told, tell_steps};
+use crate::steps::{Answer, answer_steps};
 use c25_board::board::Board;
-use c25_board::ports::{Feed, Sink};
 use c25_board::breakpoints::Breakpoints;
+use c25_board::ports::{Feed, Sink};
 use c25_link::Image;
 use c25_meaning_common::no_memory::NoMemory;
 use c25_meaning_processor::script::Cmd;
@@ -31,7 +31,7 @@ impl<'a, F: Feed + Drop, S: Sink + Drop> Session<'a, F, S> {
     ghost use Rattle.c25_debug.specs.Told.{point_of};
     ghost use Rattle.c25_debug.specs.Told as meant;
 
-    /// A session over a board that runs this image. No breakpoint is set. It takes no memory.
+    /// A session over a board that runs this image, with no breakpoint set. It takes no memory.
     pub fn new(alloc: Global, board: Board<F, S>, image: &'a Image) -> Self
         ensures board { result.board ≡ board }
         ensures image { result.image.now ≡ image.now }
@@ -47,7 +47,7 @@ impl<'a, F: Feed + Drop, S: Sink + Drop> Session<'a, F, S> {
         }
     }
 
-    /// The board, as the commands so far have left it.
+    /// The board as the commands so far have left it.
     pub fn board(&self) -> &Board<F, S>
         ensures { result.now ≡ self.now.board }
     {
@@ -61,12 +61,13 @@ impl<'a, F: Feed + Drop, S: Sink + Drop> Session<'a, F, S> {
         self.is_refused
     }
 
-    /// What is answered to a command, and whether the sink refused a word.
-    fn told(&mut self, command: &Cmd) -> Result<Told, NoMemory>
+    /// Does what a command asks for, and gives its answer. Out of memory, the board and the breakpoints are
+    /// as they were.
+    fn answer(&mut self, command: &Cmd) -> Result<Answer, NoMemory>
         requires { IsWithin command.now }
-        ensures answer { IfOk result (λ told. meant.Told (signals self.old.board) self.old.image.now command.now
-            (point_of self.old.board self.old.breakpoints) (string_bytes told.text) (point_of self.new.board self.new.breakpoints)
-            told.is_refused (S.failures self.old.board.devices.sink) (S.failures self.new.board.devices.sink)) }
+        ensures answer { IfOk result (λ answer. meant.Told (signals self.old.board) self.old.image.now command.now
+            (point_of self.old.board self.old.breakpoints) (string_bytes answer.text) (point_of self.new.board self.new.breakpoints)
+            answer.is_refused (S.failures self.old.board.devices.sink) (S.failures self.new.board.devices.sink)) }
         ensures image { self.new.image ≡ self.old.image }
         ensures refused { self.new.is_refused ≡ self.old.is_refused }
         ensures board_kept { OnErr result (self.new.board ≡ self.old.board) }
@@ -75,10 +76,10 @@ impl<'a, F: Feed + Drop, S: Sink + Drop> Session<'a, F, S> {
     {
         let (alloc, image) = (self.alloc, self.image);
         match *command {
-            Cmd::Step(count) => tell_steps(alloc, &mut self.board, count, &Breakpoints::new()),
-            Cmd::Run(count) => tell_steps(alloc, &mut self.board, count, &self.breakpoints),
-            Cmd::Break(address) => tell_set(alloc, &mut self.breakpoints, address),
-            Cmd::Clear(address) => tell_cleared(alloc, &mut self.breakpoints, address),
+            Cmd::Step(count) => answer_steps(alloc, &mut self.board, count, &Breakpoints::new()),
+            Cmd::Run(count) => answer_steps(alloc, &mut self.board, count, &self.breakpoints),
+            Cmd::Break(address) => answer_set(alloc, &mut self.breakpoints, address),
+            Cmd::Clear(address) => answer_cleared(alloc, &mut self.breakpoints, address),
             Cmd::Regs => show_registers(alloc, &self.board),
             Cmd::Data { address, count } => show_data(alloc, &self.board, address, count),
             Cmd::Prog { address, count } => show_program(alloc, &self.board, address, count),
@@ -89,9 +90,9 @@ impl<'a, F: Feed + Drop, S: Sink + Drop> Session<'a, F, S> {
         }
     }
 
-    /// Does what a command asks for, and answers its text. A step past the 4,294,967,295th is not done.
-    /// Where memory is refused nothing is done: the board and the breakpoints are as they were, and
-    /// `refused` tells what it told.
+    /// Does what a command asks for, and answers its text. No step is done after 4,294,967,295 in all. Out of
+    /// memory, nothing is done: the board and the breakpoints are as they were, and so is what `refused`
+    /// answers.
     pub fn command(&mut self, command: &Cmd) -> Result<String, NoMemory>
         requires { IsWithin command.now }
         ensures answer { IfOk result (λ text. meant.Told (signals self.old.board) self.old.image.now command.now
@@ -103,8 +104,8 @@ impl<'a, F: Feed + Drop, S: Sink + Drop> Session<'a, F, S> {
         ensures breakpoints_kept { OnErr result (self.new.breakpoints ≡ self.old.breakpoints) }
         ensures schedule { entries self.new.board ≡ entries self.old.board }
     {
-        let told = self.told(command)?;
-        self.is_refused = told.is_refused;
-        Ok(told.text)
+        let answer = self.answer(command)?;
+        self.is_refused = answer.is_refused;
+        Ok(answer.text)
     }
 }

@@ -12,7 +12,7 @@ use crate::answers::{
     push_copied, push_instruction, push_instructions, push_registers, push_stack, push_words,
 };
 use crate::memories::{DataMemory, ProgramMemory};
-use crate::steps::{Told, shown};
+use crate::steps::{Answer, shown};
 use c25_board::board::Board;
 use c25_board::ports::{Feed, Sink};
 use c25_link::Image;
@@ -25,9 +25,9 @@ use std::alloc::Global;
 pub(crate) fn show_registers<F: Feed + Drop, S: Sink + Drop>(
     alloc: Global,
     board: &Board<F, S>,
-) -> Result<Told, NoMemory>
-    ensures text { IfOk result (λ told. string_bytes told.text ≡ regs_text (regs_of (state board.now).registers)) }
-    ensures refused { IfOk result (λ told. told.is_refused ≡ false) }
+) -> Result<Answer, NoMemory>
+    ensures text { IfOk result (λ answer. string_bytes answer.text ≡ regs_text (regs_of (state board.now).registers)) }
+    ensures refused { IfOk result (λ answer. answer.is_refused ≡ false) }
 {
     let mut text = String::new(alloc);
     push_registers(&mut text, &board.regs())?;
@@ -38,9 +38,9 @@ pub(crate) fn show_registers<F: Feed + Drop, S: Sink + Drop>(
 pub(crate) fn show_stack<F: Feed + Drop, S: Sink + Drop>(
     alloc: Global,
     board: &Board<F, S>,
-) -> Result<Told, NoMemory>
-    ensures text { IfOk result (λ told. string_bytes told.text ≡ stack_text (regs_of (state board.now).registers)) }
-    ensures refused { IfOk result (λ told. told.is_refused ≡ false) }
+) -> Result<Answer, NoMemory>
+    ensures text { IfOk result (λ answer. string_bytes answer.text ≡ stack_text (regs_of (state board.now).registers)) }
+    ensures refused { IfOk result (λ answer. answer.is_refused ≡ false) }
 {
     let mut text = String::new(alloc);
     push_stack(&mut text, &board.regs())?;
@@ -53,10 +53,10 @@ pub(crate) fn show_data<F: Feed + Drop, S: Sink + Drop>(
     board: &Board<F, S>,
     address: u16,
     count: u32,
-) -> Result<Told, NoMemory>
+) -> Result<Answer, NoMemory>
     requires { address + count ≤ 65536 }
-    ensures text { IfOk result (λ told. string_bytes told.text ≡ words_text (data_word (state board.now)) address count) }
-    ensures refused { IfOk result (λ told. told.is_refused ≡ false) }
+    ensures text { IfOk result (λ answer. string_bytes answer.text ≡ words_text (data_word (state board.now)) address count) }
+    ensures refused { IfOk result (λ answer. answer.is_refused ≡ false) }
 {
     let mut text = String::new(alloc);
     push_words(&mut text, &DataMemory { board }, address, count)?;
@@ -69,10 +69,10 @@ pub(crate) fn show_program<F: Feed + Drop, S: Sink + Drop>(
     board: &Board<F, S>,
     address: u16,
     count: u32,
-) -> Result<Told, NoMemory>
+) -> Result<Answer, NoMemory>
     requires { address + count ≤ 65536 }
-    ensures text { IfOk result (λ told. string_bytes told.text ≡ words_text (program_word (state board.now)) address count) }
-    ensures refused { IfOk result (λ told. told.is_refused ≡ false) }
+    ensures text { IfOk result (λ answer. string_bytes answer.text ≡ words_text (program_word (state board.now)) address count) }
+    ensures refused { IfOk result (λ answer. answer.is_refused ≡ false) }
 {
     let mut text = String::new(alloc);
     push_words(&mut text, &ProgramMemory { board }, address, count)?;
@@ -80,9 +80,9 @@ pub(crate) fn show_program<F: Feed + Drop, S: Sink + Drop>(
 }
 
 /// The image's instruction at an address.
-fn show_mark(alloc: Global, image: &Image, address: u16) -> Result<Told, NoMemory>
-    ensures text { IfOk result (λ told. IsWhere image.now.program (source_line_at image.now) address (marks.size_at image.now.marks address) (string_bytes told.text)) }
-    ensures refused { IfOk result (λ told. told.is_refused ≡ false) }
+fn show_mark(alloc: Global, image: &Image, address: u16) -> Result<Answer, NoMemory>
+    ensures text { IfOk result (λ answer. IsWhere image.now.program (source_line_at image.now) address (marks.size_at image.now.marks address) (string_bytes answer.text)) }
+    ensures refused { IfOk result (λ answer. answer.is_refused ≡ false) }
 {
     let mut text = String::new(alloc);
     let size = size_at(image.marks(), address);
@@ -90,15 +90,16 @@ fn show_mark(alloc: Global, image: &Image, address: u16) -> Result<Told, NoMemor
     Ok(shown(text))
 }
 
-/// The instruction at PC: that which is fetched there from block B0, if one is, else the image's.
+/// The instruction at PC: the one that is fetched there from block B0, if there is one, otherwise the
+/// image's.
 pub(crate) fn show_place<F: Feed + Drop, S: Sink + Drop>(
     alloc: Global,
     image: &Image,
     board: &Board<F, S>,
-) -> Result<Told, NoMemory>
-    ensures text { IfOk result (λ told. IsWhereBy image.now (state board.now)
-        (mark_found (state board.now).registers.cnf (state board.now).world (state board.now).registers.pc) (string_bytes told.text)) }
-    ensures refused { IfOk result (λ told. told.is_refused ≡ false) }
+) -> Result<Answer, NoMemory>
+    ensures text { IfOk result (λ answer. IsWhereBy image.now (state board.now)
+        (mark_found (state board.now).registers.cnf (state board.now).world (state board.now).registers.pc) (string_bytes answer.text)) }
+    ensures refused { IfOk result (λ answer. answer.is_refused ≡ false) }
 {
     let address = board.pc();
     match board.run_mark() {
@@ -114,15 +115,15 @@ pub(crate) fn show_place<F: Feed + Drop, S: Sink + Drop>(
     }
 }
 
-/// The image's first so many instructions from an address up.
+/// The first `count` instructions of the image at an address or after it.
 pub(crate) fn show_list(
     alloc: Global,
     image: &Image,
     address: u16,
     count: u32,
-) -> Result<Told, NoMemory>
-    ensures text { IfOk result (λ told. AreLinesOf image.now.program (source_line_at image.now) (marks_from image.now.marks address count) (string_bytes told.text)) }
-    ensures refused { IfOk result (λ told. told.is_refused ≡ false) }
+) -> Result<Answer, NoMemory>
+    ensures text { IfOk result (λ answer. AreLinesOf image.now.program (source_line_at image.now) (marks_from image.now.marks address count) (string_bytes answer.text)) }
+    ensures refused { IfOk result (λ answer. answer.is_refused ≡ false) }
 {
     let mut text = String::new(alloc);
     push_instructions(alloc, &mut text, image, image.marks(), address, count)?;
@@ -130,9 +131,9 @@ pub(crate) fn show_list(
 }
 
 /// The image's symbols.
-pub(crate) fn show_symbols(alloc: Global, image: &Image) -> Result<Told, NoMemory>
-    ensures text { IfOk result (λ told. string_bytes told.text ≡ symbols_text image.now.described.symbols) }
-    ensures refused { IfOk result (λ told. told.is_refused ≡ false) }
+pub(crate) fn show_symbols(alloc: Global, image: &Image) -> Result<Answer, NoMemory>
+    ensures text { IfOk result (λ answer. string_bytes answer.text ≡ symbols_text image.now.described.symbols) }
+    ensures refused { IfOk result (λ answer. answer.is_refused ≡ false) }
 {
     let mut text = String::new(alloc);
     push_symbols(&mut text, image.symbols())?;

@@ -12,7 +12,7 @@ use c25_meaning_image::marks::{is_loaded_code, run_at, size_at};
 use c25_meaning_instructions::insn::Insn;
 use std::alloc::Global;
 
-/// What lies around the processor in a test.
+/// What is around the processor in a test.
 #[derive(Drop)]
 pub struct Bench {
     words: Vec<u16>,
@@ -23,9 +23,9 @@ pub struct Bench {
     pub run_marks: Vec<RunMark>,
     /// The sample of each port.
     pub samples: [Option<u16>; 16],
-    /// What was put out, a port and a word each.
+    /// All outputs, a port and a word each, oldest first.
     pub outputs: Vec<(u16, u16)>,
-    /// The sink takes no word.
+    /// Whether the sink refuses each word.
     pub closed: bool,
     failures: u64,
     ghost words_full: { vec_len words ≡ 65536 },
@@ -65,7 +65,7 @@ impl Bench {
         Ok(())
     }
 
-    /// Puts an instruction at an address, and gives the address behind it.
+    /// Puts an instruction at an address, and gives the address after it.
     pub fn place_insn(&mut self, address: u16, insn: &Insn) -> Result<u16, NoMemory>
         requires { InRange insn.now }
     {
@@ -77,13 +77,13 @@ impl Bench {
         Ok(address.wrapping_add(if second.is_some() { 2 } else { 1 }))
     }
 
-    /// Has an instruction of this size run at an address of block B0, loaded elsewhere.
+    /// Lets an instruction of this size run at an address of block B0, loaded at another.
     pub fn place_in_b0(&mut self, run: u16, load: u16, size: u16) -> Result<(), NoMemory> {
         self.run_marks.push(RunMark { load, run, size })?;
         Ok(())
     }
 
-    /// Takes away the instructions and the outputs; their words stay.
+    /// Removes the places of instructions and the outputs. The words of both memories stay.
     pub fn clear(&mut self) {
         self.marks.clear();
         self.run_marks.clear();

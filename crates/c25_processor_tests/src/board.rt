@@ -22,7 +22,7 @@ use std::test::Fail;
 /// `LDPK 4`, `LACK 65`, `SACL 0`, `OUT 0,PA1`, `CNFP` and a branch to itself (SPRU014, the instructions' pages).
 const PROGRAM: [u16; 7] = [0xc804, 0xca41, 0x6000, 0xe100, 0xce05, 0xff80, 0x0005];
 
-/// The places of its instructions.
+/// The places of the instructions of `PROGRAM`.
 const MARKS: [Mark; 6] = [
     Mark {
         address: 0,
@@ -61,7 +61,7 @@ fn page_of(alloc: Global, words: &[u16]) -> Result<WordMap, NoMemory> {
     Ok(page)
 }
 
-/// A board with that program on page 0, no schedule and no samples.
+/// A board with `PROGRAM` on page 0, an empty schedule and no samples.
 fn board_with(alloc: Global, page: &WordMap) -> Result<Board<NoSamples, ListSink>, Fail>
     ensures { IfOk result (λ board. steps board ≡ 0) }
 {
@@ -74,8 +74,8 @@ fn board_with(alloc: Global, page: &WordMap) -> Result<Board<NoSamples, ListSink
     Ok(Board::new(alloc, page, &none, &MARKS, &[], schedule, NoSamples, sink)?)
 }
 
-/// Two runs are one, of nine steps. Under CNF 1 block B0 reads 0 as data, and its words stand with those of data memory
-/// all the same.
+/// Two runs make one run of nine steps. Under CNF 1 block B0 reads 0 as data, and its words still are those
+/// of `data`.
 fn runs_twice(rt: &impl Abort, board: &mut Board<NoSamples, ListSink>)
     requires { steps board.old ≡ 0 }
 {
@@ -100,7 +100,8 @@ fn runs_are_one_run(rt: HostRuntime) -> Result<(), Fail> {
     Ok(())
 }
 
-/// How a board runs into such a sink, and on once it is cleared, `show_refusals` tells.
+/// A sink of three words, filled and cleared. `show_refusals` runs a board into such a sink, and on once it
+/// is cleared.
 #[test]
 fn cleared_sinks_take_words_again(rt: HostRuntime) {
     let mut sink = FixedSink::<3>::new();

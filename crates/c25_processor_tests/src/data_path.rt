@@ -1,13 +1,13 @@
-//! The data path (`c25_core::alu`): one example of each call, at values worked out by hand.
+//! The data path (`c25_alu`): one example of each call, at values worked out by hand.
 
 use crate::values::equal;
-use c25_core::alu::{
+use c25_alu::{
     add, negate, norm, product, rotate_left, rotate_right, shift_left, shift_left_once,
     shift_right_once, shifted_product, subc, subtract, take_absolute_value,
 };
 use c25_meaning_processor::accumulator::{Acc, ProductShift};
 
-/// An accumulator with these flags.
+/// An accumulator with this value and these flags.
 fn acc(value: u32, ov: bool, c: bool) -> Acc {
     Acc { value, ov, c }
 }
@@ -37,7 +37,7 @@ fn sums_differences_and_signs(rt: HostRuntime) {
     equal(&rt, found, wanted);
 }
 
-/// 41 by 7: the quotient 5 in the low half, the rest 6 in the high one.
+/// 41 by 7: the quotient 5 in the low half, the remainder 6 in the high half.
 #[test]
 fn sixteen_steps_divide(rt: HostRuntime) {
     let mut quotient = acc(41, false, false);

@@ -1,8 +1,8 @@
 //! The names of instructions.
 
 use crate::values::equal;
-use c25_meaning_instructions::mnemonic::{MemName, Mnemonic, PlainName, Spelling};
 use c25_isa::mnemonic;
+use c25_meaning_instructions::mnemonic::{MemName, Mnemonic, PlainName, Spelling};
 
 #[test]
 fn names_are_read_in_either_case(rt: HostRuntime) {

@@ -1,4 +1,4 @@
-//! Each call of the processor on its happy path, and steps that stop.
+//! One example of each call of the processor, and steps that stop.
 
 use crate::bench::Bench;
 use crate::values::equal;

@@ -1,4 +1,4 @@
-//! All first words.
+//! All 65,536 first words, decoded and encoded.
 
 ghost use Rattle.std.specs.Prelude.{◌<◌};
 
@@ -8,8 +8,8 @@ use c25_meaning_common::no_memory::NoMemory;
 use std::alloc::Global;
 use std::test::Fail;
 
-/// For each highest digit the FNV-1a sum of the texts of its 4,096 first words under the second word
-/// 1234, in order, each with LF behind it, and `none` for words of no row, from an independent model.
+/// For each highest digit the FNV-1a sum of the texts of its 4,096 first words with the second word 1234h, in
+/// order, each with LF after it, and `none` for words of no row. The sums are from an independent model.
 const SUMS: [u64; 16] = [
     0x8f76_2f5a_f572_ee81,
     0x2151_65b9_8252_34c7,
@@ -29,7 +29,7 @@ const SUMS: [u64; 16] = [
     0x0032_0355_2d3e_899c,
 ];
 
-/// The FNV-1a sum of bytes, and then of more.
+/// The FNV-1a sum of bytes followed by those of a text.
 fn sum_with(sum: u64, text: &str) -> u64 {
     let mut sum = sum;
     for byte in text.as_bytes() {
@@ -38,7 +38,7 @@ fn sum_with(sum: u64, text: &str) -> u64 {
     sum
 }
 
-/// The sum, and then of the text of what two words read as.
+/// The FNV-1a sum of bytes followed by the text of the instruction that two words decode to.
 fn sum_with_words(alloc: Global, sum: u64, first: u16, second: u16) -> Result<u64, NoMemory> {
     match decode(first, second) {
         Some(insn) => {
@@ -79,7 +79,7 @@ fn every_first_word_reads_as_the_model_says(rt: HostRuntime) -> Result<(), Fail>
     Ok(())
 }
 
-/// Whether what two words read as, if anything, is encoded as these words again.
+/// Whether the instruction that two words decode to, if any, is encoded as these words.
 fn is_written_again(first: u16, second: u16) -> bool {
     match decode(first, second) {
         Some(insn) => match encode(&insn).as_slice() {

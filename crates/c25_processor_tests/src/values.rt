@@ -1,9 +1,10 @@
-//! What was found and what is wanted.
+//! Comparison of values in tests.
 
 use std::fmt::Debug;
 use std::process::Abort;
 
-/// These are one value. In a function of its own the assertion is proved once for all tests.
+/// Fails unless what was found is what is wanted. In a function of its own the assertion is proved once for
+/// all tests.
 pub(crate) fn equal<T: PartialEq + Debug + Drop>(rt: &impl Abort, found: T, wanted: T) {
     assert_eq!(rt; found, wanted);
 }

@@ -1,7 +1,7 @@
-//! One state, the instruction that meets it, and how that ends.
+//! One state of the processor, the instruction that runs in it, and how that ends.
 
 use crate::generator::Generator;
-use crate::state::State;
+use crate::state::CaseState;
 use crate::sum::Sum;
 use bitflags::Flags;
 use c25_core::{Bus, Halt, Tick};
@@ -20,9 +20,9 @@ pub struct Case {
     /// The second word, 0 where the instruction has none.
     pub second: u16,
     size: u16,
-    state: State,
+    state: CaseState,
     pc: u16,
-    /// `RPTK` or `EINT`, which comes just before.
+    /// `RPTK` or `EINT`, which runs just before the instruction.
     prefix: Option<u16>,
     steps: u16,
     lines: Lines,
@@ -39,7 +39,7 @@ pub struct End {
     settled: bool,
 }
 
-/// The first word and the second word of a row with the next operands that read as an instruction.
+/// The two words of a row of the opcode table with drawn operands that decode to an instruction.
 fn draw_words(generator: &mut Generator, base: u16, operands: u16) -> (u16, u16) {
     for _ in 0..64 {
         let first = base | (generator.bits() & operands);
@@ -51,7 +51,7 @@ fn draw_words(generator: &mut Generator, base: u16, operands: u16) -> (u16, u16)
     (base, 0)
 }
 
-/// Where the instruction stands: seldom across the edge of block B0.
+/// The instruction's address: in one of 16 cases near the edge of block B0.
 fn draw_place(generator: &mut Generator) -> u16 {
     let pc = 0x100 + generator.below(0xFE80);
     if generator.below(16) == 0 {
@@ -61,7 +61,7 @@ fn draw_place(generator: &mut Generator) -> u16 {
     }
 }
 
-/// What comes just before the instruction, and the steps of both, repetitions included.
+/// What runs just before the instruction, and the number of steps of both, repetitions included.
 fn draw_prefix(generator: &mut Generator) -> (Option<u16>, u16) {
     match generator.below(4) {
         2 => {
@@ -73,7 +73,7 @@ fn draw_prefix(generator: &mut Generator) -> (Option<u16>, u16) {
     }
 }
 
-/// The lines of the first step, none in most cases.
+/// The interrupt lines of the first step, none in most cases.
 fn draw_lines(generator: &mut Generator) -> Lines {
     if generator.below(8) == 0 {
         Lines::from_bits_retain(generator.below(8) as u8)
@@ -87,7 +87,7 @@ impl Case {
     pub fn draw(generator: &mut Generator, base: u16, operands: u16) -> Case {
         let (first, second) = draw_words(generator, base, operands);
         let size = decode(first, second).map_or(1, |insn| size_of(insn.mnemonic()));
-        let mut state = State::draw(generator);
+        let mut state = CaseState::draw(generator);
         let pc = draw_place(generator);
         if generator.below(4) == 0 {
             state.acc_low = pc.wrapping_add(generator.below(2));
@@ -124,7 +124,7 @@ impl Case {
         bench.closed = generator.below(8) == 0;
     }
 
-    /// Makes the state, and runs the steps up to the one that stops.
+    /// Makes the state, and runs the steps up to the one that halts.
     pub fn run(&self, bench: &mut Bench, generator: &mut Generator) -> Result<End, NoMemory> {
         bench.clear();
         self.draw_around(bench, generator);
@@ -164,7 +164,7 @@ impl Case {
 }
 
 impl End {
-    /// A number for the answer of the last step.
+    /// A number for the outcome of the last step.
     fn answer_number(&self) -> u16 {
         match self.answer {
             Ok(Tick::Ran) => 0,
@@ -177,7 +177,7 @@ impl End {
         }
     }
 
-    /// Adds all of it to a sum.
+    /// Adds the whole end to a sum.
     pub fn add_to(&self, sum: &mut Sum) {
         let regs = &self.regs;
         sum.add_all(&[self.answer_number(), self.done]);
@@ -191,11 +191,11 @@ impl End {
     }
 }
 
-/// Words, a blank before each.
+/// Words in hexadecimal, a blank before each.
 #[derive(Clone, Copy)]
-struct Words<'a>(&'a [u16]);
+struct CaseWords<'a>(&'a [u16]);
 
-impl fmt::Display for Words<'_> {
+impl fmt::Display for CaseWords<'_> {
     fn fmt<W: fmt::Write>(&self, f: &mut fmt::Formatter<W>) -> fmt::Result {
         for word in self.0 {
             write!(f, " {word:04X}")?;
@@ -204,7 +204,7 @@ impl fmt::Display for Words<'_> {
     }
 }
 
-/// Writes the answer of the last step.
+/// Writes the outcome of the last step.
 fn write_answer<W: fmt::Write>(
     f: &mut fmt::Formatter<W>,
     answer: Result<Tick, Halt>,
@@ -222,7 +222,7 @@ impl fmt::Display for End {
         write_answer(f, self.answer)?;
         write!(f, " {} PC {:04X} ACC {:08X}", self.done, regs.pc, regs.acc)?;
         write!(f, " P {:08X} T {:04X}", regs.p, regs.t)?;
-        let (ar, stack) = (Words(&regs.ar), Words(&regs.stack));
+        let (ar, stack) = (CaseWords(&regs.ar), CaseWords(&regs.stack));
         write!(
             f,
             " ST0 {:04X} ST1 {:04X} RPTC {:02X} AR{ar} STACK{stack}",

@@ -1,4 +1,4 @@
-//! Numbers that are always the same.
+//! A pseudo-random generator with a fixed seed.
 
 ghost use Rattle.std.specs.Prelude.{◌<◌};
 
@@ -8,7 +8,7 @@ pub struct Generator {
     state: u64,
 }
 
-/// Words at the edges of what the processor tells apart.
+/// Words at the edges of the processor's cases.
 const EDGES: [u16; 10] = [
     0, 1, 0x7FFF, 0x8000, 0xFFFF, 0x01FF, 0x0200, 0x02FF, 0xFEFF, 0xFF00,
 ];
@@ -41,7 +41,7 @@ impl Generator {
         (self.next_number() % 0x1_0000) as u16
     }
 
-    /// A word, one of the edges in every fourth.
+    /// A word: in one of 4 cases one of `EDGES`.
     pub fn word(&mut self) -> u16 {
         if self.below(4) == 0 {
             EDGES[usize::from(self.below(10))]

@@ -1,6 +1,6 @@
-//! The processor over states of a fixed generator. Standard input has the rows of the opcode table:
-//! for each a name, the first word with operands 0, and the bits of it that hold operands. The file
-//! `stdout` has the answers of another model of the processor, written apart from this one.
+//! The processor in states from a generator with a fixed seed. Standard input has the rows of the opcode
+//! table: for each a name, the first word with operands 0, and the bits of it that hold operands. The file
+//! `stdout` has the answers of an independent model of the processor.
 #![tactic(auto)]
 
 mod case;
@@ -37,8 +37,8 @@ fn fill(bench: &mut Bench, generator: &mut Generator) {
     }
 }
 
-/// Prints how the first state of a row ends; how many of its states end without a stop; and the sums
-/// of how all of them end and of both memories then.
+/// Prints how the first state of a row ends; how many of its states end without a stop; and the sums of how
+/// all of them end and of both memories after them.
 fn run_row(
     rt: &impl Print,
     bench: &mut Bench,

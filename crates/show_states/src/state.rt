@@ -1,4 +1,4 @@
-//! States of the processor, made by instructions.
+//! States of the processor, made by running instructions.
 
 ghost use Rattle.std.specs.Prelude.{◌<◌};
 ghost use Rattle.c25_meaning_instructions.specs.Table.{InRange};
@@ -20,7 +20,7 @@ pub fn mem(name: MemName, low: u16) -> Insn
     Insn::Mem(name, Addr::Direct(low))
 }
 
-/// What the words from 70h on are loaded with: P and T, ACC, and ST1.
+/// The instructions that load P and T, ACC and ST1 from the words from 70h on.
 const LOADS: [MemName; 7] = [
     MemName::Lt,
     MemName::Mpyu,
@@ -31,25 +31,25 @@ const LOADS: [MemName; 7] = [
     MemName::Lst1,
 ];
 
-/// What the registers hold besides PC.
+/// What the registers hold, but for PC.
 #[derive(Clone, Copy)]
-pub struct State {
+pub struct CaseState {
     pub acc_high: u16,
     pub acc_low: u16,
     pub p_high: u16,
     pub p_low: u16,
     pub t: u16,
     pub ar: [u16; 8],
-    /// Its top first.
+    /// The hardware stack, its top first.
     pub stack: [u16; 8],
     pub st0: u16,
     pub st1: u16,
 }
 
-impl State {
+impl CaseState {
     /// The next state of a generator.
-    pub fn draw(generator: &mut Generator) -> State {
-        State {
+    pub fn draw(generator: &mut Generator) -> CaseState {
+        CaseState {
             acc_high: generator.word(),
             acc_low: generator.word(),
             p_high: generator.word(),
@@ -62,8 +62,8 @@ impl State {
         }
     }
 
-    /// Makes this state by a program at address 0, of 26 steps, which goes on at `start`. Its words
-    /// are at data addresses 60h to 77h.
+    /// Makes this state by a program at address 0, of 26 steps, which goes on at `start`. The words that it
+    /// loads are at data addresses 60h to 77h.
     pub fn make(&self, bench: &mut Bench, start: u16) -> Result<Core, NoMemory> {
         self.write_words(bench);
         let mut at = 0;

@@ -1,10 +1,10 @@
-//! Sums over words, to compare many at once.
+//! Checksums of words, to compare many at once.
 
 use c25_core::Bus;
 use c25_processor_tests::bench::Bench;
 use std::fmt;
 
-/// A sum in which the order of the words counts (FNV-1a, a word at a time).
+/// A checksum in which the order of the words counts (FNV-1a, a word at a time).
 #[derive(Clone, Copy)]
 pub struct Sum(u32);
 
@@ -38,7 +38,7 @@ impl Sum {
         }
     }
 
-    /// Adds what was put out.
+    /// Adds all outputs.
     pub fn add_outputs(&mut self, bench: &Bench) {
         for (port, word) in bench.outputs.as_slice() {
             self.add_all(&[*port, *word]);

@@ -1,22 +1,21 @@
-//! What is answered where breakpoints are set and cleared.
+//! The answers of commands that set and clear breakpoints.
 
 ghost use Rattle.std.specs.Prelude.{◌≡◌, ◌++◌, OnOk, string_bytes};
 ghost use Rattle.c25_meaning_debugger.specs.Texts.{address_line, cleared_text, set_text};
 
 use crate::answers::digits::{push_text, push_texts};
-use c25_texts::digits::four;
 use c25_meaning_common::no_memory::NoMemory;
+use c25_texts::digits::four;
 use std::alloc::Global;
 
-/// Appends a line of a word and an address.
+/// Appends a line of a text and an address.
 fn push_line(text: &mut String, word: &str, address: u16) -> Result<(), NoMemory>
     ensures { OnOk result (string_bytes text.new ≡ string_bytes text.old ++ address_line word.now address) }
 {
     push_texts(text, &[word, " ", four(address).as_str(), "\n"])
 }
 
-/// Appends what is answered where a breakpoint was asked for: whether it is set then, or the most are
-/// set already.
+/// Appends the answer to a breakpoint that was to be set: whether it is set, or the most are set already.
 pub(crate) fn push_set(text: &mut String, address: u16, is_set: bool) -> Result<(), NoMemory>
     ensures { OnOk result (string_bytes text.new ≡ string_bytes text.old ++ set_text is_set address) }
 {
@@ -27,7 +26,7 @@ pub(crate) fn push_set(text: &mut String, address: u16, is_set: bool) -> Result<
     }
 }
 
-/// Appends what is answered where a breakpoint was cleared: whether one was there.
+/// Appends the answer to a breakpoint that was cleared: whether there was one.
 pub(crate) fn push_cleared(text: &mut String, address: u16, was_set: bool) -> Result<(), NoMemory>
     ensures { OnOk result (string_bytes text.new ≡ string_bytes text.old ++ cleared_text was_set address) }
 {

@@ -1,4 +1,4 @@
-//! Numbers in hexadecimal digits of upper case.
+//! Texts, and numbers in hexadecimal digits of upper case.
 
 ghost use Rattle.std.specs.Prelude.{◌≡◌, ◌++◌, OnOk, string_bytes};
 ghost use Rattle.std.specs.List.{flat_map};
@@ -6,8 +6,8 @@ ghost use Rattle.c25_meaning_common.specs.Digits.{four_digits, two_digits};
 ghost use Rattle.c25_meaning_debugger.specs.Texts.{spaced};
 ghost use Rattle.c25_meaning_linking.specs.MapText.{eight_digits};
 
-use c25_texts::digits::{four, two};
 use c25_meaning_common::no_memory::NoMemory;
+use c25_texts::digits::{four, two};
 use std::alloc::Global;
 
 /// Appends a text.
@@ -17,7 +17,7 @@ pub(super) fn push_text(text: &mut String, piece: &str) -> Result<(), NoMemory>
     Ok(text.push_str(piece)?)
 }
 
-/// Appends texts, one behind the other.
+/// Appends texts, one after another.
 pub(super) fn push_texts(text: &mut String, pieces: &[&str]) -> Result<(), NoMemory>
     ensures { OnOk result (string_bytes text.new ≡ string_bytes text.old ++ flat_map (λ piece. piece.now) pieces.now) }
 {

@@ -1,4 +1,4 @@
-//! The instructions of an image, as they are read from its words.
+//! The instructions of an image, decoded from its words.
 
 ghost use Rattle.std.specs.Prelude.{◌≡◌, ◌≤◌, ◌++◌, ℕ, List, OnOk, Some, string_bytes};
 ghost use Rattle.std.specs.Option.{option_map};
@@ -7,13 +7,13 @@ ghost use Rattle.c25_meaning_debugger.specs.Texts.{AreLinesOf, IsLineOf, IsWhere
 ghost use Rattle.c25_meaning_processor.specs.FirstState.{memory_of_map};
 
 use crate::answers::digits::{push_text, push_texts};
-use c25_texts::digits::four;
 use c25_isa::{decode, show, size_of};
 use c25_link::Image;
 use c25_meaning_common::no_memory::NoMemory;
 use c25_meaning_image::mark::Mark;
 use c25_meaning_image::word_map::WordMap;
 use c25_meaning_instructions::insn::Insn;
+use c25_texts::digits::four;
 use itoa::Buffer;
 use std::alloc::Global;
 
@@ -28,7 +28,7 @@ fn word_at(words: &WordMap, address: u32) -> u16
     }
 }
 
-/// The instruction of this size that the words read as at an address.
+/// The instruction of this size that the words at an address decode to.
 fn read_at(words: &WordMap, address: u16, size: u16) -> Option<Insn>
     ensures { ReadsAt words.now address size result }
 {
@@ -41,7 +41,7 @@ fn read_at(words: &WordMap, address: u16, size: u16) -> Option<Insn>
     }
 }
 
-/// Appends what is read at an address, or `none`.
+/// Appends an instruction, or `none`.
 fn push_insn(alloc: Global, text: &mut String, insn: &Option<Insn>) -> Result<(), NoMemory>
     ensures { OnOk result (string_bytes text.new ≡ string_bytes text.old ++ insn_text insn.now) }
 {
@@ -54,7 +54,7 @@ fn push_insn(alloc: Global, text: &mut String, insn: &Option<Insn>) -> Result<()
     }
 }
 
-/// Appends a line's end, behind where its instruction stands in the sources, if that is known.
+/// Appends the end of a line: where its instruction stands in the sources, if that is known, and LF.
 fn push_end(text: &mut String, source: Option<(&str, u32)>) -> Result<(), NoMemory>
     ensures { OnOk result (string_bytes text.new ≡ string_bytes text.old ++ source_line_end (option_map (λ r. (r.0.now, r.1)) source.entry)) }
 {
@@ -67,7 +67,7 @@ fn push_end(text: &mut String, source: Option<(&str, u32)>) -> Result<(), NoMemo
     }
 }
 
-/// Appends the line of an address, of what is read there and of where it stands in the sources.
+/// Appends a line: an address, an instruction or `none`, and where it stands in the sources.
 fn push_line(
     alloc: Global,
     text: &mut String,
@@ -83,7 +83,7 @@ fn push_line(
     push_end(text, source)
 }
 
-/// Appends the line of a mark.
+/// Appends the line of an instruction's place.
 fn push_mark(
     alloc: Global,
     text: &mut String,
@@ -98,9 +98,9 @@ fn push_mark(
     push_line(alloc, text, address, &insn, image.line_of(address))
 }
 
-/// Appends the line of an address: the instruction of this size that the words read as there, or `none`
-/// where they read as none of that size, and where it stands in the sources, if that is known; `none`
-/// alone where no size is given, as no instruction stands there.
+/// Appends the line of an address: the instruction of this size there, or `none` where the words decode to no
+/// instruction of that size, and where it stands in the sources, if that is known. Without a size no
+/// instruction starts there, and the line is the address with `none`.
 pub(crate) fn push_instruction(
     alloc: Global,
     text: &mut String,
@@ -117,8 +117,8 @@ pub(crate) fn push_instruction(
     }
 }
 
-/// Appends the line of an address, of an instruction that runs there and of where that stands in the
-/// sources, if it is known: at the address where it is loaded.
+/// Appends the line of an instruction that runs at an address of block B0. Where it stands in the sources, if
+/// that is known, is looked up by the address where it is loaded.
 pub(crate) fn push_copied(
     alloc: Global,
     text: &mut String,
@@ -133,7 +133,8 @@ pub(crate) fn push_copied(
     push_line(alloc, text, address, &Some(insn), image.line_of(load))
 }
 
-/// Appends the lines of the first so many marks from an address up, in the order of the marks.
+/// Appends the lines of the first so many instructions at an address or after it, in the order of their
+/// places.
 pub(crate) fn push_instructions(
     alloc: Global,
     text: &mut String,

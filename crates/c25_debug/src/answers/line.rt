@@ -1,4 +1,4 @@
-//! Lines that answer steps, made without memory.
+//! The lines that answer steps, made without memory.
 
 ghost use Rattle.std.specs.Prelude.{◌≡◌, ◌+◌, ◌≤◌, ◌++◌, codes, decimal, length};
 ghost use Rattle.arrayvec.specs.ArrayString.{array_string_len};
@@ -6,14 +6,14 @@ ghost use Rattle.c25_meaning_common.specs.Digits.{four_digits};
 ghost use Rattle.c25_meaning_processor.specs.RunText.{stop_name};
 
 use arrayvec::ArrayString;
-use c25_texts::digits::four;
 use c25_meaning_processor::stop::Stop;
+use c25_texts::digits::four;
 use itoa::Buffer;
 
 /// How many bytes the longest answer to steps has: `left 4294967295 OutOfCode` and its LF.
 pub(crate) const MOST_BYTES: usize = 26;
 
-/// A word with its blank, and a number.
+/// A text, a blank and a number.
 fn counted(word: &str, steps: u32) -> ArrayString<MOST_BYTES>
     requires { length word.now ≤ 6 }
     ensures bytes { result.bytes ≡ word.now ++ decimal steps }
@@ -26,7 +26,7 @@ fn counted(word: &str, steps: u32) -> ArrayString<MOST_BYTES>
     line
 }
 
-/// All steps were done.
+/// The line where all steps were done.
 pub(super) fn ran(steps: u32) -> ArrayString<MOST_BYTES>
     ensures { result.bytes ≡ codes "ran " ++ decimal steps ++ codes "\n" }
 {
@@ -35,7 +35,7 @@ pub(super) fn ran(steps: u32) -> ArrayString<MOST_BYTES>
     line
 }
 
-/// A breakpoint was met.
+/// The line where a breakpoint was met.
 pub(super) fn met(steps: u32, pc: u16) -> ArrayString<MOST_BYTES>
     ensures { result.bytes ≡ codes "break " ++ decimal steps ++ codes " " ++ four_digits pc ++ codes "\n" }
 {
@@ -46,7 +46,7 @@ pub(super) fn met(steps: u32, pc: u16) -> ArrayString<MOST_BYTES>
     line
 }
 
-/// A step stopped.
+/// The line where a step stopped.
 pub(super) fn left(steps: u32, stop: Stop) -> ArrayString<MOST_BYTES>
     ensures { result.bytes ≡ codes "left " ++ decimal steps ++ codes " " ++ stop_name stop ++ codes "\n" }
 {
@@ -57,7 +57,7 @@ pub(super) fn left(steps: u32, stop: Stop) -> ArrayString<MOST_BYTES>
     line
 }
 
-/// The sink refused a word.
+/// The line where the sink refused a word.
 pub(super) fn sink(steps: u32) -> ArrayString<MOST_BYTES>
     ensures { result.bytes ≡ codes "sink " ++ decimal steps ++ codes "\n" }
 {

@@ -1,4 +1,4 @@
-//! The registers as a debugger shows them.
+//! The registers as the debugger prints them.
 
 ghost use Rattle.std.specs.Prelude.{◌≡◌, ◌++◌, OnOk, codes, string_bytes};
 ghost use Rattle.c25_meaning_common.specs.Digits.{four_digits, two_digits};
@@ -21,7 +21,7 @@ fn push_factors(text: &mut String, registers: &Regs) -> Result<(), NoMemory>
     push_named(text, " T ", registers.t)
 }
 
-/// Appends the status words and the count of repetitions.
+/// Appends the status words and the repeat counter.
 fn push_status(text: &mut String, registers: &Regs) -> Result<(), NoMemory>
     ensures { OnOk result (string_bytes text.new ≡ string_bytes text.old
         ++ (codes " ST0 " ++ four_digits registers.now.st0 ++ codes " ST1 " ++ four_digits registers.now.st1 ++ codes " RPTC " ++ two_digits registers.now.rptc)) }
@@ -41,8 +41,8 @@ fn push_row(text: &mut String, name: &str, words: &[u16]) -> Result<(), NoMemory
     push_text(text, "\n")
 }
 
-/// Appends the registers: a line of PC, the arithmetic unit's, the status words and the count of
-/// repetitions, and a line of the auxiliary registers. The stack is told apart.
+/// Appends the registers but for the stack: a line of PC, the arithmetic unit's registers, the status words
+/// and the repeat counter, and a line of the auxiliary registers.
 #[tactic(auto, unfolding(c25_meaning_debugger::specs::Texts::regs_text))]
 pub(crate) fn push_registers(text: &mut String, registers: &Regs) -> Result<(), NoMemory>
     ensures { OnOk result (string_bytes text.new ≡ string_bytes text.old ++ regs_text registers.now) }

@@ -1,4 +1,4 @@
-//! What is answered to steps.
+//! The answer to steps.
 
 ghost use Rattle.std.specs.Prelude.{◌≡◌, ◌+◌, ◌≤◌, ◌++◌, IsOk, OnOk, string_bytes, string_len};
 ghost use Rattle.std.specs.String.{string_capacity};
@@ -10,7 +10,7 @@ use c25_board::run_to::Halted;
 use c25_meaning_common::no_memory::NoMemory;
 use std::alloc::Global;
 
-/// The line that tells how steps ended.
+/// The line that says how steps ended.
 fn line_of(halted: Halted, steps: u32, pc: u16) -> ArrayString<MOST_BYTES>
     ensures { result.bytes ≡ end_text halted steps pc }
 {
@@ -22,8 +22,8 @@ fn line_of(halted: Halted, steps: u32, pc: u16) -> ArrayString<MOST_BYTES>
     }
 }
 
-/// Appends how steps ended, with the number of steps that are done in all, and with PC where a
-/// breakpoint was met; of a word that the sink refused, the number of the step.
+/// Appends how steps ended: with the number of steps done in all, with PC where a breakpoint was met, and
+/// with the number of the step where the sink refused a word.
 pub(crate) fn push_halted(
     text: &mut String,
     halted: Halted,

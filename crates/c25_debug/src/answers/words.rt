@@ -43,8 +43,8 @@ fn push_line<M: Memory>(
     push_text(text, "\n")
 }
 
-/// Appends so many words from an address on: lines of eight, the last of what is left, each behind its
-/// own address. No word makes no line.
+/// Appends so many words from an address on, in lines of eight, the last line having what is left. Each line
+/// begins with the address of its first word. No words give no line.
 #[tactic(auto, unfolding(c25_meaning_debugger::specs::Texts::words_text))]
 pub(crate) fn push_words<M: Memory>(
     text: &mut String,
