@@ -1,18 +1,9 @@
-//! The tool chain as one program: what it does is asked for by its words.
+//! The tool chain as one program. The command line says what it does: `c25 --help` lists its subcommands.
 #![tactic(auto)]
 
-use c25_disk::system::System;
-use c25_tasks::run_program;
+use c25_tasks::run_on;
 use std::process::ExitCode;
 
 fn main(rt: HostRuntime) -> ExitCode {
-    run_program(
-        rt.alloc(),
-        &rt,
-        &mut System::new(&rt),
-        &mut rt.stdin(),
-        &mut rt.stdout(),
-        &mut rt.stderr(),
-    )
-    .status()
+    run_on(&rt).status()
 }

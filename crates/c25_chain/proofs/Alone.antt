@@ -1,4 +1,4 @@
--- A source's module, or why there is none, as the chain tells it.
+-- A source's module, or why there is none, with the chain's faults.
 use Rattle.std.proofs.Common.{◌≡◌, Result, Ok, Err, refl, ap, sym, ◌∙◌, subst}
 use Rattle.c25_meaning_common.specs.Results.{◌>>=◌, FailsBy, told}
 use Rattle.c25_meaning_common.specs.declared.failure.Failure.{Failure}
@@ -13,7 +13,7 @@ use Rattle.c25_chain.specs.Refusal as chain
 use Rattle.c25_chain.specs.Refusal.{refusal_of}
 use Rattle.c25_chain.specs.Sources.{IsToldAs}
 
--- a failure that is told as the chain's is the failure that is meant
+-- a failure of the assembler, as the chain's, is the failure that is meant
 pub fails_as : {A : Type 0} (meant : Result A ExpansionFault) (failure : Failure AsmFault) (answer : chain.Fault) → FailsBy fault_of meant failure → IsToldAs failure answer
     → FailsBy refusal_of (told asm_refusal meant) answer
 fails_as meant (NoMemory n) (NoMemory m) h is = tt
@@ -29,7 +29,7 @@ told_alone (Err f) = refl
 pub module_found : (r : Result Assembled ExpansionFault) (m : Contents) → (r >>= λ a. Ok a.contents) ≡ Ok m → (told asm_refusal r >>= λ a. Ok a.contents) ≡ Ok m
 module_found r m h = sym (told_alone r) ∙ ap (told asm_refusal) h
 
--- why there is none
+-- why a source has no module
 pub module_refused : (r : Result Assembled ExpansionFault) (failure : Failure AsmFault) (answer : chain.Fault) → FailsBy fault_of (r >>= λ a. Ok a.contents) failure → IsToldAs failure answer
     → FailsBy refusal_of (told asm_refusal r >>= λ a. Ok a.contents) answer
 module_refused r failure answer h is =

@@ -9,8 +9,8 @@ use Rattle.c25_chain.specs.Chain.{Given}
 use Rattle.c25_chain.specs.Linked as linked
 use Rattle.c25_chain.specs.Ready.{IsReady, Readies}
 use Rattle.c25_chain.specs.Refusal.{Fault, refusal_of}
-use Rattle.c25_chain.specs.declared.fault.Refusal.{Refusal}
-use Rattle.c25_chain.specs.declared.fault.Refusal.TheVariants.{Script}
+use Rattle.c25_chain.specs.declared.fault.ChainFault.{ChainFault}
+use Rattle.c25_chain.specs.declared.fault.ChainFault.TheVariants.{Script}
 use Rattle.c25_chain.specs.declared.linked.Linked.{Linked}
 use Rattle.c25_chain.specs.declared.ready.Ready.{Ready}
 use Rattle.c25_chain.specs.Debug.{AnswersBy, AnswersLinked, Debugs, DebugsLinked}
@@ -26,17 +26,17 @@ use Rattle.c25_meaning_processor.specs.declared.sample.Sample.{Sample}
 use Rattle.c25_meaning_processor.specs.declared.schedule.ScheduleEntry.{ScheduleEntry}
 use Rattle.c25_meaning_processor.specs.declared.script.Cmd.{Cmd}
 
--- a text that reads as commands, by what is told of it
-told_script : (script : List ℕ) (commands : List Cmd) → told {F = Refusal (List ℕ)} Script (script_of script) ≡ Ok commands → script_of script ≡ Ok commands
+-- a text that reads as commands, by its result as the chain's
+told_script : (script : List ℕ) (commands : List Cmd) → told {F = ChainFault (List ℕ)} Script (script_of script) ≡ Ok commands → script_of script ≡ Ok commands
 told_script script commands h = by_result (script_of script) h where
-  by_result : (r : Result (List Cmd) ℕ) → told {F = Refusal (List ℕ)} Script r ≡ Ok commands → r ≡ Ok commands
+  by_result : (r : Result (List Cmd) ℕ) → told {F = ChainFault (List ℕ)} Script r ≡ Ok commands → r ≡ Ok commands
   by_result (Ok cs) e = let same : cs ≡ commands = cc in ap Ok same
   by_result (Err line) e = absurd cc
 
 -- ---- over a linked program
 
 module _ (l : Linked) (samples : List Sample) (entries : List ScheduleEntry) (script : List ℕ) where
-  pub answers_linked : (commands : List Cmd) (text : List ℕ) → told {F = Refusal (List ℕ)} Script (script_of script) ≡ Ok commands
+  pub answers_linked : (commands : List Cmd) (text : List ℕ) → told {F = ChainFault (List ℕ)} Script (script_of script) ≡ Ok commands
       → AnswersScript WordStep (signals_of entries) l.image commands (first_of_pages l.page0.words l.page1.words l.image.marks l.image.run_marks (samples_at samples)) text
       → AnswersLinked l samples entries script text
   answers_linked commands text read answers = record { commands = commands; script_read = told_script script commands read; answers = answers }
@@ -49,7 +49,7 @@ module _ (g : Given) (script : List ℕ) where
   refused_before (failure.NoMemory m) h = tt
   refused_before (failure.Fault r) h = inl h
 
-  -- one that is told on
+  -- a failure that is passed on
   pub told_on : (result : Result (String Global) Fault) (given : Fault) → IsErrAnd result (λ f. f ≡ given) → Readies g (Err given) → Debugs g script result
   told_on (Ok text) given same h = absurd same
   told_on (Err f) given same h = refused_before f (subst (λ (x : Fault). Readies g (Err x)) (sym same) h)

@@ -21,7 +21,7 @@ use Rattle.c25_meaning_image.specs.declared.mark.RunMark.{RunMark}
 use Rattle.c25_meaning_processor.specs.declared.sample.Sample.{Sample}
 use Rattle.c25_meaning_processor.specs.declared.schedule.ScheduleEntry.{ScheduleEntry}
 use Rattle.c25_chain.specs.Run.{HasRun, HasRunFrom, Shows, run_data}
-use Rattle.c25_chain.specs.declared.run.Done.{Done}
+use Rattle.c25_chain.specs.declared.run.RunResult.{RunResult}
 
 -- the state of a board before its run
 pub begins : (page0 page1 : finite.FinMap nat_cmp ℕ) (places marks : List Mark) (runs run_marks : List RunMark) (samples : ℕ → List ℕ) (outputs : List (ℕ × ℕ)) (s : State)
@@ -38,7 +38,7 @@ fails_some failed fails counted none =
     let some : 1 ≤ min (failed + 1) (2 ^ 64 - 1) = le-min (omega arith) (omega arith) in
     omega (arith, some, counted, none)
 
-module _ (signals : Signals) (s : State) (n : ℕ) (d : Done) where
+module _ (signals : Signals) (s : State) (n : ℕ) (d : RunResult) where
   ends : (o : Outcome) (j : ℕ) (t : State) (failed fails : ℕ) → IsRun signals 0 n s o j t failed fails → fails ≡ 0 → d.outcome ≡ o → d.steps ≡ j → Shows t (run_data d) → HasRunFrom signals s n d t
   ends outcome.Ran j t failed fails run none named counted shows = record { end = Ran t; run = run.0; ends = (named, counted ∙ run.1 ∙ omega arith, shows); last = refl }
   ends (outcome.Left at stop) j t failed fails run none named counted shows = record { end = Left at stop t; run = run.0; ends = (named, counted ∙ run.1, shows); last = refl }
@@ -49,13 +49,13 @@ module _ (signals : Signals) (s : State) (n : ℕ) (d : Done) where
 
 -- the run of a board that began as a program does
 module _ (page0 page1 : finite.FinMap nat_cmp ℕ) (marks : List Mark) (run_marks : List RunMark) (samples : List Sample) (given : List ScheduleEntry) (n : ℕ) where
-  has_run : (entries : List ScheduleEntry) (d : Done) (s t : State) → entries ≡ given → s ≡ first_of_pages page0 page1 marks run_marks (samples_at samples)
+  has_run : (entries : List ScheduleEntry) (d : RunResult) (s t : State) → entries ≡ given → s ≡ first_of_pages page0 page1 marks run_marks (samples_at samples)
       → HasRunFrom (signals_of entries) s n d t → HasRun page0 page1 marks run_marks samples given n d
   has_run entries d s t same begin h =
       let under = subst (λ (es : List ScheduleEntry). Runs WordStep (signals_of es) 0 n s h.end) same h.run in
       (h.end, subst (λ (x : State). Runs WordStep (signals_of given) 0 n x h.end) begin under, h.ends)
 
-  pub runs_program : (entries : List ScheduleEntry) (result : Result Done NoMemory) (s t : State) → entries ≡ given → s ≡ first_of_pages page0 page1 marks run_marks (samples_at samples)
+  pub runs_program : (entries : List ScheduleEntry) (result : Result RunResult NoMemory) (s t : State) → entries ≡ given → s ≡ first_of_pages page0 page1 marks run_marks (samples_at samples)
       → IfOk result (λ d. HasRunFrom (signals_of entries) s n d t) → IfOk result (HasRun page0 page1 marks run_marks samples given n)
   runs_program entries (Ok d) s t same begin h = has_run entries d s t same begin h
   runs_program entries (Err refused) s t same begin h = tt

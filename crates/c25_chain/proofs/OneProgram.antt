@@ -1,4 +1,4 @@
--- Sources and a command come to one program at most.
+-- Sources and a command have at most one program.
 use Rattle.std.proofs.Common.{◌≡◌, ℕ, List, subst}
 use Rattle.c25_meaning_linking.specs.Command.{CommandData}
 use Rattle.c25_meaning_expansion.specs.Files.{Files}
@@ -8,7 +8,7 @@ use Rattle.c25_chain.specs.Built.{IsBuilt}
 use Rattle.c25_chain.specs.Linked.{IsLinkedUnder, LinkedTexts}
 use Rattle.c25_chain.specs.Modules.{Modules}
 
--- modules under a command come to one
+-- modules under a command have one program
 abbrev OneProgram : Type 0
 OneProgram = (modules : List Contents) (command : CommandData) (image other : ImageData) → IsProgram modules command image → IsProgram modules command other → image ≡ other
 

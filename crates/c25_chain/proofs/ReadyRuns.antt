@@ -25,7 +25,7 @@ use Rattle.c25_chain.specs.declared.ready.Ready.{Ready}
 
 -- ---- the laws that are cited
 
--- sources and the text of a command come to one program
+-- sources and the text of a command have one program
 abbrev pub OneProgram : Type 0
 OneProgram =
     (files : Files) (names : List (List ℕ)) (command : List ℕ) (image other : ImageData) (texts others : LinkedTexts) (listings more : List (List ℕ))
@@ -62,7 +62,7 @@ same_text xs ys o p i j outputs named counted =
     ∙ ap (λ (q : Outcome). outputs_text ys ++ outcome_text q i) (sym named)
     ∙ ap (λ (k : ℕ). outputs_text ys ++ outcome_text p k) (sym counted)
 
--- the text of an end is that of an answer that tells it
+-- the text of an end is that of an answer with this end
 end_told : (n : ℕ) (end : Ending) (c : Chain) → EndsAs n end (run_of c) → end_text n end ≡ run_text c
 end_told n (Ran t) c (named, counted, shows) = same_text t.world.outputs c.outputs.items outcome.Ran c.outcome n c.steps shows.outputs named counted
 end_told n (Left j stop t) c (named, counted, shows) = same_text t.world.outputs c.outputs.items (outcome.Left j stop) c.outcome j c.steps shows.outputs named counted

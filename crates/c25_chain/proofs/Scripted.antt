@@ -9,7 +9,8 @@ use Rattle.c25_meaning_processor.specs.Signals.{signals_of}
 use Rattle.c25_meaning_processor.specs.declared.schedule.ScheduleEntry.{ScheduleEntry}
 use Rattle.c25_meaning_processor.specs.declared.script.Cmd.{Cmd}
 
--- a text, once the answers of the commands that are left from a point on stand behind it, is the answers of all from the first point on
+-- a text, once the answers of the commands that are left from a point on are appended, is the answers of all
+-- from the first point on
 abbrev pub Finishes : List ScheduleEntry → ImageData → List Cmd → Point → List Cmd → Point → List ℕ → Type 0
 Finishes entries image commands p left at text =
     (rest : List ℕ) (q : Point) → AnswersAll WordStep (signals_of entries) image left at rest q → AnswersAll WordStep (signals_of entries) image commands p (text ++ rest) q
@@ -51,7 +52,7 @@ module _ (given : List ScheduleEntry) (was : ImageData) (commands : List Cmd) (p
         (split_at i d at text lt h.finishes);
   }
 
-  -- behind the last
+  -- after the last command
   pub all_answered : (left : List Cmd) (entries : List ScheduleEntry) (now : ImageData) (at : Point) (text : List ℕ) → left ≡ []
       → SoFar given was commands p left entries now at text → AreAnswered given was commands p text
   all_answered left entries now at text none h =

@@ -13,7 +13,7 @@ use Rattle.c25_chain.specs.Headline.{HasStatements}
 use Rattle.c25_chain.specs.Modules.{Modules, asm_refusal, modules_of, no_modules, with_module, with_source}
 use Rattle.c25_chain.proofs.Cited.{Laws}
 
--- what comes behind a result comes behind one without a refusal
+-- what follows a result follows one without a fault
 bound : {A B E : Type 0} (r : Result A E) (f : A → Result B E) (y : B) → (r >>= f) ≡ Ok y → (x : A) × (r ≡ Ok x) × (f x ≡ Ok y)
 bound (Ok x) f y e = (x, refl, e)
 bound (Err d) f y e = absurd cc

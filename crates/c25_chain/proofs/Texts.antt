@@ -14,8 +14,8 @@ use Rattle.c25_meaning_common.specs.declared.placed.Placed.{Placed}
 use Rattle.c25_meaning_linking.specs.declared.command_fault.CommandFault.{CommandFault}
 use Rattle.c25_chain.specs.Linked.{AreTexts, HasTextsOf, IsLinked, LinkedTexts, Links, LinksText, places_of, texts_of}
 use Rattle.c25_chain.specs.Refusal.{Fault}
-use Rattle.c25_chain.specs.declared.fault.Refusal.{Refusal}
-use Rattle.c25_chain.specs.declared.fault.Refusal.TheVariants.{Command}
+use Rattle.c25_chain.specs.declared.fault.ChainFault.{ChainFault}
+use Rattle.c25_chain.specs.declared.fault.ChainFault.TheVariants.{Command}
 use Rattle.c25_chain.specs.declared.linked.Linked.{Linked}
 
 -- a program with its texts
@@ -53,14 +53,14 @@ is_linked modules text command image l read program places h =
       words1 = h.words1 ∙ ap (λ (i : ImageData). i.store) same;
     }
 
--- a text that spells a command, by what is told of it
-pub told_command : (text : List ℕ) (command : CommandData) → told {F = Refusal (List ℕ)} Command (command_of text) ≡ Ok command → command_of text ≡ Ok command
+-- a text that spells a command, by its result as the chain's
+pub told_command : (text : List ℕ) (command : CommandData) → told {F = ChainFault (List ℕ)} Command (command_of text) ≡ Ok command → command_of text ≡ Ok command
 told_command text command h = by_result (command_of text) h where
-  by_result : (r : Result CommandData (Placed ℕ CommandFault)) → told {F = Refusal (List ℕ)} Command r ≡ Ok command → r ≡ Ok command
+  by_result : (r : Result CommandData (Placed ℕ CommandFault)) → told {F = ChainFault (List ℕ)} Command r ≡ Ok command → r ≡ Ok command
   by_result (Ok c) e = let same : c ≡ command = cc in ap Ok same
   by_result (Err f) e = absurd cc
 
--- what modules come to under a command, of which this is the text
+-- the image of modules under a command, of which this is the text
 pub links_text : (modules : List Contents) (text : List ℕ) (command : CommandData) (result : Result ImageData Fault) → command_of text ≡ Ok command → Links modules command result → LinksText modules text result
 links_text modules text command (Ok image) read is = record { command = command; read = read; program = is }
 links_text modules text command (Err (failure.NoMemory n)) read is = tt

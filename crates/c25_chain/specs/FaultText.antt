@@ -1,4 +1,4 @@
--- The line that tells a fault: where it is, its number and its name.
+-- The line that reports a fault: its place, its number and its name.
 use Rattle.std.specs.Prelude.{ℕ, List, ◌++◌, codes}
 use Rattle.c25_meaning_linking.specs.CommandFaults.{command_text}
 use Rattle.c25_meaning_common.specs.Faults.{numbered, placed_text}
@@ -12,19 +12,19 @@ use Rattle.c25_meaning_linking.specs.declared.link_fault.LinkFault.{LinkFault}
 use Rattle.c25_disk.specs.FaultNames.{file_fault_text}
 use Rattle.c25_disk.specs.declared.fault.FileFault.{FileFault}
 use Rattle.c25_chain.specs.Refusal.{Fault, refusal_of}
-use Rattle.c25_chain.specs.declared.fault.Refusal.{Refusal}
-use Rattle.c25_chain.specs.declared.fault.Refusal.TheVariants.{Source, NoFile, Object, Command, Link, Hex, Schedule, Samples, Script, File}
+use Rattle.c25_chain.specs.declared.fault.ChainFault.{ChainFault}
+use Rattle.c25_chain.specs.declared.fault.ChainFault.TheVariants.{Source, NoFile, Object, Command, Link, Hex, Schedule, Samples, Script, File}
 
--- why modules cannot be linked, with the symbol or the section
+-- a fault of linking, with the symbol or the section
 abbrev pub link_line : List ℕ → LinkFault → List ℕ
 link_line name fault = codes "link:" ++ name ++ codes ": " ++ link_text fault
 
--- what is wrong with a file
+-- a fault of a file
 abbrev pub at_file : List ℕ → FileFault → List ℕ
 at_file name fault = name ++ codes ": " ++ file_fault_text fault
 
--- the line of a refusal
-abbrev pub refusal_text : Refusal (List ℕ) → List ℕ
+-- the line of a fault that is not out of memory
+abbrev pub refusal_text : ChainFault (List ℕ) → List ℕ
 refusal_text (Source f) = placed_text f.place.file f.place.line (numbered_name f.fault)
 refusal_text (NoFile file line name) = placed_text file line (numbered_name kind.NoFile)
 refusal_text (Object f) = f.place ++ codes ": " ++ object_text f.fault

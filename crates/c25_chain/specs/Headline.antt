@@ -1,4 +1,4 @@
--- The headline: what is run is what the sources say. Each claim is of the program of an answer.
+-- The headline: the run is the one that the sources describe. Each claim is of the program of an answer.
 use Rattle.std.specs.Prelude.{◌≡◌, ℕ, ◌↔◌, ◌⊎◌, List, [], map, true, Result, Ok, Err}
 use Rattle.std.specs.FinMap as finite
 use Rattle.std.specs.List.{All}
@@ -28,12 +28,12 @@ use Rattle.c25_chain.specs.Linked.{places_of}
 use Rattle.c25_chain.specs.Modules.{Modules, modules_of}
 use Rattle.c25_chain.specs.Run.{EndsAs, RunsWords}
 use Rattle.c25_chain.specs.declared.chain.Chain.{Chain}
-use Rattle.c25_chain.specs.declared.fault.Refusal.{Refusal}
+use Rattle.c25_chain.specs.declared.fault.ChainFault.{ChainFault}
 
 -- ---- what sources say under a map
 
--- modules, none where a source is refused
-abbrev pub without_refusal : Result Modules (Refusal (List ℕ)) → List Contents
+-- modules, or none where a source has a fault
+abbrev pub without_refusal : Result Modules (ChainFault (List ℕ)) → List Contents
 without_refusal (Ok all) = all.modules
 without_refusal (Err r) = []
 
@@ -46,7 +46,7 @@ source_modules files names = without_refusal (modules_of files names)
 abbrev pub source_statements : Files → List (List ℕ) → MapData → Statements
 source_statements files names printed = program_statements files names (source_modules files names) (places_of printed)
 
--- those on page 1: their words are in its hex text, and nothing runs them
+-- the statements on page 1: their words are in its hex text, and nothing runs them
 abbrev pub stored_statements : Files → List (List ℕ) → MapData → List Statement
 stored_statements files names printed = page_statements 1 files names (source_modules files names) (places_of printed)
 
@@ -122,7 +122,7 @@ pub record OfProgram (claim : Files → List (List ℕ) → ImageData → Type 0
   pub built : IsBuilt files names command image (texts_of c) (map string_bytes c.listings.items)
   pub holds : claim files names image
 
--- what the answer tells of its run is the run of the statements with its own samples, schedule and n
+-- the run of the answer is the run of the statements with the answer's own samples, schedule and n
 pub record TellsStatementsRun (g : Given) (n : ℕ) (c : Chain) : Type 0 where
   pub image : ImageData
   pub inputs : Inputs

@@ -1,4 +1,4 @@
--- What a debugger tells of where a board stands: its answers to `regs` and `where`.
+-- What a debugger answers to `regs` and `where` about a board.
 use Rattle.std.specs.Prelude.{ℕ, List, [], ◌∷◌}
 use Rattle.c25_meaning_debugger.specs.Debugger.{AnswersAll, Point}
 use Rattle.c25_meaning_linking.specs.Linking.{ImageData}
@@ -13,6 +13,6 @@ use Rattle.c25_meaning_processor.specs.declared.script.Cmd.TheVariants as cmd
 abbrev pub TellsBoth : Signals → ImageData → Point → List ℕ → Type 0
 TellsBoth signals image begun text = (q : Point) × AnswersAll WordStep signals image (cmd.Regs ∷ cmd.Where ∷ []) begun text q
 
--- that, so many steps done, in this state
+-- a text is what a debugger answers to `regs` and `where` after so many steps, in this state
 abbrev pub TellsWhere : ImageData → List ScheduleEntry → ℕ → State → List ℕ → Type 0
 TellsWhere image entries steps s text = TellsBoth (signals_of entries) image (record { steps = steps; state = s; breaks = [] }) text

@@ -15,8 +15,8 @@ use Rattle.c25_meaning_common.specs.declared.failure.Failure.TheVariants as fail
 use Rattle.c25_meaning_common.specs.declared.placed.Placed.{Placed}
 use Rattle.c25_meaning_linking.specs.declared.link_fault.LinkFault.{LinkFault}
 use Rattle.c25_chain.specs.Refusal.{Fault, refusal_of}
-use Rattle.c25_chain.specs.declared.fault.Refusal.{Refusal}
-use Rattle.c25_chain.specs.declared.fault.Refusal.TheVariants.{Command, Link}
+use Rattle.c25_chain.specs.declared.fault.ChainFault.{ChainFault}
+use Rattle.c25_chain.specs.declared.fault.ChainFault.TheVariants.{Command, Link}
 use Rattle.c25_chain.specs.declared.linked.Linked.{Linked}
 use Rattle.c25_chain.specs.declared.page.Page.{Page}
 
@@ -69,13 +69,13 @@ pub record HasTextsOf (image : ImageData) (l : Linked) : Type 0 where
 
 -- ---- linking
 
--- the refusal of linking, as the chain tells it
-pub record IsLinkRefusal (modules : List Contents) (command : CommandData) (r : Refusal (List ℕ)) : Type 0 where
+-- a fault of linking as a fault of the chain
+pub record IsLinkRefusal (modules : List Contents) (command : CommandData) (r : ChainFault (List ℕ)) : Type 0 where
   pub faulty : Placed (List ℕ) LinkFault
   pub told_as : r ≡ Link faulty
   pub refused : IsRefusal modules command faulty
 
--- what modules come to under a command, unless memory ran out
+-- the image of modules under a command, or the first fault, unless memory ran out
 abbrev pub Links : List Contents → CommandData → Result ImageData Fault → Type 0
 Links modules command (Ok image) = IsProgram modules command image
 Links modules command (Err (failure.NoMemory n)) = Unit {0}
@@ -88,30 +88,30 @@ pub record IsLinkedUnder (modules : List Contents) (text : List ℕ) (image : Im
   pub program : IsProgram modules command image
   pub texts_are : AreTexts modules command image texts
 
--- why they are not: the text is no command, or its command refuses them
-abbrev pub IsRefusedUnder : List Contents → List ℕ → Refusal (List ℕ) → Type 0
+-- why modules cannot be linked under a text: it is no command file, or linking has a fault
+abbrev pub IsRefusedUnder : List Contents → List ℕ → ChainFault (List ℕ) → Type 0
 IsRefusedUnder modules text r =
     (told Command (command_of text) ≡ Err r) ⊎ ((command : CommandData) × (command_of text ≡ Ok command) × IsLinkRefusal modules command r)
 
--- the program of modules under the command of a text
+-- the image of modules under the text of a command file
 pub record IsImageUnder (modules : List Contents) (text : List ℕ) (image : ImageData) : Type 0 where
   pub command : CommandData
   pub read : command_of text ≡ Ok command
   pub program : IsProgram modules command image
 
--- that, or the first refusal, unless memory ran out
+-- the image of modules under the text of a command file, or the first fault, unless memory ran out
 abbrev pub LinksText : List Contents → List ℕ → Result ImageData Fault → Type 0
 LinksText modules text (Ok image) = IsImageUnder modules text image
 LinksText modules text (Err (failure.NoMemory n)) = Unit {0}
 LinksText modules text (Err (failure.Fault f)) = IsRefusedUnder modules text (refusal_of f)
 
--- what the code answers of modules and the text of a command
+-- modules and the text of a command file, linked, as the code answers it
 pub record IsLinked (modules : List Contents) (text : List ℕ) (l : Linked) : Type 0 where
   pub under : IsLinkedUnder modules text l.image (texts_of l)
   pub words0 : l.page0.words ≡ l.image.program
   pub words1 : l.page1.words ≡ l.image.store
 
--- that, or the first refusal, unless memory ran out
+-- modules and the text of a command file, linked, or the first fault, unless memory ran out
 abbrev pub LinksUnder : List Contents → List ℕ → Result Linked Fault → Type 0
 LinksUnder modules text (Ok l) = IsLinked modules text l
 LinksUnder modules text (Err (failure.NoMemory n)) = Unit {0}

@@ -20,7 +20,7 @@ run_text chain = outputs_text chain.outputs.items ++ outcome_text chain.outcome 
 
 -- ---- by the end of a run
 
--- how it ended
+-- how a run with this end ended
 abbrev pub outcome_of : Ending → Outcome
 outcome_of (Ran t) = outcome.Ran
 outcome_of (Left j stop t) = outcome.Left j stop
@@ -30,6 +30,6 @@ abbrev pub steps_of : ℕ → Ending → ℕ
 steps_of n (Ran t) = n
 steps_of n (Left j stop t) = j
 
--- the text of n steps that end so: that of an answer of which this is the run
+-- the text of n steps that end so: that of an answer with this run
 abbrev pub end_text : ℕ → Ending → List ℕ
 end_text n e = outputs_text (last_state e).world.outputs ++ outcome_text (outcome_of e) (steps_of n e)

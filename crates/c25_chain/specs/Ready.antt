@@ -1,4 +1,4 @@
--- What sources and the texts beside them come to before a run: a program that is ready, or the first refusal; and its run.
+-- The program of sources with the inputs of its run, or the first fault; and its run.
 use Rattle.std.specs.Prelude.{◌≡◌, ℕ, Result, Ok, Err}
 use Rattle.c25_meaning_common.specs.declared.failure.Failure.TheVariants as failure
 use Rattle.c25_meaning_processor.specs.Run.{Ending}
@@ -11,12 +11,12 @@ use Rattle.c25_chain.specs.Run.{EndsAs}
 use Rattle.c25_chain.specs.declared.chain.Chain.{Chain}
 use Rattle.c25_chain.specs.declared.ready.Ready.{Ready}
 
--- the program of the sources and the command, and the samples and the entries of the schedule beside it
+-- the program of the sources and the command, with the samples and the entries of the schedule
 pub record IsReady (g : Given) (r : Ready) : Type 0 where
   pub built : IsBuiltAs g.files g.sources g.command r.built
   pub read : inputs_in g ≡ Ok (record { samples = r.samples; entries = r.schedule })
 
--- that, or the first refusal, unless memory ran out
+-- the program with the inputs of its run, or the first fault, unless memory ran out
 abbrev pub Readies : Given → Result Ready Fault → Type 0
 Readies g (Ok r) = IsReady g r
 Readies g (Err (failure.NoMemory m)) = Unit {0}
@@ -24,16 +24,16 @@ Readies g (Err (failure.Fault f)) = IsRefused g (refusal_of f)
 
 -- ---- its run
 
--- n steps of its words end so, under its samples and its schedule
+-- n steps of the program's words end so, under its samples and its schedule
 abbrev pub RunsReady : Ready → ℕ → Ending → Type 0
 RunsReady r = RunsItsWords r.built.linked.image r.samples r.schedule
 
--- the end of n steps of the statements of the sources that it was made ready of, read from no word
+-- the end of n steps of the statements of the program's sources, read from no word
 abbrev pub statements_end : Given → Ready → ℕ → Ending
 statements_end g r = statements_run g.files g.sources r.built.linked.image r.samples r.schedule
 
--- an answer is of that program and of that run: its samples and entries are those, its n steps end so, what it tells of them is told of
--- this end, and their text is one
+-- an answer is of that program and of that run: its samples and entries are the same, its n steps end so, it
+-- has the outcome of this end, and their text is one
 pub record IsAnswerOf (r : Ready) (n : ℕ) (end : Ending) (g : Given) (c : Chain) (a : IsAnswer g n c) : Type 0 where
   pub image : a.image ≡ r.built.linked.image
   pub inputs : a.inputs ≡ record { samples = r.samples; entries = r.schedule }

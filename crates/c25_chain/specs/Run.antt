@@ -16,7 +16,7 @@ use Rattle.c25_meaning_image.specs.declared.mark.RunMark.{RunMark}
 use Rattle.c25_meaning_processor.specs.declared.registers.Regs.{Regs}
 use Rattle.c25_meaning_processor.specs.declared.sample.Sample.{Sample}
 use Rattle.c25_meaning_processor.specs.declared.schedule.ScheduleEntry.{ScheduleEntry}
-use Rattle.c25_chain.specs.declared.run.Done.{Done}
+use Rattle.c25_chain.specs.declared.run.RunResult.{RunResult}
 
 -- what a run did and left: its outputs in order, registers, data memory, how it ended, and how many steps were done
 pub record RunData : Type 0 where
@@ -33,16 +33,17 @@ pub record Shows (t : State) (d : RunData) : Type 0 where
   pub size : length d.memory ≡ 65536
   pub memory : (address : ℕ) → address < 65536 → slice_index d.memory address ≡ t.world.words address
 
--- a run of n steps that ends so is told so
+-- a run of n steps that ends so has this outcome and number of steps, and shows its last state
 abbrev pub EndsAs : ℕ → Ending → RunData → Type 0
 EndsAs n (Ran t) d = (d.outcome ≡ outcome.Ran) × (d.steps ≡ n) × Shows t d
 EndsAs n (Left j stop t) d = (d.outcome ≡ outcome.Left j stop) × (d.steps ≡ j) × Shows t d
 
--- n steps of the words of both pages, with instructions at these places, and such as run in block B0, from a reset on, under these samples and this schedule
+-- n steps of the words of both pages from a reset on, with instructions at these places and instructions that
+-- run in block B0, under these samples and this schedule
 abbrev pub RunsWords : (page0 page1 : finite.FinMap nat_cmp ℕ) → List Mark → List RunMark → List Sample → List ScheduleEntry → ℕ → Ending → Type 0
 RunsWords page0 page1 marks run_marks samples entries n e = Runs WordStep (signals_of entries) 0 n (first_of_pages page0 page1 marks run_marks (samples_at samples)) e
 
--- what was done is that run
+-- the data of a run are those of n steps of these words
 abbrev pub IsRunOf : (page0 page1 : finite.FinMap nat_cmp ℕ) → List Mark → List RunMark → List Sample → List ScheduleEntry → ℕ → RunData → Type 0
 IsRunOf page0 page1 marks run_marks samples entries n d = (e : Ending) × RunsWords page0 page1 marks run_marks samples entries n e × EndsAs n e d
 
@@ -51,16 +52,16 @@ abbrev pub last_state : Ending → State
 last_state (Ran t) = t
 last_state (Left j stop t) = t
 
--- what the code has of a run
-abbrev pub run_data : Done → RunData
+-- the data of a run as the code has it
+abbrev pub run_data : RunResult → RunData
 run_data d = record { outputs = d.outputs.items; regs = d.regs; memory = d.memory.items; outcome = d.outcome; steps = d.steps }
 
--- and it is that run
-abbrev pub HasRun : (page0 page1 : finite.FinMap nat_cmp ℕ) → List Mark → List RunMark → List Sample → List ScheduleEntry → ℕ → Done → Type 0
+-- the result of a run is that of n steps of these words
+abbrev pub HasRun : (page0 page1 : finite.FinMap nat_cmp ℕ) → List Mark → List RunMark → List Sample → List ScheduleEntry → ℕ → RunResult → Type 0
 HasRun page0 page1 marks run_marks samples entries n d = IsRunOf page0 page1 marks run_marks samples entries n (run_data d)
 
--- what was done is a run of n steps from a state on, and this is the state in which it ended
-pub record HasRunFrom (signals : Signals) (s : State) (n : ℕ) (d : Done) (t : State) : Type 0 where
+-- the result of a run is that of n steps from a state on, and this is the state in which they ended
+pub record HasRunFrom (signals : Signals) (s : State) (n : ℕ) (d : RunResult) (t : State) : Type 0 where
   pub end : Ending
   pub run : Runs WordStep signals 0 n s end
   pub ends : EndsAs n end (run_data d)

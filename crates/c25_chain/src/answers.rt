@@ -1,4 +1,4 @@
-//! The answers of a session to commands, one behind another.
+//! The answers of a debugging session to its commands, in order.
 
 ghost use Rattle.std.specs.Prelude.{◌≡◌, IfOk, string_bytes};
 ghost use Rattle.c25_board.specs.Board.{entries, signals};
@@ -9,15 +9,15 @@ ghost use Rattle.c25_debug.specs.Told.{point_of};
 
 use c25_board::ports::ListSink;
 use c25_board::samples::Samples;
+use c25_debug::session::Session;
 use c25_meaning_common::no_memory::NoMemory;
 use c25_meaning_processor::script::Cmd;
-use c25_debug::session::Session;
 use std::alloc::Global;
 
-/// A session whose outputs are a list.
+/// A session whose board keeps its outputs in a list.
 type ListSession<'a> = Session<'a, Samples, ListSink>;
 
-/// What is answered to a command, or the want of memory for which an output was refused.
+/// The answer to one command. `NoMemory` where memory ran out for the answer or for an output.
 fn answer(session: &mut ListSession<'_>, command: &Cmd) -> Result<String, NoMemory>
     requires { IsWithin command.now }
     ensures text { IfOk result (λ text. Answers WordStep (signals session.old.board) session.old.image.now command.now
@@ -32,7 +32,7 @@ fn answer(session: &mut ListSession<'_>, command: &Cmd) -> Result<String, NoMemo
     }
 }
 
-/// What is answered to commands, one behind another.
+/// The answers to commands, in order.
 pub(crate) fn answers(
     alloc: Global,
     session: &mut ListSession<'_>,

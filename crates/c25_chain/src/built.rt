@@ -17,10 +17,9 @@ pub struct Built {
     pub listings: Vec<String>,
 }
 
-/// Assembles sources, the texts of which are among these files, and links their modules under the
-/// command that a text spells. Without sources the program has no words. The first refusal is the
-/// answer: the sources, one behind another (10 to 56), a line of the command (60 to 63), linking
-/// (70 to 76 and 78).
+/// Assembles the named sources, whose texts are in `files`, and links their modules under the text of a
+/// command file. Without sources the program has no words. The first fault in this order is the answer: the
+/// sources, one after another (10 to 56), a line of the command file (60 to 63), linking (70 to 76 and 78).
 pub fn build(
     alloc: Global,
     files: &Files,

@@ -1,4 +1,4 @@
-//! The whole chain: from the texts of sources to what their run put out.
+//! The whole chain: from the texts of sources to the outputs of their run.
 
 ghost use Rattle.std.specs.Prelude.{◌≡◌, IfOk, map, string_bytes};
 ghost use Rattle.c25_meaning_common.specs.Results.{MeetsBy, told};
@@ -10,15 +10,15 @@ ghost use Rattle.c25_chain.specs.Headline.{CodeStays, HoldsSourceWords, MarksSta
 ghost use Rattle.c25_chain.specs.Linked as linked;
 ghost use Rattle.c25_chain.specs.Ready.{Readies};
 ghost use Rattle.c25_chain.specs.Run.{run_data};
-ghost use Rattle.c25_chain.specs.declared.fault.Refusal.TheVariants as refusal;
+ghost use Rattle.c25_chain.specs.declared.fault.ChainFault.TheVariants as refusal;
 
 use crate::built::{Built, build};
-use crate::fault::{Fault, Refusal};
+use crate::fault::{ChainFault, Fault};
 use crate::laws::answers_run_as_their_sources;
 use crate::linked::Linked;
 use crate::page::Page;
 use crate::ready::Ready;
-use crate::run::{Done, run_linked};
+use crate::run::{RunResult, run_linked};
 use c25_board::board::Outcome;
 use c25_board::samples::{Samples, read_samples};
 use c25_board::schedule::{Schedule, read_schedule};
@@ -28,7 +28,7 @@ use c25_meaning_common::placed::Placed;
 use c25_meaning_processor::registers::Regs;
 use std::alloc::Global;
 
-/// What the chain answers.
+/// The answer of the chain: the texts of the program, and its run.
 #[derive(Drop)]
 pub struct Chain {
     /// The Intel hex text of page 0, program memory.
@@ -37,14 +37,14 @@ pub struct Chain {
     pub page1: String,
     /// The linker's map.
     pub map: String,
-    /// A listing for each source.
+    /// The text of a listing for each source.
     pub listings: Vec<String>,
     /// The outputs in order: each a port, 0 to 15, and a word.
     pub outputs: Vec<(u16, u16)>,
-    /// The registers at the end.
+    /// The registers at the end of the run.
     pub regs: Regs,
-    /// The 65,536 words of data memory at the end, with block B0's at 200h to 2FFh wherever B0 is
-    /// seen.
+    /// The 65,536 words of data memory at the end of the run. The words of block B0 are at 200h to 2FFh,
+    /// whether or not CNFP has moved it to program memory.
     pub memory: Vec<u16>,
     /// How the run ended.
     pub outcome: Outcome,
@@ -52,7 +52,7 @@ pub struct Chain {
     pub steps: u32,
 }
 
-/// The samples of a text.
+/// Reads the text of samples. A wrong line is fault 91.
 pub fn samples_in(alloc: Global, text: &str) -> Result<Samples, Fault>
     ensures { MeetsBy refusal_of (λ samples. samples) (told refusal.Samples (samples_of text.now)) result }
 {
@@ -60,12 +60,12 @@ pub fn samples_in(alloc: Global, text: &str) -> Result<Samples, Fault>
         Ok(samples) => Ok(samples),
         Err(Failure::NoMemory(error)) => Err(error.into()),
         Err(Failure::Fault(Placed { place: line, .. })) => {
-            Err(Failure::Fault(Refusal::Samples { line }))
+            Err(Failure::Fault(ChainFault::Samples { line }))
         }
     }
 }
 
-/// The schedule of a text.
+/// Reads the text of a schedule. A wrong line is fault 90.
 pub fn schedule_in(alloc: Global, text: &str) -> Result<Schedule, Fault>
     ensures { MeetsBy refusal_of (λ schedule. schedule) (told refusal.Schedule (schedule_of text.now)) result }
 {
@@ -73,12 +73,12 @@ pub fn schedule_in(alloc: Global, text: &str) -> Result<Schedule, Fault>
         Ok(schedule) => Ok(schedule),
         Err(Failure::NoMemory(error)) => Err(error.into()),
         Err(Failure::Fault(Placed { place: line, .. })) => {
-            Err(Failure::Fault(Refusal::Schedule { line }))
+            Err(Failure::Fault(ChainFault::Schedule { line }))
         }
     }
 }
 
-/// The samples of a text and the schedule of another.
+/// Reads the texts of samples and of a schedule.
 fn inputs_in(alloc: Global, samples: &str, schedule: &str) -> Result<(Samples, Schedule), Fault>
     ensures { MeetsBy refusal_of inputs_view (inputs_of samples.now schedule.now) result }
 {
@@ -89,11 +89,11 @@ fn inputs_in(alloc: Global, samples: &str, schedule: &str) -> Result<(Samples, S
     }
 }
 
-/// Assembles sources, links their modules under a command file, and reads the samples and the schedule of
-/// a run, so that nothing of it is left to be refused but memory.
+/// Assembles sources, links their modules under a command file, and reads the samples and the schedule of a
+/// run, so that the run itself can fail only when memory runs out.
 ///
-/// The first refusal is the answer, in this order: the sources, one behind another (10 to 56), a line of
-/// the command file (60 to 63), linking (70 to 76 and 78), the samples (91), the schedule (90).
+/// The first fault in this order is the answer: the sources, one after another (10 to 56), a line of the
+/// command file (60 to 63), linking (70 to 76 and 78), the samples (91), the schedule (90).
 pub fn make_ready(
     alloc: Global,
     files: &Files,
@@ -115,8 +115,8 @@ pub fn make_ready(
     }
 }
 
-/// What the chain answers of a program and its run.
-pub fn chain_of(built: Built, done: Done) -> Chain
+/// The answer of the chain for a program and its run.
+pub fn chain_of(built: Built, done: RunResult) -> Chain
     ensures texts { texts_of result ≡ linked.texts_of built.linked }
     ensures listings { result.listings ≡ built.listings }
     ensures run { run_of result ≡ run_data done }
@@ -143,14 +143,14 @@ pub fn chain_of(built: Built, done: Done) -> Chain
     }
 }
 
-/// Assembles sources, links their modules under a command file, and runs n steps of the program with
-/// these samples and this schedule of interrupt lines and BIO levels.
+/// Assembles sources, links their modules under a command file, and runs n steps of the program with these
+/// samples and this schedule of interrupt lines and BIO levels.
 ///
-/// The texts of the sources are those of `files`. Each module is passed through its records, and the
-/// words of both pages through their hex texts. Without sources the program has no words. The first
-/// refusal is the answer, in this order: the sources, one behind another (10 to 56), a line of the
-/// command file (60 to 63), linking (70 to 76 and 78), the samples (91), the schedule (90). A refused growth,
-/// of the list of outputs too, is `NoMemory`.
+/// The texts of the sources are in `files`. Each module is written as an object and read back, and the words
+/// of both pages are written as hex texts and read back. Without sources the program has no words. The first
+/// fault in this order is the answer: the sources, one after another (10 to 56), a line of the command file
+/// (60 to 63), linking (70 to 76 and 78), the samples (91), the schedule (90). Out of memory, for the list of
+/// outputs too, is `NoMemory`.
 pub fn run_chain(
     alloc: Global,
     files: &Files,

@@ -1,4 +1,4 @@
-//! The chain to the debugger: from the texts of sources to the answers of a script.
+//! The chain with the debugger: from the texts of sources to the answers of a script.
 
 ghost use Rattle.std.specs.Prelude.{◌≡◌, IfOk, map, string_bytes, true};
 ghost use Rattle.c25_chain.specs.Chain.{given_of};
@@ -11,22 +11,22 @@ ghost use Rattle.c25_meaning_processor.specs.Samples.{samples_at};
 ghost use Rattle.c25_meaning_processor.specs.Signals.{signals_of};
 
 use crate::answers::answers;
-use crate::script::script_in;
-use c25_board::samples::Samples;
-use c25_board::schedule::Schedule;
 use crate::fault::Fault;
 use crate::laws::answers_run_as_their_sources;
 use crate::linked::Linked;
 use crate::ready::Ready;
+use crate::script::script_in;
 use crate::{board_of, make_ready};
+use c25_board::samples::Samples;
+use c25_board::schedule::Schedule;
 use c25_debug::script::Script;
-use c25_meaning_debugger::laws::debuggers_answer_alike;
+use c25_debug::session::Session;
 use c25_macro::files::Files;
 use c25_meaning_common::no_memory::NoMemory;
-use c25_debug::session::Session;
+use c25_meaning_debugger::laws::debuggers_answer_alike;
 use std::alloc::Global;
 
-/// What a debugger answers to a script over a program, from a reset on.
+/// The answers of a debugger to a script over a linked program, from a reset on.
 fn debug_linked(
     alloc: Global,
     linked: &Linked,
@@ -44,7 +44,7 @@ fn debug_linked(
     answers(alloc, &mut session, script.as_slice())
 }
 
-/// What a debugger answers to the script of a text over a program, from a reset on.
+/// The answers of a debugger to the text of a script over a linked program, from a reset on.
 fn debug_text(
     alloc: Global,
     linked: &Linked,
@@ -63,15 +63,15 @@ fn debug_text(
     }
 }
 
-/// Assembles sources, links their modules under a command file, and answers a script of the debugger
-/// over the program, with these samples and this schedule of interrupt lines and BIO levels. The
-/// answers stand one behind another, each with its line ends.
+/// Assembles sources, links their modules under a command file, and answers a script of the debugger over the
+/// program, with these samples and this schedule of interrupt lines and BIO levels. The answers stand one
+/// after another, each with its line ends.
 ///
-/// The texts of the sources are those of `files`. The first refusal is the answer, in the order of
-/// `run_chain`: the sources (10 to 56), the command file (60 to 63), linking (70 to 76 and 78), the samples
-/// (91), the schedule (90), and behind them all a line of the script (95). A refused growth, of the
-/// list of outputs too, is `NoMemory`. What the script does has no fault: where a step stops, that is
-/// its answer, and the next command follows.
+/// The texts of the sources are in `files`. The first fault is the answer, in the order of `run_chain`: the
+/// sources (10 to 56), the command file (60 to 63), linking (70 to 76 and 78), the samples (91), the schedule
+/// (90), and after them all a line of the script (95). Out of memory, for the list of outputs too, is
+/// `NoMemory`. A step that stops is no fault: the stop is the answer to its command, and the next command
+/// follows.
 pub fn debug_chain(
     alloc: Global,
     files: &Files,

@@ -1,4 +1,4 @@
-//! The line that says why the chain refuses.
+//! The line that reports a fault.
 
 ghost use Rattle.std.specs.Prelude.{◌≡◌, ◌++◌, IfOk, codes, string_bytes};
 ghost use Rattle.c25_meaning_common.specs.Faults.{numbered, placed_text};
@@ -9,22 +9,22 @@ ghost use Rattle.c25_meaning_objects.specs.Faults.{object_text};
 ghost use Rattle.c25_chain.specs.FaultText.{at_file, fault_text, link_line, refusal_text};
 ghost use Rattle.c25_chain.specs.Refusal.{refusal_of};
 
-use crate::fault::{Fault, Refusal};
+use crate::fault::{ChainFault, Fault};
 use c25_disk::fault::FileFault;
-use c25_meaning_linking::command_fault::CommandFault;
+use c25_hex::hex_fault::HexFault;
 use c25_meaning_common::failure::Failure;
 use c25_meaning_common::no_memory::NoMemory;
 use c25_meaning_common::placed::Placed;
-use c25_hex::hex_fault::HexFault;
 use c25_meaning_language::statement::FaultKind;
-use c25_meaning_objects::object::ObjectFault;
+use c25_meaning_linking::command_fault::CommandFault;
 use c25_meaning_linking::link_fault::LinkFault;
+use c25_meaning_objects::object::ObjectFault;
 use c25_meaning_processor::sample::BadSamples;
 use c25_meaning_processor::schedule::BadSchedule;
 use c25_meaning_processor::script::BadCommand;
 use std::alloc::Global;
 
-/// What is wrong with a line of a text of this name.
+/// The line of a fault in a line of the text of this name.
 fn at_line(
     alloc: Global,
     name: &str,
@@ -37,7 +37,7 @@ fn at_line(
     Ok(format!(in alloc; "{name}:{line}: {number} {fault}")?)
 }
 
-/// What is wrong with a line of a source.
+/// The line of a fault in a line of a source.
 fn at_source_line(
     alloc: Global,
     name: &str,
@@ -49,7 +49,7 @@ fn at_source_line(
     at_line(alloc, name, line, fault.number(), fault.name())
 }
 
-/// What is wrong with the bytes of an object file.
+/// The line of a fault in the bytes of an object file.
 fn at_object(alloc: Global, name: &str, fault: ObjectFault) -> Result<String, NoMemory>
     ensures { IfOk result (λ text. string_bytes text ≡ name.now ++ codes ": " ++ object_text fault) }
 {
@@ -58,14 +58,14 @@ fn at_object(alloc: Global, name: &str, fault: ObjectFault) -> Result<String, No
     Ok(format!(in alloc; "{name}: {number} {fault}")?)
 }
 
-/// What is wrong with a line of the command file.
+/// The line of a fault in a line of the command file.
 fn at_command_line(alloc: Global, line: usize, fault: CommandFault) -> Result<String, NoMemory>
     ensures { IfOk result (λ text. string_bytes text ≡ placed_text (codes "command") line (command_text fault)) }
 {
     at_line(alloc, "command", line, fault.number(), fault.name())
 }
 
-/// Why modules cannot be linked.
+/// The line of a fault of linking.
 fn at_link(alloc: Global, name: &str, fault: LinkFault) -> Result<String, NoMemory>
     ensures { IfOk result (λ text. string_bytes text ≡ link_line name.now fault) }
 {
@@ -74,14 +74,14 @@ fn at_link(alloc: Global, name: &str, fault: LinkFault) -> Result<String, NoMemo
     Ok(format!(in alloc; "link:{name}: {number} {fault}")?)
 }
 
-/// What is wrong with a line of a hex text.
+/// The line of a fault in a line of a hex text.
 fn at_hex_line(alloc: Global, line: usize, fault: HexFault) -> Result<String, NoMemory>
     ensures { IfOk result (λ text. string_bytes text ≡ placed_text (codes "hex") line (hex_text fault)) }
 {
     at_line(alloc, "hex", line, fault.number(), fault.name())
 }
 
-/// What is wrong with a line of the schedule.
+/// The line of a fault in a line of the schedule.
 fn at_schedule_line(alloc: Global, line: usize) -> Result<String, NoMemory>
     ensures { IfOk result (λ text. string_bytes text ≡ placed_text (codes "schedule") line (numbered 90 (codes "BadSchedule"))) }
 {
@@ -94,7 +94,7 @@ fn at_schedule_line(alloc: Global, line: usize) -> Result<String, NoMemory>
     )
 }
 
-/// What is wrong with a line of the samples.
+/// The line of a fault in a line of the samples.
 fn at_samples_line(alloc: Global, line: usize) -> Result<String, NoMemory>
     ensures { IfOk result (λ text. string_bytes text ≡ placed_text (codes "samples") line (numbered 91 (codes "BadSamples"))) }
 {
@@ -107,7 +107,7 @@ fn at_samples_line(alloc: Global, line: usize) -> Result<String, NoMemory>
     )
 }
 
-/// What is wrong with a line of a debugger's script.
+/// The line of a fault in a line of a debugger's script.
 fn at_script_line(alloc: Global, line: usize) -> Result<String, NoMemory>
     ensures { IfOk result (λ text. string_bytes text ≡ placed_text (codes "script") line (numbered 95 (codes "BadCommand"))) }
 {
@@ -120,7 +120,7 @@ fn at_script_line(alloc: Global, line: usize) -> Result<String, NoMemory>
     )
 }
 
-/// What is wrong with a file.
+/// The line of a fault of a file.
 fn at_file(alloc: Global, name: &str, fault: FileFault) -> Result<String, NoMemory>
     ensures { IfOk result (λ text. string_bytes text ≡ at_file name.now fault) }
 {
@@ -129,33 +129,33 @@ fn at_file(alloc: Global, name: &str, fault: FileFault) -> Result<String, NoMemo
     Ok(format!(in alloc; "{name}: {number} {fault}")?)
 }
 
-/// A refusal's line.
-fn write_refusal(alloc: Global, refusal: &Refusal<String>) -> Result<String, NoMemory>
+/// The line of a fault that is not out of memory.
+fn write_refusal(alloc: Global, refusal: &ChainFault<String>) -> Result<String, NoMemory>
     ensures { IfOk result (λ text. string_bytes text ≡ refusal_text (refusal_of refusal.now)) }
 {
     match refusal {
-        Refusal::Source(Placed { place, fault }) => {
+        ChainFault::Source(Placed { place, fault }) => {
             at_source_line(alloc, place.file.as_str(), place.line, *fault)
         }
-        Refusal::NoFile {
+        ChainFault::NoFile {
             file,
             line,
             name: _,
         } => at_source_line(alloc, file.as_str(), *line, FaultKind::NoFile),
-        Refusal::Object(Placed { place, fault }) => at_object(alloc, place.as_str(), *fault),
-        Refusal::Command(Placed { place, fault }) => at_command_line(alloc, *place, *fault),
-        Refusal::Link(Placed { place, fault }) => at_link(alloc, place.as_str(), *fault),
-        Refusal::Hex(Placed { place, fault }) => at_hex_line(alloc, *place, *fault),
-        Refusal::Schedule { line } => at_schedule_line(alloc, *line),
-        Refusal::Samples { line } => at_samples_line(alloc, *line),
-        Refusal::Script { line } => at_script_line(alloc, *line),
-        Refusal::File(Placed { place, fault }) => at_file(alloc, place.as_str(), *fault),
+        ChainFault::Object(Placed { place, fault }) => at_object(alloc, place.as_str(), *fault),
+        ChainFault::Command(Placed { place, fault }) => at_command_line(alloc, *place, *fault),
+        ChainFault::Link(Placed { place, fault }) => at_link(alloc, place.as_str(), *fault),
+        ChainFault::Hex(Placed { place, fault }) => at_hex_line(alloc, *place, *fault),
+        ChainFault::Schedule { line } => at_schedule_line(alloc, *line),
+        ChainFault::Samples { line } => at_samples_line(alloc, *line),
+        ChainFault::Script { line } => at_script_line(alloc, *line),
+        ChainFault::File(Placed { place, fault }) => at_file(alloc, place.as_str(), *fault),
     }
 }
 
-/// A fault's line: where it is, a colon, its number and its name, as `a.asm:1: 53 FieldRange`,
-/// without a line feed. Where it is is `FILE:LINE` for a source, `command:LINE`, `hex:LINE`,
-/// `samples:LINE`, `schedule:LINE`, `script:LINE`, `link:NAME`, a file's name, or `memory`.
+/// The line that reports a fault: its place, a colon, its number and its name, as `a.asm:1: 53 FieldRange`,
+/// without a line feed. The place is `FILE:LINE` of a source, `command:LINE`, `hex:LINE`, `samples:LINE`,
+/// `schedule:LINE`, `script:LINE`, `link:NAME`, a file's name, or `memory`.
 pub fn write_fault(alloc: Global, fault: &Fault) -> Result<String, NoMemory>
     ensures { IfOk result (λ text. string_bytes text ≡ fault_text fault.now) }
 {

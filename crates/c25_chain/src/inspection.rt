@@ -1,4 +1,4 @@
-//! Where a board stands: what a debugger tells of it.
+//! The registers and the place of a board, as a debugger answers them.
 
 ghost use Rattle.std.specs.Prelude.{◌≡◌, IfOk, string_bytes};
 ghost use Rattle.c25_board.specs.Board.{entries, signals, state, steps};
@@ -7,13 +7,13 @@ ghost use Rattle.c25_debug.specs.Told.{point_of};
 
 use c25_board::board::Board;
 use c25_board::ports::{Feed, Sink};
+use c25_debug::session::Session;
 use c25_link::Image;
 use c25_meaning_common::no_memory::NoMemory;
 use c25_meaning_processor::script::Cmd;
-use c25_debug::session::Session;
 use std::alloc::Global;
 
-/// What a session answers to `regs`, and then to `where`.
+/// The answers of a session to `regs` and then to `where`.
 fn tell_both<F: Feed + Drop, S: Sink + Drop>(
     session: &mut Session<'_, F, S>,
 ) -> Result<String, NoMemory>
@@ -26,7 +26,7 @@ fn tell_both<F: Feed + Drop, S: Sink + Drop>(
     Ok(text)
 }
 
-/// What a debugger answers to `regs`, and then to `where`, over a board that runs this image.
+/// The answers of a debugger to `regs` and then to `where` over a board that runs this image.
 pub fn where_it_stands<F: Feed + Drop, S: Sink + Drop>(
     alloc: Global,
     board: Board<F, S>,

@@ -1,5 +1,5 @@
-//! Laws of what the chain answers, each the contract of a function that calls the laws on which it
-//! rests and does nothing else.
+//! Laws of what the chain answers. Each is the contract of a function that only calls the laws on which it
+//! rests.
 
 ghost use Rattle.std.specs.Prelude.{◌≡◌, ◌↔◌, List, ℕ};
 ghost use Rattle.c25_meaning_expansion.specs.Files.{Files};
@@ -27,8 +27,8 @@ use c25_linking_laws::linking::{
 use c25_module_laws::assembly_laws::sources_make_modules;
 use c25_run_laws::runs::{image_runs_as_statements, steps_keep_the_words_of_code, words_end_once};
 
-/// Sources and the text of a command come to one program at most: its words, its marks and its map
-/// are theirs alone, whatever the samples, the schedule and the number of steps are.
+/// Sources and the text of a command file have at most one program: its words, its marks and its map depend
+/// on nothing else, neither on the samples nor on the schedule nor on the number of steps.
 pub fn sources_have_one_program()
     ensures { (files : Files) (names : List (List ℕ)) (command : List ℕ) (image other : ImageData) (texts others : LinkedTexts) (listings more : List (List ℕ))
         → IsBuilt files names command image texts listings → IsBuilt files names command other others more → image ≡ other }
@@ -36,9 +36,9 @@ pub fn sources_have_one_program()
     modules_have_one_program();
 }
 
-/// What is run is what the sources say: each of the claims follows from what an answer is, a program
-/// of its sources and n steps of that program's words. The state in which every run of a program begins
-/// holds the statements of its sources, whatever its samples are.
+/// The run is the one that the sources describe: each of the claims follows from what an answer is, a program
+/// of its sources and n steps of that program's words. The state in which every run of a program begins holds
+/// the statements of its sources, whatever its samples are.
 pub fn answers_run_as_their_sources()
     ensures words { (g : Given) (n : ℕ) (c : Chain) → IsAnswer g n c → OfProgram (HoldsSourceWords c) g.files g.sources g.command c }
     ensures marks { (g : Given) (n : ℕ) (c : Chain) → IsAnswer g n c → OfProgram MarksStatements g.files g.sources g.command c }
@@ -60,8 +60,8 @@ pub fn answers_run_as_their_sources()
     steps_keep_the_words_of_code();
 }
 
-/// A program that is ready runs as its sources say: n steps of its words have one end, that of n steps of the
-/// statements of the sources.
+/// A program that `make_ready` answers runs as its sources describe: n steps of its words have one end, that
+/// of n steps of the statements of the sources.
 pub fn ready_programs_run_as_their_sources()
     ensures { (g : Given) (ready : Ready) (n : ℕ) (end : Ending) → IsReady g ready → RunsReady ready n end ↔ (end ≡ statements_end g ready n) }
 {
@@ -69,9 +69,9 @@ pub fn ready_programs_run_as_their_sources()
     image_runs_as_statements();
 }
 
-/// A program that is ready runs as the chain answers: where n steps of its words end, that is the end of
-/// which each answer of the same texts tells outputs, registers, data memory, outcome and number of
-/// steps, and the text of that end is the answer's.
+/// A program that `make_ready` answers runs as the chain answers: where n steps of its words end, each answer
+/// of the same texts has the outputs, registers, data memory, outcome and number of steps of that end, and
+/// the text of that end is the answer's.
 pub fn ready_programs_run_as_answered()
     ensures { (g : Given) (ready : Ready) (n : ℕ) (end : Ending) (c : Chain) → IsReady g ready → RunsReady ready n end → (a : IsAnswer g n c) → IsAnswerOf ready n end g c a }
 {

@@ -26,5 +26,5 @@ pub use inspection::where_it_stands;
 pub use linked::link_modules;
 pub use modules::assemble_all;
 pub use output::write_run;
-pub use run::{Done, board_of, run_board};
+pub use run::{RunResult, board_of, run_board};
 pub use sources::{assemble_module, assemble_source};

@@ -7,9 +7,9 @@ ghost use Rattle.c25_meaning_linking.specs.CommandText.{command_of};
 ghost use Rattle.c25_meaning_common.specs.Results.{MeetsBy, told};
 ghost use Rattle.c25_chain.specs.Linked.{AreTextsOf, HasTextsOf, Links, LinksText, LinksUnder};
 ghost use Rattle.c25_chain.specs.Refusal.{refusal_of};
-ghost use Rattle.c25_chain.specs.declared.fault.Refusal.TheVariants as refusal;
+ghost use Rattle.c25_chain.specs.declared.fault.ChainFault.TheVariants as refusal;
 
-use crate::fault::{Fault, Refusal};
+use crate::fault::{ChainFault, Fault};
 use crate::page::{Page, page_of};
 use c25_cmd::{Command, read_command};
 use c25_link::{Image, link};
@@ -31,7 +31,7 @@ pub struct Linked {
     pub map: String,
 }
 
-/// The command that a text spells.
+/// Reads the text of a command file. A wrong line is fault 60 to 63.
 fn command_in(alloc: Global, text: &str) -> Result<Command, Fault>
     ensures told { MeetsBy refusal_of command_data (told refusal.Command (command_of text.now)) result }
     ensures kept { IfOk result (λ command. IsCommand (command_data command)) }
@@ -39,11 +39,11 @@ fn command_in(alloc: Global, text: &str) -> Result<Command, Fault>
     match read_command(alloc, text) {
         Ok(command) => Ok(command),
         Err(Failure::NoMemory(error)) => Err(error.into()),
-        Err(Failure::Fault(faulty)) => Err(Failure::Fault(Refusal::Command(faulty))),
+        Err(Failure::Fault(faulty)) => Err(Failure::Fault(ChainFault::Command(faulty))),
     }
 }
 
-/// The program of modules under a command.
+/// Links modules under a command. The faults are 70 to 76 and 78.
 fn image_of(alloc: Global, modules: &[Module], command: &Command) -> Result<Image, Fault>
     requires { IsCommand (command_data command.now) }
     ensures { Links modules.now (command_data command.now) result }
@@ -51,11 +51,11 @@ fn image_of(alloc: Global, modules: &[Module], command: &Command) -> Result<Imag
     match link(alloc, modules, command) {
         Ok(image) => Ok(image),
         Err(Failure::NoMemory(error)) => Err(error.into()),
-        Err(Failure::Fault(faulty)) => Err(Failure::Fault(Refusal::Link(faulty))),
+        Err(Failure::Fault(faulty)) => Err(Failure::Fault(ChainFault::Link(faulty))),
     }
 }
 
-/// The program of modules under the command that a text spells.
+/// Links modules under the text of a command file.
 fn image_under(alloc: Global, modules: &[Module], command: &str) -> Result<Image, Fault>
     ensures { LinksText modules.now command.now result }
 {
@@ -75,7 +75,7 @@ fn map_and_pages(alloc: Global, image: &Image) -> Result<(String, Page, Page), N
     }
 }
 
-/// A program with its texts.
+/// An image together with its texts.
 fn with_texts(alloc: Global, image: Image) -> Result<Linked, NoMemory>
     ensures { IfOk result (HasTextsOf image) }
 {
@@ -90,9 +90,8 @@ fn with_texts(alloc: Global, image: Image) -> Result<Linked, NoMemory>
     }
 }
 
-/// Links modules under the command that a text spells, and writes the map and the hex texts of both
-/// pages. It is refused where a line of the text is wrong (60 to 63) or where the modules cannot be
-/// linked (70 to 76 and 78).
+/// Links modules under the text of a command file, and writes the map and the hex texts of both pages. The
+/// faults are those of a line of the command file (60 to 63) and of linking (70 to 76 and 78).
 pub fn link_modules(alloc: Global, modules: &[Module], command: &str) -> Result<Linked, Fault>
     ensures { LinksUnder modules.now command.now result }
 {

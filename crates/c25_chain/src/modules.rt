@@ -23,7 +23,7 @@ pub struct Modules {
     pub listings: Vec<String>,
 }
 
-/// None yet.
+/// No modules and no listings.
 fn none(alloc: Global) -> Modules
     ensures { modules_view result ≡ no_modules }
 {
@@ -33,7 +33,7 @@ fn none(alloc: Global) -> Modules
     }
 }
 
-/// Puts a module and the text of its listing behind others.
+/// Appends a module and the text of its listing.
 fn push(all: &mut Modules, read: Module, listing: String) -> Result<(), NoMemory>
     ensures modules { OnOk result (all.new.modules.items ≡ all.old.modules.items ++ read ∷ []) }
     ensures listings { OnOk result (all.new.listings.items ≡ all.old.listings.items ++ listing ∷ []) }
@@ -42,7 +42,7 @@ fn push(all: &mut Modules, read: Module, listing: String) -> Result<(), NoMemory
     all.listings.push(listing).map_err(NoMemory::from)
 }
 
-/// Passes a source's module through its records, and puts it behind others with the text of its listing.
+/// Writes a source's module as an object, reads it back, and appends it with the text of its listing.
 fn push_assembled(alloc: Global, listing: &Listing<'_>, all: &mut Modules) -> Result<(), NoMemory>
     ensures { OnOk result (modules_view all.new ≡ with_module (modules_view all.old) (assembled_of listing.now)) }
 {
@@ -51,7 +51,7 @@ fn push_assembled(alloc: Global, listing: &Listing<'_>, all: &mut Modules) -> Re
     push(all, read, text)
 }
 
-/// Assembles one source more, and passes its module through its records.
+/// Assembles one more source, and appends its module and its listing.
 fn add_source(alloc: Global, files: &Files, name: &str, all: &mut Modules) -> Result<(), Fault>
     ensures { MeetsBy refusal_of (λ _. modules_view all.new) (with_source files.now (modules_view all.old) name.now) result }
 {
@@ -62,9 +62,9 @@ fn add_source(alloc: Global, files: &Files, name: &str, all: &mut Modules) -> Re
     }
 }
 
-/// Assembles sources, the texts of which are among these files, one behind another: their modules, and
-/// the texts of their listings. Each module is passed through its records. The first source that is
-/// refused ends it (10 to 56); one whose name comes twice is assembled twice.
+/// Assembles the named sources, whose texts are in `files`, in order: their modules, and the texts of their
+/// listings. Each module is written as an object and read back. Stops at the first source with a fault (10 to
+/// 56); a source that is named twice is assembled twice.
 pub fn assemble_all(alloc: Global, files: &Files, sources: &[String]) -> Result<Modules, Fault>
     ensures { MeetsBy refusal_of modules_view (modules_of files.now (map string_bytes sources.now)) result }
 {

@@ -6,8 +6,8 @@ ghost use Rattle.c25_chain.specs.OutcomeText.{outcome_text, run_text};
 
 use crate::chain::Chain;
 use c25_board::board::Outcome;
-use c25_texts::digits::four;
 use c25_meaning_common::no_memory::NoMemory;
+use c25_texts::digits::four;
 use itoa::Buffer;
 use std::alloc::Global;
 
@@ -45,7 +45,7 @@ fn push_outcome(out: &mut String, outcome: Outcome, steps: u32) -> Result<(), No
     }
 }
 
-/// The text of a run: a line for each output, its port in decimal and its word in four hexadecimal
+/// The text of a run: for each output a line with its port in decimal and its word in four hexadecimal
 /// digits, and then `ran N` or `left N NAME`, N being the number of steps that were done.
 pub fn write_run(alloc: Global, chain: &Chain) -> Result<String, NoMemory>
     ensures { IfOk result (λ text. string_bytes text ≡ run_text chain.now) }

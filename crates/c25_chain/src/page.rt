@@ -10,15 +10,15 @@ use c25_meaning_common::no_memory::NoMemory;
 use c25_meaning_image::word_map::WordMap;
 use std::alloc::Global;
 
-/// A page's Intel hex text, and the words that it spells.
+/// The Intel hex text of a page, and the words that are read back from it.
 #[derive(Drop)]
 pub struct Page {
     pub text: String,
     pub words: WordMap,
 }
 
-/// The page of these words: they are written as a hex text, and read from it again. No hex text is
-/// refused here, since one that was written spells its words.
+/// Writes words as an Intel hex text, and reads them back. Reading has no fault here, since the text was
+/// written from words.
 pub(crate) fn page_of(alloc: Global, words: &WordMap) -> Result<Page, NoMemory>
     ensures text { IfOk result (λ page. string_bytes page.text ≡ written words.now) }
     ensures words { IfOk result (λ page. page.words ≡ words.now) }

@@ -1,4 +1,4 @@
-//! A program of sources that is ready to run.
+//! A linked program with the inputs of its run.
 
 ghost use Rattle.std.specs.Prelude.{◌≡◌, true};
 ghost use Rattle.c25_meaning_image.specs.Marks.{fit_from, run_fit};
@@ -7,7 +7,7 @@ use crate::built::Built;
 use c25_board::samples::Samples;
 use c25_board::schedule::Schedule;
 
-/// A program with its texts and listings, and what its run is given beside it.
+/// A program with its texts and listings, and the samples and the schedule of its run.
 #[derive(Drop)]
 pub struct Ready {
     pub built: Built,

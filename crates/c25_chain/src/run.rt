@@ -16,9 +16,9 @@ use c25_meaning_common::no_memory::NoMemory;
 use c25_meaning_processor::registers::Regs;
 use std::alloc::Global;
 
-/// What a run did, and what it left.
+/// The result of a run: its outputs, how it ended, and the registers and data memory at its end.
 #[derive(Drop)]
-pub struct Done {
+pub struct RunResult {
     /// The outputs in order: each a port and a word.
     pub outputs: Vec<(u16, u16)>,
     pub regs: Regs,
@@ -29,7 +29,7 @@ pub struct Done {
     pub steps: u32,
 }
 
-/// The board of a linked program after a reset, with an empty list for its outputs.
+/// The board of a linked program after a reset, with a list for its outputs.
 pub fn board_of(
     alloc: Global,
     linked: &Linked,
@@ -52,13 +52,13 @@ pub fn board_of(
     )
 }
 
-/// Runs n steps of a board that has done none, and tells what they did. An output that its list has
-/// refused is `NoMemory`.
+/// Runs n steps of a new board, and answers the result. `NoMemory` where memory ran out for an output or for
+/// the result.
 pub fn run_board(
     alloc: Global,
     board: &mut Board<Samples, ListSink>,
     n: u32,
-) -> Result<Done, NoMemory>
+) -> Result<RunResult, NoMemory>
     requires { steps board.old ≡ 0 }
     ensures run { IfOk result (λ done. HasRunFrom (signals board.old) (state board.old) n done (state board.new)) }
     ensures count { IfOk result (λ done. done.steps ≡ steps board.new) }
@@ -68,7 +68,7 @@ pub fn run_board(
     if let Some(refused) = board.sink().refused() {
         return Err(refused);
     }
-    Ok(Done {
+    Ok(RunResult {
         outputs: board.sink().words().to_vec(alloc)?,
         regs: board.regs(),
         memory: board.data().to_vec(alloc)?,
@@ -77,14 +77,14 @@ pub fn run_board(
     })
 }
 
-/// Runs n steps of a program, from a reset on.
+/// Runs n steps of a linked program, from a reset on.
 pub(crate) fn run_linked(
     alloc: Global,
     linked: &Linked,
     samples: Samples,
     schedule: Schedule,
     n: u32,
-) -> Result<Done, NoMemory>
+) -> Result<RunResult, NoMemory>
     requires marks { fit_from 0 linked.now.image.marks ≡ true }
     requires run_marks { run_fit linked.now.image.marks linked.now.image.run_marks ≡ true }
     ensures { IfOk result (λ done. HasRun linked.now.page0.words linked.now.page1.words linked.now.image.marks linked.now.image.run_marks samples schedule n done) }

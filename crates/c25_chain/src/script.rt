@@ -1,17 +1,17 @@
-//! The script of a text, refused as the chain refuses.
+//! The script of a text, with the chain's faults.
 
 ghost use Rattle.c25_chain.specs.Refusal.{refusal_of};
-ghost use Rattle.c25_chain.specs.declared.fault.Refusal.TheVariants as refusal;
+ghost use Rattle.c25_chain.specs.declared.fault.ChainFault.TheVariants as refusal;
 ghost use Rattle.c25_meaning_common.specs.Results.{MeetsBy, told};
 ghost use Rattle.c25_meaning_processor.specs.Script.{script_of};
 
-use crate::fault::{Fault, Refusal};
+use crate::fault::{ChainFault, Fault};
 use c25_debug::script::{Script, read_script};
 use c25_meaning_common::failure::Failure;
 use c25_meaning_common::placed::Placed;
 use std::alloc::Global;
 
-/// The script of a text.
+/// Reads the text of a debugger's script. A wrong line is fault 95.
 pub(crate) fn script_in(alloc: Global, text: &str) -> Result<Script, Fault>
     ensures { MeetsBy refusal_of (λ script. script) (told refusal.Script (script_of text.now)) result }
 {
@@ -19,7 +19,7 @@ pub(crate) fn script_in(alloc: Global, text: &str) -> Result<Script, Fault>
         Ok(script) => Ok(script),
         Err(Failure::NoMemory(error)) => Err(error.into()),
         Err(Failure::Fault(Placed { place: line, .. })) => {
-            Err(Failure::Fault(Refusal::Script { line }))
+            Err(Failure::Fault(ChainFault::Script { line }))
         }
     }
 }

@@ -1,4 +1,4 @@
-//! Sources, assembled.
+//! Assembling a source, with the chain's faults.
 
 ghost use Rattle.std.specs.Prelude.{◌≡◌, IfOk, string_bytes};
 ghost use Rattle.c25_phases.specs.View.{fault_of};
@@ -7,9 +7,9 @@ ghost use Rattle.c25_meaning_common.specs.Results.{MeetsBy};
 ghost use Rattle.c25_chain.specs.Refusal.{IsRefusedAs, refusal_of};
 ghost use Rattle.c25_chain.specs.Sources.{IsToldAs};
 ghost use Rattle.c25_chain.specs.Modules.{asm_refusal, assembled_in, module_in};
-ghost use Rattle.c25_chain.specs.declared.fault.Refusal.TheVariants as refusal;
+ghost use Rattle.c25_chain.specs.declared.fault.ChainFault.TheVariants as refusal;
 
-use crate::fault::{Fault, Refusal};
+use crate::fault::{ChainFault, Fault};
 use c25_asm::assemble;
 use c25_asm::fault::AsmFault;
 pub use c25_asm::listing::Listing;
@@ -22,30 +22,30 @@ use c25_module::{Module, write_module};
 use c25_records::read_module;
 use std::alloc::Global;
 
-/// A wrong line of a file.
+/// The fault of a wrong line of a source, unless memory runs out for the file's name.
 fn wrong_line(alloc: Global, file: &str, line: usize, fault: FaultKind) -> Fault
     ensures { IsRefusedAs (refusal.Source (record { place = record { file = file.now; line = line }; fault = fault })) result }
 {
     match String::from_str(alloc, file) {
         Ok(file) => {
             let place = FileLine { file, line };
-            Failure::Fault(Refusal::Source(Placed { place, fault }))
+            Failure::Fault(ChainFault::Source(Placed { place, fault }))
         }
         Err(error) => Failure::NoMemory(NoMemory::from(error)),
     }
 }
 
-/// A line of a file that asks for one of this name, which is not there.
+/// The fault of a line that copies a file that is not there (30), unless memory runs out for the file's name.
 fn no_file(alloc: Global, file: &str, line: usize, name: String) -> Fault
     ensures { IsRefusedAs (refusal.NoFile file.now line (string_bytes name)) result }
 {
     match String::from_str(alloc, file) {
-        Ok(file) => Failure::Fault(Refusal::NoFile { file, line, name }),
+        Ok(file) => Failure::Fault(ChainFault::NoFile { file, line, name }),
         Err(error) => Failure::NoMemory(NoMemory::from(error)),
     }
 }
 
-/// Why a source has no module, as the chain tells it.
+/// A fault of the assembler as a fault of the chain.
 fn refused(alloc: Global, fault: AsmFault<'_>) -> Fault
     ensures { IsRefusedAs (asm_refusal (fault_of fault.entry)) result }
 {
@@ -57,7 +57,7 @@ fn refused(alloc: Global, fault: AsmFault<'_>) -> Fault
     }
 }
 
-/// Why assembling fails, as the chain tells it.
+/// A failure of the assembler as a failure of the chain.
 fn failed(alloc: Global, failure: Failure<AsmFault<'_>>) -> Fault
     ensures { IsToldAs failure.entry result }
 {
@@ -67,9 +67,8 @@ fn failed(alloc: Global, failure: Failure<AsmFault<'_>>) -> Fault
     }
 }
 
-/// The module of the source of a name among these files, and its listing. It is refused where a line
-/// is wrong (10 to 13, 20 to 26, 31 to 36, 38, 50 to 56), or where a file that it asks for is not there
-/// (30).
+/// Assembles the source of this name in `files`: its module and its listing. The faults are a wrong line (10
+/// to 13, 20 to 26, 31 to 36, 38, 50 to 56), and a copied file that is not there (30).
 pub fn assemble_source<'a>(
     alloc: Global,
     files: &'a Files,
@@ -83,8 +82,8 @@ pub fn assemble_source<'a>(
     }
 }
 
-/// The module of the source of a name among these files, without a listing. It is refused as
-/// [`assemble_source`] is.
+/// Assembles the source of this name in `files` without a listing. The faults are those of
+/// [`assemble_source`].
 pub fn assemble_module(alloc: Global, files: &Files, name: &str) -> Result<Module, Fault>
     ensures { MeetsBy refusal_of (λ m. m) (module_in files.now name.now) result }
 {
@@ -94,7 +93,8 @@ pub fn assemble_module(alloc: Global, files: &Files, name: &str) -> Result<Modul
     }
 }
 
-/// The module that a module's bytes are read as: they are its one spelling, so it is that module.
+/// Writes a module as an object, and reads it back. The answer is that module, since its bytes spell no
+/// other.
 pub(crate) fn read_back(alloc: Global, object: &Module) -> Result<Module, NoMemory>
     ensures { IfOk result (λ again. again ≡ object.now) }
 {

@@ -1,4 +1,4 @@
--- Files that are written one behind another.
+-- Files that are written one after another.
 use Rattle.std.proofs.Common.{◌≡◌, ◌∙◌, sym, ap, ℕ, ◌+◌, ◌<◌, ◌≤◌, List, [], ◌∷◌, ◌++◌, length, map, take, drop, get_or, append_assoc, append-nil, Option, None, Some, subst}
 use Rattle.std.proofs.lemmas.List.{map-append, map_more, drop_more, drop_all, take-append-drop}
 use Rattle.c25_meaning_expansion.specs.Files.{Files}

@@ -17,7 +17,7 @@ Answer = Result Files (Failure (Placed (String Global) FileFault))
 abbrev pub rest_of : List (Bor (List ℕ)) → ℕ → List (List ℕ)
 rest_of names i = map (λ name. name.now) (drop i names)
 
--- reading the rest behind these files completes the reading of all
+-- reading the rest after these files completes the reading of all
 abbrev pub Completes : Held → List (Bor (List ℕ)) → Files → ℕ → Type 0
 Completes held names files i = (answer : Answer) → ReadsSources held files (rest_of names i) answer → ReadsSources held [] (map (λ name. name.now) names) answer
 

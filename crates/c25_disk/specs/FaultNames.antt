@@ -1,4 +1,4 @@
--- The numbers and names of what is wrong with files.
+-- The numbers and names of the faults of files.
 use Rattle.std.specs.Prelude.{ℕ, List, codes}
 use Rattle.c25_meaning_common.specs.Faults.{numbered}
 use Rattle.c25_disk.specs.declared.fault.FileFault.{FileFault}

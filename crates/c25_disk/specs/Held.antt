@@ -29,22 +29,23 @@ Stay old new = Adds old new []
 abbrev pub AreAsHeld : Held → Files → Type 0
 AreAsHeld held files = All (λ file. IsAllOf (held file.0) file.1) files
 
--- this is wrong with the file of this name, unless memory ran out
+-- this is the fault of the file of this name, unless memory ran out
 abbrev pub IsOfFile : List ℕ → FileFault → Failure (Placed (String Global) FileFault) → Type 0
 IsOfFile name kind (NoMemory n) = Unit {0}
 IsOfFile name kind (Fault f) = (string_bytes f.place ≡ name) × (f.fault ≡ kind)
 
--- what is wrong with a file that is to be a source behind these: it is one of them (37), or else it cannot be read (8)
+-- the fault of a file that is to be a source after these: it is one of them (37), or else it cannot be read
+-- (8)
 abbrev pub source_fault : Files → List ℕ → FileFault
 source_fault files name = if is_some (text_named files name) then FileTwice else CannotRead
 
--- a file's text joins these under its name, or why not
+-- a file's text is added to these under its name, or why not
 abbrev pub AddsSource : Held → Files → Files → List ℕ → Result (Unit {0}) (Failure (Placed (String Global) FileFault)) → Type 0
 AddsSource held files after name (Ok done) =
     (text : List ℕ) × IsAllOf (held name) text × (is_some (text_named files name) ≡ false) × (after ≡ files ++ (name, text) ∷ [])
 AddsSource held files after name (Err failure) = IsOfFile name (source_fault files name) failure
 
--- the sources of names, read one by one behind these, or the first that is refused
+-- the sources of names, read one by one after these, or the first fault
 abbrev pub ReadsSources : Held → Files → List (List ℕ) → Result Files (Failure (Placed (String Global) FileFault)) → Type 0
 ReadsSources held files [] result = result ≡ Ok files
 ReadsSources held files (name ∷ names) result =

@@ -13,14 +13,14 @@ use Rattle.c25_disk.specs.declared.writing.Output.{Output}
 abbrev pub contents_of : Output → List ℕ × List ℕ
 contents_of output = (output.name.now, output.bytes.items)
 
--- of these files those before this one were written, and no other
+-- of these files those before this one were written, and no others
 pub record EndsBefore (old new : Option Files) (files : Files) (file : List ℕ × List ℕ) : Type 0 where
   pub before : Files
   pub after : Files
   pub split : files ≡ before ++ file ∷ after
   pub written : Adds old new before
 
--- the first that cannot be written is told (7), unless memory ran out then
+-- the first file that cannot be written is reported (7), unless memory ran out then
 abbrev pub IsUnwritten : Option Files → Option Files → List Output → Failure (Placed (String Global) FileFault) → Type 0
 IsUnwritten old new outputs failure =
     (file : List ℕ × List ℕ) × EndsBefore old new (map contents_of outputs) file × IsOfFile file.0 CannotWrite failure

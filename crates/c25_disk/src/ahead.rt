@@ -1,4 +1,4 @@
-//! Files that texts name plainly, read before the work asks for them.
+//! Reading ahead: copied files that a text names plainly are read before the work asks for them.
 
 ghost use Rattle.std.specs.Prelude.{◌≤◌, ◌<◌, ◌+◌, length};
 ghost use Rattle.c25_meaning_expansion.specs.Files.{Files};
@@ -9,8 +9,8 @@ use crate::sources::{add_file, is_among};
 use c25_files::files::Files;
 use std::alloc::{AllocError, Global};
 
-/// The name of the file that a line copies, where the line shows it: a directive that copies, and a
-/// string without a quote in it.
+/// The name of the file that a line copies, where the line shows it: a `.copy` or `.include` directive with a
+/// string that has no quote in it.
 fn name_copied(line: &str) -> Option<&str> {
     let line = line.trim_start();
     let operand = line
@@ -23,7 +23,7 @@ fn name_copied(line: &str) -> Option<&str> {
     }
 }
 
-/// Such names of a text that are none of these files', so many of the first ones.
+/// At most `most` of the names that a text copies and that have not been read yet, in order.
 fn names_copied(
     alloc: Global,
     files: &Files,
@@ -47,7 +47,7 @@ fn names_copied(
     Ok(names)
 }
 
-/// Whether the file of a name is among these, or is read and joins them.
+/// Whether `files` has the file of this name, or the file can be read and is added.
 #[tactic(auto, using(crate::proofs::Copied::copied_same))]
 fn joins<D: Disk>(disk: &D, files: &mut Files, name: &str) -> bool
     ensures { (given : Files) → HasCopied (D.bytes_of disk.now) given 256 files.old → length files.old < length given + 256
@@ -62,7 +62,7 @@ fn joins<D: Disk>(disk: &D, files: &mut Files, name: &str) -> bool
     }
 }
 
-/// Reads the files of these names one by one, up to the first that cannot be had.
+/// Reads the named files in order, until one cannot be read or `files` has `most` texts.
 fn read_all<D: Disk>(disk: &D, files: &mut Files, names: &[String], most: usize)
     ensures { (given : Files) → most ≤ length given + 256 → HasCopied (D.bytes_of disk.now) given 256 files.old
         → HasCopied (D.bytes_of disk.now) given 256 files.new }
@@ -77,8 +77,8 @@ fn read_all<D: Disk>(disk: &D, files: &mut Files, names: &[String], most: usize)
     }
 }
 
-/// Reads the files that the text of a number names plainly, as long as they can be had and there are
-/// not so many.
+/// Reads the files that one text of `files` names plainly, as long as they can be read and `files` has fewer
+/// than `most` texts.
 fn read_named<D: Disk>(
     alloc: Global,
     disk: &D,
@@ -97,8 +97,8 @@ fn read_named<D: Disk>(
     Ok(())
 }
 
-/// Reads the files that texts name plainly, those of the files that join them too, from the text of a
-/// number on: the number behind the last text.
+/// Reads the files that the texts from number `first` on name plainly, and the files that those name. Answers
+/// the number after the last text.
 pub(crate) fn read_ahead<D: Disk>(
     alloc: Global,
     disk: &D,

@@ -1,4 +1,4 @@
-//! One turn of work over files.
+//! One attempt of a task over files.
 
 ghost use Rattle.c25_disk.specs.Copies.{AfterFault, IsTurn};
 
@@ -8,14 +8,15 @@ use c25_files::files::Files;
 use c25_meaning_common::failure::Failure;
 use std::alloc::Global;
 
-/// What a turn of work comes to: an answer, or the name of a file that is not there.
+/// The result of one attempt: an answer, or the name of a file that has not been read.
 #[derive(Drop)]
 pub(crate) enum Turn<A> {
     Answered(A),
     Lacks(String),
 }
 
-/// What follows a fault: its file is copied, where it asks for one that is not there.
+/// The result of an attempt that ended with a fault: the missing file's name, where the fault asks for a file
+/// that has not been read.
 #[tactic(auto, using(crate::proofs::Asked::there, crate::proofs::Asked::there_none, crate::proofs::Asked::lacking))]
 fn after_fault<W: Work>(
     alloc: Global,
@@ -33,7 +34,7 @@ fn after_fault<W: Work>(
     Ok(Turn::Lacks(String::from_str(alloc, name)?))
 }
 
-/// Work over these files.
+/// Runs the task once over these files.
 pub(crate) fn attempt<W: Work>(
     alloc: Global,
     files: &Files,

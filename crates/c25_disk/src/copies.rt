@@ -1,4 +1,4 @@
-//! Files that the work asks for.
+//! Tasks that stop at a copied file that has not been read, and begin again once it is.
 
 ghost use Rattle.std.specs.Prelude.{◌≡◌, OnOk, false, is_some};
 ghost use Rattle.c25_meaning_expansion.specs.Files.{text_named};
@@ -16,10 +16,10 @@ use c25_meaning_common::no_memory::NoMemory;
 use c25_meaning_common::placed::Placed;
 use std::alloc::Global;
 
-/// So many files may be copied.
+/// How many files may be copied.
 const COPIES: usize = 256;
 
-/// A file's fault as the work's.
+/// A file's fault as the fault of a task over files.
 fn file_fault<F>(failure: Failure<Placed<String, FileFault>>) -> Failure<CopyFault<F>>
     ensures { IsFileFault failure result }
 {
@@ -29,7 +29,7 @@ fn file_fault<F>(failure: Failure<Placed<String, FileFault>>) -> Failure<CopyFau
     }
 }
 
-/// Reads a file that the work asks for.
+/// Reads a file that the task asks for, and adds it.
 fn add_copy<D: Disk, F: Drop>(
     alloc: Global,
     disk: &D,
@@ -45,7 +45,7 @@ fn add_copy<D: Disk, F: Drop>(
     }
 }
 
-/// Work when no further file may be copied.
+/// Runs the task when no further file may be copied: a file that it asks for cannot be read (8).
 fn last_attempt<W: Work>(
     alloc: Global,
     files: &Files,
@@ -62,8 +62,7 @@ fn last_attempt<W: Work>(
     }
 }
 
-/// Work over files to which those that it asks for are added one by one: each time the work begins
-/// again.
+/// Runs the task, adding one file each time that it asks for one, and begins it again each time.
 #[tactic(auto, using(crate::proofs::Copied::copied_none, crate::proofs::Copied::copied_more, crate::proofs::Copied::copied_most))]
 fn with_asked<D: Disk, W: Work>(
     alloc: Global,
@@ -82,9 +81,8 @@ fn with_asked<D: Disk, W: Work>(
     last_attempt(alloc, files, work)
 }
 
-/// Work over files to which those that it asks for are added, and once it asks for one, those that texts
-/// name plainly: so the work seldom begins again. It has no answer where it asks for one more than may
-/// be copied.
+/// Runs the task, adding the file that it asks for and the files that texts name plainly, so that it seldom
+/// begins again. There is no answer where the task asks for one file more than may be copied.
 #[tactic(auto, using(crate::proofs::Copied::copied_given, crate::proofs::Copied::copied_room))]
 fn with_named<D: Disk, W: Work>(
     alloc: Global,
@@ -115,8 +113,8 @@ fn with_named<D: Disk, W: Work>(
     Ok(None)
 }
 
-/// Work over files to which those that it asks for are added, and those that texts name plainly; where it
-/// asks for one more than may be copied, anew over those that were given and those that it asks for.
+/// Runs the task with files read ahead. Where it then asks for one file more than may be copied, runs it anew
+/// over the given files and only those that it asks for.
 fn with_either<D: Disk, W: Work>(
     alloc: Global,
     disk: &D,
@@ -136,10 +134,10 @@ fn with_either<D: Disk, W: Work>(
     }
 }
 
-/// Work over files to which those that it asks for are added: where it asks for one that is not there,
-/// that one is read, and those that lines of the texts show to be copied, and the work begins again. At
-/// most 256 files are copied; where the work then asks for one more, it is done anew with no file but
-/// those that it asks for, and the 257th of these is refused (8) without being read.
+/// Runs a task over the given files. When the task needs a copied file that has not been read, it stops and
+/// names the file; that file is read, with those that lines of the texts plainly copy, and the task runs
+/// again from the start. At most 256 files are copied. Where the task then asks for one more, it runs anew
+/// with only the files that it asks for, and the 257th of these is `CannotRead` (8).
 pub fn with_copies<D: Disk, W: Work>(
     alloc: Global,
     disk: &D,

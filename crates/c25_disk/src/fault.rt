@@ -1,33 +1,33 @@
-//! What is wrong with a file.
+//! Faults of files.
 
 ghost use Rattle.std.specs.Prelude.{◌≡◌, IfOk, string_bytes};
 ghost use Rattle.c25_disk.specs.Held.{IsOfFile};
 ghost use Rattle.c25_disk.specs.declared.fault.FileFault.TheVariants as file;
 
+use c25_files::CannotRead;
 use c25_meaning_common::failure::Failure;
 use c25_meaning_common::no_memory::NoMemory;
 use c25_meaning_common::placed::Placed;
-use c25_files::CannotRead;
 use std::alloc::Global;
 use thiserror::Error;
 
-/// What is wrong with a file. It is placed at the file's name.
+/// What is wrong with a file; its place is the file's name.
 #[derive(Clone, Copy, Debug, Error)]
 #[error("{}", self.name())]
 pub enum FileFault {
-    /// It cannot be written (7).
+    /// The file cannot be written (7).
     CannotWrite,
-    /// It cannot be opened or read, has more than 16,777,216 bytes or is not UTF-8, or it is the 257th
-    /// that was to be copied (8).
+    /// The file cannot be opened or read, has more than 16,777,216 bytes or is not UTF-8, or it is the 257th
+    /// copied file (8).
     CannotRead,
-    /// It is a source a second time (37).
+    /// The file is given as a source twice (37).
     FileTwice,
 }
 
 impl FileFault {
     ghost use Rattle.c25_disk.specs.FaultNames.{file_fault_name, file_fault_number};
 
-    /// The number that it is told by.
+    /// The fault number shown to the user.
     pub fn number(&self) -> u8
         ensures { result ≡ file_fault_number self.now }
     {
@@ -38,7 +38,7 @@ impl FileFault {
         }
     }
 
-    /// The name that it is told by.
+    /// The fault name shown to the user.
     pub fn name(&self) -> &'static str
         ensures { result.now ≡ file_fault_name self.now }
     {
@@ -50,7 +50,7 @@ impl FileFault {
     }
 }
 
-/// Tells what is wrong with a file, unless memory runs out.
+/// A fault of a named file, unless the copy of the name runs out of memory.
 pub(crate) fn fault_of_file(
     alloc: Global,
     name: &str,
@@ -64,7 +64,7 @@ pub(crate) fn fault_of_file(
     }
 }
 
-/// Tells that a file cannot be read, unless memory runs out or ran out before.
+/// The fault of a named file that cannot be read (8), unless memory ran out.
 pub(crate) fn unread(
     alloc: Global,
     name: &str,

@@ -1,6 +1,7 @@
-//! The files of the program: which texts are read, and what is written.
+//! The files of the program: which texts are read, and which files are written.
 //!
-//! The work between stands on [`Disk`], so that contracts can say which text of which name goes where.
+//! Everything goes through the trait [`Disk`], so that contracts can say which text of which name is read and
+//! written.
 #![tactic(auto)]
 
 mod ahead;

@@ -1,4 +1,4 @@
-//! Sources, read from a disk.
+//! Sources read from a disk.
 
 ghost use Rattle.std.specs.Prelude.{◌≡◌, [], IfErr, IfOk, OnErr, OnOk, false, is_some, map, string_bytes};
 ghost use Rattle.c25_meaning_expansion.specs.Files.{text_named};
@@ -6,15 +6,15 @@ ghost use Rattle.c25_files.specs.Added.{AddsAll};
 ghost use Rattle.c25_disk.specs.declared.fault.FileFault.TheVariants as kind;
 ghost use Rattle.c25_disk.specs.Held.{AddsSource, IsAllOf, IsOfFile, ReadsSources};
 
-use crate::disk::{Disk, Refused};
+use crate::disk::{Disk, DiskFault};
 use crate::fault::{FileFault, fault_of_file, unread};
 use c25_files::files::{AddFault, Files};
+use c25_files::{CannotRead, read_text};
 use c25_meaning_common::failure::Failure;
 use c25_meaning_common::placed::Placed;
-use c25_files::{CannotRead, read_text};
 use std::alloc::Global;
 
-/// The text of a file, or why there is none.
+/// The text of a file, or that it cannot be read.
 fn text_of<D: Disk>(alloc: Global, disk: &D, name: &str) -> Result<String, Failure<CannotRead>>
     ensures { IfOk result (λ text. IsAllOf (D.bytes_of disk.now name.now) (string_bytes text)) }
 {
@@ -23,11 +23,11 @@ fn text_of<D: Disk>(alloc: Global, disk: &D, name: &str) -> Result<String, Failu
             let mut reader = reader;
             read_text(alloc, &mut reader)
         }
-        Err(Refused) => Err(Failure::Fault(CannotRead)),
+        Err(DiskFault) => Err(Failure::Fault(CannotRead)),
     }
 }
 
-/// The text of a file. It is refused (8) where the file cannot be opened or read, has more than
+/// Reads the text of a file. `CannotRead` (8) where the file cannot be opened or read, has more than
 /// 16,777,216 bytes, or is not UTF-8.
 pub fn read_file<D: Disk>(
     alloc: Global,
@@ -43,14 +43,14 @@ pub fn read_file<D: Disk>(
     }
 }
 
-/// Whether there is a file of this name.
+/// Whether `files` has a file of this name.
 pub(crate) fn is_among(files: &Files, name: &str) -> bool
     ensures { result ≡ is_some (text_named files.now name.now) }
 {
     files.text(name).is_some()
 }
 
-/// Adds the text of a file under its name, which is new. After a refusal the files are as before.
+/// Reads a file whose name is new to `files`, and adds its text. After an error `files` is as before.
 pub(crate) fn add_file<D: Disk>(
     disk: &D,
     files: &mut Files,
@@ -72,8 +72,8 @@ pub(crate) fn add_file<D: Disk>(
     }
 }
 
-/// Reads the file of a name behind others: one that is there already is refused without being opened
-/// (37).
+/// Reads a source and adds it. A name that `files` already has is `FileTwice` (37), and its file is not
+/// opened.
 pub(crate) fn add_source<D: Disk>(
     alloc: Global,
     disk: &D,
@@ -91,8 +91,7 @@ pub(crate) fn add_source<D: Disk>(
     }
 }
 
-/// Reads the sources of names, one by one. The first that is there already is refused (37), and so is
-/// the first that cannot be read (8).
+/// Reads the named sources in order. Stops at the first that is given twice (37) or cannot be read (8).
 pub fn read_sources<D: Disk>(
     alloc: Global,
     disk: &D,

@@ -1,12 +1,11 @@
-//! The system's files.
+//! The files of the system.
 
-use crate::disk::{Disk, Refused};
+use crate::disk::{Disk, DiskFault};
 use std::fs;
 use std::io::Write;
 use std::rt::Files;
 
-/// The files of the system. A name is a path, from the folder in which the program runs. What they
-/// hold is outside all contracts.
+/// The files of the system. A name is a path from the current folder. No contract says what the files have.
 #[derive(Drop)]
 pub struct System<'a, R: Files> {
     files: &'a R,
@@ -28,17 +27,17 @@ impl<'a, R: Files> Disk for System<'a, R> {
 
     ghost written = { λ _. None };
 
-    fn open(&self, name: &str) -> Result<R::File, Refused> {
+    fn open(&self, name: &str) -> Result<R::File, DiskFault> {
         match fs::open(self.files, name) {
             Ok(file) => Ok(file),
-            Err(_) => Err(Refused),
+            Err(_) => Err(DiskFault),
         }
     }
 
-    fn write(&mut self, name: &str, bytes: &[u8]) -> Result<(), Refused> {
+    fn write(&mut self, name: &str, bytes: &[u8]) -> Result<(), DiskFault> {
         match fs::write(self.files, name, bytes) {
             Ok(()) => Ok(()),
-            Err(_) => Err(Refused),
+            Err(_) => Err(DiskFault),
         }
     }
 }

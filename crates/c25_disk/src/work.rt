@@ -1,4 +1,4 @@
-//! Work over the texts of files.
+//! Tasks over the texts of files.
 
 ghost use Rattle.std.specs.Prelude.{◌≡◌};
 ghost use Rattle.std.specs.Option.{option_map};
@@ -11,7 +11,7 @@ use std::alloc::Global;
 use std::fmt;
 use thiserror::Error;
 
-/// Work over the texts of files. It may ask for one that is not there.
+/// A task over the texts of files, which may ask for a file that has not been read.
 pub trait Work {
     ghost use Rattle.std.specs.Prelude.{ℕ, List, Option, Result};
     ghost use Rattle.c25_meaning_common.specs.declared.failure.Failure.{Failure};
@@ -19,32 +19,32 @@ pub trait Work {
 
     type Answer: Drop;
 
-    /// Why there is no answer.
+    /// Why the task has no answer.
     type Fault: Drop;
 
-    /// What work over these files may come to.
+    /// What the task may answer over these files.
     ghost comes_to: { Self → Files → Result Self.Answer (Failure Self.Fault) → Type 0 };
 
     /// The name of the file that a fault asks for.
     ghost missing_of: { Self.Fault → Option (List ℕ) };
 
-    /// The work, from its beginning.
+    /// Runs the task from its start.
     fn answer(&self, alloc: Global, files: &Files) -> Result<Self::Answer, Failure<Self::Fault>>
         ensures { comes_to self.now files.now result };
 
-    /// The name of the file that a fault asks for, if it does.
+    /// The name of the file that a fault asks for, if it asks for one.
     fn missing(fault: &Self::Fault) -> Option<&str>
         ensures { option_map (λ name. name.now) result ≡ missing_of fault.now };
 }
 
-/// Why work over files that may be copied has no answer.
+/// Why a task over files that may be copied has no answer.
 #[derive(Debug, Drop, Error)]
 #[error_bound(F: fmt::Display)]
 pub enum CopyFault<F> {
-    /// The file that the work asks for cannot be had.
+    /// A file that the task asks for cannot be read.
     #[error(transparent)]
     File(Placed<String, FileFault>),
-    /// The work's own fault, which asks for no file that is not there.
+    /// The task's own fault, which asks for no file that is missing.
     #[error(transparent)]
     Work(F),
 }

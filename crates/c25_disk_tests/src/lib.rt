@@ -1,4 +1,4 @@
-//! Tests of reading and writing files; the readers and the files in memory that tests are made with.
+//! Tests of reading and writing files, with the readers and the files in memory that other tests use too.
 #![tactic(auto)]
 
 pub mod readers;

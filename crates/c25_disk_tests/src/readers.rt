@@ -1,9 +1,9 @@
-//! Readers that tests make.
+//! Readers for tests.
 
 use std::io;
 use std::io::{Error, ErrorKind, Read};
 
-/// Gives bytes at most so many at a time, and then ends or fails.
+/// A reader that gives its bytes in pieces of a limited length, and then ends or fails.
 #[derive(Drop)]
 pub struct Pieces<'a> {
     pub rest: &'a [u8],

@@ -1,10 +1,10 @@
 //! Files in memory.
 
 use crate::readers::Pieces;
-use c25_disk::disk::{Disk, Refused};
+use c25_disk::disk::{Disk, DiskFault};
 
-/// Files of a list, and what was written: for each file its name, a line feed, and its bytes. All other
-/// names are of a file with this text, if there is one; so many files may still be written.
+/// A disk in memory. It has a list of files, and a text that every other name has, if there is one. It keeps
+/// what was written (for each file its name, a line feed and its bytes), and accepts only so many writes.
 #[derive(Drop)]
 pub struct Shelf<'a> {
     pub files: &'a [(&'a str, &'a [u8])],
@@ -33,25 +33,25 @@ impl<'a> Disk for Shelf<'a> {
 
     ghost written = { λ _. None };
 
-    fn open(&self, name: &str) -> Result<Pieces<'a>, Refused> {
+    fn open(&self, name: &str) -> Result<Pieces<'a>, DiskFault> {
         match self.find(name) {
             Some(rest) => Ok(Pieces {
                 rest,
                 most: 3,
                 fails: false,
             }),
-            None => Err(Refused),
+            None => Err(DiskFault),
         }
     }
 
-    fn write(&mut self, name: &str, bytes: &[u8]) -> Result<(), Refused> {
+    fn write(&mut self, name: &str, bytes: &[u8]) -> Result<(), DiskFault> {
         if self.room == 0 {
-            return Err(Refused);
+            return Err(DiskFault);
         }
         self.room -= 1;
         for part in [name.as_bytes(), b"\n".as_slice(), bytes] {
             if self.written.extend_from_slice(part).is_err() {
-                return Err(Refused);
+                return Err(DiskFault);
             }
         }
         Ok(())

@@ -1,8 +1,8 @@
-//! Sources on a disk.
+//! Tests of sources on a disk.
 
 use crate::readers::Pieces;
 use crate::shelf::Shelf;
-use c25_disk::disk::{Disk, Refused};
+use c25_disk::disk::{Disk, DiskFault};
 use c25_disk::{read_file, read_sources};
 use std::cell::Cell;
 use std::process::Abort;
@@ -24,17 +24,17 @@ impl<'a> Disk for Counting<'a> {
 
     ghost written = { λ _. None };
 
-    fn open(&self, name: &str) -> Result<Pieces<'a>, Refused> {
+    fn open(&self, name: &str) -> Result<Pieces<'a>, DiskFault> {
         self.opened.set(self.opened.get().wrapping_add(1));
         self.shelf.open(name)
     }
 
-    fn write(&mut self, name: &str, bytes: &[u8]) -> Result<(), Refused> {
+    fn write(&mut self, name: &str, bytes: &[u8]) -> Result<(), DiskFault> {
         self.shelf.write(name, bytes)
     }
 }
 
-/// Sources that are read have their texts, and no others are read.
+/// Checks that sources that are read have their texts, and that no others are read.
 fn have_texts(rt: &(impl Abort + AllocGlobal), disk: &Counting<'_>) -> Result<(), Fail> {
     let files = read_sources(rt.alloc(), disk, &["b", "a"])?;
     let texts = [files.text("a"), files.text("b"), files.text("c")];
@@ -42,7 +42,7 @@ fn have_texts(rt: &(impl Abort + AllocGlobal), disk: &Counting<'_>) -> Result<()
     Ok(())
 }
 
-/// Each of two sources is opened once; a file has its text.
+/// Checks that each of two sources is opened once, and that a file has its text.
 fn are_read(rt: &(impl Abort + AllocGlobal), disk: &Counting<'_>) -> Result<(), Fail> {
     have_texts(rt, disk)?;
     assert_eq!(rt; disk.opened.get(), 2);

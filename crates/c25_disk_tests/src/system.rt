@@ -1,6 +1,6 @@
-//! Files of the system.
+//! Tests of the files of the system.
 
-use c25_disk::disk::{Disk, Refused};
+use c25_disk::disk::{Disk, DiskFault};
 use c25_disk::system::System;
 use c25_disk::{Output, read_file, write_outputs};
 use std::alloc::{AllocError, Global};
@@ -9,7 +9,7 @@ use std::rt::Files;
 use std::test::Fail;
 use std::{fs, process};
 
-/// A file of this name with this text, as it is to be written.
+/// One file of this name and text, ready to be written.
 fn outputs_of<'a>(alloc: Global, name: &'a str, text: &str) -> Result<Vec<Output<'a>>, AllocError> {
     let bytes = text.as_bytes().to_vec(alloc)?;
     let mut outputs = Vec::new(alloc);
@@ -17,7 +17,7 @@ fn outputs_of<'a>(alloc: Global, name: &'a str, text: &str) -> Result<Vec<Output
     Ok(outputs)
 }
 
-/// A text is written to a file, and read from it again.
+/// Checks that a text is written to a file, and read back.
 fn is_written<R: Files>(
     rt: &(impl Abort + AllocGlobal),
     system: &mut System<'_, R>,
@@ -39,7 +39,7 @@ fn what_is_written_is_read(rt: HostRuntime) -> Result<(), Fail> {
     is_written(&rt, &mut system, &name, "text")?;
     fs::remove_file(&rt, &name)?;
     assert!(rt; system.open(&name).is_err());
-    assert_eq!(rt; system.write("/", b"x"), Err(Refused));
+    assert_eq!(rt; system.write("/", b"x"), Err(DiskFault));
     assert!(rt; read_file(rt.alloc(), &system, "/").is_err());
     Ok(())
 }

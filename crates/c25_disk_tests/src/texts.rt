@@ -1,4 +1,4 @@
-//! Readers' texts.
+//! Tests of texts that come from readers.
 
 use crate::readers::Pieces;
 use c25_disk::{CannotRead, read_text};
@@ -9,7 +9,7 @@ use std::io::Read;
 use std::process::Abort;
 use std::test::Fail;
 
-/// Gives so many `*`.
+/// A reader of so many `*`.
 #[derive(Drop)]
 struct Stars {
     left: usize,
@@ -24,7 +24,7 @@ impl Read for Stars {
     }
 }
 
-/// The file of this name has this text.
+/// Checks that the file of this name has this text.
 fn has(rt: &(impl Abort + AllocGlobal), files: &Files, name: &str, text: Option<&str>) {
     let found = files.text(name);
     assert_eq!(rt; found, text);
@@ -45,7 +45,7 @@ fn characters_may_be_cut_between_reads(rt: HostRuntime) -> Result<(), Fail> {
     Ok(())
 }
 
-/// The rest of a reader cannot be read.
+/// Checks that the rest of a reader cannot be read.
 fn cannot_be_read<R: Read>(rt: &impl AllocGlobal, reader: &mut R) -> Result<(), Fail> {
     match read_text(rt.alloc(), reader) {
         Err(Failure::Fault(CannotRead)) => Ok(()),
@@ -63,7 +63,7 @@ fn the_limit_is_16777216_bytes(rt: HostRuntime) -> Result<(), Fail> {
     cannot_be_read(&rt, &mut past)
 }
 
-/// Adds a file `b` with the text 2, and one that is read a byte at a time.
+/// Adds a file `b` with the text 2, and a file that is read one byte at a time.
 fn add_two(files: &mut Files) -> Result<(), Fail> {
     files.add("b", "2")?;
     let mut reader = Pieces {

@@ -1,4 +1,4 @@
-//! Cases: a call of the program over files in memory, and what must come of it.
+//! Cases: a call of the program over files in memory, and what it must do.
 
 use crate::files::{File, Folder};
 use c25_tasks::run_words;
@@ -6,23 +6,23 @@ use std::alloc::{AllocError, Global};
 use std::io;
 use std::process::ExitCode;
 
-/// A call of the program, and what must come of it.
+/// A call of the program, and what it must do.
 #[derive(Drop)]
 pub(crate) struct Case<'a> {
     pub(crate) name: &'a str,
-    /// The program's name first.
+    /// The command line, with the program's name first.
     pub(crate) words: Vec<String>,
     pub(crate) input: Vec<u8>,
     pub(crate) given: Vec<File>,
     pub(crate) status: u8,
     pub(crate) output: Vec<u8>,
-    /// Whether what goes to standard error is looked at.
+    /// Whether standard error is compared.
     pub(crate) has_errors: bool,
     pub(crate) errors: Vec<u8>,
     pub(crate) written: Vec<File>,
 }
 
-/// Tells a part of what came of a case that is not as it must be.
+/// Prints a difference, unless this part of a case is right.
 fn tell_unless(rt: &HostRuntime, is_right: bool, name: &str, told: &str) -> io::Result<()> {
     if is_right {
         return Ok(());
@@ -30,8 +30,16 @@ fn tell_unless(rt: &HostRuntime, is_right: bool, name: &str, told: &str) -> io::
     println!(rt; "{name}: {told}")
 }
 
+/// What a call of the program did.
+#[derive(Drop)]
+struct Called<'a> {
+    status: ExitCode,
+    output: &'a [u8],
+    errors: &'a [u8],
+}
+
 impl<'a> Case<'a> {
-    /// The case of this name that has nothing yet but the program's name.
+    /// A case of this name with no command line but the program's name.
     pub(crate) fn new(alloc: Global, name: &'a str) -> Result<Case<'a>, AllocError> {
         let mut words = Vec::new(alloc);
         words.push(String::from_str(alloc, "c25")?)?;
@@ -48,28 +56,26 @@ impl<'a> Case<'a> {
         })
     }
 
-    /// Tells each part of what came of the call that is not as it must be.
+    /// Prints each part of the call that is not as it must be.
     fn compare(
         &self,
         rt: &HostRuntime,
-        status: ExitCode,
-        output: &[u8],
-        errors: &[u8],
+        called: &Called<'_>,
         folder: &Folder<'_>,
     ) -> io::Result<()> {
         let name = self.name;
-        if status != ExitCode::from(self.status) {
+        if called.status != ExitCode::from(self.status) {
             println!(rt; "{name}: another status than {}", self.status)?;
         }
-        let has_output = output == self.output.as_slice();
+        let has_output = called.output == self.output.as_slice();
         tell_unless(rt, has_output, name, "another standard output")?;
-        let has_errors = !self.has_errors || errors == self.errors.as_slice();
+        let has_errors = !self.has_errors || called.errors == self.errors.as_slice();
         tell_unless(rt, has_errors, name, "another standard error")?;
         let has_written = folder.wrote(&self.written);
         tell_unless(rt, has_written, name, "other files written")
     }
 
-    /// Calls the program, and tells each part of what comes of it that is not as it must be.
+    /// Calls the program, and prints each part that is not as it must be.
     pub(crate) fn run(&self, rt: &HostRuntime) -> io::Result<()> {
         let mut folder = Folder::new(rt.alloc(), &self.given);
         let mut output = Vec::<u8>::new(rt.alloc());
@@ -83,6 +89,11 @@ impl<'a> Case<'a> {
             &mut errors,
         )
         .status();
-        self.compare(rt, status, &output, &errors, &folder)
+        let called = Called {
+            status,
+            output: &output,
+            errors: &errors,
+        };
+        self.compare(rt, &called, &folder)
     }
 }

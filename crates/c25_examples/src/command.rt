@@ -1,4 +1,4 @@
-//! The calls of the program `c25` in a session, and the lines that it asks for.
+//! The commands of a session: calls of the program `c25`, and lines of a file.
 
 /// What a program reads from standard input.
 #[derive(Clone, Copy)]
@@ -13,22 +13,22 @@ pub(crate) enum Input<'a> {
 /// A call of the program `c25`.
 #[derive(Clone, Copy)]
 pub(crate) struct Call<'a> {
-    /// Its words, its name first.
+    /// The command line, with the program's name first.
     pub(crate) words: &'a str,
     pub(crate) input: Input<'a>,
-    /// Whether what goes to standard error is shown.
+    /// Whether standard error is shown.
     pub(crate) shows_errors: bool,
 }
 
-/// Lines of a file.
+/// A range of lines of a file, as `sed` is asked for it.
 #[derive(Clone, Copy)]
-pub(crate) struct Lines<'a> {
+pub(crate) struct SessionLines<'a> {
     pub(crate) first: usize,
     pub(crate) last: usize,
     pub(crate) file: &'a str,
 }
 
-/// The text that `echo` is given in quotes of either kind, and the call to which it goes.
+/// The text in quotes of either kind that `echo` is given, and the call that reads it.
 fn piped(line: &str) -> Option<(&str, &str)> {
     let line = line.strip_prefix("echo ")?;
     match line.strip_prefix('\'') {
@@ -37,7 +37,7 @@ fn piped(line: &str) -> Option<(&str, &str)> {
     }
 }
 
-/// A call without what is said of standard error.
+/// The command line and the input of a call, without the redirection of standard error.
 fn words_and_input(line: &str) -> (&str, Input<'_>) {
     if let Some((text, words)) = piped(line) {
         return (words, Input::Line(text));
@@ -48,8 +48,8 @@ fn words_and_input(line: &str) -> (&str, Input<'_>) {
     }
 }
 
-/// A call of the program `c25`: `c25 WORDS..`, behind `echo 'TEXT' |` or before `< FILE` where it reads anything, and before
-/// `2>/dev/null` where standard error is not shown.
+/// A call of the program `c25`: `c25 ARGUMENTS..`, after `echo 'TEXT' |` or before `< FILE` where it reads
+/// standard input, and before `2>/dev/null` where standard error is not shown.
 pub(crate) fn call_of(line: &str) -> Option<Call<'_>> {
     let (line, shows_errors) = match line.strip_suffix(" 2>/dev/null") {
         Some(line) => (line, false),
@@ -66,11 +66,11 @@ pub(crate) fn call_of(line: &str) -> Option<Call<'_>> {
     })
 }
 
-/// The lines `-n FIRST,LASTp FILE`.
-pub(crate) fn lines_of(told: &str) -> Option<Lines<'_>> {
+/// The range of lines of `-n FIRST,LASTp FILE`.
+pub(crate) fn lines_of(told: &str) -> Option<SessionLines<'_>> {
     let (lines, file) = told.strip_prefix("-n ")?.split_once("p ")?;
     let (first, last) = lines.split_once(',')?;
-    Some(Lines {
+    Some(SessionLines {
         first: first.parse().ok()?,
         last: last.parse().ok()?,
         file,

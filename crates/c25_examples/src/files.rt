@@ -1,6 +1,6 @@
 //! The files of a case, in memory.
 
-use c25_disk::disk::{Disk, Refused};
+use c25_disk::disk::{Disk, DiskFault};
 use std::alloc::{AllocError, Global};
 
 /// A file: its name and its bytes.
@@ -19,7 +19,7 @@ impl File {
     }
 }
 
-/// A folder without folders in it: the files that a case gives, and those that were written.
+/// A folder in memory without subfolders: the files that a case gives, and those that were written.
 #[derive(Drop)]
 pub(crate) struct Folder<'a> {
     alloc: Global,
@@ -56,25 +56,25 @@ impl<'a> Disk for Folder<'a> {
 
     ghost written = { λ _. None };
 
-    fn open(&self, name: &str) -> Result<&'a [u8], Refused> {
+    fn open(&self, name: &str) -> Result<&'a [u8], DiskFault> {
         for file in self.given {
             if file.name.as_str() == name {
                 return Ok(file.bytes.as_slice());
             }
         }
-        Err(Refused)
+        Err(DiskFault)
     }
 
-    fn write(&mut self, name: &str, bytes: &[u8]) -> Result<(), Refused> {
+    fn write(&mut self, name: &str, bytes: &[u8]) -> Result<(), DiskFault> {
         if name.contains('/') {
-            return Err(Refused);
+            return Err(DiskFault);
         }
         let Ok(file) = File::new(self.alloc, name, bytes) else {
-            return Err(Refused);
+            return Err(DiskFault);
         };
         match self.written.push(file) {
             Ok(()) => Ok(()),
-            Err(_) => Err(Refused),
+            Err(_) => Err(DiskFault),
         }
     }
 }

@@ -1,4 +1,4 @@
-//! Calls of the libraries that no word of the program makes, over the files of a session's folder.
+//! Calls of the libraries that no command line of the program makes, over the files of a session's folder.
 
 ghost use Rattle.std.specs.Prelude.{All};
 
@@ -10,9 +10,10 @@ use c25_board::ports::ListSink;
 use c25_board::samples::{Samples, read_samples};
 use c25_board::schedule::read_schedule;
 use c25_chain::chain::Chain;
-use c25_chain::fault::{Fault, Refusal};
+use c25_chain::fault::{ChainFault, Fault};
 use c25_chain::linked::Linked;
 use c25_chain::{board_of, link_modules, run_chain, write_fault, write_run};
+use c25_debug::session::Session;
 use c25_hex::read_hex;
 use c25_link::Image;
 use c25_macro::files::Files as Sources;
@@ -23,18 +24,17 @@ use c25_meaning_image::word_map::WordMap;
 use c25_meaning_processor::script::Cmd;
 use c25_module::Module;
 use c25_records::read_module;
-use c25_debug::session::Session;
 use std::alloc::Global;
 use std::{fs, io};
 
-/// The line of a fault.
+/// Prints the line of a fault.
 fn show_fault(rt: &HostRuntime, fault: &Fault) -> Result<()> {
     let line = write_fault(rt.alloc(), fault)?;
     rt.println(line)?;
     Ok(())
 }
 
-/// Words, each behind its address.
+/// Prints words, each after its address.
 fn show_words(rt: &HostRuntime, words: &WordMap) -> Result<()> {
     for (address, word) in words.iter() {
         println!(rt; "{address:04X} {word:04X}")?;
@@ -42,16 +42,16 @@ fn show_words(rt: &HostRuntime, words: &WordMap) -> Result<()> {
     Ok(())
 }
 
-/// `read_hex FILE`: the words that a hex text spells, each behind its address, or its fault.
+/// `read_hex FILE`: prints the words of a hex text, each after its address, or its fault.
 fn show_hex(rt: &HostRuntime, text: &str) -> Result<()> {
     match read_hex(rt.alloc(), text) {
         Ok(words) => show_words(rt, &words),
         Err(Failure::NoMemory(error)) => Err(error.into()),
-        Err(Failure::Fault(placed)) => show_fault(rt, &Failure::Fault(Refusal::Hex(placed))),
+        Err(Failure::Fault(placed)) => show_fault(rt, &Failure::Fault(ChainFault::Hex(placed))),
     }
 }
 
-/// A section and its parts, a line each.
+/// Prints a section and its parts, one line each.
 fn show_section(rt: &HostRuntime, section: &OutputSection) -> io::Result<()> {
     println!(rt;
         "section {} {:04X} {} {}",
@@ -66,12 +66,12 @@ fn show_section(rt: &HostRuntime, section: &OutputSection) -> io::Result<()> {
     Ok(())
 }
 
-/// A line of a symbol, or of the entry.
+/// Prints the line of a symbol, or of the entry.
 fn show_symbol(rt: &HostRuntime, kind: &str, symbol: &GlobalSymbol) -> io::Result<()> {
     println!(rt; "{kind} {:08X} {}", symbol.value, symbol.name)
 }
 
-/// What a map tells.
+/// Prints all that a map says.
 fn show_parts(rt: &HostRuntime, map: &Map) -> io::Result<()> {
     for section in &map.sections {
         show_section(rt, section)?;
@@ -85,7 +85,7 @@ fn show_parts(rt: &HostRuntime, map: &Map) -> io::Result<()> {
     }
 }
 
-/// Whether the text that is written of a map is the one that it was read of.
+/// Prints whether the text that is written of a map is the text that it was read from.
 fn show_whether_same(rt: &HostRuntime, written: &str, read: &str) -> io::Result<()> {
     rt.println(if written == read {
         "written as it was read"
@@ -94,8 +94,8 @@ fn show_whether_same(rt: &HostRuntime, written: &str, read: &str) -> io::Result<
     })
 }
 
-/// `read_map FILE`: what the text of a map tells, and whether the text that is written of it is another one; or its
-/// fault.
+/// `read_map FILE`: prints what the text of a map says, and whether the text that is written of it is another
+/// one; or its fault.
 fn show_map(rt: &HostRuntime, text: &str) -> Result<()> {
     let map = match read_map(rt.alloc(), text) {
         Ok(map) => map,
@@ -107,7 +107,7 @@ fn show_map(rt: &HostRuntime, text: &str) -> Result<()> {
     Ok(())
 }
 
-/// The texts of an answer of the chain, its listings, and what its run printed.
+/// Prints the texts of an answer of the chain, its listings, and the text of its run.
 fn show_texts(rt: &HostRuntime, chain: &Chain) -> Result<()> {
     print!(rt; "{}{}{}", chain.page0, chain.page1, chain.map)?;
     for listing in &chain.listings {
@@ -118,7 +118,7 @@ fn show_texts(rt: &HostRuntime, chain: &Chain) -> Result<()> {
     Ok(())
 }
 
-/// Puts a source to the files, if it is there and not among them.
+/// Adds a source to the files, if it exists and is not among them.
 fn add_source(rt: &HostRuntime, files: &mut Sources, name: &str) -> Result<()> {
     if files.text(name).is_some() {
         return Ok(());
@@ -129,7 +129,7 @@ fn add_source(rt: &HostRuntime, files: &mut Sources, name: &str) -> Result<()> {
     }
 }
 
-/// The files of sources.
+/// Adds sources to the files.
 fn add_sources(rt: &HostRuntime, files: &mut Sources, sources: &[String]) -> Result<()> {
     for source in sources {
         add_source(rt, files, source)?;
@@ -137,7 +137,7 @@ fn add_sources(rt: &HostRuntime, files: &mut Sources, sources: &[String]) -> Res
     Ok(())
 }
 
-/// What the chain answers in 1,000 steps of sources, or its fault.
+/// Prints what the chain answers for 1,000 steps of sources, or its fault.
 fn show_answer(rt: &HostRuntime, files: &Sources, sources: &[String]) -> Result<()> {
     match run_chain(rt.alloc(), files, sources, "", "", "", 1000) {
         Ok(chain) => show_texts(rt, &chain),
@@ -145,8 +145,8 @@ fn show_answer(rt: &HostRuntime, files: &Sources, sources: &[String]) -> Result<
     }
 }
 
-/// `run_chain FILE..`: what the chain answers in 1,000 steps of the sources of these names, of which those are given
-/// that are there; or its fault.
+/// `run_chain FILE..`: prints what the chain answers for 1,000 steps of the named sources, or its fault.
+/// Sources that do not exist are not given to the chain.
 fn show_chain(rt: &HostRuntime, names: &str) -> Result<()> {
     let sources = words_of(rt.alloc(), names)?;
     let mut files = Sources::new(rt.alloc());
@@ -154,13 +154,13 @@ fn show_chain(rt: &HostRuntime, names: &str) -> Result<()> {
     show_answer(rt, &files, &sources)
 }
 
-/// The module of an object.
+/// The module of an object file.
 fn module_of(rt: &HostRuntime, name: &str) -> Result<Module> {
     let bytes = fs::read(rt, name)?;
     Ok(read_module(rt.alloc(), &bytes)?)
 }
 
-/// The modules of objects.
+/// The modules of object files.
 fn modules_of(rt: &HostRuntime, names: &str) -> Result<Vec<Module>> {
     let mut modules = Vec::new(rt.alloc());
     for name in names.split_whitespace() {
@@ -169,8 +169,8 @@ fn modules_of(rt: &HostRuntime, names: &str) -> Result<Vec<Module>> {
     Ok(modules)
 }
 
-/// The end of an instruction's line: the file and the line where it stands, if the program has them for the address where
-/// it is loaded.
+/// Prints the end of an instruction's line: its source file and line, if the program has them for the address
+/// where it is loaded.
 fn show_source(rt: &HostRuntime, image: &Image, address: u16) -> io::Result<()> {
     match image.line_of(address) {
         Some((file, line)) => println!(rt; " {file}:{line}"),
@@ -178,7 +178,8 @@ fn show_source(rt: &HostRuntime, image: &Image, address: u16) -> io::Result<()> 
     }
 }
 
-/// Each instruction that runs in block B0, as the address where it is loaded, its size, and the address where it runs.
+/// Prints each instruction that runs in block B0: the address where it is loaded, its size, and the address
+/// where it runs.
 fn show_copied(rt: &HostRuntime, image: &Image) -> io::Result<()> {
     for mark in image.run_marks() {
         print!(rt; "{:04X} {} at {:04X}", mark.load, mark.size, mark.run)?;
@@ -187,7 +188,7 @@ fn show_copied(rt: &HostRuntime, image: &Image) -> io::Result<()> {
     Ok(())
 }
 
-/// Each instruction that runs where it is loaded, as its address and its size.
+/// Prints each instruction that runs where it is loaded: its address and its size.
 fn show_places(rt: &HostRuntime, image: &Image) -> io::Result<()> {
     for mark in image.marks() {
         print!(rt; "{:04X} {}", mark.address, mark.size)?;
@@ -196,7 +197,8 @@ fn show_places(rt: &HostRuntime, image: &Image) -> io::Result<()> {
     Ok(())
 }
 
-/// `line_of COMMAND OBJECT..`: the instructions of these objects, linked as the command file says, with their lines.
+/// `line_of COMMAND OBJECT..`: prints the instructions of these objects, linked under the command file, with
+/// their lines.
 fn show_line_of(rt: &HostRuntime, image: &Image) -> Result<()> {
     show_places(rt, image)?;
     show_copied(rt, image)?;
@@ -216,21 +218,22 @@ fn board_that_runs(alloc: Global, linked: &Linked) -> Result<Board<Samples, List
     Ok(board_of(alloc, linked, samples, schedule)?)
 }
 
-/// What a session answers to `list` of all instructions.
+/// Prints what a session answers to `list` of all instructions.
 fn show_listed(rt: &HostRuntime, session: &mut Session<'_, Samples, ListSink>) -> Result<()> {
     let answer = session.command(&Cmd::List(u32::MAX))?;
     rt.print(answer)?;
     Ok(())
 }
 
-/// `list COMMAND OBJECT..`: what a session answers to `list` of all instructions over the program of these objects.
+/// `list COMMAND OBJECT..`: prints what a session answers to `list` of all instructions over the program of
+/// these objects.
 fn show_list(rt: &HostRuntime, linked: &Linked) -> Result<()> {
     let board = board_that_runs(rt.alloc(), linked)?;
     let mut session = Session::new(rt.alloc(), board, &linked.image);
     show_listed(rt, &mut session)
 }
 
-/// The program of objects, linked as a command file says: the command file's name stands in front of theirs.
+/// The program of objects, linked under a command file, whose name stands before theirs.
 fn linked_of(rt: &HostRuntime, names: &str) -> Result<Linked> {
     let (command, objects) = names.split_once(' ').context("no objects")?;
     let command = fs::read_to_string(rt, command)?;
@@ -238,7 +241,7 @@ fn linked_of(rt: &HostRuntime, names: &str) -> Result<Linked> {
     Ok(link_modules(rt.alloc(), &modules, &command)?)
 }
 
-/// A call of a library over a linked program.
+/// Calls a library over a linked program.
 fn call_over_program(rt: &HostRuntime, name: &str, files: &str) -> Result<()> {
     let linked = linked_of(rt, files)?;
     if name == "list" {
@@ -248,7 +251,7 @@ fn call_over_program(rt: &HostRuntime, name: &str, files: &str) -> Result<()> {
     }
 }
 
-/// A call of a library: of this name, over these files.
+/// Calls the library of this name over these files.
 pub(crate) fn call_library(rt: &HostRuntime, name: &str, files: &str) -> Result<()> {
     match name {
         "read_hex" => show_hex(rt, &fs::read_to_string(rt, files)?),

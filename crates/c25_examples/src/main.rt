@@ -1,9 +1,9 @@
-//! Runs examples: of each folder that the program's words name the commands of its file `session`, as a shell
-//! does in that folder, and of each file of packed cases all of them. What is printed of a session is what a
-//! terminal shows then; of packed cases it is what is not as it must be, and how many there are.
+//! Runs examples: for each folder on the command line the commands of its file `session`, as a shell does in
+//! that folder, and for each file of packed cases all its cases. Of a session it prints what a terminal
+//! shows; of packed cases the differences from what they say, and their number.
 //!
-//! Then it calls the program with these same words, which are no task of it: it prints nothing more, and the status is 2.
-//! Where an example cannot be run, the status is 1.
+//! Then the program is called with this program's own command line, which is no task: nothing more is
+//! printed, and the status is 2. Where an example cannot be run, the status is 1.
 #![tactic(auto)]
 
 mod case;
@@ -15,14 +15,13 @@ mod session;
 mod values;
 
 use anyhow::Result;
-use c25_disk::system::System;
-use c25_tasks::run_program;
+use c25_tasks::run_on;
 use packed::run_cases;
 use session::run_session;
 use std::env;
 use std::process::ExitCode;
 
-/// Runs the session of a folder, there.
+/// Runs the session of a folder, in that folder.
 fn run_folder(rt: &HostRuntime, folder: &str) -> Result<()> {
     let top = env::current_dir(rt)?;
     env::set_current_dir(rt, folder)?;
@@ -31,7 +30,7 @@ fn run_folder(rt: &HostRuntime, folder: &str) -> Result<()> {
     Ok(())
 }
 
-/// Runs what is named: a file of packed cases, or a folder.
+/// Runs an example: a file of packed cases, or a folder.
 fn run_example(rt: &HostRuntime, name: &str) -> Result<()> {
     println!(rt; "== {name}")?;
     if name.ends_with(".cases") {
@@ -41,7 +40,7 @@ fn run_example(rt: &HostRuntime, name: &str) -> Result<()> {
     }
 }
 
-/// Runs all that the program's words name.
+/// Runs all examples that the command line names.
 fn run_examples(rt: &HostRuntime) -> Result<()> {
     for name in env::args(rt)?.skip(1) {
         run_example(rt, &name)?;
@@ -51,13 +50,5 @@ fn run_examples(rt: &HostRuntime) -> Result<()> {
 
 fn main(rt: HostRuntime) -> Result<ExitCode> {
     run_examples(&rt)?;
-    let ended = run_program(
-        rt.alloc(),
-        &rt,
-        &mut System::new(&rt),
-        &mut rt.stdin(),
-        &mut rt.stdout(),
-        &mut rt.stderr(),
-    );
-    Ok(ended.status())
+    Ok(run_on(&rt).status())
 }

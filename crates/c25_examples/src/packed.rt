@@ -1,11 +1,11 @@
 //! Cases that are packed in one file.
 //!
-//! A case is a line `case NAME` and the entries behind it, each a line: `word WORD` for each word behind the
-//! program's name; `input LENGTH`, what stands on standard input; `given LENGTH NAME`, a file; `status NUMBER`;
-//! `output LENGTH` and `errors LENGTH`, what must go to standard output and to standard error, where there is no
-//! line `errors` whatever does; `written LENGTH NAME`, a file that must be written. Behind a line with a length
-//! stand so many bytes and a line feed. A length may be `LENGTH*COUNT`, which is so many copies of these bytes; entries of
-//! one kind, of files those of one name, go on one behind another.
+//! A case is a line `case NAME` and its entries, each a line: `word WORD` for each argument after the
+//! program's name; `input LENGTH`, what stands on standard input; `given LENGTH NAME`, a file; `status
+//! NUMBER`; `output LENGTH` and `errors LENGTH`, what must go to standard output and to standard error
+//! (anything may go there without a line `errors`); `written LENGTH NAME`, a file that must be written. After
+//! a line with a length stand so many bytes and a line feed. A length may be `LENGTH*COUNT`, for so many
+//! copies of these bytes; entries of one kind, of files those of one name, are appended to one another.
 
 use crate::case::Case;
 use crate::files::File;
@@ -13,14 +13,14 @@ use anyhow::{Context, Result, bail};
 use std::alloc::Global;
 use std::{fs, io, str};
 
-/// The first line of bytes, without its line feed, and what stands behind it.
+/// The first line of bytes, without its line feed, and what stands after it.
 fn split_line(bytes: &[u8]) -> Result<(&str, &[u8])> {
     let end = bytes.iter().position(|byte| *byte == b'\n');
     let (line, rest) = split_bytes(bytes, end.context("a line without an end")?)?;
     Ok((str::from_utf8(line)?, rest))
 }
 
-/// So many bytes, and what stands behind them and a line feed.
+/// The first `length` bytes, and what stands after them and a line feed.
 fn split_bytes(bytes: &[u8], length: usize) -> Result<(&[u8], &[u8])> {
     let (first, rest) = bytes.split_at_checked(length).context("too few bytes")?;
     match rest {
@@ -37,7 +37,8 @@ fn copies_of(told: &str) -> Result<(usize, usize)> {
     }
 }
 
-/// Appends the copies that are told of the bytes in front, and gives what stands behind them.
+/// Appends the bytes of an entry with this length, as many times as it says, and answers what stands after
+/// them.
 fn put_bytes<'a>(all: &mut Vec<u8>, told: &str, bytes: &'a [u8]) -> Result<&'a [u8]> {
     let (length, count) = copies_of(told)?;
     let (first, rest) = split_bytes(bytes, length)?;
@@ -47,8 +48,8 @@ fn put_bytes<'a>(all: &mut Vec<u8>, told: &str, bytes: &'a [u8]) -> Result<&'a [
     Ok(rest)
 }
 
-/// Puts bytes into the last of these files, if it has the name that `LENGTH NAME` tells, or else into a new one, and gives
-/// what stands behind them.
+/// Appends the bytes of an entry `LENGTH NAME` to the last of these files, if it has that name, or else to a
+/// new one, and answers what stands after them.
 fn put_file<'a>(
     alloc: Global,
     files: &mut Vec<File>,
@@ -69,8 +70,8 @@ fn put_file<'a>(
     }
 }
 
-/// Puts an entry, of which the line is told and the bytes lie in front, into its case, and gives what stands
-/// behind it.
+/// Adds an entry to its case. `bytes` begins after the entry's line; the answer is what stands after the
+/// entry.
 fn put_entry<'a>(
     alloc: Global,
     case: &mut Case<'_>,
@@ -99,7 +100,8 @@ fn put_entry<'a>(
     }
 }
 
-/// Begins a case or puts an entry into the last one, as the first line of these bytes says, and gives what stands behind.
+/// Begins a case, or adds an entry to the last case, as the first line of these bytes says, and answers what
+/// stands after it.
 fn put_line<'a>(alloc: Global, cases: &mut Vec<Case<'a>>, bytes: &'a [u8]) -> Result<&'a [u8]> {
     let (line, rest) = split_line(bytes)?;
     if let Some(name) = line.strip_prefix("case ") {
@@ -112,7 +114,7 @@ fn put_line<'a>(alloc: Global, cases: &mut Vec<Case<'a>>, bytes: &'a [u8]) -> Re
     }
 }
 
-/// Puts the cases of a file's bytes behind these.
+/// Appends the cases of a file's bytes.
 fn put_cases<'a>(alloc: Global, cases: &mut Vec<Case<'a>>, bytes: &'a [u8]) -> Result<()> {
     let mut rest = bytes;
     for _ in 0..bytes.len() {
@@ -124,7 +126,7 @@ fn put_cases<'a>(alloc: Global, cases: &mut Vec<Case<'a>>, bytes: &'a [u8]) -> R
     Ok(())
 }
 
-/// Runs cases, and tells how many there are.
+/// Runs cases, and prints how many there are.
 fn run_all(rt: &HostRuntime, cases: &[Case<'_>]) -> io::Result<()> {
     for case in cases {
         case.run(rt)?;

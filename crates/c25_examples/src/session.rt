@@ -1,5 +1,5 @@
-//! Sessions: commands that are run in the order of their lines. They are those of a shell that the manual's examples need,
-//! and calls of the libraries.
+//! Sessions: commands that are run line by line. They are those shell commands that the manual's examples
+//! need, and calls of the libraries.
 
 use crate::command::{Input, call_of, lines_of};
 use crate::library::call_library;
@@ -11,7 +11,7 @@ use std::io::Write;
 use std::process::ExitCode;
 use std::{fs, io};
 
-/// The words of a line.
+/// The arguments of a line, separated by blanks.
 pub(crate) fn words_of(alloc: Global, line: &str) -> Result<Vec<String>, AllocError> {
     let mut words = Vec::new(alloc);
     for word in line.split_whitespace() {
@@ -20,7 +20,7 @@ pub(crate) fn words_of(alloc: Global, line: &str) -> Result<Vec<String>, AllocEr
     Ok(words)
 }
 
-/// What stands on standard input.
+/// The text on standard input.
 fn input_of(rt: &HostRuntime, input: Input<'_>) -> io::Result<String> {
     match input {
         Input::Nothing => Ok(String::new(rt.alloc())),
@@ -29,7 +29,7 @@ fn input_of(rt: &HostRuntime, input: Input<'_>) -> io::Result<String> {
     }
 }
 
-/// Calls the program `c25` with these words and this on standard input. What goes to standard error is kept.
+/// Calls the program `c25` with this command line and standard input. Standard error goes to `errors`.
 fn answer(rt: &HostRuntime, words: &[String], input: &str, errors: &mut Vec<u8>) -> ExitCode {
     let mut disk = System::new(rt);
     let mut input = input.as_bytes();
@@ -45,7 +45,7 @@ fn answer(rt: &HostRuntime, words: &[String], input: &str, errors: &mut Vec<u8>)
     .status()
 }
 
-/// The call of a line: what goes to standard error is shown last, and what is left is the status.
+/// Runs the call of a line: standard error is shown last, and `status` is set.
 fn run_call(rt: &HostRuntime, line: &str, status: &mut ExitCode) -> Result<()> {
     let Some(call) = call_of(line) else {
         bail!("no command: {line}");
@@ -61,7 +61,7 @@ fn run_call(rt: &HostRuntime, line: &str, status: &mut ExitCode) -> Result<()> {
     Ok(())
 }
 
-/// What ends the digits of a byte: a line feed behind 16 and behind the last.
+/// The text after a byte's digits: a line feed after each 16 and after the last.
 fn end_of(at: usize, count: usize) -> &'static str {
     if at % 16 == 15 || at.saturating_add(1) == count {
         "\n"
@@ -70,7 +70,7 @@ fn end_of(at: usize, count: usize) -> &'static str {
     }
 }
 
-/// Bytes as hexadecimal digits, a blank before each, 16 a line.
+/// Prints bytes as hexadecimal digits, a blank before each, 16 a line.
 fn show_digits(rt: &HostRuntime, bytes: &[u8]) -> io::Result<()> {
     for (at, byte) in bytes.iter().enumerate() {
         print!(rt; " {byte:02x}{}", end_of(at, bytes.len()))?;
@@ -78,7 +78,7 @@ fn show_digits(rt: &HostRuntime, bytes: &[u8]) -> io::Result<()> {
     Ok(())
 }
 
-/// `od -An -v -tx1 FILE`: its bytes.
+/// `od -An -v -tx1 FILE`: prints the bytes of a file.
 fn show_bytes(rt: &HostRuntime, told: &str) -> Result<()> {
     let name = told.strip_prefix("-An -v -tx1 ").context("no bytes")?;
     let bytes = fs::read(rt, name)?;
@@ -86,7 +86,7 @@ fn show_bytes(rt: &HostRuntime, told: &str) -> Result<()> {
     Ok(())
 }
 
-/// `sed -n FIRST,LASTp FILE`: these of its lines, from 1 on.
+/// `sed -n FIRST,LASTp FILE`: prints a range of a file's lines, counted from 1.
 fn show_lines(rt: &HostRuntime, told: &str) -> Result<()> {
     let lines = lines_of(told).context("no lines of a file")?;
     let text = fs::read_to_string(rt, lines.file)?;
@@ -110,8 +110,8 @@ fn number_of(status: ExitCode) -> u8 {
     u8::MAX
 }
 
-/// Runs a command: `c25 WORDS..`; `cat FILE`; `od` and `sed` as above; `echo $?`, the status of the call before; or a call of
-/// a library. What is left is the status of the last call.
+/// Runs a command: `c25 ARGUMENTS..`; `cat FILE`; `od` and `sed` as above; `echo $?`, which prints the status
+/// of the call before; or a call of a library. A call of the program sets `status`.
 fn run_command(rt: &HostRuntime, line: &str, status: &mut ExitCode) -> Result<()> {
     let (name, told) = line.split_once(' ').unwrap_or((line, ""));
     match name {
@@ -124,7 +124,7 @@ fn run_command(rt: &HostRuntime, line: &str, status: &mut ExitCode) -> Result<()
     }
 }
 
-/// Runs the commands of lines, each behind its line.
+/// Runs the commands of a text, printing each line before it runs.
 fn run_lines(rt: &HostRuntime, text: &str) -> Result<()> {
     let mut status = ExitCode::SUCCESS;
     for line in text.lines() {

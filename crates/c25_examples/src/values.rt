@@ -1,4 +1,4 @@
-//! Lines of a source alone: how many tokens they have, and what their expressions come to.
+//! Lines of a source by themselves: how many tokens they have, and the values of their expressions.
 
 use anyhow::Result;
 use c25_expr::expression_reader::read_expr;
@@ -24,21 +24,21 @@ const NAMES: [(&str, Base, i32); 10] = [
     ("LD2", Base::Loaded(2), 4),
 ];
 
-/// Where `$` stands.
+/// The value of `$`.
 const HERE: Value = Value {
     base: Base::Section(1),
     offset: 20,
 };
 
-/// What a line says alone.
+/// What a line has by itself.
 enum Said {
-    /// How many tokens it has.
+    /// The number of its tokens.
     Tokens(usize),
-    /// The value of the expression that all its operands are.
+    /// The value of all its operands as one expression.
     Value(Value),
 }
 
-/// These names, and `$`.
+/// Defines the names of `NAMES`, and `$`.
 fn define_all(symbols: &mut Symbols) -> Result<()> {
     for (name, base, offset) in NAMES {
         symbols.define(name, Value { base, offset })?;
@@ -47,7 +47,7 @@ fn define_all(symbols: &mut Symbols) -> Result<()> {
     Ok(())
 }
 
-/// The value that the operands of `.word` are as one expression, or how many tokens another line has.
+/// The value of the operands of `.word` as one expression, or the number of tokens of any other line.
 fn said_by(alloc: Global, symbols: &Symbols, text: &str) -> Result<Said> {
     let line = split_line(text)?;
     let tokens = tokens_of(alloc, &line)?;
@@ -58,7 +58,7 @@ fn said_by(alloc: Global, symbols: &Symbols, text: &str) -> Result<Said> {
     Ok(Said::Value(value(&expr, symbols)?))
 }
 
-/// The kind of a value, the number of its section or name, and its offset.
+/// Prints the kind of a value, the number of its section or name, and its offset.
 fn show_value(rt: &HostRuntime, value: Value) -> io::Result<()> {
     let offset = value.offset;
     match value.base {
@@ -69,7 +69,7 @@ fn show_value(rt: &HostRuntime, value: Value) -> io::Result<()> {
     }
 }
 
-/// What a line says alone, or its fault.
+/// Prints what a line has by itself, or its fault.
 fn show_said(rt: &HostRuntime, said: Result<Said>) -> io::Result<()> {
     match said {
         Ok(Said::Tokens(count)) => print!(rt; "tokens {count}"),
@@ -78,7 +78,7 @@ fn show_said(rt: &HostRuntime, said: Result<Said>) -> io::Result<()> {
     }
 }
 
-/// Lines, each behind what it says alone.
+/// Prints each line after what it has by itself.
 fn show_all(rt: &HostRuntime, symbols: &Symbols, text: &str) -> io::Result<()> {
     for line in text.lines() {
         show_said(rt, said_by(rt.alloc(), symbols, line))?;
@@ -87,8 +87,8 @@ fn show_all(rt: &HostRuntime, symbols: &Symbols, text: &str) -> io::Result<()> {
     Ok(())
 }
 
-/// `values FILE`: each line behind its fault, or behind the value that the operands of `.word` are as one expression, where
-/// some names stand for values of each kind, or else behind how many tokens it has.
+/// `values FILE`: prints each line after its fault, or after the value of the operands of `.word` as one
+/// expression (with names for values of each kind), or else after its number of tokens.
 pub(crate) fn show_values(rt: &HostRuntime, text: &str) -> Result<()> {
     let mut symbols = Symbols::new(rt.alloc());
     define_all(&mut symbols)?;

@@ -1,1 +1,4 @@
 pub mod Notes
+pub mod Misfitted
+pub mod Noted
+pub mod Openings

@@ -1,4 +1,4 @@
--- What is told beside the line of a fault, in whole lines.
+-- What is shown next to the line of a fault, in whole lines.
 use Rattle.std.specs.Prelude.{ℕ, zero, suc, ◌&&◌, ℤ, pos, negsuc, List, [], ◌∷◌, ◌++◌, Option, Some, None, codes, nat_lt, if◌then◌else◌}
 use Rattle.std.specs.Fmt.{decimal, signed_decimal}
 use Rattle.c25_cmd.specs.Refused.{Character, End, StandingData, Word}
@@ -15,42 +15,42 @@ use Rattle.c25_place.specs.Missing.{Any, MissingData, Named, OnPage}
 abbrev pub byte_text : ℕ → List ℕ
 byte_text b = if nat_lt 32 b && nat_lt b 127 then b ∷ [] else codes "byte " ++ two_digits b ++ codes "h"
 
--- what stands where it is refused, and in which column
+-- what stands at a fault of a command file, and in which column
 abbrev pub standing_text : StandingData → List ℕ
 standing_text (Word column text) = codes "column " ++ decimal column ++ codes ": " ++ text
 standing_text (Character column b) = codes "column " ++ decimal column ++ codes ": " ++ byte_text b
 standing_text End = codes "the text ends here"
 
--- that, behind the line of its file
+-- the line of the file's name and number with what stands at the fault
 abbrev pub refused_text : List ℕ → ℕ → StandingData → List ℕ
 refused_text file line standing = placed_text file line (standing_text standing) ++ codes "\n"
 
 -- ---- a section without a range: 72
 
--- on which page, where the command names one
+-- the page, where the command names one
 abbrev pub page_text : Option ℕ → List ℕ
 page_text None = []
 page_text (Some page) = codes " on page " ++ decimal page
 
--- it is to stand in a range of this name
+-- the section is to stand in a range of this name
 unfoldable pub in_text : List ℕ → List ℕ
 in_text name = codes " is to stand in " ++ name ++ codes ", and no range has this name"
 
--- on this page
+-- the section is to stand on this page
 unfoldable pub on_text : ℕ → List ℕ
 on_text page = codes " is to stand on page " ++ decimal page ++ codes ", which has no range"
 
--- anywhere
+-- the section is to stand anywhere
 unfoldable pub anywhere_text : List ℕ
 anywhere_text = codes " is to stand anywhere, and there is no range"
 
--- where it is to stand, and what it lacks there
+-- where the section is to stand, and what is missing there
 abbrev pub lack_text : MissingData → List ℕ
 lack_text (Named name page) = in_text name ++ page_text page
 lack_text (OnPage page) = on_text page
 lack_text Any = anywhere_text
 
--- the same of the section of this name, behind the name of the command file
+-- the name of the command file, the section, and the range that is missing for it
 abbrev pub missing_text : List ℕ → List ℕ → MissingData → List ℕ
 missing_text file section range = file ++ codes ": " ++ section ++ lack_text range ++ codes "\n"
 
@@ -62,13 +62,13 @@ addend_text (pos zero) = []
 addend_text (pos (suc n)) = codes "+" ++ signed_decimal (pos (suc n))
 addend_text (negsuc n) = signed_decimal (negsuc n)
 
--- what an addend is added to, by its name
+-- the name of what an addend is added to
 abbrev pub base_text : RelocationBase → List ℕ → List ℕ
 base_text (base.Section index) name = name
 base_text (base.Loaded index) name = codes "load of " ++ name
 base_text (base.External index) name = name
 
--- what stands before the address of a field
+-- the words before the address of a field
 unfoldable pub at_text : List ℕ
 at_text = codes "the field at "
 
@@ -76,22 +76,22 @@ at_text = codes "the field at "
 unfoldable pub address_text : ℕ → List ℕ
 address_text address = four_digits address
 
--- the section that it is in
+-- the section of a field
 unfoldable pub place_text : List ℕ → List ℕ
 place_text section = codes " in " ++ section
 
--- where a field is: its address, and its section
+-- where a field is: its address and its section
 unfoldable pub field_text : MisfitData → List ℕ
 field_text f = at_text ++ address_text f.address ++ place_text f.section
 
--- the value that it does not take
+-- the value that a field does not take
 unfoldable pub untaken_text : ℤ → List ℕ
 untaken_text value = codes " does not take " ++ signed_decimal value ++ codes ", which is "
 
--- that value, and what it is: the base that it counts from, and the addend
+-- the value that a field does not take, and the base and the addend that it is the sum of
 unfoldable pub value_text : MisfitData → List ℕ
 value_text f = untaken_text f.value ++ base_text f.base f.name ++ addend_text f.addend
 
--- both, behind the name of the file of its module and its number
+-- the name of the module's file, the module's number, where the field is, and its value
 abbrev pub misfit_text : List ℕ → MisfitData → List ℕ
 misfit_text file f = file ++ codes ": module " ++ decimal f.number ++ codes ": " ++ field_text f ++ value_text f ++ codes "\n"

@@ -42,11 +42,11 @@ name_of Samples = codes "BadSamples"
 name_of Script = codes "BadCommand"
 name_of (File fault) = file_fault_name fault
 
--- its number and its name, as a fault's line ends with them
+-- the number and the name of a fault, as a fault's line ends with them
 abbrev pub heading : AnyFault → List ℕ
 heading fault = numbered (number_of fault) (name_of fault)
 
--- the fault of a number; there is none where no fault has it
+-- the fault of a number, or none where no fault has it
 abbrev pub IsFaultOf : ℕ → Option AnyFault → Type 0
 IsFaultOf number None = (fault : AnyFault) → number_of fault ≡ number → ⊥
 IsFaultOf number (Some fault) = number_of fault ≡ number
@@ -58,7 +58,7 @@ pub record IsExplanationOf (fault : AnyFault) (explanation : Explanation) : Type
   pub number : explanation.number ≡ number_of fault
   pub name : explanation.name.now ≡ name_of fault
 
--- what is answered to a number: the explanation of its fault, or nothing where no fault has it
+-- the answer to a number: the explanation of its fault, or nothing where no fault has it
 abbrev pub Explains : ℕ → Option Explanation → Type 0
 Explains number None = IsFaultOf number None
 Explains number (Some explanation) = (fault : AnyFault) × IsFaultOf number (Some fault) × IsExplanationOf fault explanation

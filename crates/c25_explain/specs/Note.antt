@@ -1,4 +1,4 @@
--- What the note of a fault is: what is shown, and what the fault means.
+-- The note of a fault: what is shown, and what the fault means.
 use Rattle.std.specs.Prelude.{◌≡◌, ℕ, ◌==◌, List, [], ◌++◌, Option, codes, option_map}
 use Rattle.std.specs.Fmt.{decimal}
 use Rattle.std.specs.List.{find}
@@ -17,7 +17,7 @@ use Rattle.c25_explain.specs.declared.parts.Explanation.{Explanation}
 abbrev pub line_of : List ℕ → ℕ → Option (List ℕ)
 line_of text number = option_map (λ row. row.text) (find (λ row. row.place.line == number) (rows_of 0 text))
 
--- why a file cannot be read, as it is shown
+-- the line that says why a file cannot be read
 abbrev pub unread_text : List ℕ → Unread → List ℕ
 unread_text file NotOpened = file ++ codes ": it cannot be opened\n"
 unread_text file NotRead = file ++ codes ": a read of it fails, or it has more than 16,777,216 bytes\n"
@@ -33,15 +33,16 @@ shown_text (shown.Unread file why) = unread_text file.now why
 abbrev pub lesson : Explanation → List ℕ
 lesson e = e.meaning.now ++ codes "\n" ++ e.advice.now
 
--- where the example of a fault is
+-- the line that says how to see the example of a fault
 abbrev pub example_line : ℕ → List ℕ
 example_line number = codes "Example: c25 explain " ++ decimal number
 
--- what is shown, what the fault means and what to do, and where its example is, with an empty line between them
+-- what is shown, what the fault means and what to do, and how to see its example, with an empty line between
+-- them
 abbrev pub note_with : (shown meant example : List ℕ) → List ℕ
 note_with shown meant example = shown ++ codes "\n" ++ meant ++ codes "\n" ++ example ++ codes "\n"
 
--- a note of this fault that shows this, and these lines behind it
+-- a note of this fault that shows this, and these lines after it
 abbrev pub IsNoteOf : AnyFault → Shown → (behind : List ℕ) → List ℕ → Type 0
 IsNoteOf fault shown behind note =
     (e : Explanation) × IsExplanationOf fault e × (note ≡ note_with (shown_text shown ++ behind) (lesson e) (example_line e.number))

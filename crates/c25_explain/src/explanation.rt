@@ -6,8 +6,8 @@ use crate::numbers::fault_of;
 use crate::parts::Explanation;
 use crate::texts::explanation_of;
 
-/// What the fault of this number means, its smallest example and what to do. A number that no fault has
-/// is `None`.
+/// The explanation of the fault of this number: what it means, its smallest example and what to do. `None`
+/// where no fault has the number.
 pub fn explanation(number: u8) -> Option<Explanation>
     ensures { Explains number result }
 {

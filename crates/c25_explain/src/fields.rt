@@ -1,13 +1,13 @@
-//! Fields that do not take their values.
+//! The text about a field that does not take its value (75).
 
 ghost use Rattle.std.specs.Prelude.{◌≡◌, ◌++◌, IfOk, OnOk, string_bytes};
 ghost use Rattle.c25_explain.specs.Details.{addend_text, address_text, at_text, base_text, field_text, misfit_text, place_text, untaken_text, value_text};
 ghost use Rattle.c25_link.specs.Misfits.{misfit_data};
 
-use c25_texts::digits::four;
 use c25_link::Misfit;
 use c25_meaning_common::no_memory::NoMemory;
 use c25_meaning_objects::object::RelocationBase;
+use c25_texts::digits::four;
 use std::alloc::Global;
 
 /// Appends an addend with its sign, if it is not 0.
@@ -23,7 +23,7 @@ fn push_addend(text: &mut String, addend: i32) -> Result<(), NoMemory>
     }
 }
 
-/// Appends what an addend is added to, by its name.
+/// Appends the name of what an addend is added to.
 fn push_base(text: &mut String, base: RelocationBase, name: &str) -> Result<(), NoMemory>
     ensures { OnOk result (string_bytes text.new ≡ string_bytes text.old ++ base_text base name.now) }
 {
@@ -35,7 +35,7 @@ fn push_base(text: &mut String, base: RelocationBase, name: &str) -> Result<(), 
     }
 }
 
-/// Appends that a field is somewhere.
+/// Appends the words before the address of a field.
 #[tactic(auto, unfolding(crate::specs::Details::at_text))]
 fn push_at(text: &mut String) -> Result<(), NoMemory>
     ensures { OnOk result (string_bytes text.new ≡ string_bytes text.old ++ at_text) }
@@ -43,7 +43,7 @@ fn push_at(text: &mut String) -> Result<(), NoMemory>
     text.push_str("the field at ").map_err(NoMemory::from)
 }
 
-/// Appends the digits of an address.
+/// Appends an address in four hexadecimal digits.
 #[tactic(auto, unfolding(crate::specs::Details::address_text))]
 fn push_address(text: &mut String, address: u16) -> Result<(), NoMemory>
     ensures { OnOk result (string_bytes text.new ≡ string_bytes text.old ++ address_text address) }
@@ -52,7 +52,7 @@ fn push_address(text: &mut String, address: u16) -> Result<(), NoMemory>
         .map_err(NoMemory::from)
 }
 
-/// Appends the section behind an address.
+/// Appends the section after an address.
 #[tactic(auto, unfolding(crate::specs::Details::place_text))]
 fn push_place(text: &mut String, section: &str) -> Result<(), NoMemory>
     ensures { OnOk result (string_bytes text.new ≡ string_bytes text.old ++ place_text section.now) }
@@ -60,7 +60,7 @@ fn push_place(text: &mut String, section: &str) -> Result<(), NoMemory>
     write!(text, " in {section}").map_err(NoMemory::from)
 }
 
-/// Appends where a field is.
+/// Appends the address and the section of a field.
 #[tactic(auto, unfolding(crate::specs::Details::field_text))]
 fn push_field(text: &mut String, misfit: &Misfit<'_>) -> Result<(), NoMemory>
     ensures { OnOk result (string_bytes text.new ≡ string_bytes text.old ++ field_text (misfit_data misfit.now)) }
@@ -70,7 +70,7 @@ fn push_field(text: &mut String, misfit: &Misfit<'_>) -> Result<(), NoMemory>
     push_place(text, misfit.section)
 }
 
-/// Appends the value that it does not take.
+/// Appends the value that the field does not take.
 #[tactic(auto, unfolding(crate::specs::Details::untaken_text))]
 fn push_untaken(text: &mut String, value: i64) -> Result<(), NoMemory>
     ensures { OnOk result (string_bytes text.new ≡ string_bytes text.old ++ untaken_text value) }
@@ -78,7 +78,7 @@ fn push_untaken(text: &mut String, value: i64) -> Result<(), NoMemory>
     write!(text, " does not take {value}, which is ").map_err(NoMemory::from)
 }
 
-/// Appends that, and what it is.
+/// Appends the value, and the base and addend that it is the sum of.
 #[tactic(auto, unfolding(crate::specs::Details::value_text))]
 fn push_value(text: &mut String, misfit: &Misfit<'_>) -> Result<(), NoMemory>
     ensures { OnOk result (string_bytes text.new ≡ string_bytes text.old ++ value_text (misfit_data misfit.now)) }
@@ -88,8 +88,8 @@ fn push_value(text: &mut String, misfit: &Misfit<'_>) -> Result<(), NoMemory>
     push_addend(text, misfit.addend)
 }
 
-/// Where a field is and which value it does not take, behind the name of the file of its module and the
-/// module's number: a line of text.
+/// One line of text: the name of the module's file, the module's number, the address of the field, and the
+/// value that it does not take.
 pub fn misfit_text(alloc: Global, file: &str, misfit: &Misfit<'_>) -> Result<String, NoMemory>
     ensures { IfOk result (λ text. string_bytes text ≡ misfit_text file.now (misfit_data misfit.now)) }
 {

@@ -12,7 +12,7 @@ use c25_files::{Rows, count_lines};
 use c25_meaning_common::no_memory::NoMemory;
 use std::alloc::Global;
 
-/// The text of the line of this number, which counts from 1, without its end.
+/// The text of the line of this number, counted from 1, without its line end.
 pub fn line_of(text: &str, number: usize) -> Option<&str>
     ensures { option_map (λ line. line.now) result ≡ line_of text.now number }
 {
@@ -28,19 +28,19 @@ pub fn line_of(text: &str, number: usize) -> Option<&str>
 /// Why a file cannot be read.
 #[derive(Clone, Copy)]
 pub enum Unread {
-    /// It cannot be opened.
+    /// The file cannot be opened.
     NotOpened,
-    /// A read of it fails, or it has more than 16,777,216 bytes.
+    /// Reading the file fails, or it has more than 16,777,216 bytes.
     NotRead,
-    /// It is not UTF-8, first in the line of this number.
+    /// The file is not UTF-8; this line is the first that is not.
     NotUtf8 { line: usize },
 }
 
-/// What a note shows before it explains.
+/// What a note shows before its explanation.
 #[derive(Clone, Copy)]
 pub enum Shown<'a> {
     Nothing,
-    /// The line of this number of a file, without its end.
+    /// The line of this number of a file, without its line end.
     Line {
         file: &'a str,
         number: usize,
@@ -53,14 +53,14 @@ pub enum Shown<'a> {
     },
 }
 
-/// A line of a file as it is shown.
+/// The line that shows a line of a file.
 fn placed_line(alloc: Global, file: &str, number: usize, text: &str) -> Result<String, NoMemory>
     ensures { IfOk result (λ line. string_bytes line ≡ placed_text file.now number text.now ++ codes "\n") }
 {
     Ok(format!(in alloc; "{file}:{number}: {text}\n")?)
 }
 
-/// Why a file cannot be read, as it is shown.
+/// The line that says why a file cannot be read.
 fn unread_line(alloc: Global, file: &str, why: Unread) -> Result<String, NoMemory>
     ensures { IfOk result (λ line. string_bytes line ≡ unread_text file.now why) }
 {
@@ -77,7 +77,7 @@ fn unread_line(alloc: Global, file: &str, why: Unread) -> Result<String, NoMemor
     }
 }
 
-/// What a note shows.
+/// The line that a note shows first, if there is one.
 fn shown_line(alloc: Global, shown: Shown<'_>) -> Result<String, NoMemory>
     ensures { IfOk result (λ text. string_bytes text ≡ shown_text shown.entry) }
 {
@@ -88,7 +88,7 @@ fn shown_line(alloc: Global, shown: Shown<'_>) -> Result<String, NoMemory>
     }
 }
 
-/// What a note shows, and the lines behind it.
+/// The line that a note shows first, and the lines after it.
 fn shown_lines(alloc: Global, shown: Shown<'_>, behind: &str) -> Result<String, NoMemory>
     ensures { IfOk result (λ text. string_bytes text ≡ shown_text shown.entry ++ behind.now) }
 {
@@ -97,7 +97,7 @@ fn shown_lines(alloc: Global, shown: Shown<'_>, behind: &str) -> Result<String, 
     Ok(text)
 }
 
-/// What a fault means and what to do.
+/// The text that says what a fault means and what to do.
 fn lesson(alloc: Global, explanation: &Explanation) -> Result<String, NoMemory>
     ensures { IfOk result (λ text. string_bytes text ≡ lesson explanation.now) }
 {
@@ -106,22 +106,22 @@ fn lesson(alloc: Global, explanation: &Explanation) -> Result<String, NoMemory>
     format!(in alloc; "{meaning}\n{advice}").map_err(NoMemory::from)
 }
 
-/// Where the example of a fault is.
+/// The line that says how to see the example of a fault.
 fn example_line(alloc: Global, number: u8) -> Result<String, NoMemory>
     ensures { IfOk result (λ line. string_bytes line ≡ example_line number) }
 {
     format!(in alloc; "Example: c25 explain {number}").map_err(NoMemory::from)
 }
 
-/// A note of its parts.
+/// A note, put together from its parts with empty lines between them.
 fn note_with(alloc: Global, shown: &str, lesson: &str, example: &str) -> Result<String, NoMemory>
     ensures { IfOk result (λ note. string_bytes note ≡ note_with shown.now lesson.now example.now) }
 {
     Ok(format!(in alloc; "{shown}\n{lesson}\n{example}\n")?)
 }
 
-/// The note of a fault, in whole lines: what is shown, these lines behind it, what the fault means, what
-/// to do, and where its example is.
+/// The note of a fault, in whole lines: what is shown, the lines `behind` that, what the fault means, what to
+/// do, and how to see its example.
 pub fn explained(
     alloc: Global,
     fault: AnyFault,

@@ -1,16 +1,16 @@
-//! The faults of numbers.
+//! The faults by their numbers.
 
 ghost use Rattle.c25_explain.specs.Explanation.{IsFaultOf};
 
 use crate::fault::AnyFault;
 use c25_disk::fault::FileFault;
-use c25_meaning_linking::command_fault::CommandFault;
 use c25_hex::hex_fault::HexFault;
 use c25_meaning_language::statement::FaultKind;
-use c25_meaning_objects::object::ObjectFault;
+use c25_meaning_linking::command_fault::CommandFault;
 use c25_meaning_linking::link_fault::LinkFault;
+use c25_meaning_objects::object::ObjectFault;
 
-/// The fault of this number.
+/// The fault of this number; `None` where no fault has it.
 pub(crate) fn fault_of(number: u8) -> Option<AnyFault>
     ensures { IsFaultOf number result }
 {

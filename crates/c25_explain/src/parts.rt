@@ -2,17 +2,17 @@
 
 use std::fmt;
 
-/// What a fault means and what to do about it. The texts are lines of at most 100 columns, the last one
-/// ended too.
+/// An explanation of a fault: what it means and what to do. Each text is lines of at most 100 columns, and
+/// the last line has its line feed too.
 #[derive(Clone, Copy)]
 pub struct Explanation {
-    /// The fault's number.
+    /// The fault number shown to the user.
     pub number: u8,
-    /// The fault's name, as its line has it behind the number.
+    /// The fault name shown to the user, after the number.
     pub name: &'static str,
     /// What the fault means.
     pub meaning: &'static str,
-    /// The smallest example, and the line that is told of it. Want of memory alone has none.
+    /// The smallest example, with the line that reports its fault. Only out of memory has none.
     pub example: Option<&'static str>,
     /// What to do.
     pub advice: &'static str,
@@ -24,7 +24,7 @@ impl fmt::Display for Explanation {
 
     ghost output = { λ explanation. Some (whole_text explanation) };
 
-    /// All of it: number and name, meaning, example and advice, with an empty line between them.
+    /// The whole explanation: number and name, meaning, example and advice, with an empty line between them.
     fn fmt<W: fmt::Write>(&self, f: &mut fmt::Formatter<W>) -> fmt::Result {
         let Explanation {
             number,

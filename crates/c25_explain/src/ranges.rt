@@ -1,4 +1,4 @@
-//! Ranges that a command lacks.
+//! The text about a range that a command file lacks (72).
 
 ghost use Rattle.std.specs.Prelude.{◌≡◌, ◌++◌, IfOk, OnOk, string_bytes};
 ghost use Rattle.c25_explain.specs.Details.{anywhere_text, in_text, lack_text, missing_text, on_text, page_text};
@@ -8,7 +8,7 @@ use c25_meaning_common::no_memory::NoMemory;
 use c25_place::MissingRange;
 use std::alloc::Global;
 
-/// Appends on which page, where the command names one.
+/// Appends the page, where the command names one.
 fn push_page(text: &mut String, page: Option<u8>) -> Result<(), NoMemory>
     ensures { OnOk result (string_bytes text.new ≡ string_bytes text.old ++ page_text page) }
 {
@@ -26,7 +26,7 @@ fn push_in(text: &mut String, name: &str) -> Result<(), NoMemory>
     write!(text, " is to stand in {name}, and no range has this name").map_err(NoMemory::from)
 }
 
-/// Appends that it is to stand on this page.
+/// Appends that a section is to stand on this page.
 #[tactic(auto, unfolding(crate::specs::Details::on_text))]
 fn push_on(text: &mut String, page: u8) -> Result<(), NoMemory>
     ensures { OnOk result (string_bytes text.new ≡ string_bytes text.old ++ on_text page) }
@@ -34,7 +34,7 @@ fn push_on(text: &mut String, page: u8) -> Result<(), NoMemory>
     write!(text, " is to stand on page {page}, which has no range").map_err(NoMemory::from)
 }
 
-/// Appends that it is to stand anywhere.
+/// Appends that a section is to stand anywhere.
 #[tactic(auto, unfolding(crate::specs::Details::anywhere_text))]
 fn push_anywhere(text: &mut String) -> Result<(), NoMemory>
     ensures { OnOk result (string_bytes text.new ≡ string_bytes text.old ++ anywhere_text) }
@@ -43,7 +43,7 @@ fn push_anywhere(text: &mut String) -> Result<(), NoMemory>
         .map_err(NoMemory::from)
 }
 
-/// Appends where a section is to stand, and what it lacks there.
+/// Appends where a section is to stand, and what is missing there.
 fn push_lack(text: &mut String, range: MissingRange<'_>) -> Result<(), NoMemory>
     ensures { OnOk result (string_bytes text.new ≡ string_bytes text.old ++ lack_text (missing_data range.entry)) }
 {
@@ -57,8 +57,8 @@ fn push_lack(text: &mut String, range: MissingRange<'_>) -> Result<(), NoMemory>
     }
 }
 
-/// Where the section of this name is to stand, and what it lacks there in the command of this file: a
-/// line of text.
+/// One line of text: the name of the command file, the section, where it is to stand, and the range that is
+/// missing for it.
 pub fn missing_text(
     alloc: Global,
     file: &str,

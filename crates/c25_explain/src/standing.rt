@@ -1,12 +1,12 @@
-//! What stands where a command is refused.
+//! What stands at a fault of the command file (60 to 63).
 
 ghost use Rattle.std.specs.Prelude.{◌≡◌, ◌++◌, IfOk, OnOk, string_bytes};
 ghost use Rattle.c25_cmd.specs.Refused.{standing_data};
 ghost use Rattle.c25_explain.specs.Details.{byte_text, refused_text, standing_text};
 
 use c25_cmd::Standing;
-use c25_texts::digits::two;
 use c25_meaning_common::no_memory::NoMemory;
+use c25_texts::digits::two;
 use std::alloc::Global;
 
 /// Appends a visible character of ASCII as it is, or any other byte by its digits.
@@ -23,7 +23,7 @@ fn push_byte(text: &mut String, byte: u8) -> Result<(), NoMemory>
     }
 }
 
-/// Appends what stands where a command is refused, and in which column.
+/// Appends what stands at the fault, and its column.
 fn push_standing(text: &mut String, standing: Standing<'_>) -> Result<(), NoMemory>
     ensures { OnOk result (string_bytes text.new ≡ string_bytes text.old ++ standing_text (standing_data standing.entry)) }
 {
@@ -39,7 +39,7 @@ fn push_standing(text: &mut String, standing: Standing<'_>) -> Result<(), NoMemo
     }
 }
 
-/// What stands where a command is refused, in a line of its file: a line of text.
+/// One line of text: the file, the number of the line, and what stands at the fault.
 pub fn refused_text(
     alloc: Global,
     file: &str,

@@ -9,13 +9,13 @@ use crate::{
     command_file, expansion, files, linking, objects, run_files, source_lines, written_texts,
 };
 use c25_disk::fault::FileFault;
-use c25_meaning_linking::command_fault::CommandFault;
 use c25_hex::hex_fault::HexFault;
 use c25_meaning_language::statement::FaultKind;
-use c25_meaning_objects::object::ObjectFault;
+use c25_meaning_linking::command_fault::CommandFault;
 use c25_meaning_linking::link_fault::LinkFault;
+use c25_meaning_objects::object::ObjectFault;
 
-/// That of a fault of a line of a source.
+/// The explanation of a fault of a line of a source.
 fn source_explanation(kind: FaultKind) -> Explanation
     ensures { IsExplanationOf (Source kind) result }
 {
@@ -49,7 +49,7 @@ fn source_explanation(kind: FaultKind) -> Explanation
     }
 }
 
-/// That of a fault of the bytes of an object.
+/// The explanation of a fault of the bytes of an object.
 fn object_explanation(fault: ObjectFault) -> Explanation
     ensures { IsExplanationOf (Object fault) result }
 {
@@ -63,7 +63,7 @@ fn object_explanation(fault: ObjectFault) -> Explanation
     }
 }
 
-/// That of a fault of a line of the command file.
+/// The explanation of a fault of a line of the command file.
 fn command_explanation(fault: CommandFault) -> Explanation
     ensures { IsExplanationOf (Command fault) result }
 {
@@ -75,7 +75,7 @@ fn command_explanation(fault: CommandFault) -> Explanation
     }
 }
 
-/// That of a fault of linking.
+/// The explanation of a fault of linking.
 fn link_explanation(fault: LinkFault) -> Explanation
     ensures { IsExplanationOf (Link fault) result }
 {
@@ -91,7 +91,7 @@ fn link_explanation(fault: LinkFault) -> Explanation
     }
 }
 
-/// That of a fault of a line of a hex text.
+/// The explanation of a fault of a line of a hex text.
 fn hex_explanation(fault: HexFault) -> Explanation
     ensures { IsExplanationOf (Hex fault) result }
 {
@@ -109,7 +109,7 @@ fn hex_explanation(fault: HexFault) -> Explanation
     }
 }
 
-/// That of a fault of a file.
+/// The explanation of a fault of a file.
 fn file_explanation(kind: FileFault) -> Explanation
     ensures { IsExplanationOf (File kind) result }
 {
@@ -120,7 +120,7 @@ fn file_explanation(kind: FileFault) -> Explanation
     }
 }
 
-/// That of a fault.
+/// The explanation of a fault of any kind.
 pub(crate) fn explanation_of(fault: AnyFault) -> Explanation
     ensures { IsExplanationOf fault result }
 {

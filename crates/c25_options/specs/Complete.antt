@@ -1,4 +1,4 @@
--- The matches of a subcommand have what must be there.
+-- The matches of a subcommand have each required argument.
 use Rattle.std.specs.Prelude.{◌≡◌, ℕ, ◌<◌, ◌^◌, ◌||◌, List, Option, Some, None, IfSome, IsSomeAnd, codes, is_some, true}
 use Rattle.std.specs.Str.{bytes_eq}
 use Rattle.std.specs.Str.Parse.{IsNumeral, digits_value, without_leading_plus}
@@ -13,19 +13,19 @@ rows_in matches = rows_of (found_of matches)
 abbrev pub IsThere : List Row → Text → Type 0
 IsThere rows id = is_some (first_of id rows) ≡ true
 
--- a decimal number of so many bits, which a plus may begin
+-- a decimal number of so many bits, with or without a plus in front
 abbrev pub IsNumberText : ℕ → Text → Type 0
 IsNumberText bits text = IsNumeral 10 (without_leading_plus text) × (digits_value 10 (without_leading_plus text) < 2 ^ bits)
 
--- what is found for a flag
+-- the text that is found for a flag
 abbrev pub IsFlagText : Text → Type 0
 IsFlagText text = (bytes_eq text (codes "true") || bytes_eq text (codes "false")) ≡ true
 
--- what is found for this flag
+-- the text that is found for the flag of this name, if one is
 abbrev pub IsFlagIn : List Row → Text → Type 0
 IsFlagIn rows id = IfSome (one_of id rows) IsFlagText
 
--- the name is that of a subcommand, and these matches have a value for each of its arguments that must be there
+-- the name is that of a subcommand, and these matches have a value for each of its required arguments
 pub record IsComplete (name : Text) (rows : List Row) : Type 0 where
   pub named : (bytes_eq name (codes "asm") || (bytes_eq name (codes "link") || (bytes_eq name (codes "build") || (bytes_eq name (codes "run") || (bytes_eq name (codes "debug") || (bytes_eq name (codes "explain") || bytes_eq name (codes "dis"))))))) ≡ true
   pub asm : bytes_eq name (codes "asm") ≡ true → IsThere rows (codes "source") × IsThere rows (codes "obj") × IsFlagIn rows (codes "explain")
@@ -36,7 +36,7 @@ pub record IsComplete (name : Text) (rows : List Row) : Type 0 where
   pub explain : bytes_eq name (codes "explain") ≡ true → IsSomeAnd (one_of (codes "number") rows) (IsNumberText 8)
   pub dis : bytes_eq name (codes "dis") ≡ true → IsThere rows (codes "file")
 
--- the same of what `clap` finds
+-- what `clap` finds is a subcommand with complete matches
 abbrev pub IsFoundComplete : Option (Text × List Row) → Type 0
 IsFoundComplete None = ⊥
 IsFoundComplete (Some found) = IsComplete found.0 found.1

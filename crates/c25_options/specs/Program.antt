@@ -1,4 +1,5 @@
--- The words that the program takes, as a command of `clap`, whose definitions `subcommand_of` and `fault_of` say what a command makes of words.
+-- The program as a command of `clap`, whose definitions `subcommand_of` and `fault_of` say how a command
+-- reads its arguments.
 use Rattle.std.specs.Prelude.{◌≡◌, true, false, pos, List, [], ◌∷◌, ◌++◌, Some, codes}
 use Rattle.clap.specs.Lexer.{usize_max}
 use Rattle.clap.specs.Words.{App, Rule, Shape, Text, new_rule, shape_of}
@@ -8,31 +9,31 @@ use Rattle.clap.specs.declared.builder.command.Command.{Command}
 use Rattle.clap.specs.declared.builder.command.Command.TheViews.{out-Command}
 use Rattle.clap.specs.declared.builder.value_parser.ValueParser.TheVariants as parser
 
--- `--name`, which is given or not
+-- the flag `--name`
 abbrev pub flag_rule : Text → Rule
 flag_rule name = record (new_rule name) { long = Some name; action = Some SetTrue }
 
--- `--name VALUE`
+-- the option `--name VALUE`
 abbrev pub option_rule : Text → Rule
 option_rule name = record (new_rule name) { long = Some name; value_names = 1 }
 
--- the same, which must be there
+-- the required option `--name VALUE`
 abbrev pub needed_rule : Text → Rule
 needed_rule name = record (option_rule name) { required = true }
 
--- the same, where `-o VALUE` does as well
+-- the required option `--name VALUE` or `-o VALUE`
 abbrev pub output_rule : Text → Rule
 output_rule name = record (needed_rule name) { short = Some 111 }
 
--- `--steps N`, N from 0 to 4,294,967,295
+-- the option `--steps N`, N from 0 to 4,294,967,295
 abbrev pub steps_rule : Rule
 steps_rule = record (option_rule (codes "steps")) { parser = Some (parser.Signed (pos 0) (pos 4294967295)) }
 
--- one operand, which must be there
+-- one required operand
 abbrev pub operand_rule : Text → Rule
 operand_rule name = record (new_rule name) { required = true; value_names = 1 }
 
--- one operand, which must be there and is a number from 0 to 255
+-- one required operand, a number from 0 to 255
 abbrev pub number_rule : Rule
 number_rule = record (operand_rule (codes "number")) { parser = Some (parser.Signed (pos 0) (pos 255)) }
 
@@ -44,7 +45,7 @@ operands_rule name = record (operand_rule name) { range = Some (record { start_i
 abbrev pub shape_with : Text → List Rule → Shape
 shape_with name rules = record (new_shape name) { rules = rules }
 
--- a subcommand with one more argument, behind its others
+-- a subcommand with one more argument after its others
 abbrev pub added : Shape → Rule → Shape
 added shape rule = record shape { rules = shape.rules ++ rule ∷ [] }
 
@@ -60,7 +61,7 @@ with_sources shape = added shape (operands_rule (codes "source"))
 abbrev pub with_run_files : Shape → Shape
 with_run_files shape = added (added (added shape (option_rule (codes "command"))) (option_rule (codes "samples"))) (option_rule (codes "schedule"))
 
--- asm SOURCE --obj F [--list F] [--explain]; here and below `-o` stands for `--obj` and for `--out` as well
+-- asm SOURCE --obj F [--list F] [--explain]; here and below `-o` may be written for `--obj` and for `--out`
 abbrev pub asm_shape : Shape
 asm_shape = with_explain (shape_with (codes "asm") (operand_rule (codes "source") ∷ output_rule (codes "obj") ∷ option_rule (codes "list") ∷ []))
 
@@ -88,7 +89,8 @@ explain_shape = shape_with (codes "explain") (number_rule ∷ [])
 abbrev pub dis_shape : Shape
 dis_shape = shape_with (codes "dis") (operand_rule (codes "file") ∷ option_rule (codes "from") ∷ [])
 
--- the program before it has its subcommands: it has a version, one of them must be there, and `help` is none
+-- the program before it has its subcommands: it has a version, a subcommand is required, and there is no
+-- subcommand `help`
 abbrev pub bare_program : App
 bare_program = record {
   top = record (new_shape (codes "c25")) { has_version = true; subcommand_required = true; disable_help_subcommand = true };

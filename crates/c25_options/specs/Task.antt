@@ -1,4 +1,4 @@
--- What the words ask for, by the matches that `clap` defines.
+-- The task that a command line asks for, by the matches that `clap` defines.
 use Rattle.std.specs.Prelude.{◌≡◌, ℕ, Bool, false, List, [], Option, Some, None, Result, Ok, Err, codes, map, option_map, IsSomeAnd}
 use Rattle.std.specs.Str.{bytes_eq}
 use Rattle.std.specs.Str.Parse.{IsNumeral, digits_value, without_leading_plus}
@@ -15,15 +15,15 @@ use Rattle.c25_options.specs.declared.task.RunFiles.{RunFiles}
 use Rattle.c25_options.specs.declared.task.Task.{Task}
 use Rattle.c25_options.specs.declared.task.Task.TheVariants.{RunStandardInput, Assemble, Link, Build, Run, Debug, Explain, Disassemble}
 
--- the texts of borrowed words
+-- the texts of borrowed texts
 abbrev pub texts_of : List (Bor Text) → List Text
 texts_of = map (λ s. s.now)
 
--- the text of a borrowed word that may be left out
+-- the text of a borrowed text that may be left out
 abbrev pub text_of : Option (Bor Text) → Option Text
 text_of = option_map (λ s. s.now)
 
--- the number that a text gives, in decimal, behind a plus that may begin it
+-- the decimal number that a text gives, with or without a plus in front
 abbrev pub Gives : Text → ℕ → Type 0
 Gives text n = IsNumeral 10 (without_leading_plus text) × (n ≡ digits_value 10 (without_leading_plus text))
 
@@ -47,7 +47,7 @@ pub record AreRunFiles (rows : List Row) (files : RunFiles) : Type 0 where
   pub samples : text_of files.samples ≡ first_of (codes "samples") rows
   pub schedule : text_of files.schedule ≡ first_of (codes "schedule") rows
 
--- the task is what a subcommand of this name with these matches asks for
+-- the task that a subcommand of this name with these matches asks for
 abbrev pub Asks : Text → List Row → Task → Type 0
 Asks name rows RunStandardInput = ⊥
 Asks name rows (Assemble source object listing explain) =
@@ -86,22 +86,23 @@ Asks name rows (Explain number) = (name ≡ codes "explain") × IsNumber (one_of
 Asks name rows (Disassemble file from) =
     (name ≡ codes "dis") × (first_of (codes "file") rows ≡ Some file.now) × (first_of (codes "from") rows ≡ text_of from)
 
--- the same of what `clap` finds
+-- the task that what `clap` finds asks for
 abbrev pub IsAskedBy : Option (Text × List Row) → Task → Type 0
 IsAskedBy None task = ⊥
 IsAskedBy (Some found) task = Asks found.0 found.1 task
 
--- memory ran out: a growth was refused, or was to `clap`, which tells it by a kind of its error
+-- memory ran out: here, or in `clap`, which reports that by a kind of its error
 abbrev pub IsWantOfMemory : Failure Error → Type 0
 IsWantOfMemory (NoMemory n) = Unit {0}
 IsWantOfMemory (Fault error) = kind_of error ≡ OutOfMemory
 
--- an answer refuses for one of these kinds, unless memory ran out
+-- the failure is one of these kinds of error, unless memory ran out
 abbrev pub RefusesBy : Kinds → Failure Error → Type 0
 RefusesBy kinds (NoMemory n) = Unit {0}
 RefusesBy kinds (Fault error) = HasKind kinds error
 
--- what an answer says of words, the program's name first: a task where `clap` has no fault of them, and else one of its faults
+-- what is read of a command line, the program's name first: a task where `clap` finds no fault, and else one
+-- of its faults
 abbrev pub Reads : List Text → Result Task (Failure Error) → Type 0
 Reads words (Ok task) = (fault_of program words ≡ []) × IsAskedBy (subcommand_of program words) task
 Reads words (Err failure) = RefusesBy (fault_of program words) failure

@@ -7,7 +7,7 @@ ghost use Rattle.c25_options.specs.Program.{flag_rule, needed_rule, number_rule,
 use clap::{Arg, ArgAction, value_parser};
 use std::alloc::Global;
 
-/// `--name`, which is given or not.
+/// The flag `--name`.
 pub(crate) fn flag<'a>(alloc: Global, name: &'a str, help: &'a str) -> Arg<'a>
     ensures rule { rule_of result ≡ flag_rule name.entry.now }
     ensures local { result.global ≡ false }
@@ -18,7 +18,7 @@ pub(crate) fn flag<'a>(alloc: Global, name: &'a str, help: &'a str) -> Arg<'a>
         .help(help)
 }
 
-/// `--name FILE`.
+/// The option `--name FILE`.
 pub(crate) fn option<'a>(alloc: Global, name: &'a str, help: &'a str) -> Arg<'a>
     ensures rule { rule_of result ≡ option_rule name.entry.now }
     ensures local { result.global ≡ false }
@@ -29,7 +29,7 @@ pub(crate) fn option<'a>(alloc: Global, name: &'a str, help: &'a str) -> Arg<'a>
         .help(help)
 }
 
-/// `--name FILE`, which must be there.
+/// The required option `--name FILE`.
 pub(crate) fn needed<'a>(alloc: Global, name: &'a str, help: &'a str) -> Arg<'a>
     ensures rule { rule_of result ≡ needed_rule name.entry.now }
     ensures local { result.global ≡ false }
@@ -37,7 +37,7 @@ pub(crate) fn needed<'a>(alloc: Global, name: &'a str, help: &'a str) -> Arg<'a>
     option(alloc, name, help).required(true)
 }
 
-/// `--name FILE` or `-o FILE`, where what is made goes; it must be there.
+/// The required option `--name FILE` or `-o FILE`, the file that is written.
 pub(crate) fn output<'a>(alloc: Global, name: &'a str, help: &'a str) -> Arg<'a>
     ensures rule { rule_of result ≡ output_rule name.entry.now }
     ensures local { result.global ≡ false }
@@ -45,7 +45,7 @@ pub(crate) fn output<'a>(alloc: Global, name: &'a str, help: &'a str) -> Arg<'a>
     needed(alloc, name, help).short('o')
 }
 
-/// `--command FILE`.
+/// The option `--command FILE`, the linker's command file.
 pub(crate) fn command_file<'a>(alloc: Global) -> Arg<'a>
     ensures rule { rule_of result ≡ option_rule (codes "command") }
     ensures local { result.global ≡ false }
@@ -57,7 +57,7 @@ pub(crate) fn command_file<'a>(alloc: Global) -> Arg<'a>
     )
 }
 
-/// `--out BASE` or `-o BASE`, which must be there.
+/// The required option `--out BASE` or `-o BASE`, with which the names of the written files begin.
 pub(crate) fn base_name<'a>(alloc: Global, help: &'a str) -> Arg<'a>
     ensures rule { rule_of result ≡ output_rule (codes "out") }
     ensures local { result.global ≡ false }
@@ -65,7 +65,7 @@ pub(crate) fn base_name<'a>(alloc: Global, help: &'a str) -> Arg<'a>
     output(alloc, "out", help).value_name("BASE")
 }
 
-/// `--steps N`, N from 0 to 4,294,967,295.
+/// The option `--steps N`, N from 0 to 4,294,967,295.
 pub(crate) fn steps<'a>(alloc: Global) -> Arg<'a>
     ensures rule { rule_of result ≡ steps_rule }
     ensures local { result.global ≡ false }
@@ -75,7 +75,7 @@ pub(crate) fn steps<'a>(alloc: Global) -> Arg<'a>
         .value_parser(value_parser!(u32))
 }
 
-/// `--from ADDRESS`.
+/// The option `--from ADDRESS`.
 pub(crate) fn first_address<'a>(alloc: Global, help: &'a str) -> Arg<'a>
     ensures rule { rule_of result ≡ option_rule (codes "from") }
     ensures local { result.global ≡ false }
@@ -83,7 +83,7 @@ pub(crate) fn first_address<'a>(alloc: Global, help: &'a str) -> Arg<'a>
     option(alloc, "from", help).value_name("ADDRESS")
 }
 
-/// One operand, which must be there.
+/// One required operand.
 pub(crate) fn operand<'a>(alloc: Global, name: &'a str, value: &'a str, help: &'a str) -> Arg<'a>
     ensures rule { rule_of result ≡ operand_rule name.entry.now }
     ensures local { result.global ≡ false }
@@ -94,7 +94,7 @@ pub(crate) fn operand<'a>(alloc: Global, name: &'a str, value: &'a str, help: &'
         .required(true)
 }
 
-/// `NUMBER`, from 0 to 255, which must be there.
+/// The required operand `NUMBER`, from 0 to 255.
 pub(crate) fn number<'a>(alloc: Global, help: &'a str) -> Arg<'a>
     ensures rule { rule_of result ≡ number_rule }
     ensures local { result.global ≡ false }

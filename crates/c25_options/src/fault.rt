@@ -1,4 +1,4 @@
-//! Why words are no task.
+//! Why a command line is no task.
 
 ghost use Rattle.std.specs.Prelude.{Decides};
 ghost use Rattle.c25_options.specs.Task.{IsWantOfMemory};
@@ -7,12 +7,12 @@ use c25_meaning_common::failure::Failure;
 use clap::Error;
 use clap::error::ErrorKind;
 
-/// A growth that was refused here (9), or an error of `clap`, whose `Display` is a text for the user:
-/// the mistake with the usage of the subcommand, or the help that was asked for. `clap` tells a growth
-/// that was refused to it by a kind of its own, so want of memory is what `is_want_of_memory` says.
+/// Out of memory (9), or an error of `clap`. The `Display` of that error is a text for the user: the mistake
+/// with the usage of the subcommand, or the help that was asked for. An error of `clap` may be out of memory
+/// too, so call `is_want_of_memory`.
 pub type WordsFault = Failure<Error>;
 
-/// Whether memory was wanting (9). Where it was not, the words are at fault or ask for help.
+/// Whether a fault is out of memory (9); if not, the command line is invalid or asks for help or the version.
 pub fn is_want_of_memory(fault: &WordsFault) -> bool
     ensures { Decides result (IsWantOfMemory fault.now) }
 {

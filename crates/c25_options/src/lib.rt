@@ -1,4 +1,4 @@
-//! The words of the program's command line.
+//! The command line of the program.
 #![tactic(auto)]
 
 mod arguments;

@@ -1,4 +1,4 @@
-//! Values of what `clap` found.
+//! Values of the operands and options that `clap` found.
 
 ghost use Rattle.std.specs.Prelude.{◌≡◌, IfOk, IfSome, IsSomeAnd, Some, codes};
 ghost use Rattle.clap.specs.Words.{all_of, first_of, one_of};
@@ -10,7 +10,7 @@ use c25_meaning_common::no_memory::NoMemory;
 use clap::ArgMatches;
 use std::alloc::Global;
 
-/// The value of an argument that is there.
+/// The value of an operand or option that is given.
 pub(crate) fn needed<'a>(matches: &ArgMatches<'a>, id: &str) -> &'a str
     requires { IsThere (rows_in matches.now) id.now }
     ensures { first_of id.now (rows_in matches.now) ≡ Some result.now }
@@ -28,14 +28,14 @@ pub(crate) fn optional<'a>(matches: &ArgMatches<'a>, id: &str) -> Option<&'a str
     matches.get_str(id)
 }
 
-/// A list of borrowed words.
-fn copied<'a>(alloc: Global, words: &[&'a str]) -> Result<Vec<&'a str>, NoMemory>
-    ensures { IfOk result (λ v. v.items ≡ words.now) }
+/// A list of borrowed texts.
+fn cloned<'a>(alloc: Global, texts: &[&'a str]) -> Result<Vec<&'a str>, NoMemory>
+    ensures { IfOk result (λ v. v.items ≡ texts.now) }
 {
-    Vec::from_slice(alloc, words).map_err(NoMemory::from)
+    Vec::from_slice(alloc, texts).map_err(NoMemory::from)
 }
 
-/// The values of an operand that is there, in their order.
+/// The values of an operand that is given, in their order.
 pub(crate) fn all<'a>(
     alloc: Global,
     matches: &ArgMatches<'a>,
@@ -45,7 +45,7 @@ pub(crate) fn all<'a>(
     ensures { IfOk result (λ v. all_of id.now (rows_in matches.now) ≡ Some (texts_of v.items)) }
 {
     match matches.get_strs(id) {
-        Some(values) => copied(alloc, values),
+        Some(values) => cloned(alloc, values),
         None => unreachable!(),
     }
 }
@@ -58,7 +58,7 @@ pub(crate) fn flag(matches: &ArgMatches<'_>, id: &str) -> bool
     matches.get_flag(id)
 }
 
-/// The number of steps.
+/// The number of steps of a run, `DEFAULT_STEPS` where the option is not given.
 pub(crate) fn steps(matches: &ArgMatches<'_>) -> u32
     requires { IfSome (one_of (codes "steps") (rows_in matches.now)) (IsNumberText 32) }
     ensures { IsSteps (one_of (codes "steps") (rows_in matches.now)) result }
@@ -66,7 +66,7 @@ pub(crate) fn steps(matches: &ArgMatches<'_>) -> u32
     matches.get_one::<u32>("steps").unwrap_or(DEFAULT_STEPS)
 }
 
-/// The number that is asked for.
+/// The number of the fault that `explain` is to explain.
 pub(crate) fn number(matches: &ArgMatches<'_>) -> u8
     requires { IsSomeAnd (one_of (codes "number") (rows_in matches.now)) (IsNumberText 8) }
     ensures { IsNumber (one_of (codes "number") (rows_in matches.now)) result }
@@ -77,7 +77,7 @@ pub(crate) fn number(matches: &ArgMatches<'_>) -> u8
     }
 }
 
-/// The files that a run reads beside its sources.
+/// The files that a run reads in addition to its sources.
 pub(crate) fn run_files<'a>(matches: &ArgMatches<'a>) -> RunFiles<'a>
     ensures { AreRunFiles (rows_in matches.now) result }
 {

@@ -12,11 +12,11 @@ use crate::arguments::{
 use clap::{Arg, Command};
 use std::alloc::{AllocError, Global};
 
-/// What `--version` prints behind the program's name. It rises with each change of what the program
-/// reads, writes or answers.
+/// The version that `--version` prints after the program's name. It rises with each change of what the
+/// program reads, writes or answers.
 const VERSION: &str = "1.6.0";
 
-/// What help says of the program behind its subcommands.
+/// The text that help prints after the list of subcommands.
 const MORE: &str =
     "Without words it assembles and links standard input, runs it for 1000 steps and prints its outputs.
 
@@ -24,17 +24,17 @@ Status: 0 done; 1 refused, with one line on standard error: FILE:LINE: NUMBER NA
 or ask for help or the version; 3 the code was left.
 A fault by its number, with an example: c25 explain NUMBER; all of them: docs/FAULTS.md. Everything else: docs/MANUAL.md.";
 
-/// A command that is being made, unless memory ran out before.
+/// A command of `clap`, unless memory ran out while it was made.
 type Made<'a> = Result<Command<'a>, AllocError>;
 
-/// A subcommand without arguments; help shows the example.
+/// A subcommand without arguments. Help shows the example.
 fn subcommand<'a>(alloc: Global, name: &'a str, about: &'a str, example: &'a str) -> Made<'a>
     ensures { IfOk result (IsSubcommand (new_shape name.entry.now)) }
 {
     Ok(Command::new(alloc, name).about(about).after_help(example))
 }
 
-/// The subcommand with one more argument, behind its others.
+/// The subcommand with one more argument after its others.
 fn with_argument<'a>(subcommand: Made<'a>, argument: Arg<'a>) -> Made<'a>
     requires { argument.global ≡ false }
     ensures { (shape : Shape) (rule : Rule) → IfOk subcommand.entry (IsSubcommand shape) → rule_of argument.entry ≡ rule → IfOk result (IsSubcommand (added shape rule)) }
@@ -42,7 +42,7 @@ fn with_argument<'a>(subcommand: Made<'a>, argument: Arg<'a>) -> Made<'a>
     subcommand?.arg(argument)
 }
 
-/// The flag by which a fault is explained.
+/// The subcommand with the flag `--explain`.
 fn with_explain<'a>(alloc: Global, subcommand: Made<'a>) -> Made<'a>
     ensures { (shape : Shape) → IfOk subcommand.entry (IsSubcommand shape) → IfOk result (IsSubcommand (with_explain shape)) }
 {
@@ -50,7 +50,7 @@ fn with_explain<'a>(alloc: Global, subcommand: Made<'a>) -> Made<'a>
     with_argument(subcommand, flag(alloc, "explain", help))
 }
 
-/// The sources of a subcommand.
+/// The subcommand with sources as operands.
 fn with_sources<'a>(alloc: Global, subcommand: Made<'a>) -> Made<'a>
     ensures { (shape : Shape) → IfOk subcommand.entry (IsSubcommand shape) → IfOk result (IsSubcommand (with_sources shape)) }
 {
@@ -58,7 +58,7 @@ fn with_sources<'a>(alloc: Global, subcommand: Made<'a>) -> Made<'a>
     with_argument(subcommand, sources)
 }
 
-/// The files that a run reads beside its sources.
+/// The subcommand with the options for the files that a run reads in addition to its sources.
 fn with_run_files<'a>(alloc: Global, subcommand: Made<'a>) -> Made<'a>
     ensures { (shape : Shape) → IfOk subcommand.entry (IsSubcommand shape) → IfOk result (IsSubcommand (with_run_files shape)) }
 {
@@ -181,7 +181,7 @@ fn dis<'a>(alloc: Global) -> Made<'a>
     with_argument(command, first_address(alloc, help))
 }
 
-/// The program, which takes words by its subcommands alone.
+/// The program without its subcommands, one of which is required.
 fn bare_program<'a>(alloc: Global) -> Command<'a>
     ensures { app_of result ≡ bare_program }
 {
@@ -193,7 +193,7 @@ fn bare_program<'a>(alloc: Global) -> Command<'a>
         .disable_help_subcommand(true)
 }
 
-/// The program with one more subcommand, behind its others.
+/// The program with one more subcommand after its others.
 fn with_subcommand<'a>(program: Made<'a>, subcommand: Made<'a>) -> Made<'a>
     ensures { (app : App) (shape : Shape) → IfOk program.entry (λ c. app_of c ≡ app) → IfOk subcommand.entry (IsSubcommand shape) → IfOk result (λ c. app_of c ≡ with_subcommand app shape) }
 {

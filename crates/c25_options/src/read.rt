@@ -1,4 +1,4 @@
-//! The task of the program's words.
+//! The task that the command line names.
 
 ghost use Rattle.std.specs.Prelude.{◌≡◌, ◌<◌, ◌≤◌, IfErr, IfOk, IfSome, IsSomeAnd, Ok, codes, length, map, string_bytes, true};
 ghost use Rattle.clap.specs.Words.{app_of, one_of, subcommand_rows_of, takes};
@@ -17,7 +17,7 @@ use c25_meaning_common::no_memory::NoMemory;
 use clap::{ArgMatches, Command};
 use std::alloc::Global;
 
-/// The task of `asm`.
+/// The task of the subcommand `asm`.
 fn assemble<'a>(matches: &ArgMatches<'a>) -> Task<'a>
     requires { IsThere (rows_in matches.now) (codes "source") × IsThere (rows_in matches.now) (codes "obj") × IsFlagIn (rows_in matches.now) (codes "explain") }
     ensures { Asks (codes "asm") (rows_in matches.now) result }
@@ -30,7 +30,7 @@ fn assemble<'a>(matches: &ArgMatches<'a>) -> Task<'a>
     }
 }
 
-/// The task of `link`.
+/// The task of the subcommand `link`.
 fn link<'a>(alloc: Global, matches: &ArgMatches<'a>) -> Result<Task<'a>, NoMemory>
     requires { IsThere (rows_in matches.now) (codes "command") × IsThere (rows_in matches.now) (codes "object") × IsThere (rows_in matches.now) (codes "out") × IsFlagIn (rows_in matches.now) (codes "explain") }
     ensures { IfOk result (Asks (codes "link") (rows_in matches.now)) }
@@ -43,7 +43,7 @@ fn link<'a>(alloc: Global, matches: &ArgMatches<'a>) -> Result<Task<'a>, NoMemor
     })
 }
 
-/// The task of `build`.
+/// The task of the subcommand `build`.
 fn build<'a>(alloc: Global, matches: &ArgMatches<'a>) -> Result<Task<'a>, NoMemory>
     requires { IsThere (rows_in matches.now) (codes "source") × IsThere (rows_in matches.now) (codes "out") × IsFlagIn (rows_in matches.now) (codes "explain") }
     ensures { IfOk result (Asks (codes "build") (rows_in matches.now)) }
@@ -57,7 +57,7 @@ fn build<'a>(alloc: Global, matches: &ArgMatches<'a>) -> Result<Task<'a>, NoMemo
     })
 }
 
-/// The task of `run`.
+/// The task of the subcommand `run`.
 fn run<'a>(alloc: Global, matches: &ArgMatches<'a>) -> Result<Task<'a>, NoMemory>
     requires { IsThere (rows_in matches.now) (codes "source") × IfSome (one_of (codes "steps") (rows_in matches.now)) (IsNumberText 32) × IsFlagIn (rows_in matches.now) (codes "regs") × IsFlagIn (rows_in matches.now) (codes "explain") }
     ensures { IfOk result (Asks (codes "run") (rows_in matches.now)) }
@@ -71,7 +71,7 @@ fn run<'a>(alloc: Global, matches: &ArgMatches<'a>) -> Result<Task<'a>, NoMemory
     })
 }
 
-/// The task of `debug`.
+/// The task of the subcommand `debug`.
 fn debug<'a>(alloc: Global, matches: &ArgMatches<'a>) -> Result<Task<'a>, NoMemory>
     requires { IsThere (rows_in matches.now) (codes "source") × IsThere (rows_in matches.now) (codes "script") × IsFlagIn (rows_in matches.now) (codes "explain") }
     ensures { IfOk result (Asks (codes "debug") (rows_in matches.now)) }
@@ -84,7 +84,7 @@ fn debug<'a>(alloc: Global, matches: &ArgMatches<'a>) -> Result<Task<'a>, NoMemo
     })
 }
 
-/// The task of `explain`.
+/// The task of the subcommand `explain`.
 fn explain<'a>(matches: &ArgMatches<'a>) -> Task<'a>
     requires { IsSomeAnd (one_of (codes "number") (rows_in matches.now)) (IsNumberText 8) }
     ensures { Asks (codes "explain") (rows_in matches.now) result }
@@ -94,7 +94,7 @@ fn explain<'a>(matches: &ArgMatches<'a>) -> Task<'a>
     }
 }
 
-/// The task of `dis`.
+/// The task of the subcommand `dis`.
 fn disassemble<'a>(matches: &ArgMatches<'a>) -> Task<'a>
     requires { IsThere (rows_in matches.now) (codes "file") }
     ensures { Asks (codes "dis") (rows_in matches.now) result }
@@ -105,7 +105,7 @@ fn disassemble<'a>(matches: &ArgMatches<'a>) -> Task<'a>
     }
 }
 
-/// The task of a subcommand.
+/// The task of the subcommand of this name.
 fn task_of<'a>(alloc: Global, name: &str, matches: &ArgMatches<'a>) -> Result<Task<'a>, NoMemory>
     requires { IsComplete name.now (rows_in matches.now) }
     ensures { IfOk result (Asks name.now (rows_in matches.now)) }
@@ -122,7 +122,7 @@ fn task_of<'a>(alloc: Global, name: &str, matches: &ArgMatches<'a>) -> Result<Ta
     }
 }
 
-/// The task of what `clap` found.
+/// The task that `clap` found.
 fn found_task<'a>(alloc: Global, matches: &ArgMatches<'a>) -> Result<Task<'a>, WordsFault>
     requires { IsFoundComplete (subcommand_rows_of matches.now) }
     ensures asked { IfOk result (IsAskedBy (subcommand_rows_of matches.now)) }
@@ -134,43 +134,44 @@ fn found_task<'a>(alloc: Global, matches: &ArgMatches<'a>) -> Result<Task<'a>, W
     }
 }
 
-/// Reads words by the program's command line, as a command of `clap`.
+/// Reads the arguments by `command`, which is the program as a command of `clap`.
 fn read_by<'a>(
     alloc: Global,
     command: Command<'a>,
-    words: &'a [String],
+    arguments: &'a [String],
 ) -> Result<Task<'a>, WordsFault>
     requires { app_of command ≡ program }
-    ensures read { Reads (map string_bytes words.now) result }
-    ensures takes { takes program (map string_bytes words.now) ≡ true → IfErr result IsWantOfMemory }
+    ensures read { Reads (map string_bytes arguments.now) result }
+    ensures takes { takes program (map string_bytes arguments.now) ≡ true → IfErr result IsWantOfMemory }
 {
-    match command.try_get_matches_from(words) {
+    match command.try_get_matches_from(arguments) {
         Ok(matches) => found_task(alloc, &matches),
         Err(error) => Err(Failure::Fault(error)),
     }
 }
 
-/// Reads words of which there are others behind the program's name.
-fn read_some<'a>(alloc: Global, words: &'a [String]) -> Result<Task<'a>, WordsFault>
-    ensures read { Reads (map string_bytes words.now) result }
-    ensures takes { takes program (map string_bytes words.now) ≡ true → IfErr result IsWantOfMemory }
+/// Reads a command line that has at least one argument after the program's name.
+fn read_some<'a>(alloc: Global, arguments: &'a [String]) -> Result<Task<'a>, WordsFault>
+    ensures read { Reads (map string_bytes arguments.now) result }
+    ensures takes { takes program (map string_bytes arguments.now) ≡ true → IfErr result IsWantOfMemory }
 {
     match program(alloc) {
-        Ok(command) => read_by(alloc, command, words),
+        Ok(command) => read_by(alloc, command, arguments),
         Err(error) => Err(Failure::NoMemory(NoMemory::from(error))),
     }
 }
 
-/// Reads the program's words, of which the first is its name. Memory aside, it refuses words that no
-/// row of `Task` takes (an unknown subcommand or option, one given twice, an operand or option that
-/// is missing or too many, a number of steps or of a fault that is none), and a request for help.
-pub fn read_words<'a>(alloc: Global, words: &'a [String]) -> Result<Task<'a>, WordsFault>
-    ensures none { length words.now < 2 → result ≡ Ok RunStandardInput }
-    ensures some { 2 ≤ length words.now → Reads (map string_bytes words.now) result }
-    ensures takes { takes program (map string_bytes words.now) ≡ true → IfErr result IsWantOfMemory }
+/// Reads the command line, of which the first argument is the program's name. `Failure::NoMemory` is out of
+/// memory; `Failure::Fault` is `clap`'s error for a command line that no case of `Task` describes (an
+/// unknown subcommand or option, an option given twice, a missing or surplus operand or option, an invalid
+/// number of steps or of a fault) and for a request for help or the version.
+pub fn read_words<'a>(alloc: Global, arguments: &'a [String]) -> Result<Task<'a>, WordsFault>
+    ensures none { length arguments.now < 2 → result ≡ Ok RunStandardInput }
+    ensures some { 2 ≤ length arguments.now → Reads (map string_bytes arguments.now) result }
+    ensures takes { takes program (map string_bytes arguments.now) ≡ true → IfErr result IsWantOfMemory }
 {
-    if words.len() < 2 {
+    if arguments.len() < 2 {
         return Ok(Task::RunStandardInput);
     }
-    read_some(alloc, words)
+    read_some(alloc, arguments)
 }

@@ -1,26 +1,25 @@
-//! What the words ask for.
+//! The task that a command line asks for.
 
-/// How many steps a run has where the words do not say.
+/// How many steps a run has without `--steps`.
 pub const DEFAULT_STEPS: u32 = 1000;
 
-/// The files that a run reads beside its sources. One that is not named stands for an empty text.
+/// The files that a run reads in addition to its sources. A file that is not named stands for an empty text.
 #[derive(Clone, Copy)]
 pub struct RunFiles<'a> {
     /// The linker's command file.
     pub command: Option<&'a str>,
-    /// The words that `IN` reads.
+    /// The samples: the words that `IN` reads.
     pub samples: Option<&'a str>,
-    /// Interrupts and levels of BIO by steps.
+    /// The schedule: interrupts and levels of BIO by steps.
     pub schedule: Option<&'a str>,
 }
 
-/// What the program is to do: a subcommand with its operands in their order and the values of its
-/// options.
+/// What the program is to do: a subcommand with its operands in order and the arguments of its options.
 #[derive(Drop)]
 pub enum Task<'a> {
-    /// No words: the source is standard input, and runs for `DEFAULT_STEPS` steps.
+    /// No command line: the source is standard input, and runs for `DEFAULT_STEPS` steps.
     RunStandardInput,
-    /// `asm SOURCE --obj FILE [--list FILE] [--explain]`: writes the object and the listing.
+    /// `asm SOURCE --obj FILE [--list FILE] [--explain]`: writes the object, and the listing.
     Assemble {
         source: &'a str,
         object: &'a str,

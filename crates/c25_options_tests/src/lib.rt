@@ -1,5 +1,5 @@
-//! Tests of the program's words.
+//! Tests of how the command line is read.
 #![tactic(auto)]
 
 #[cfg(test)]
-mod words;
+mod command_lines;

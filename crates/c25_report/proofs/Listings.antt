@@ -1,4 +1,4 @@
--- The names of listings, one behind another.
+-- The names of listings, one after another.
 use Rattle.std.proofs.Common.{◌≡◌, ◌∙◌, ap, ap₂, sym, refl, subst, ℕ, suc, ◌+◌, ◌<◌, ◌≤◌, List, [], ◌∷◌, ◌++◌, append_assoc, append-nil, length, map, drop, get_or, string_bytes, arith}
 use Rattle.std.proofs.lemmas.List.{map-append, drop_more, drop_all}
 use Rattle.std.specs.Prelude.{String, zip}

@@ -1,4 +1,4 @@
--- What the program comes to: its status, and what is told of it.
+-- How the program ends: its status, and what it reports.
 use Rattle.std.specs.Prelude.{◌≡◌, ◌⊎◌, ℕ, List, ◌++◌, codes, Option}
 use Rattle.std.specs.Io.KnownBytes.{Appends, Keeps}
 use Rattle.std.specs.String.{string_bytes}
@@ -23,7 +23,7 @@ abbrev pub kind_status : ErrorKind → ℕ
 kind_status OutOfMemory = 1
 kind_status kind = 2
 
--- the status of words that are no task: 1 where memory ran out, else 2
+-- the status of a command line that is no task: 1 where memory ran out, else 2
 abbrev pub words_status : Failure Error → ℕ
 words_status (failure.NoMemory n) = 1
 words_status (failure.Fault error) = kind_status (kind_of error)
@@ -41,35 +41,37 @@ status_of NoText = 2
 
 -- ---- standard output
 
--- what a run comes to that is printed
+-- the ending of a printed run with this outcome
 abbrev pub ending_of : Outcome → Ending
 ending_of outcome.Ran = Done
 ending_of (outcome.Left at stop) = Left
 ending_of (outcome.SinkFault at) = Sunk
 
--- a front of a text is printed behind what stood there
+-- some first bytes of a text are printed after what stood there
 abbrev pub HasFront : List ℕ → Option (List ℕ) → Option (List ℕ) → Type 0
 HasFront text old new = (front rest : List ℕ) × (text ≡ front ++ rest) × Appends old new front
 
--- a text is printed behind what stood there, and that comes to this; or it cannot be to its end, and a front of it is
+-- a text is printed after what stood there, and this is the ending; or it cannot be printed to its end, and
+-- some of its first bytes are
 abbrev pub IsPrinted : List ℕ → Ending → Ending → Option (List ℕ) → Option (List ℕ) → Type 0
 IsPrinted text done ending old new = ((ending ≡ done) × Appends old new text) ⊎ ((ending ≡ Unprinted) × HasFront text old new)
 
--- it ends for want of memory, as a growth was refused
+-- the program ends since memory ran out
 abbrev pub IsShort : Ending → Type 0
 IsShort e = (n : no_memory.NoMemory) × (e ≡ NoMemory n)
 
 -- ---- standard error
 
--- a line of its own stands behind what stood there
+-- a line is printed after what stood there
 abbrev pub HasLine : List ℕ → Option (List ℕ) → Option (List ℕ) → Type 0
 HasLine line old new = Appends old new (line ++ codes "\n")
 
--- what is told of words that are no task: the line of a refused growth, or else `clap`'s text, of which no more is known
+-- what is reported of a command line that is no task: the line for out of memory, or else `clap`'s text, of
+-- which no more is known
 abbrev pub IsToldOfWords : Failure Error → Option (List ℕ) → Option (List ℕ) → Type 0
 IsToldOfWords fault old new = IsWantOfMemory fault → HasLine (codes "memory: 9 NoMemory") old new
 
--- what is told of an ending
+-- what is reported of an ending
 abbrev pub IsTold : Ending → Option (List ℕ) → Option (List ℕ) → Type 0
 IsTold Done old new = Keeps old new
 IsTold Left old new = Keeps old new
@@ -80,6 +82,6 @@ IsTold Unprinted old new = HasLine (codes "stdout: 7 CannotWrite") old new
 IsTold (NoTask fault) old new = IsToldOfWords fault old new
 IsTold NoText old new = HasLine (codes "c25: a word is not UTF-8") old new
 
--- what is told of a report: of its ending, and the note behind that
+-- a report is printed: that of its ending, and the note after it
 abbrev pub IsReported : Report → Option (List ℕ) → Option (List ℕ) → Type 0
 IsReported report old new = (told : Option (List ℕ)) × IsTold report.ending old told × Appends told new (string_bytes report.note)

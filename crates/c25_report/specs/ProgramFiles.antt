@@ -1,4 +1,4 @@
--- The files of a program behind a base name.
+-- The files of a linked program, whose names begin with a base name.
 use Rattle.std.specs.Prelude.{◌≡◌, ℕ, zero, suc, List, [], ◌∷◌, ◌++◌, codes, map, zip}
 use Rattle.std.specs.Fmt.{decimal}
 use Rattle.std.specs.String.{string_bytes}
@@ -6,11 +6,11 @@ use Rattle.c25_meaning_expansion.specs.Files.{Files}
 use Rattle.c25_report.specs.declared.texts.ProgramFileNames.{ProgramFileNames}
 use Rattle.c25_report.specs.declared.texts.ProgramFileTexts.{ProgramFileTexts}
 
--- the file of a listing, by its number
+-- the name of a listing's file, by its number
 abbrev pub listing_name : List ℕ → ℕ → List ℕ
 listing_name base number = base ++ codes "." ++ decimal number ++ codes ".lst"
 
--- the files of so many listings
+-- the names of the files of so many listings
 abbrev pub listing_names : List ℕ → ℕ → List (List ℕ)
 listing_names base zero = []
 listing_names base (suc n) = listing_names base n ++ listing_name base (suc n) ∷ []
@@ -21,7 +21,7 @@ files_of base texts =
     (base ++ codes ".p0.hex", string_bytes texts.page0) ∷ (base ++ codes ".p1.hex", string_bytes texts.page1) ∷ (base ++ codes ".map", string_bytes texts.map)
     ∷ zip (listing_names base texts.listings.len) (map string_bytes texts.listings.items)
 
--- these are the names behind a base, for so many listings
+-- these are the names of the files with this base name and so many listings
 pub record AreNames (base : List ℕ) (count : ℕ) (names : ProgramFileNames) : Type 0 where
   pub page0 : string_bytes names.page0 ≡ base ++ codes ".p0.hex"
   pub page1 : string_bytes names.page1 ≡ base ++ codes ".p1.hex"

@@ -1,4 +1,4 @@
-//! What the program comes to: its status, and what is told of it on standard error.
+//! How the program ends: its status, and what it reports on standard error.
 
 ghost use Rattle.std.specs.Prelude.{◌≡◌, [], OnOk, string_bytes};
 ghost use Rattle.std.specs.Process.{exit_status};
@@ -12,54 +12,54 @@ use std::io;
 use std::io::Write;
 use std::process::ExitCode;
 
-/// The line of a refused growth, for which no memory is taken.
+/// The line for out of memory. It is a constant, so that printing it needs no memory.
 const NO_MEMORY: &str = "memory: 9 NoMemory";
 
-/// The line of a standard output that cannot be written.
+/// The line for a standard output that cannot be written.
 const UNPRINTED: &str = "stdout: 7 CannotWrite";
 
-/// The line of words that cannot be read.
+/// The line for a command line that is not UTF-8.
 const NO_TEXT: &str = "c25: a word is not UTF-8";
 
-/// What the program comes to.
+/// How the program ends, with its status.
 #[derive(Drop)]
 pub enum Ending {
     /// All that was asked for is done (0).
     Done,
-    /// A run left the code, and is printed (3).
+    /// The run left the code; it is printed (3).
     Left,
-    /// A sink refused a word of a run, which is printed (1).
+    /// A sink refused a word of the run; it is printed (1).
     Sunk,
-    /// There is a fault, of which this is the line (1).
+    /// A fault, with the line that reports it (1).
     Faulty(String),
-    /// A growth was refused (1).
+    /// Out of memory (1).
     NoMemory(NoMemory),
     /// Standard output cannot be written (1).
     Unprinted,
-    /// The words are no task (2), or a growth was refused when they were read (1).
+    /// The command line is no task (2), or memory ran out when it was read (1).
     NoTask(WordsFault),
-    /// A word is not UTF-8 (2).
+    /// An argument of the command line is not UTF-8 (2).
     NoText,
 }
 
-/// What the program tells on standard error: what it comes to, and a note behind that.
+/// What the program reports on standard error: its ending, and a note after that.
 #[derive(Drop)]
 pub struct Report {
     pub ending: Ending,
-    /// A text of whole lines, empty where none was asked for.
+    /// Whole lines of explanation or registers; empty where none were asked for.
     pub note: String,
 }
 
-/// What the program told, and whether it could.
+/// The report of a program, and whether it was written.
 #[derive(Drop)]
 pub struct Ended {
     pub report: Report,
-    /// Whether the report stands on standard error, or why it cannot be written.
+    /// Whether the report was written to standard error, or why not.
     pub told: io::Result<()>,
 }
 
 impl Report {
-    /// The report of an ending, without a note. It takes no memory.
+    /// The report of an ending without a note. It needs no memory.
     pub fn without_note(alloc: Global, ending: Ending) -> Report
         ensures ending { result.ending ≡ ending }
         ensures note { string_bytes result.note ≡ [] }
@@ -69,7 +69,7 @@ impl Report {
     }
 }
 
-/// The status of words that are no task.
+/// The status of a command line that is no task.
 #[tactic(auto, using(crate::proofs::Refused::other_kind, crate::proofs::Refused::want_of_memory))]
 fn words_status(fault: &WordsFault) -> ExitCode
     ensures { exit_status result ≡ words_status fault.now }
@@ -97,7 +97,7 @@ impl Ended {
     }
 }
 
-/// Tells why words are no task: `clap`'s text, unless memory ran out.
+/// Prints why a command line is no task: `clap`'s text, unless memory ran out.
 fn tell_words<E: Write>(fault: &WordsFault, err: &mut E) -> io::Result<()>
     ensures { OnOk result (IsToldOfWords fault.now (E.contents err.old) (E.contents err.new)) }
 {
@@ -107,7 +107,7 @@ fn tell_words<E: Write>(fault: &WordsFault, err: &mut E) -> io::Result<()>
     write!(err, "{fault}")
 }
 
-/// Tells an ending.
+/// Prints the line of an ending, where it has one.
 fn tell<E: Write>(ending: &Ending, err: &mut E) -> io::Result<()>
     ensures { OnOk result (IsTold ending.now (E.contents err.old) (E.contents err.new)) }
 {
@@ -121,7 +121,7 @@ fn tell<E: Write>(ending: &Ending, err: &mut E) -> io::Result<()>
     }
 }
 
-/// Tells an ending, and a note behind it.
+/// Prints the line of an ending, and the note after it.
 fn tell_report<E: Write>(report: &Report, err: &mut E) -> io::Result<()>
     ensures { OnOk result (IsReported report.now (E.contents err.old) (E.contents err.new)) }
 {
@@ -129,7 +129,8 @@ fn tell_report<E: Write>(report: &Report, err: &mut E) -> io::Result<()>
     err.write_all(report.note.as_bytes())
 }
 
-/// Tells a report on standard error: a fault's line, or why words are no task, and the note behind it.
+/// Prints a report on standard error: a fault's line, or why the command line is no task, and the note after
+/// it.
 pub fn finish<E: Write>(report: Report, err: &mut E) -> Ended
     ensures report { result.report ≡ report }
     ensures told { OnOk result.told (IsReported report (E.contents err.old) (E.contents err.new)) }

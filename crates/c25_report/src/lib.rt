@@ -1,5 +1,5 @@
-//! What the program prints and writes beside the chain's own texts, and what it comes to: the text of a
-//! run, the line of a fault, words that are refused, and the files of a program.
+//! How the program ends and what it reports, the printing of texts, and the files that are written of a
+//! program.
 #![tactic(auto)]
 
 pub mod ending;

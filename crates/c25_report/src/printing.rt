@@ -1,4 +1,4 @@
-//! What is printed.
+//! Printing of texts and bytes.
 
 ghost use Rattle.std.specs.Prelude.{◌≡◌, ◌++◌, ◌≤◌, IfOk, OnErr, OnOk, codes, length, take};
 ghost use Rattle.std.specs.Io.KnownBytes.{Appends, Keeps};
@@ -14,7 +14,7 @@ use std::io::{ErrorKind, Write};
 #[derive(Clone, Copy)]
 pub struct Unwritten;
 
-/// Writes a front of bytes, and tells how long it is: of no length where the write was interrupted.
+/// Writes the first of these bytes, and answers how many: 0 where the write was interrupted.
 fn write_some<O: Write>(bytes: &[u8], out: &mut O) -> Result<usize, Unwritten>
     ensures most { IfOk result (λ count. count ≤ length bytes.now) }
     ensures ok { IfOk result (λ count. Appends (O.contents out.old) (O.contents out.new) (take count bytes.now)) }
@@ -32,7 +32,7 @@ fn write_some<O: Write>(bytes: &[u8], out: &mut O) -> Result<usize, Unwritten>
     }
 }
 
-/// Prints the bytes of a text. Where they cannot be written to their end, a front of them stands.
+/// Prints bytes. After an error some of the first bytes may have been printed.
 #[tactic(auto, using(crate::proofs::Fronts::more_written))]
 pub fn print_bytes<O: Write>(bytes: &[u8], out: &mut O) -> Result<(), Unwritten>
     ensures ok { OnOk result (Appends (O.contents out.old) (O.contents out.new) bytes.now) }
@@ -51,7 +51,7 @@ pub fn print_bytes<O: Write>(bytes: &[u8], out: &mut O) -> Result<(), Unwritten>
     Err(Unwritten)
 }
 
-/// Prints a text. Where it cannot be written to its end, a front of it stands.
+/// Prints a text. After an error some of its first bytes may have been printed.
 pub fn print_text<O: Write>(text: &str, out: &mut O) -> Result<(), Unwritten>
     ensures ok { OnOk result (Appends (O.contents out.old) (O.contents out.new) text.now) }
     ensures err { OnErr result (HasFront text.now (O.contents out.old) (O.contents out.new)) }
@@ -59,7 +59,7 @@ pub fn print_text<O: Write>(text: &str, out: &mut O) -> Result<(), Unwritten>
     print_bytes(text.as_bytes(), out)
 }
 
-/// What a run comes to that is printed.
+/// How the program ends after a printed run with this outcome.
 pub fn ending_of(outcome: Outcome) -> Ending
     ensures { result ≡ ending_of outcome }
 {
@@ -70,7 +70,7 @@ pub fn ending_of(outcome: Outcome) -> Ending
     }
 }
 
-/// Prints the answers of a debugger.
+/// Prints the answers of a debugger. The ending is `Done`, or `Unprinted` where they cannot be written.
 pub fn print_answers<O: Write>(text: &str, out: &mut O) -> Ending
     ensures { IsPrinted text.now ending.Done result (O.contents out.old) (O.contents out.new) }
 {
@@ -80,8 +80,7 @@ pub fn print_answers<O: Write>(text: &str, out: &mut O) -> Ending
     }
 }
 
-/// Prints a line. When that fails has no clause, since std's `Write` says nothing of a write that
-/// failed.
+/// Prints a line. No contract says what was printed after an error, since std's `Write` says nothing of that.
 pub(crate) fn print_line<E: Write>(line: &str, err: &mut E) -> io::Result<()>
     ensures { OnOk result (Appends (E.contents err.old) (E.contents err.new) (line.now ++ codes "\n")) }
 {

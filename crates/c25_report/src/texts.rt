@@ -1,4 +1,4 @@
-//! The files that are written of a program.
+//! The files that are written of a linked program.
 
 ghost use Rattle.std.specs.Prelude.{◌≡◌, ◌++◌, ◌∷◌, [], ℕ, List, IfOk, OnOk, map, string_bytes, zip};
 ghost use Rattle.c25_disk.specs.Written.{contents_of};
@@ -8,7 +8,7 @@ use c25_disk::Output;
 use c25_meaning_common::no_memory::NoMemory;
 use std::alloc::Global;
 
-/// The names of the files of a program.
+/// The names of the files of a linked program.
 #[derive(Drop)]
 pub struct ProgramFileNames {
     page0: String,
@@ -17,7 +17,7 @@ pub struct ProgramFileNames {
     listings: Vec<String>,
 }
 
-/// The texts of the files of a program.
+/// The texts of the files of a linked program.
 #[derive(Drop)]
 pub struct ProgramFileTexts {
     /// The Intel hex text of program memory.
@@ -25,18 +25,18 @@ pub struct ProgramFileTexts {
     /// The Intel hex text of data memory.
     pub page1: String,
     pub map: String,
-    /// The listings of its sources, in their order.
+    /// The listings of the sources, in their order.
     pub listings: Vec<String>,
 }
 
-/// `BASE.NUMBER.lst`.
+/// The name of a listing, `BASE.NUMBER.lst`.
 fn listing_name(alloc: Global, base: &str, number: usize) -> Result<String, NoMemory>
     ensures { IfOk result (λ name. string_bytes name ≡ listing_name base.now number) }
 {
     Ok(format!(in alloc; "{base}.{number}.lst")?)
 }
 
-/// `BASE.1.lst`, `BASE.2.lst` and so on.
+/// The names of the listings, `BASE.1.lst`, `BASE.2.lst` and so on.
 #[tactic(auto, using(crate::proofs::Listings::names_more))]
 fn listing_names(alloc: Global, base: &str, count: usize) -> Result<Vec<String>, NoMemory>
     ensures { IfOk result (λ names. map string_bytes names.items ≡ listing_names base.now count) }
@@ -49,7 +49,7 @@ fn listing_names(alloc: Global, base: &str, count: usize) -> Result<Vec<String>,
     Ok(names)
 }
 
-/// The names of the files behind a base: `BASE.p0.hex`, `BASE.p1.hex`, `BASE.map`, and those of so many
+/// The names of the files of a program: `BASE.p0.hex`, `BASE.p1.hex`, `BASE.map`, and those of so many
 /// listings.
 pub fn file_names(alloc: Global, base: &str, listings: usize) -> Result<ProgramFileNames, NoMemory>
     ensures { IfOk result (AreNames base.now listings) }
@@ -62,7 +62,7 @@ pub fn file_names(alloc: Global, base: &str, listings: usize) -> Result<ProgramF
     })
 }
 
-/// Appends a file of a text.
+/// Appends a file with this name and text.
 fn push_text<'a>(outputs: &mut Vec<Output<'a>>, name: &'a str, text: String) -> Result<(), NoMemory>
     ensures { OnOk result (map contents_of outputs.new.items ≡ map contents_of outputs.old.items ++ (name.entry.now, string_bytes text) ∷ []) }
 {
@@ -70,7 +70,7 @@ fn push_text<'a>(outputs: &mut Vec<Output<'a>>, name: &'a str, text: String) -> 
     outputs.push(Output { name, bytes }).map_err(NoMemory::from)
 }
 
-/// Appends the files of listings under their names.
+/// Appends the listings under their names.
 #[tactic(auto, using(crate::proofs::Listings::listings_more, crate::proofs::Listings::listings_done, crate::proofs::Listings::listings_out))]
 fn push_listings<'a>(
     outputs: &mut Vec<Output<'a>>,
@@ -89,8 +89,8 @@ fn push_listings<'a>(
     Ok(())
 }
 
-/// The files of these texts under the names that stand behind a base, for as many listings: both hex
-/// texts, the map, and the listings.
+/// The files of a program under these names, which must be for as many listings: both hex texts, the map, and
+/// the listings.
 pub fn program_outputs<'a>(
     alloc: Global,
     names: &'a ProgramFileNames,

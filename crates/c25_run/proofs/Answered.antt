@@ -37,7 +37,7 @@ module _ (given : Given) (ready : Ready) (is : IsReady given ready) (n : ℕ) (r
     of : IsAnswerOf ready n end given c a
     of = answered given ready n end c is run a
 
-    -- what is told of the end is told of the answer
+    -- what is reported of the end is reported of the answer
     told_of_answer : TellsEnd regs ready.built.linked.image ready.schedule n end e note → TellsAnswer regs given n c a e note
     told_of_answer h =
         let image = ready.built.linked.image in

@@ -42,7 +42,7 @@ front_behind : (text more : List ℕ) (old now new : Option (List ℕ)) → Appe
 front_behind text more old now new printed (front, rest, whole, written) =
     (text ++ front, rest, ap (λ (t : List ℕ). text ++ t) whole ∙ sym (append_assoc text front rest), Appends-trans old now new text front printed written)
 
--- ---- ends behind other outputs
+-- ---- ends after other outputs
 
 same_outcome : (o : List (ℕ × ℕ)) (e : Ending) → outcome_of (end_behind o e) ≡ outcome_of e
 same_outcome o (Ran t) = refl
@@ -97,7 +97,7 @@ module _ (joins : Joins) (go : GoBehind) (signals : Signals) (k m n : ℕ) (s t 
   by_end (Ran x) p o i u run ran is printed h = some_behind x p o i u run is printed h
   by_end (Left j stop x) p o i u run ran is printed h = absurd (let clash = ran in cc)
 
-  -- some more behind them
+  -- some steps, and more after them
   pub more_printed : (j : ℕ) (o : Outcome) (i : ℕ) (u : State) → PrintsSome signals k m s outcome.Ran j t old now → PrintsSome signals (k + m) n t o i u now new → PrintsSome signals k (m + n) s o i u old new
   more_printed j o i u first h = by_end first.end first.outputs o i u first.run first.outcome_is first.left first.printed h
 
@@ -121,7 +121,7 @@ module _ (joins : Joins) (go : GoBehind) (signals : Signals) (k m n : ℕ) (s t 
   broken_by_end (Ran x) p run ran is printed h = broken_behind x p run is printed h
   broken_by_end (Left j stop x) p run ran is printed h = absurd (let clash = ran in cc)
 
-  -- some that break off behind them
+  -- some steps, and some after them that break off
   pub then_broken : (j : ℕ) → PrintsSome signals k m s outcome.Ran j t old now → BreaksOff signals (k + m) n t now new → BreaksOff signals k (m + n) s old new
   then_broken j first h = broken_by_end first.end first.outputs first.run first.outcome_is first.left first.printed h
 
@@ -161,7 +161,7 @@ no_sink : (e : Ending) (at : ℕ) → outcome.SinkFault at ≡ outcome_of e → 
 no_sink (Ran x) at is = let clash = is in cc
 no_sink (Left j stop x) at is = let clash = is in cc
 
--- none is told to have met a sink that refuses
+-- no run has met a sink that refuses
 pub never_sunk : {P : Type 0} (signals : Signals) (k n : ℕ) (s : State) (at i : ℕ) (t : State) (old new : Option (List ℕ)) → PrintsSome signals k n s (outcome.SinkFault at) i t old new → P
 never_sunk signals k n s at i t old new h = absurd (no_sink h.end at h.outcome_is)
 

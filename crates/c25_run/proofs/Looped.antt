@@ -1,4 +1,4 @@
--- Some steps of a board behind those that it has done.
+-- Some steps of a board after those that it has done.
 use Rattle.std.proofs.Common.{◌≡◌, ◌∙◌, ℕ, ◌+◌, ◌≤◌, List, Option, subst, sym, arith}
 use Rattle.c25_board.specs.declared.board.Outcome.{Outcome}
 use Rattle.c25_board.specs.declared.board.Outcome.TheVariants as outcome

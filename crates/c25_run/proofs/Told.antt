@@ -1,4 +1,4 @@
--- What is told of a run that was printed.
+-- What is reported of a printed run.
 use Rattle.std.proofs.Common.{◌≡◌, ◌↔◌, ◌∙◌, ℕ, Bool, true, List, [], Option, None, Some, ap, inl, inr, refl, subst, sym}
 use Rattle.std.specs.FinMap as finite
 use Rattle.std.specs.Ordering.{nat_cmp}

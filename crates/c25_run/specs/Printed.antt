@@ -1,4 +1,4 @@
--- Steps of a board whose outputs are printed as they go.
+-- Steps of a board, whose outputs are printed as they go.
 use Rattle.std.specs.Prelude.{◌≡◌, ◌⊎◌, ℕ, ◌+◌, ◌≤◌, List, [], Option}
 use Rattle.std.specs.Io.KnownBytes.{Appends}
 use Rattle.c25_board.specs.declared.board.Outcome.{Outcome}
@@ -12,7 +12,7 @@ use Rattle.c25_run_laws.specs.Behind.{behind}
 use Rattle.c25_report.specs.Ending.{HasFront}
 use Rattle.c25_run.specs.declared.batch.Batch.{Batch}
 
--- a batch is empty, and has refused nothing
+-- a batch is empty and has refused nothing
 abbrev pub IsFresh : Batch → Type 0
 IsFresh batch = (batch.outputs.items ≡ []) × (batch.failures ≡ 0)
 
@@ -27,7 +27,7 @@ pub record PrintsSome (signals : Signals) (k n : ℕ) (s : State) (o : Outcome) 
   pub left : last_state end ≡ behind outputs t
   pub printed : Appends old new (outputs_text outputs)
 
--- of n steps from step k on some were done, and a front of their outputs is printed
+-- of n steps from step k on some were done, and some first bytes of the text of their outputs are printed
 pub record BreaksOff (signals : Signals) (k n : ℕ) (s : State) (old new : Option (List ℕ)) : Type 0 where
   pub done : ℕ
   pub few : done ≤ n
@@ -45,6 +45,6 @@ pub record PrintsAll (signals : Signals) (n : ℕ) (s : State) (o : Outcome) (j 
   pub left : last_state end ≡ behind outputs t
   pub printed : Appends old new (end_text n end)
 
--- a front of the text of n steps is printed: of the outputs of some, or of the whole
+-- some first bytes of the text of n steps are printed: of the outputs of some steps, or of the whole text
 abbrev pub PrintsFront : Signals → ℕ → State → Option (List ℕ) → Option (List ℕ) → Type 0
 PrintsFront signals n s old new = BreaksOff signals 0 n s old new ⊎ ((end : Ending) × Runs WordStep signals 0 n s end × HasFront (end_text n end) old new)

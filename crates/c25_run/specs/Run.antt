@@ -1,5 +1,5 @@
--- The run of a program that is ready, printed as it goes: by the end of its words, by the statements of its
--- sources, and by what the chain answers.
+-- The printed run of a program: by the end of its words, by the statements of its sources, and by what the
+-- chain answers.
 use Rattle.std.specs.Prelude.{◌≡◌, ◌⊎◌, ℕ, Bool, true, false, List, [], Option}
 use Rattle.std.specs.Io.KnownBytes.{Appends, Keeps}
 use Rattle.c25_board.specs.declared.board.Outcome.{Outcome}
@@ -22,21 +22,22 @@ use Rattle.c25_report.specs.Ending.{HasFront, IsShort}
 use Rattle.c25_report.specs.declared.ending.Ending.TheVariants as ending
 use Rattle.c25_run.specs.Printed.{PrintsFront}
 
--- what is told: an ending and a note
+-- what is reported: an ending and a note
 abbrev pub Telling : Type 1
 Telling = report_ending.Ending → (note : List ℕ) → Type 0
 
--- that, with what is known of what a writer held before and holds then
+-- what is reported, with what is known of what a writer held before and holds then
 abbrev pub Printing : Type 1
 Printing = report_ending.Ending → (note : List ℕ) → (old new : Option (List ℕ)) → Type 0
 
--- what is told of a run whose text is printed: how it ended, and where the registers are asked for what a debugger answers to `regs` and
--- `where` in the state in which it ended, so many steps done, unless memory runs out for that
+-- what is reported of a printed run: how it ended, and, where the registers are asked for, what a debugger
+-- answers to `regs` and `where` in the last state, after so many steps, unless memory runs out for that
 abbrev pub TellsOutcome : (regs : Bool) → ImageData → List ScheduleEntry → Outcome → (steps : ℕ) → State → Telling
 TellsOutcome false image entries o steps t e note = (e ≡ report.ending_of o) × (note ≡ [])
 TellsOutcome true image entries o steps t e note = ((e ≡ report.ending_of o) × TellsWhere image entries steps t note) ⊎ (IsShort e × (note ≡ []))
 
--- a text is printed, and this is told of it; or it cannot be to its end, and a front of it is
+-- a text is printed, and this is reported; or it cannot be printed to its end, and some of its first bytes
+-- are
 abbrev pub PrintsText : (text : List ℕ) → Telling → Printing
 PrintsText text tells e note old new = (Appends old new text × tells e note) ⊎ ((e ≡ ending.Unprinted) × (note ≡ []) × HasFront text old new)
 
@@ -46,40 +47,41 @@ IsShortBefore e note old new = IsShort e × (note ≡ []) × Keeps old new
 
 -- ---- by the end of the program's words
 
--- what is told of n steps that ended so
+-- what is reported of n steps that ended so
 abbrev pub TellsEnd : (regs : Bool) → ImageData → List ScheduleEntry → ℕ → Ending → Telling
 TellsEnd regs image entries n end = TellsOutcome regs image entries (outcome_of end) (steps_of n end) (last_state end)
 
--- their text is printed so
+-- the text of n steps that ended so is printed
 abbrev pub PrintsEnd : (regs : Bool) → ImageData → List ScheduleEntry → ℕ → Ending → Printing
 PrintsEnd regs image entries n end = PrintsText (end_text n end) (TellsEnd regs image entries n end)
 
--- n steps of a program that is ready are printed so, under its samples and its schedule
+-- n steps of a program are printed by the end of its words, under its samples and its schedule
 abbrev pub PrintsRun : Ready → ℕ → (regs : Bool) → Printing
 PrintsRun ready n regs e note old new =
     ((end : Ending) × RunsReady ready n end × PrintsEnd regs ready.built.linked.image ready.schedule n end e note old new) ⊎ IsShortBefore e note old new
 
 -- ---- by the statements of its sources
 
--- n steps of it are printed as those of the statements of the sources that it was made ready of
+-- n steps of a program are printed as the steps of the statements of its sources
 abbrev pub PrintsStatements : Given → Ready → ℕ → (regs : Bool) → Printing
 PrintsStatements given ready n regs e note old new =
     PrintsEnd regs ready.built.linked.image ready.schedule n (statements_end given ready n) e note old new ⊎ IsShortBefore e note old new
 
 -- ---- by the chain's answer
 
--- what is told of the run of an answer
+-- what is reported of the run of an answer
 abbrev pub TellsAnswer : (regs : Bool) → (given : Given) (n : ℕ) (chain : Chain) → IsAnswer given n chain → Telling
 TellsAnswer regs given n chain a = TellsOutcome regs a.image (a.inputs).entries chain.outcome chain.steps (last_state (a.run).0)
 
--- n steps of what is given are printed as the chain answers: of each of its answers the text is printed so
+-- n steps of what the chain is given are printed as the chain answers: the text of each of its answers is
+-- printed
 abbrev pub PrintsAnswer : Given → ℕ → (regs : Bool) → Printing
 PrintsAnswer given n regs e note old new =
     ((chain : Chain) → (a : IsAnswer given n chain) → PrintsText (run_text chain) (TellsAnswer regs given n chain a) e note old new) ⊎ IsShortBefore e note old new
 
 -- ---- what the code has
 
--- the same from a state on, in which no output was put out, where a writer that fails is told by the steps that were done
+-- n steps from a state without outputs on are printed; where the writer fails, by the steps that were done
 abbrev pub PrintsFrom : (regs : Bool) → ImageData → List ScheduleEntry → ℕ → State → Printing
 PrintsFrom regs image entries n s e note old new =
     ((end : Ending) × Runs WordStep (signals_of entries) 0 n s end × Appends old new (end_text n end) × TellsEnd regs image entries n end e note)

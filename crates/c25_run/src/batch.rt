@@ -1,4 +1,4 @@
-//! The outputs of some steps.
+//! A sink for the outputs of a limited number of steps.
 
 ghost use Rattle.std.specs.Prelude.{◌≡◌, ◌<◌, ◌+◌, ◌-◌, ◌^◌, [], ◌∷◌, ◌++◌, OnErr, OnOk, length, min};
 ghost use Rattle.std.proofs.Props.{props};
@@ -8,11 +8,11 @@ use arrayvec::ArrayVec;
 use c25_board::ports::Sink;
 use c25_core::SinkFailed;
 
-/// So many steps are run at a time.
+/// How many steps are run between two prints.
 pub const STEPS: u32 = 4096;
 
-/// A list of the outputs of so many steps, one of each at most, which takes no memory. It refuses a word
-/// where there is no room.
+/// A list of the outputs of `STEPS` steps, of which each has at most one. It needs no memory after it is
+/// made, and refuses a word when it is full.
 #[derive(Drop)]
 pub struct Batch {
     outputs: ArrayVec<(u16, u16), 4096>,
@@ -32,14 +32,14 @@ impl Batch {
         }
     }
 
-    /// What was put: each a port and a word, oldest first.
+    /// The outputs so far, each a port and a word, oldest first.
     pub(crate) fn outputs(&self) -> &[(u16, u16)]
         ensures { result.now ≡ self.now.outputs.items }
     {
         self.outputs.as_slice()
     }
 
-    /// Forgets what was put, and that a word was refused.
+    /// Empties the list, and forgets that a word was refused.
     pub(crate) fn clear(&mut self)
         ensures outputs { self.new.outputs.items ≡ [] }
         ensures failures { self.new.failures ≡ 0 }

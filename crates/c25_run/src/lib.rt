@@ -1,6 +1,6 @@
 //! Runs that are printed as they go: the outputs of some steps at a time, and then how the run ended. No
-//! memory is taken once the first step is done, but for the registers behind the run where they are asked
-//! for, and none of the outputs is kept.
+//! output is kept, and no memory is needed after the first step but for the registers after the run, where
+//! they are asked for.
 #![tactic(auto)]
 
 pub mod batch;

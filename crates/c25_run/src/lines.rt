@@ -1,4 +1,4 @@
-//! Lines of a run, made without memory.
+//! The lines of a run, made without memory.
 
 ghost use Rattle.std.specs.Prelude.{◌≡◌, ◌+◌, ◌*◌, ◌≤◌, ◌++◌, codes, decimal, length};
 ghost use Rattle.arrayvec.specs.ArrayString.{array_string_len};
@@ -11,16 +11,16 @@ use c25_board::board::Outcome;
 use c25_texts::digits::four_bytes;
 use itoa::Buffer;
 
-/// The lines of a batch of outputs, of up to 11 bytes each.
-pub(crate) type Lines = ArrayVec<u8, 45_056>;
+/// The lines of a batch of outputs, each of at most 11 bytes.
+pub(crate) type OutputLines = ArrayVec<u8, 45_056>;
 
-/// The line of how a run ended.
+/// The line that says how a run ended.
 pub(crate) type OutcomeLine = ArrayString<32>;
 
-/// Appends the number of a port.
+/// Appends the number of a port in decimal.
 #[inline(always)]
 #[tactic(auto, using(std::proofs::lemmas::Fmt::decimal_digit))]
-fn push_port(lines: &mut Lines, port: u16)
+fn push_port(lines: &mut OutputLines, port: u16)
     requires { array_vec_len lines.old + 5 ≤ 45056 }
     ensures bytes { lines.new.items ≡ lines.old.items ++ decimal port }
     ensures short { array_vec_len lines.new ≤ array_vec_len lines.old + 5 }
@@ -38,7 +38,7 @@ fn push_port(lines: &mut Lines, port: u16)
 
 /// Appends the line of an output.
 #[inline(always)]
-fn push_output(lines: &mut Lines, port: u16, word: u16)
+fn push_output(lines: &mut OutputLines, port: u16, word: u16)
     requires { array_vec_len lines.old + 11 ≤ 45056 }
     ensures bytes { lines.new.items ≡ lines.old.items ++ output_line (port, word) }
     ensures short { array_vec_len lines.new ≤ array_vec_len lines.old + 11 }
@@ -48,9 +48,9 @@ fn push_output(lines: &mut Lines, port: u16, word: u16)
     let _room = lines.try_extend_from_slice(&[b' ', first, second, third, fourth, b'\n']);
 }
 
-/// The lines of outputs.
+/// Replaces `lines` by the lines of these outputs.
 #[tactic(auto, using(crate::proofs::OutputLines::outputs_more, crate::proofs::OutputLines::outputs_none))]
-pub(crate) fn put_outputs(lines: &mut Lines, outputs: &[(u16, u16)])
+pub(crate) fn put_outputs(lines: &mut OutputLines, outputs: &[(u16, u16)])
     requires { length outputs.now ≤ 4096 }
     ensures { lines.new.items ≡ outputs_text outputs.now }
 {
@@ -60,7 +60,7 @@ pub(crate) fn put_outputs(lines: &mut Lines, outputs: &[(u16, u16)])
     }
 }
 
-/// A word with its blank, and a number.
+/// Replaces `line` by a text that ends with a blank, and a number of steps.
 fn put_count(line: &mut OutcomeLine, word: &str, steps: u32)
     requires { length word.now ≤ 5 }
     ensures bytes { line.new.bytes ≡ word.now ++ decimal steps }
@@ -72,7 +72,7 @@ fn put_count(line: &mut OutcomeLine, word: &str, steps: u32)
     line.push_str(number.format(steps));
 }
 
-/// How a run ended.
+/// Replaces `line` by the line that says how a run ended.
 pub(crate) fn put_outcome(line: &mut OutcomeLine, outcome: Outcome, steps: u32)
     ensures { line.new.bytes ≡ outcome_text outcome steps }
 {

@@ -1,25 +1,25 @@
-//! Steps of a board whose outputs are printed as they go.
+//! Steps of a board, whose outputs are printed as they go.
 
 ghost use Rattle.std.specs.Prelude.{◌≡◌, ◌+◌, ◌<◌, ◌≤◌, ◌^◌, [], IfOk, OnErr, OnOk};
 ghost use Rattle.c25_board.specs.Board.{entries, signals, state, steps};
 ghost use Rattle.c25_run.specs.Printed.{BreaksOff, IsFresh, PrintsAll, PrintsFront, PrintsSome};
 
 use crate::batch::{Batch, STEPS};
-use crate::lines::{Lines, OutcomeLine, put_outcome, put_outputs};
+use crate::lines::{OutcomeLine, OutputLines, put_outcome, put_outputs};
 use c25_board::board::{Board, Outcome};
 use c25_board::samples::Samples;
-use c25_run_laws::outputs::{outputs_have_no_part_in_runs, steps_put_one_output_at_most};
 use c25_report::printing::{Unwritten, print_bytes, print_text};
+use c25_run_laws::outputs::{outputs_have_no_part_in_runs, steps_put_one_output_at_most};
 use c25_run_laws::runs::two_runs_are_one;
 use std::io::Write;
 
-/// A board whose outputs are those of some steps.
+/// A board that keeps the outputs of one batch of steps.
 pub(crate) type BatchBoard = Board<Samples, Batch>;
 
-/// Runs some steps of a board, and prints their outputs.
+/// Runs one batch of steps of a board, and prints their outputs.
 fn print_some<O: Write>(
     board: &mut BatchBoard,
-    lines: &mut Lines,
+    lines: &mut OutputLines,
     n: u32,
     out: &mut O,
 ) -> Result<Outcome, Unwritten>
@@ -43,10 +43,10 @@ fn print_some<O: Write>(
     Ok(outcome)
 }
 
-/// Runs n steps of a board, or those up to the one that stops, and prints their outputs as they go.
+/// Runs n steps of a board, or fewer where one stops, and prints their outputs as they go.
 fn print_steps<O: Write>(
     board: &mut BatchBoard,
-    lines: &mut Lines,
+    lines: &mut OutputLines,
     n: u32,
     out: &mut O,
 ) -> Result<Outcome, Unwritten>
@@ -74,7 +74,8 @@ fn print_steps<O: Write>(
     Ok(Outcome::Ran)
 }
 
-/// Runs n steps of a board that has done none, prints their outputs as they go, and then how they ended.
+/// Runs n steps of a new board, prints their outputs as they go, and then the line that says how the run
+/// ended.
 pub(crate) fn print_board<O: Write>(
     board: &mut BatchBoard,
     n: u32,
@@ -88,7 +89,7 @@ pub(crate) fn print_board<O: Write>(
         (O.contents out.old) (O.contents out.new)) }
     ensures schedule { entries board.new ≡ entries board.old }
 {
-    let mut lines = Lines::new();
+    let mut lines = OutputLines::new();
     let outcome = match print_steps(board, &mut lines, n, out) {
         Ok(outcome) => outcome,
         Err(unwritten) => return Err(unwritten),

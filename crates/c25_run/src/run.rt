@@ -1,4 +1,4 @@
-//! The run of a program that is ready, printed as it goes.
+//! The printed run of a linked program.
 
 ghost use Rattle.std.specs.Prelude.{◌≡◌, ℕ, IfOk, List, string_bytes, true};
 ghost use Rattle.c25_board.specs.Board.{entries, signals, state, steps};
@@ -25,14 +25,14 @@ use c25_chain::ready::Ready;
 use c25_chain::where_it_stands;
 use c25_link::Image;
 use c25_meaning_common::no_memory::NoMemory;
-use c25_run_laws::outputs::{outputs_have_no_part_in_runs, steps_put_one_output_at_most};
 use c25_report::ending::{Ending, Report};
 use c25_report::printing::ending_of;
+use c25_run_laws::outputs::{outputs_have_no_part_in_runs, steps_put_one_output_at_most};
 use c25_run_laws::runs::{two_runs_are_one, words_end_once};
 use std::alloc::Global;
 use std::io::Write;
 
-/// The board of a linked program after a reset, which keeps the outputs of some steps alone.
+/// The board of a linked program after a reset, with a sink for one batch of outputs.
 fn board_of(
     alloc: Global,
     linked: &Linked,
@@ -56,8 +56,8 @@ fn board_of(
     )
 }
 
-/// What is told of a run whose text is printed: how it ended, and where its board stands, if the registers
-/// are asked for.
+/// The report of a printed run: how it ended, and the registers and place of its board, where they are asked
+/// for.
 fn report_of(
     alloc: Global,
     board: BatchBoard,
@@ -81,7 +81,7 @@ fn report_of(
     }
 }
 
-/// Runs n steps of a linked program, from a reset on.
+/// Runs n steps of a linked program from a reset on, and prints the run as it goes.
 fn print_linked<O: Write>(
     alloc: Global,
     linked: &Linked,
@@ -107,14 +107,15 @@ fn print_linked<O: Write>(
     }
 }
 
-/// Runs n steps of a program that is ready, from a reset on, and prints their outputs as they go, and then
-/// how they ended. All memory is taken before the first step: where that is refused, nothing is printed.
+/// Runs n steps of a program from a reset on, prints their outputs as they go, and then how the run ended.
+/// Except for the registers, all memory is taken before the first step: if it runs out then, nothing is
+/// printed.
 ///
-/// Where the registers are asked for, the note tells where the board stands behind the run: what a debugger
-/// answers to `regs`, and then to `where`. Memory may be refused for it behind the printed run.
+/// Where the registers are asked for, the note has what a debugger answers to `regs` and `where` after the
+/// run; memory may run out for it after the run is printed.
 ///
-/// What is printed and told is the run of the statements of the sources, and what `run_chain` answers of the
-/// same texts: its outputs, its outcome and its number of steps, and its registers.
+/// The printed run is that of the statements of the sources, and has the outputs, the outcome, the number of
+/// steps and the registers that `run_chain` answers of the same texts.
 pub fn print_run<O: Write>(alloc: Global, ready: Ready, n: u32, regs: bool, out: &mut O) -> Report
     ensures run { (given : Given) → IsReady given ready
         → PrintsRun ready n regs result.ending (string_bytes result.note) (O.contents out.old) (O.contents out.new) }

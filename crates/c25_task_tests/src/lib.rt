@@ -1,5 +1,5 @@
-//! Tests of the program's tasks, and of the lines that its notes show, through public calls: what no words, files and standard
-//! input of a case bring about.
+//! Tests of the program's tasks, and of the lines that its notes show, through public calls: what no case of
+//! c25_examples brings about with a command line, files and standard input.
 #![tactic(auto)]
 
 #[cfg(test)]

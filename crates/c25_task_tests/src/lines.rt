@@ -1,4 +1,4 @@
-//! Lines that a text does not have: no fault is told of them.
+//! Lines that a text does not have: no fault is ever reported for them.
 
 use crate::values::equal;
 use c25_explain::note::line_of;

@@ -1,4 +1,4 @@
-//! The line of want of memory, which no call of the program tells where memory is ample.
+//! The line for out of memory, which no call of the program reports where memory is ample.
 
 use crate::values::equal;
 use c25_chain::write_fault;
@@ -7,7 +7,7 @@ use c25_meaning_common::no_memory::NoMemory;
 use std::alloc::Global;
 use std::test::Fail;
 
-/// The line of the want of memory that an allocation is refused with.
+/// The line for out of memory after a refused allocation.
 fn refused_line(alloc: Global) -> Result<String, Fail> {
     match Vec::<u8>::with_capacity(alloc, usize::MAX) {
         Ok(_) => Err(Fail::from("all of memory was had")),

@@ -1,7 +1,7 @@
-//! Words that are none and words that are no task, and a run that cannot be printed.
+//! Command lines without arguments or without a task, and runs that cannot be printed.
 
 use crate::values::equal;
-use crate::worlds::{Closed, Narrow, NotText, Words, empty_shelf, input_of};
+use crate::worlds::{Closed, CommandLine, Narrow, NotText, empty_shelf, input_of};
 use c25_disk_tests::readers::Pieces;
 use c25_disk_tests::shelf::Shelf;
 use c25_tasks::run_program;
@@ -11,7 +11,7 @@ use std::process::{Abort, ExitCode};
 use std::rt::Env;
 use std::test::Fail;
 
-/// Runs the program: its status, and what it told on standard error.
+/// Runs the program: its status, and what it reports on standard error.
 fn run<V: Env, O: Write>(
     alloc: Global,
     words: &V,
@@ -24,7 +24,8 @@ fn run<V: Env, O: Write>(
     (ended.status(), err)
 }
 
-/// The program has status 2 for these words, prints nothing but to standard error, and reads and writes nothing.
+/// Checks that the program has status 2 for this command line, prints nothing but to standard error, and
+/// reads and writes nothing.
 fn are_no_task(rt: &(impl Abort + AllocGlobal), words: &impl Env, told: Option<&str>) {
     let mut out = Vec::<u8>::new(rt.alloc());
     let mut shelf = empty_shelf(rt.alloc());
@@ -42,10 +43,10 @@ fn are_no_task(rt: &(impl Abort + AllocGlobal), words: &impl Env, told: Option<&
 #[test]
 fn words_that_are_no_task_have_status_2(rt: HostRuntime) {
     are_no_task(&rt, &NotText, Some("c25: a word is not UTF-8\n"));
-    are_no_task(&rt, &Words { words: &["asm"] }, None);
+    are_no_task(&rt, &CommandLine { words: &["asm"] }, None);
 }
 
-/// A run of a source that is printed to this writer has this status, and this is told.
+/// Checks the status and the report of a run of a source that is printed to this writer.
 fn is_printed<O: Write>(
     rt: &(impl Abort + AllocGlobal),
     source: &[u8],
@@ -55,13 +56,13 @@ fn is_printed<O: Write>(
 ) {
     let mut shelf = empty_shelf(rt.alloc());
     let mut input = input_of(source);
-    let no_words = Words { words: &[] };
+    let no_words = CommandLine { words: &[] };
     let (found, err) = run(rt.alloc(), &no_words, &mut shelf, &mut input, out);
     equal(rt, found, status);
     equal(rt, err.as_slice(), told);
 }
 
-/// What is told where standard output takes no more.
+/// The report where standard output takes no more.
 const CANNOT_WRITE: &[u8] = b"stdout: 7 CannotWrite\n";
 
 #[test]
@@ -72,10 +73,11 @@ fn a_run_that_cannot_be_printed_is_a_failure(rt: HostRuntime) {
 /// What a run of `OUTPUTS` prints.
 const PRINTED: &[u8] = b"1 0000\n2 0000\nleft 2 OutOfCode\n";
 
-/// A source with two outputs, behind which the code is left.
+/// A source with two outputs, after which it leaves the code.
 const OUTPUTS: &[u8] = b" OUT 60h,PA1\n OUT 60h,PA2\n";
 
-/// Of a run that is printed to a writer with this room a front stands, and the status and what is told are these.
+/// Checks that a run that is printed to a writer with this room prints its first bytes, with this status and
+/// report.
 fn prints_front(rt: &(impl Abort + AllocGlobal), room: usize, status: ExitCode, told: &[u8]) {
     let mut out = Narrow {
         room,

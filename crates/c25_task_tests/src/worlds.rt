@@ -1,4 +1,4 @@
-//! Worlds that the tests make for the program: words, writers and files.
+//! What the tests give the program: a command line, writers and files.
 
 ghost use Rattle.std.specs.Io.{WritesAtMost};
 
@@ -10,13 +10,13 @@ use std::io;
 use std::io::{Error, ErrorKind, Write};
 use std::rt::Env;
 
-/// Words behind the program's name.
+/// A command line of these arguments after the program's name.
 #[derive(Drop)]
-pub(crate) struct Words<'a> {
+pub(crate) struct CommandLine<'a> {
     pub(crate) words: &'a [&'a str],
 }
 
-/// Copies a word to the start of a buffer.
+/// Copies an argument to the start of a buffer.
 fn fill(word: &[u8], buf: &mut [u8]) -> Result<usize, FillError>
     ensures { WritesAtMost result buf.new }
 {
@@ -27,7 +27,7 @@ fn fill(word: &[u8], buf: &mut [u8]) -> Result<usize, FillError>
     Ok(word.len())
 }
 
-impl Env for Words<'_> {
+impl Env for CommandLine<'_> {
     fn arg(&self, i: usize, buf: &mut [u8]) -> Result<usize, FillError> {
         if i == 0 {
             return fill(b"c25", buf);
@@ -47,7 +47,7 @@ impl Env for Words<'_> {
     }
 }
 
-/// One word, which is not UTF-8.
+/// A command line of one argument, which is not UTF-8.
 #[derive(Drop)]
 pub(crate) struct NotText;
 
@@ -69,7 +69,7 @@ impl Env for NotText {
     }
 }
 
-/// Takes nothing.
+/// A writer that takes nothing.
 #[derive(Drop)]
 pub(crate) struct Closed;
 
@@ -83,7 +83,7 @@ impl Write for Closed {
     }
 }
 
-/// Takes so many bytes, and no more.
+/// A writer that takes a limited number of bytes.
 #[derive(Drop)]
 pub(crate) struct Narrow {
     pub(crate) room: usize,
@@ -106,7 +106,7 @@ impl Write for Narrow {
     }
 }
 
-/// An input with these bytes, nine at most at a time.
+/// A reader of these bytes, at most nine at a time.
 pub(crate) fn input_of(bytes: &[u8]) -> Pieces<'_> {
     Pieces {
         rest: bytes,
@@ -115,7 +115,7 @@ pub(crate) fn input_of(bytes: &[u8]) -> Pieces<'_> {
     }
 }
 
-/// No files, and room for some.
+/// A disk without files, with room for some.
 pub(crate) fn empty_shelf(alloc: Global) -> Shelf<'static> {
     Shelf {
         files: &[],

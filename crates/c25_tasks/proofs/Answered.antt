@@ -17,7 +17,7 @@ use Rattle.c25_run.specs.Run.{PrintsAnswer, PrintsRun, PrintsStatements, PrintsT
 use Rattle.c25_options.specs.declared.task.RunFiles.{RunFiles}
 use Rattle.c25_tasks.specs.Running.{IsGivenFrom, IsGivenInput, ReadiesFrom, ReadiesInput, ReadiesOver, stdin}
 use Rattle.c25_tasks.specs.Tells.{IsOfSources, IsReportOf, IsRun, IsRunOfAnswers, IsRunOfStatements, Printed, PrintsGiven, TellsRun}
-use Rattle.c25_tasks.specs.declared.notes.Notes.{Notes}
+use Rattle.c25_explain.specs.declared.notes.Notes.{Notes}
 
 -- ---- other statuses
 
@@ -51,7 +51,7 @@ module _ (n : ℕ) (regs : Bool) (e : Ending) (note : List ℕ) (out : Printed) 
   whole_answers given (inl printed) chain a = whole_text (run_text chain) (TellsAnswer regs given n chain a) (printed chain a)
   whole_answers given (inr (short, none, keeps)) chain a = short_failed e short ran
 
--- what is told of a program that is ready
+-- the report of a program that is ready
 pub tells_ready : (held : Held) (notes : Notes) (n : ℕ) (regs : Bool) (answer : Result Ready Fault) (ready : Ready) (e : Ending) (note : List ℕ) (out : Printed) → answer ≡ Ok ready
     → ((given : Given) → IsReady given ready → PrintsRun ready n regs e note out.0 out.1)
     → ((given : Given) → IsReady given ready → PrintsStatements given ready n regs e note out.0 out.1)

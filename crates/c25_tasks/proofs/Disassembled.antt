@@ -7,8 +7,8 @@ use Rattle.std.specs.Str.{IsUtf8, is_utf8}
 use Rattle.std.specs.declared.alloc.Global.{Global}
 use Rattle.std.proofs.lemmas.Str.{IsUtf8-from_is_utf8, is_utf8-from_IsUtf8}
 use Rattle.c25_chain.specs.Refusal.{Fault, IsRefusedAs, refusal_of}
-use Rattle.c25_chain.specs.declared.fault.Refusal.{Refusal}
-use Rattle.c25_chain.specs.declared.fault.Refusal.TheVariants.{File}
+use Rattle.c25_chain.specs.declared.fault.ChainFault.{ChainFault}
+use Rattle.c25_chain.specs.declared.fault.ChainFault.TheVariants.{File}
 use Rattle.c25_disk.specs.declared.fault.FileFault.TheVariants.{CannotRead}
 use Rattle.c25_meaning_common.specs.Results.{FailsBy}
 use Rattle.c25_meaning_common.specs.declared.failure.Failure.TheVariants as failure
@@ -22,7 +22,7 @@ pub text_given : (start : ℕ) (name bytes shown text : List ℕ) (answer : Resu
 text_given start name bytes shown text answer is read utf8 given =
     let of_bytes = subst (λ (t : List ℕ). IsTextOf (IsGivenText start) (given_by t) answer) (read ∙ is) given in
     let as_given = is_given name bytes (is_utf8-from_IsUtf8 bytes (subst IsUtf8 is utf8)) in
-    subst (λ (r : Result (map.FinMap nat_cmp ℕ) (Refusal (List ℕ))). IsTextOf (IsGivenText start) r answer) (sym as_given) of_bytes
+    subst (λ (r : Result (map.FinMap nat_cmp ℕ) (ChainFault (List ℕ))). IsTextOf (IsGivenText start) r answer) (sym as_given) of_bytes
 
 not_text : (bytes : List ℕ) → (IsUtf8 bytes → ⊥) → is_utf8 bytes ≡ false
 not_text bytes none = by (is_utf8 bytes) refl

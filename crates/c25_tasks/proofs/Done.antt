@@ -1,4 +1,4 @@
--- What is done for a task, and what a fault comes to.
+-- What is done for a task, and the endings of failures.
 use Rattle.std.proofs.Common.{◌≡◌, ◌∙◌, ap, inl, refl, sym, subst, ℕ, Bool, List, [], ◌∷◌, Bor, Option, string_bytes}
 use Rattle.std.specs.Io.KnownBytes.{Keeps}
 use Rattle.std.specs.Prelude.{Some, None, Result, String, Vec}
@@ -6,7 +6,7 @@ use Rattle.std.specs.declared.alloc.Global.{Global}
 use Rattle.c25_chain.specs.FaultText.{fault_text}
 use Rattle.c25_chain.specs.Refusal.{Fault}
 use Rattle.c25_chain.specs.declared.built.Built.{Built}
-use Rattle.c25_chain.specs.declared.fault.Refusal.{Refusal}
+use Rattle.c25_chain.specs.declared.fault.ChainFault.{ChainFault}
 use Rattle.c25_disk.specs.Held.{Held, Stay}
 use Rattle.c25_meaning_common.specs.declared.failure.Failure.TheVariants as failure
 use Rattle.c25_report.specs.declared.ending.Ending.{Ending}
@@ -20,17 +20,17 @@ use Rattle.c25_tasks.specs.Assembly.{Assembles}
 use Rattle.c25_tasks.specs.Building.{WritesProgram}
 use Rattle.c25_tasks.specs.Debugging.{DebugsTold}
 use Rattle.c25_tasks.specs.Linking.{LinksFrom}
-use Rattle.c25_tasks.specs.Notes.{AreNotesFor, IsNoted}
+use Rattle.c25_explain.specs.Notes.{AreNotesFor, IsNoted}
 use Rattle.c25_tasks.specs.Program.{AreNotesUnder, Does, Effect, effect_of}
 use Rattle.c25_tasks.specs.Running.{RunsTold}
 use Rattle.c25_tasks.specs.Symbols.{BuildsToDisk}
 use Rattle.c25_tasks.specs.Tells.{IsEndingOf, IsLineOf, IsReportOf, Printed, Wrote}
-use Rattle.c25_tasks.specs.declared.notes.Notes.{Notes}
+use Rattle.c25_explain.specs.declared.notes.Notes.{Notes}
 
-pub ends_of : (fault : Fault) (f : Refusal (String Global)) (e : Ending) → fault ≡ failure.Fault f → IsLineOf (fault_text fault) e → IsEndingOf fault e
+pub ends_of : (fault : Fault) (f : ChainFault (String Global)) (e : Ending) → fault ≡ failure.Fault f → IsLineOf (fault_text fault) e → IsEndingOf fault e
 ends_of fault f e is line = subst (λ (x : Fault). IsEndingOf x e) (sym is) (subst (λ (x : Fault). IsLineOf (fault_text x) e) is line)
 
-pub reports_line : (held : Held) (notes : Notes) (fault : Fault) (f : Refusal (String Global)) (line : String Global) (note : List ℕ)
+pub reports_line : (held : Held) (notes : Notes) (fault : Fault) (f : ChainFault (String Global)) (line : String Global) (note : List ℕ)
     → fault ≡ failure.Fault f → string_bytes line ≡ fault_text fault → IsNoted held notes f note → IsReportOf held notes fault (ending.Faulty line) note
 reports_line held notes fault f line note is text noted =
     let of_f : string_bytes line ≡ fault_text (failure.Fault f) = text ∙ ap (λ (x : Fault). fault_text x) is in

@@ -11,7 +11,7 @@ use Rattle.c25_meaning_objects.specs.Module.{Contents}
 use Rattle.c25_meaning_common.specs.Results.{FailsBy}
 use Rattle.c25_meaning_common.specs.declared.failure.Failure.TheVariants as failure
 use Rattle.c25_tasks.specs.Linking.{LinksFiles, LinksFrom}
-use Rattle.c25_tasks.specs.Objects.{AreFiles, modules_in}
+use Rattle.c25_inputs.specs.Objects.{AreFiles, modules_in}
 
 pub objects_refused : (files : Files) (text : List ℕ) (fault : Fault) → FailsBy refusal_of (modules_in files) fault → LinksFiles files text (Err fault)
 objects_refused files text (failure.NoMemory n) refused = tt

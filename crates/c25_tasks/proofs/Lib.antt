@@ -1,6 +1,4 @@
-pub mod Unread
 pub mod Quiet
-pub mod Noted
 pub mod Gathered
 pub mod Answered
 pub mod Debugged
@@ -9,7 +7,4 @@ pub mod Joined
 pub mod Words
 pub mod Disassembled
 pub mod WithSymbols
-pub mod Openings
-pub mod Misfitted
-pub mod Gathering
 pub mod Lines

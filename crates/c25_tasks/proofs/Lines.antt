@@ -6,12 +6,12 @@ use Rattle.std.specs.String.{string_bytes}
 use Rattle.std.specs.declared.alloc.Global.{Global}
 use Rattle.c25_chain.specs.FaultText.{at_file}
 use Rattle.c25_chain.specs.Refusal.{Fault}
-use Rattle.c25_chain.specs.declared.fault.Refusal.{Refusal}
-use Rattle.c25_chain.specs.declared.fault.Refusal.TheVariants as refusal
+use Rattle.c25_chain.specs.declared.fault.ChainFault.{ChainFault}
+use Rattle.c25_chain.specs.declared.fault.ChainFault.TheVariants as refusal
 use Rattle.c25_meaning_common.specs.declared.failure.Failure.TheVariants as failure
 use Rattle.c25_tasks.specs.Lines.{EndsWithHeading}
 
-of_refusal_ends : (r : Refusal (String Global)) → EndsWithHeading (failure.Fault r)
+of_refusal_ends : (r : ChainFault (String Global)) → EndsWithHeading (failure.Fault r)
 unfolding digits
 of_refusal_ends (refusal.Source placed) = (string_bytes placed.place.file ++ codes ":" ++ decimal placed.place.line, refl)
 of_refusal_ends (refusal.NoFile file line name) = (string_bytes file ++ codes ":" ++ decimal line, refl)

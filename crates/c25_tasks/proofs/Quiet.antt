@@ -5,8 +5,8 @@ use Rattle.std.specs.Prelude.{Ok, Result, String, Vec}
 use Rattle.std.specs.String.{string_bytes}
 use Rattle.std.specs.declared.alloc.Global.{Global}
 use Rattle.c25_chain.specs.Refusal.{Fault, refusal_of}
-use Rattle.c25_chain.specs.declared.fault.Refusal.{Refusal}
-use Rattle.c25_chain.specs.declared.fault.Refusal.TheVariants.{File}
+use Rattle.c25_chain.specs.declared.fault.ChainFault.{ChainFault}
+use Rattle.c25_chain.specs.declared.fault.ChainFault.TheVariants.{File}
 use Rattle.c25_chain.specs.declared.built.Built.{Built}
 use Rattle.c25_disk.specs.Held.{Held, Stay}
 use Rattle.c25_disk.specs.Written.{IsUnwritten, contents_of}
@@ -22,13 +22,13 @@ use Rattle.c25_report.specs.declared.ending.Ending.{Ending}
 use Rattle.c25_report.specs.ProgramFiles.{files_of}
 use Rattle.c25_report.specs.declared.texts.ProgramFileTexts.{ProgramFileTexts}
 use Rattle.c25_tasks.specs.Building.{WritesProgram, texts_in}
-use Rattle.c25_tasks.specs.Files.{IsToldOfFile}
-use Rattle.c25_tasks.specs.Notes.{IsExplainedBy, IsNoted, name_by}
+use Rattle.c25_inputs.specs.Files.{IsToldOfFile}
+use Rattle.c25_explain.specs.Notes.{IsExplainedBy, IsNoted, name_by}
 use Rattle.c25_tasks.specs.Symbols.{WritesWithSymbols}
 use Rattle.c25_tasks.specs.declared.symbols.BuiltWithSymbols.{BuiltWithSymbols}
 use Rattle.c25_tasks.specs.Tells.{IsReportOf, IsUnwrittenAmong, Wrote, Writes, WritesTexts, WritesTold}
-use Rattle.c25_tasks.specs.declared.notes.Notes.{Notes}
-use Rattle.c25_tasks.specs.declared.notes.Notes.TheVariants.{Nothing, Explanations}
+use Rattle.c25_explain.specs.declared.notes.Notes.{Notes}
+use Rattle.c25_explain.specs.declared.notes.Notes.TheVariants.{Nothing, Explanations}
 
 pub stays : (files : Option Files) → Stay files files
 stays None = tt
@@ -40,16 +40,16 @@ keeps (Some xs) = refl
 
 -- ---- a file that cannot be written
 
-abbrev file_refusal : List ℕ → FileFault → Refusal (List ℕ)
+abbrev file_refusal : List ℕ → FileFault → ChainFault (List ℕ)
 file_refusal name kind = File (record { place = name; fault = kind })
 
 same_refusal : (f : Placed (String Global) FileFault) (name : List ℕ) → string_bytes f.place ≡ name → f.fault ≡ CannotWrite → file_refusal (string_bytes f.place) f.fault ≡ file_refusal name CannotWrite
 same_refusal f name named kind = λ i. file_refusal (named i) (kind i)
 
-refused_so : (f : Placed (String Global) FileFault) (r : Refusal (String Global)) (name : List ℕ) → r ≡ File f → string_bytes f.place ≡ name → f.fault ≡ CannotWrite → refusal_of r ≡ file_refusal name CannotWrite
+refused_so : (f : Placed (String Global) FileFault) (r : ChainFault (String Global)) (name : List ℕ) → r ≡ File f → string_bytes f.place ≡ name → f.fault ≡ CannotWrite → refusal_of r ≡ file_refusal name CannotWrite
 refused_so f r name told named kind = ap refusal_of told ∙ same_refusal f name named kind
 
--- the explanation of a file's fault that is not told of reading it is so whatever the disk holds
+-- the explanation of a file's fault, other than that it cannot be read, is so whatever the disk holds
 explained_anew : (held other : Held) (f : Placed (String Global) FileFault) (kind : FileFault) (trail note : List ℕ) → kind ≡ CannotWrite → IsExplainedBy held None (name_by kind (string_bytes f.place)) trail (any.File f.fault) note → IsExplainedBy other None (name_by kind (string_bytes f.place)) trail (any.File f.fault) note
 explained_anew held other f kind trail note is explained =
     let With : Held → FileFault → Type 0 = λ h k. IsExplainedBy h None (name_by k (string_bytes f.place)) trail (any.File f.fault) note in
@@ -64,11 +64,11 @@ of_refusal_anew : (held other : Held) (notes : Notes) (f : Placed (String Global
 of_refusal_anew held other notes f e note is (inl (line, noted)) = inl (line, noted_anew held other notes f note is noted)
 of_refusal_anew held other notes f e note is (inr short) = inr short
 
--- what is told of a file that cannot be written is so whatever the disk holds
-reported_anew : (held other : Held) (notes : Notes) (f : Placed (String Global) FileFault) (r : Refusal (String Global)) (e : Ending) (note : List ℕ) → r ≡ File f → f.fault ≡ CannotWrite → IsReportOf held notes (failure.Fault r) e note → IsReportOf other notes (failure.Fault r) e note
+-- the report of a file that cannot be written is so whatever the disk holds
+reported_anew : (held other : Held) (notes : Notes) (f : Placed (String Global) FileFault) (r : ChainFault (String Global)) (e : Ending) (note : List ℕ) → r ≡ File f → f.fault ≡ CannotWrite → IsReportOf held notes (failure.Fault r) e note → IsReportOf other notes (failure.Fault r) e note
 reported_anew held other notes f r e note told unwritable is =
-    let Of : Held → Refusal (String Global) → Type 0 = λ h g. IsReportOf h notes (failure.Fault g) e note in
-    subst (λ (g : Refusal (String Global)). Of other g) (sym told) (of_refusal_anew held other notes f e note unwritable (subst (λ (g : Refusal (String Global)). Of held g) told is))
+    let Of : Held → ChainFault (String Global) → Type 0 = λ h g. IsReportOf h notes (failure.Fault g) e note in
+    subst (λ (g : ChainFault (String Global)). Of other g) (sym told) (of_refusal_anew held other notes f e note unwritable (subst (λ (g : ChainFault (String Global)). Of held g) told is))
 
 pub unwritten : (held other : Held) (notes : Notes) (old new : Option Files) (outputs : List Output) (refusal : Failure (Placed (String Global) FileFault)) (fault : Fault) (e : Ending) (note : List ℕ) → IsUnwritten old new outputs refusal → IsToldOfFile refusal fault → IsReportOf held notes fault e note → IsUnwrittenAmong other notes (map contents_of outputs) e note (old, new)
 unwritten held other notes old new outputs (failure.NoMemory n) (failure.NoMemory m) e note (file, ends, is) told comes = (file, ends, (failure.NoMemory m, tt, comes))

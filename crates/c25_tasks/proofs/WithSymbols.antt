@@ -16,7 +16,7 @@ use Rattle.c25_meaning_linking.specs.GoodMap.{ranges_for}
 use Rattle.c25_symbols.specs.Text.{symbols_text}
 use Rattle.c25_tasks.specs.Symbols.{BuildsWithSymbols, BuildsWithSymbolsOver, IsBuiltWithSymbols}
 use Rattle.c25_tasks.specs.declared.symbols.BuiltWithSymbols.{BuiltWithSymbols}
-use Rattle.c25_tasks.proofs.Gathered.{over_short}
+use Rattle.c25_inputs.proofs.Fails.{over_short}
 
 -- ---- what was built
 

@@ -1,9 +1,9 @@
--- What a source on a disk is assembled to.
+-- The task `asm`: the object and the listing of a source on a disk.
 use Rattle.std.specs.Prelude.{ℕ, List, [], ◌∷◌, map, Option, Some, None, Result, Ok, Vec}
 use Rattle.std.specs.declared.alloc.Global.{Global}
 use Rattle.c25_chain.specs.Modules.{assembled_in}
 use Rattle.c25_chain.specs.Refusal.{Fault, refusal_of}
-use Rattle.c25_chain.specs.declared.fault.Refusal.{Refusal}
+use Rattle.c25_chain.specs.declared.fault.ChainFault.{ChainFault}
 use Rattle.c25_disk.specs.Held.{Held}
 use Rattle.c25_disk.specs.Written.{contents_of}
 use Rattle.c25_disk.specs.declared.writing.Output.{Output}
@@ -13,24 +13,24 @@ use Rattle.c25_meaning_assembly.specs.ModuleOfSource.{Assembled}
 use Rattle.c25_meaning_objects.specs.Records.{spelling}
 use Rattle.c25_meaning_common.specs.Results.{MeetsBy, ◌>>=◌}
 use Rattle.c25_report.specs.declared.ending.Ending.{Ending}
-use Rattle.c25_tasks.specs.Files.{AfterSources, ComesTo}
+use Rattle.c25_inputs.specs.Files.{AfterSources, ComesTo}
 use Rattle.c25_tasks.specs.Tells.{Wrote, WritesTold}
-use Rattle.c25_tasks.specs.declared.notes.Notes.{Notes}
+use Rattle.c25_explain.specs.declared.notes.Notes.{Notes}
 
 -- files that are to be written
 abbrev pub output_files : Vec Output Global → Files
 output_files outputs = map contents_of outputs.items
 
--- the files that are written of a module: the object, and the listing where one is asked for
+-- the output files of a module: the object, and the listing where one is asked for
 abbrev pub asm_files : (object : List ℕ) → (listing : Option (List ℕ)) → Assembled → Files
 asm_files object None a = (object, spelling a.contents) ∷ []
 asm_files object (Some listing) a = (object, spelling a.contents) ∷ (listing, listing_text a.contents a.entries) ∷ []
 
--- the same of the source of a name among these files, or why there are none
-abbrev pub asm_written : (object : List ℕ) → (listing : Option (List ℕ)) → Files → (source : List ℕ) → Result Files (Refusal (List ℕ))
+-- the output files of the source of a name among these files, or why there are none
+abbrev pub asm_written : (object : List ℕ) → (listing : Option (List ℕ)) → Files → (source : List ℕ) → Result Files (ChainFault (List ℕ))
 asm_written object listing files source = assembled_in files source >>= λ a. Ok (asm_files object listing a)
 
--- the same of a source on a disk, over its file and those that it copies
+-- the output files of a source on a disk, over its file and those that it copies
 abbrev pub AsmOutputs : Held → (source object : List ℕ) → (listing : Option (List ℕ)) → Result (Vec Output Global) Fault → Type 0
 AsmOutputs held source object listing answer =
     AfterSources held (source ∷ []) (λ given. ComesTo held given (λ files result. MeetsBy refusal_of output_files (asm_written object listing files source) result)) answer

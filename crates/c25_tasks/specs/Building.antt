@@ -1,4 +1,4 @@
--- What is built of sources on a disk, and the files that are written of it.
+-- The task `build`: the program of sources on a disk, and its output files.
 use Rattle.std.specs.Prelude.{◌⊎◌, ℕ, List, [], ◌∷◌, ◌++◌, Option, Some, None, Result, Ok, Err}
 use Rattle.c25_chain.specs.Built.{Builds}
 use Rattle.c25_chain.specs.Refusal.{Fault}
@@ -10,32 +10,34 @@ use Rattle.c25_meaning_expansion.specs.Files.{Files}
 use Rattle.c25_report.specs.ProgramFiles.{files_of}
 use Rattle.c25_report.specs.declared.ending.Ending.{Ending}
 use Rattle.c25_report.specs.declared.texts.ProgramFileTexts.{ProgramFileTexts}
-use Rattle.c25_tasks.specs.Files.{AfterOptional, AfterSources, ComesTo}
+use Rattle.c25_inputs.specs.Files.{AfterOptional, AfterSources, ComesTo}
 use Rattle.c25_tasks.specs.Tells.{IsReportOf, IsShortOf, Wrote, Writes}
-use Rattle.c25_tasks.specs.declared.notes.Notes.{Notes}
+use Rattle.c25_explain.specs.declared.notes.Notes.{Notes}
 
 -- ---- programs
 
--- the program of the sources of names among given files and those that they copy, under the text of a command; or why there is none
+-- the program of the named sources among given files and those that they copy, under the text of a command
+-- file; or why there is none
 abbrev pub BuildsOver : Held → Files → List (List ℕ) → List ℕ → Result Built Fault → Type 0
 BuildsOver held given names command answer = ComesTo held given (λ files result. Builds files names command result) answer
 
--- the same of files on a disk, of which the sources are read first, and then the command file, where one is named
+-- the program of sources on a disk: the sources are read first, and then the command file, where one is named
 abbrev pub BuildsFrom : Held → List (List ℕ) → Option (List ℕ) → Result Built Fault → Type 0
 BuildsFrom held names command answer = AfterSources held names (λ given. AfterOptional held command (BuildsOver held given names)) answer
 
 -- ---- files
 
--- the texts of what was built
+-- the texts of the files of a built program
 abbrev pub texts_in : Built → ProgramFileTexts
 texts_in built = record { page0 = built.linked.page0.text; page1 = built.linked.page1.text; map = built.linked.map; listings = built.listings }
 
--- files, and one more behind them, if there is one
+-- files, and one more after them, if there is one
 abbrev pub and_file : Files → Option Output → Files
 and_file files None = files
 and_file files (Some file) = files ++ contents_of file ∷ []
 
--- what is written of what was built, unless memory runs out before; where there is nothing, nothing is written
+-- the files of a built program are written, unless memory runs out before; where there is no program, nothing
+-- is written
 abbrev pub WritesProgram : Held → Notes → List ℕ → Result Built Fault → Ending → (note : List ℕ) → Wrote → Type 0
 WritesProgram held notes base (Ok built) e note written = Writes held notes (files_of base (texts_in built)) e note written ⊎ IsShortOf e note written
 WritesProgram held notes base (Err fault) e note written = IsReportOf held notes fault e note × Stay written.0 written.1

@@ -1,4 +1,4 @@
--- Sessions of the debugger with sources from a disk.
+-- The task `debug`: a debugging session with sources on a disk.
 use Rattle.std.specs.Prelude.{ℕ, List, Result, String}
 use Rattle.std.specs.declared.alloc.Global.{Global}
 use Rattle.c25_chain.specs.Chain.{given_of}
@@ -9,17 +9,17 @@ use Rattle.c25_meaning_expansion.specs.Files.{Files}
 use Rattle.c25_report.specs.declared.ending.Ending.{Ending}
 use Rattle.c25_options.specs.Task.{text_of}
 use Rattle.c25_options.specs.declared.task.RunFiles.{RunFiles}
-use Rattle.c25_tasks.specs.Files.{AfterNamed, AfterOptional, AfterSources, ComesTo}
+use Rattle.c25_inputs.specs.Files.{AfterNamed, AfterOptional, AfterSources, ComesTo}
 use Rattle.c25_tasks.specs.Tells.{Printed, TellsAnswers}
-use Rattle.c25_tasks.specs.declared.notes.Notes.{Notes}
+use Rattle.c25_explain.specs.declared.notes.Notes.{Notes}
 
--- the answers to the text of a script, over the sources of names among given files and those that they copy, under these texts beside
--- them; or why there are none
+-- the answers to the text of a script, over the named sources among given files and those that they copy,
+-- under the texts of the other files; or why there are none
 abbrev pub DebugsOver : Held → Files → List (List ℕ) → (command samples schedule script : List ℕ) → Result (String Global) Fault → Type 0
 DebugsOver held given names command samples schedule script answer =
     ComesTo held given (λ all result. Debugs (given_of all names command samples schedule) script result) answer
 
--- the same of files on a disk, which are read in this order
+-- the answers of files on a disk, which are read in this order
 abbrev pub DebugsFrom : Held → List (List ℕ) → (script : List ℕ) → RunFiles → Result (String Global) Fault → Type 0
 DebugsFrom held names script files answer =
     AfterSources held names (λ given.
@@ -28,7 +28,7 @@ DebugsFrom held names script files answer =
     AfterOptional held (text_of files.schedule) (λ schedule.
     AfterNamed held script (DebugsOver held given names command samples schedule))))) answer
 
--- what is done with them
+-- the answers are printed, or why there are none is reported
 abbrev pub DebugsTold : Held → Notes → List (List ℕ) → (script : List ℕ) → RunFiles → Ending → (note : List ℕ) → Printed → Type 0
 DebugsTold held notes names script files e note out =
     (answer : Result (String Global) Fault) × DebugsFrom held names script files answer × TellsAnswers held notes answer e note out

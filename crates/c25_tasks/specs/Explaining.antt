@@ -1,4 +1,4 @@
--- What the program does of the number of a fault.
+-- The task `explain`.
 use Rattle.std.specs.Prelude.{◌≡◌, ◌⊎◌, ℕ, List, ◌++◌, Option, Some, None, codes}
 use Rattle.std.specs.Fmt.{decimal}
 use Rattle.std.specs.Io.KnownBytes.{Appends, Keeps}
@@ -12,11 +12,12 @@ use Rattle.c25_tasks.specs.Tells.{IsLineOf, Printed}
 abbrev pub unknown_line : ℕ → List ℕ
 unknown_line number = codes "explain: no fault has the number " ++ decimal number
 
--- a text is printed part by part, or cannot be, and of what then stands nothing is known
+-- a text is printed part by part; where that fails, nothing is known of what was printed
 abbrev pub PrintsParts : List ℕ → Ending → Printed → Type 0
 PrintsParts text e out = ((e ≡ ending.Done) × Appends out.0 out.1 text) ⊎ (e ≡ ending.Unprinted)
 
--- what the answer to a number comes to: all of it goes to standard output; where there is none that is told, unless memory runs out, and nothing goes there
+-- what is done with the answer to a number: an explanation goes to standard output; where there is none that
+-- is reported, unless memory runs out, and nothing goes to standard output
 abbrev pub TellsAnswer : ℕ → Option Explanation → Ending → Printed → Type 0
 TellsAnswer number (Some explanation) e out = PrintsParts (whole_text explanation) e out
 TellsAnswer number None e out = IsLineOf (unknown_line number) e × Keeps out.0 out.1

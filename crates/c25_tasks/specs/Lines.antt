@@ -1,34 +1,10 @@
 -- The first lines of explanations and the lines of faults.
-use Rattle.std.specs.Prelude.{◌≡◌, ℕ, List, ◌++◌, String, codes}
-use Rattle.std.specs.declared.alloc.Global.{Global}
+use Rattle.std.specs.Prelude.{◌≡◌, ℕ, List, ◌++◌, codes}
 use Rattle.c25_chain.specs.FaultText.{fault_text}
 use Rattle.c25_chain.specs.Refusal.{Fault}
-use Rattle.c25_chain.specs.declared.fault.Refusal.{Refusal}
-use Rattle.c25_chain.specs.declared.fault.Refusal.TheVariants as refusal
-use Rattle.c25_meaning_common.specs.declared.failure.Failure.TheVariants as failure
-use Rattle.c25_meaning_language.specs.declared.statement.FaultKind.TheVariants.{NoFile}
 use Rattle.c25_explain.specs.Explanation.{heading}
-use Rattle.c25_explain.specs.declared.fault.AnyFault.{AnyFault}
-use Rattle.c25_explain.specs.declared.fault.AnyFault.TheVariants.{Memory, Source, Object, Command, Link, Hex, Schedule, Samples, Script, File}
+use Rattle.c25_explain.specs.Refusals.{of_fault}
 
--- a refusal without where it is told
-abbrev pub of_refusal : Refusal (String Global) → AnyFault
-of_refusal (refusal.Source placed) = Source placed.fault
-of_refusal (refusal.NoFile file line name) = Source NoFile
-of_refusal (refusal.Object placed) = Object placed.fault
-of_refusal (refusal.Command placed) = Command placed.fault
-of_refusal (refusal.Link placed) = Link placed.fault
-of_refusal (refusal.Hex placed) = Hex placed.fault
-of_refusal (refusal.Schedule line) = Schedule
-of_refusal (refusal.Samples line) = Samples
-of_refusal (refusal.Script line) = Script
-of_refusal (refusal.File placed) = File placed.fault
-
--- a fault without where it is told
-abbrev pub of_fault : Fault → AnyFault
-of_fault (failure.NoMemory n) = Memory
-of_fault (failure.Fault refusal) = of_refusal refusal
-
--- the line of a fault ends with its heading, behind where it is told
+-- the line of a fault ends with its heading, after its place
 abbrev pub EndsWithHeading : Fault → Type 0
 EndsWithHeading fault = (place : List ℕ) × (fault_text fault ≡ place ++ codes ": " ++ heading (of_fault fault))

@@ -1,4 +1,4 @@
--- What the program reads, prints, writes and answers.
+-- The program: what it reads, prints, writes and reports.
 use Rattle.std.specs.Prelude.{◌≡◌, ◌⊎◌, ℕ, ◌<◌, ◌≤◌, Bool, List, [], ◌∷◌, length, Option, Some, None, Result, Ok, Err}
 use Rattle.std.specs.Borrow.{Bor}
 use Rattle.std.specs.Io.KnownBytes.{Keeps}
@@ -21,43 +21,43 @@ use Rattle.c25_tasks.specs.Debugging.{DebugsTold}
 use Rattle.c25_tasks.specs.Disassembly.{DisassemblesTold}
 use Rattle.c25_tasks.specs.Explaining.{Explained}
 use Rattle.c25_tasks.specs.Linking.{LinksFrom}
-use Rattle.c25_tasks.specs.Notes.{AreNotesFor}
+use Rattle.c25_explain.specs.Notes.{AreNotesFor}
 use Rattle.c25_tasks.specs.Running.{Runs, RunsTold}
 use Rattle.c25_tasks.specs.Symbols.{BuildsToDisk}
 use Rattle.c25_tasks.specs.Tells.{Printed, Wrote}
-use Rattle.c25_tasks.specs.declared.notes.Notes.{Notes}
+use Rattle.c25_explain.specs.declared.notes.Notes.{Notes}
 
--- what the program comes to, the note that it tells behind that, what it prints to standard output, and what it writes
+-- how the program ends, the note that it reports, what it prints to standard output, and what it writes
 pub record Effect : Type 0 where
   pub ending : Ending
   pub note : List ℕ
   pub out : Printed
   pub written : Wrote
 
--- that of a report
+-- the effect with the ending and the note of a report
 abbrev pub effect_of : Report → Printed → Wrote → Effect
 effect_of report out written = record { ending = report.ending; note = string_bytes report.note; out = out; written = written }
 
 -- ---- tasks
 
--- nothing is written, and no note is told
+-- nothing is written, and no note is reported
 abbrev pub OnlyPrints : Effect → Type 0
 OnlyPrints e = Stay e.written.0 e.written.1 × (e.note ≡ [])
 
--- nothing is printed to standard output and nothing is written, and no note is told
+-- nothing is printed to standard output and nothing is written, and no note is reported
 abbrev pub IsQuiet : Effect → Type 0
 IsQuiet e = Keeps e.out.0 e.out.1 × Stay e.written.0 e.written.1 × (e.note ≡ [])
 
--- the files of a program are written, or why there is none
+-- the files of a program are written, or why there is none is reported
 abbrev pub WritesBuilt : Held → Notes → (Result Built Fault → Type 0) → List ℕ → Effect → Type 0
 WritesBuilt held notes comes base e = (told : Result Built Fault) × comes told × WritesProgram held notes base told e.ending e.note e.written
 
--- explanations where they are asked for; of a fault of the command file that is told by this name its line
+-- the notes of a task that reads no samples, schedule or script: explanations, where they are asked for
 abbrev pub AreNotesUnder : Bool → (command : Option (Bor (List ℕ))) → (sources objects : List (List ℕ)) → Notes → Type 0
 AreNotesUnder explain command sources objects notes =
     AreNotesFor explain (record { command = command; samples = None; schedule = None }) None sources objects notes
 
--- what is done with some such notes
+-- what is done with these notes
 abbrev pub Noting : (Notes → Type 0) → (Notes → Type 0) → Type 0
 Noting asked done = (notes : Notes) × asked notes × done notes
 
@@ -87,23 +87,25 @@ Does held input (Disassemble file from) e = DisassemblesTold held file.now (text
 
 -- ---- words
 
--- what the program does where words are read so
+-- what the program does where the command line is read so
 abbrev pub DoesRead : Held → Option (List ℕ) → Result Task (Failure Error) → Effect → Type 0
 DoesRead held input (Ok task) e = Does held input task e
 DoesRead held input (Err fault) e = (e.ending ≡ ending.NoTask fault) × IsQuiet e
 
--- how words are read, the program's name first: alone, or none at all, they ask for the run of standard input
+-- how a command line is read, the program's name first: without arguments it asks for the run of standard
+-- input
 abbrev pub AreRead : List (List ℕ) → Result Task (Failure Error) → Type 0
 AreRead words answer = (length words < 2 → answer ≡ Ok RunStandardInput) × (2 ≤ length words → Reads words answer)
 
--- what the program does for words
+-- what the program does for a command line
 abbrev pub DoesWords : Held → Option (List ℕ) → List (List ℕ) → Effect → Type 0
 DoesWords held input words e = (answer : Result Task (Failure Error)) × AreRead words answer × DoesRead held input answer e
 
--- it has no words: one is not UTF-8, or memory ran out
+-- there is no command line: an argument is not UTF-8, or memory ran out
 abbrev pub HasNoWords : Ending → Type 0
 HasNoWords e = (e ≡ ending.NoText) ⊎ IsShort e
 
--- what the program does: for some words, which are not known; or they cannot be had, and nothing is done
+-- what the program does: for some command line, which is not known; or the command line cannot be had, and
+-- nothing is done
 abbrev pub IsProgram : Held → Option (List ℕ) → Effect → Type 0
 IsProgram held input e = ((words : List (List ℕ)) × DoesWords held input words e) ⊎ (HasNoWords e.ending × IsQuiet e)

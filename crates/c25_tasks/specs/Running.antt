@@ -1,4 +1,4 @@
--- Runs of sources from a disk and from standard input.
+-- The task `run`, and the run of a source on standard input.
 use Rattle.std.specs.Prelude.{◌≡◌, ◌⊎◌, ℕ, Bool, false, List, [], ◌∷◌, codes, Option, Result, Ok}
 use Rattle.c25_chain.specs.Chain.{Given, given_of}
 use Rattle.c25_chain.specs.Ready.{Readies}
@@ -10,20 +10,20 @@ use Rattle.c25_meaning_expansion.specs.Files.{Files}
 use Rattle.c25_report.specs.declared.ending.Ending.{Ending}
 use Rattle.c25_options.specs.Task.{text_of}
 use Rattle.c25_options.specs.declared.task.RunFiles.{RunFiles}
-use Rattle.c25_tasks.specs.Files.{AfterOptional, AfterSources, ComesTo, FailsWith, IsOptional, IsUnread, ReadsAll}
+use Rattle.c25_inputs.specs.Files.{AfterOptional, AfterSources, ComesTo, FailsWith, IsOptional, IsUnread, ReadsAll}
 use Rattle.c25_tasks.specs.Tells.{Printed, PrintsGiven, TellsRun}
-use Rattle.c25_tasks.specs.declared.notes.Notes.{Notes}
-use Rattle.c25_tasks.specs.declared.notes.Notes.TheVariants.{Nothing}
+use Rattle.c25_explain.specs.declared.notes.Notes.{Notes}
+use Rattle.c25_explain.specs.declared.notes.Notes.TheVariants.{Nothing}
 
 -- ---- sources on a disk
 
--- what is ready to be run of the sources of names among given files and those that they copy, under these texts beside them; or why
--- nothing is
+-- the program with its inputs of the named sources among given files and those that they copy, under the
+-- texts of the other files; or why there is none
 abbrev pub ReadiesOver : Held → Files → List (List ℕ) → (command samples schedule : List ℕ) → Result Ready Fault → Type 0
 ReadiesOver held given names command samples schedule answer =
     ComesTo held given (λ all result. Readies (given_of all names command samples schedule) result) answer
 
--- the same of files on a disk, which are read in this order
+-- the program with its inputs of files on a disk, which are read in this order
 abbrev pub ReadiesFrom : Held → List (List ℕ) → RunFiles → Result Ready Fault → Type 0
 ReadiesFrom held names files answer =
     AfterSources held names (λ given.
@@ -31,7 +31,7 @@ ReadiesFrom held names files answer =
     AfterOptional held (text_of files.samples) (λ samples.
     AfterOptional held (text_of files.schedule) (ReadiesOver held given names command samples)))) answer
 
--- what the chain is given of them: the sources of names and the files that they copy, and the texts beside them
+-- what the chain is given: the named sources and the files that they copy, and the texts of the other files
 pub record IsGivenFrom (held : Held) (names : List (List ℕ)) (files : RunFiles) (given : Given) : Type 0 where
   pub named : Files
   pub read : ReadsAll held names (Ok named)
@@ -41,7 +41,7 @@ pub record IsGivenFrom (held : Held) (names : List (List ℕ)) (files : RunFiles
   pub samples : IsOptional held (text_of files.samples) given.samples
   pub schedule : IsOptional held (text_of files.schedule) given.schedule
 
--- what is done with the sources of names
+-- the named sources are run and printed, or why they are not is reported
 abbrev pub RunsTold : Held → Notes → List (List ℕ) → ℕ → (regs : Bool) → RunFiles → Ending → (note : List ℕ) → Printed → Type 0
 RunsTold held notes names steps regs files e note out =
     ((answer : Result Ready Fault) × ReadiesFrom held names files answer × TellsRun held notes steps regs answer e note out)
@@ -49,26 +49,26 @@ RunsTold held notes names steps regs files e note out =
 
 -- ---- standard input
 
--- its name as a source
+-- the name of standard input as a source
 abbrev pub stdin : List ℕ
 stdin = codes "stdin"
 
--- a text as the one source, with nothing beside it
+-- the program of a text as the one source, without other files
 abbrev pub ReadiesText : Held → List ℕ → Result Ready Fault → Type 0
 ReadiesText held text answer = ReadiesOver held ((stdin, text) ∷ []) (stdin ∷ []) [] [] [] answer
 
--- the same of what stood on standard input, where that is known, or that it cannot be read (8)
+-- the program of what stood on standard input, where that is known, or that it cannot be read (8)
 abbrev pub ReadiesInput : Held → Option (List ℕ) → Result Ready Fault → Type 0
 ReadiesInput held input answer = ((text : List ℕ) × IsAllOf input text × ReadiesText held text answer) ⊎ FailsWith answer (IsUnread stdin)
 
--- what the chain is given of it: that source and the files that it copies, and nothing beside it
+-- what the chain is given: the source on standard input and the files that it copies, and no other texts
 pub record IsGivenInput (held : Held) (input : Option (List ℕ)) (given : Given) : Type 0 where
   pub text : List ℕ
   pub read : IsAllOf input text
   pub copied : HasCopied held ((stdin, text) ∷ []) 256 given.files
   pub alone : given ≡ given_of given.files (stdin ∷ []) [] [] []
 
--- what is done with standard input as the source: 1,000 steps of it are run
+-- the source on standard input is run for 1,000 steps and printed, or why it is not is reported
 abbrev pub Runs : Held → Option (List ℕ) → Ending → (note : List ℕ) → Printed → Type 0
 Runs held input e note out =
     ((answer : Result Ready Fault) × ReadiesInput held input answer × TellsRun held Nothing 1000 false answer e note out)

@@ -1,4 +1,4 @@
--- What the program prints and writes of answers, and what it comes to.
+-- Answers and failures as endings, reports, printed text and written files.
 use Rattle.std.specs.Prelude.{◌≡◌, ◌⊎◌, ℕ, Bool, List, [], map, Option, Result, Ok, Err, String, Vec}
 use Rattle.std.specs.Io.KnownBytes.{Appends, Keeps}
 use Rattle.std.specs.String.{string_bytes}
@@ -9,7 +9,7 @@ use Rattle.c25_chain.specs.OutcomeText.{end_text, run_text}
 use Rattle.c25_chain.specs.Ready.{IsReady, statements_end}
 use Rattle.c25_chain.specs.Refusal.{Fault, IsRefusedAs}
 use Rattle.c25_chain.specs.declared.chain.Chain.{Chain}
-use Rattle.c25_chain.specs.declared.fault.Refusal.TheVariants.{File}
+use Rattle.c25_chain.specs.declared.fault.ChainFault.TheVariants.{File}
 use Rattle.c25_chain.specs.declared.ready.Ready.{Ready}
 use Rattle.c25_disk.specs.Held.{Adds, Held, Stay}
 use Rattle.c25_disk.specs.Written.{EndsBefore, contents_of}
@@ -21,93 +21,99 @@ use Rattle.c25_report.specs.Ending.{IsPrinted, IsShort, status_of}
 use Rattle.c25_report.specs.declared.ending.Ending.{Ending}
 use Rattle.c25_report.specs.declared.ending.Ending.TheVariants as ending
 use Rattle.c25_run.specs.Run.{PrintsAnswer, PrintsRun, PrintsStatements, TellsAnswer, TellsEnd}
-use Rattle.c25_tasks.specs.Notes.{IsNoted}
-use Rattle.c25_tasks.specs.declared.notes.Notes.{Notes}
+use Rattle.c25_explain.specs.Notes.{IsNoted}
+use Rattle.c25_explain.specs.declared.notes.Notes.{Notes}
 
--- what was known before of what a writer holds, and what is then
+-- what was known of what a writer held before, and what is known then
 abbrev pub Printed : Type 0
 Printed = Option (List ℕ) × Option (List ℕ)
 
--- the same of the files that were written
+-- what was known of the files that were written before, and what is known then
 abbrev pub Wrote : Type 0
 Wrote = Option Files × Option Files
 
 -- ---- faults
 
--- it ends with a fault of this line
+-- the program ends with a fault of this line
 abbrev pub HasFault : List ℕ → Ending → Type 0
 HasFault text e = (line : String Global) × (e ≡ ending.Faulty line) × (string_bytes line ≡ text)
 
--- the same, unless memory runs out
+-- the program ends with a fault of this line, unless memory runs out
 abbrev pub IsLineOf : List ℕ → Ending → Type 0
 IsLineOf text e = HasFault text e ⊎ IsShort e
 
--- what a fault comes to: want of memory is itself, and all else has its line, unless memory runs out
+-- the ending of a failure: out of memory as itself, and a fault with its line, unless memory runs out
 abbrev pub IsEndingOf : Fault → Ending → Type 0
 IsEndingOf (failure.NoMemory n) e = e ≡ ending.NoMemory n
 IsEndingOf (failure.Fault f) e = IsLineOf (fault_text (failure.Fault f)) e
 
--- what is told of a fault: want of memory is itself; of all else its line and what is noted of it, unless memory runs out for the line
+-- the report of a failure: out of memory as itself; a fault with its line and its note, unless memory runs
+-- out for the line
 abbrev pub IsReportOf : Held → Notes → Fault → Ending → (note : List ℕ) → Type 0
 IsReportOf held notes (failure.NoMemory n) e note = (e ≡ ending.NoMemory n) × (note ≡ [])
 IsReportOf held notes (failure.Fault f) e note = (HasFault (fault_text (failure.Fault f)) e × IsNoted held notes f note) ⊎ (IsShort e × (note ≡ []))
 
 -- ---- answers
 
--- a program is ready that is one of sources
+-- a program is that of some sources
 abbrev pub IsOfSources : Ready → Type 0
 IsOfSources ready = (g : Given) × IsReady g ready
 
--- what n steps of a program come to, or why there is none: they are printed as they go, and as the statements of its sources run and the
--- chain answers, of whatever sources the program is; and of a fault nothing goes to standard output
+-- n steps of a program are printed as they go, as the statements of its sources run and as the chain answers,
+-- of whatever sources the program is; or the failure is reported, and nothing goes to standard output
 abbrev pub TellsRun : Held → Notes → ℕ → (regs : Bool) → Result Ready Fault → Ending → (note : List ℕ) → Printed → Type 0
 TellsRun held notes n regs (Ok ready) e note out =
     PrintsRun ready n regs e note out.0 out.1
     × ((given : Given) → IsReady given ready → PrintsStatements given ready n regs e note out.0 out.1 × PrintsAnswer given n regs e note out.0 out.1)
 TellsRun held notes n regs (Err fault) e note out = IsReportOf held notes fault e note × Keeps out.0 out.1
 
--- it ends with status 0, or with 3, as a run that left the code
+-- the program ends with status 0, or with 3, as a run that left the code
 abbrev pub IsRun : Ending → Type 0
 IsRun e = (status_of e ≡ 0) ⊎ (status_of e ≡ 3)
 
--- behind what stood on standard output stands the text of n steps of the statements of the sources, and what is told is told of their end
+-- after what stood on standard output stands the text of n steps of the statements of the sources, and their
+-- end is reported
 abbrev pub IsRunOfStatements : Given → ℕ → (regs : Bool) → Ending → (note : List ℕ) → Printed → Type 0
 IsRunOfStatements given n regs e note out =
     (ready : Ready) × IsReady given ready × Appends out.0 out.1 (end_text n (statements_end given ready n))
     × TellsEnd regs ready.built.linked.image ready.schedule n (statements_end given ready n) e note
 
--- there stands the text of each answer that the chain has, and what is told is told of it
+-- after what stood on standard output stands the text of each answer that the chain has, and its end is
+-- reported
 abbrev pub IsRunOfAnswers : Given → ℕ → (regs : Bool) → Ending → (note : List ℕ) → Printed → Type 0
 IsRunOfAnswers given n regs e note out = (chain : Chain) → (a : IsAnswer given n chain) → Appends out.0 out.1 (run_text chain) × TellsAnswer regs given n chain a e note
 
--- where it ends with these statuses, n steps of something that is given so are printed: as its statements run, and as the chain answers
+-- where the program ends with status 0 or 3, n steps of something that is given so are printed: as its
+-- statements run, and as the chain answers
 abbrev pub PrintsGiven : (Given → Type 0) → ℕ → (regs : Bool) → Ending → (note : List ℕ) → Printed → Type 0
 PrintsGiven is_given n regs e note out = IsRun e → (given : Given) × is_given given × IsRunOfStatements given n regs e note out × IsRunOfAnswers given n regs e note out
 
--- what the answers of a debugger come to: they go to standard output, and of a fault nothing does
+-- the answers of a debugger go to standard output; a failure is reported, and nothing goes to standard output
 abbrev pub TellsAnswers : Held → Notes → Result (String Global) Fault → Ending → (note : List ℕ) → Printed → Type 0
 TellsAnswers held notes (Ok text) e note out = IsPrinted (string_bytes text) ending.Done e out.0 out.1 × (note ≡ [])
 TellsAnswers held notes (Err fault) e note out = IsReportOf held notes fault e note × Keeps out.0 out.1
 
--- the same of a disassembly, without notes
+-- the text of a disassembly goes to standard output; a failure is the ending, without a note
 abbrev pub TellsText : Result (String Global) Fault → Ending → Printed → Type 0
 TellsText (Ok text) e out = IsPrinted (string_bytes text) ending.Done e out.0 out.1
 TellsText (Err fault) e out = IsEndingOf fault e × Keeps out.0 out.1
 
 -- ---- files
 
--- the first of these files that cannot be written is told (7), unless memory runs out then; those before it were written, and no other
+-- the first of these files that cannot be written is reported (7), unless memory runs out then; those before
+-- it were written, and no others
 abbrev pub IsUnwrittenAmong : Held → Notes → Files → Ending → (note : List ℕ) → Wrote → Type 0
 IsUnwrittenAmong held notes files e note written =
     (file : List ℕ × List ℕ) × EndsBefore written.0 written.1 files file
     × ((fault : Fault) × IsRefusedAs (File (record { place = file.0; fault = CannotWrite })) fault × IsReportOf held notes fault e note)
 
--- these files are written, or one cannot be
+-- these files are written, or one cannot be written
 abbrev pub Writes : Held → Notes → Files → Ending → (note : List ℕ) → Wrote → Type 0
 Writes held notes files e note written =
     ((e ≡ ending.Done) × (note ≡ []) × Adds written.0 written.1 files) ⊎ IsUnwrittenAmong held notes files e note written
 
--- the same of files that all work came to; where there are none, nothing is written
+-- the output files of a task are written; where there are none, the failure is reported and nothing is
+-- written
 abbrev pub WritesTold : Held → Notes → Result (Vec Output Global) Fault → Ending → (note : List ℕ) → Wrote → Type 0
 WritesTold held notes (Ok outputs) e note written = Writes held notes (map contents_of outputs.items) e note written
 WritesTold held notes (Err fault) e note written = IsReportOf held notes fault e note × Stay written.0 written.1

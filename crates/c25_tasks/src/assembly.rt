@@ -1,4 +1,4 @@
-//! What `asm` writes of a source.
+//! The task `asm`.
 
 ghost use Rattle.std.specs.Option.{option_map};
 ghost use Rattle.std.specs.Prelude.{◌≡◌, ◌∷◌, [], IfOk, None, Some};
@@ -8,23 +8,23 @@ ghost use Rattle.c25_meaning_common.specs.Results.{MeetsBy};
 ghost use Rattle.c25_meaning_objects.specs.Records.{spelling};
 ghost use Rattle.c25_options.specs.Task.{text_of};
 ghost use Rattle.c25_tasks.specs.Assembly.{AsmOutputs, asm_files, asm_written, output_files};
-ghost use Rattle.c25_tasks.specs.Files.{missing_name};
+ghost use Rattle.c25_inputs.specs.Files.{missing_name};
 
-use crate::copies::work_over;
-use crate::files::missing_name;
-use crate::sources::sources_of;
-use c25_chain::fault::{Fault, Refusal};
+use c25_chain::fault::{ChainFault, Fault};
 use c25_chain::sources::Listing;
 use c25_chain::{assemble_module, assemble_source};
 use c25_disk::Output;
 use c25_disk::disk::Disk;
 use c25_disk::work::Work;
+use c25_inputs::files::missing_name;
+use c25_inputs::sources::sources_of;
+use c25_inputs::work::work_over;
 use c25_macro::files::Files;
 use c25_meaning_common::no_memory::NoMemory;
 use c25_module::{Module, write_module};
 use std::alloc::Global;
 
-/// The file that is written of a module without a listing: its object.
+/// The output file of a module without a listing: its object.
 fn object_of<'a>(
     alloc: Global,
     assembled: &Module,
@@ -41,7 +41,7 @@ fn object_of<'a>(
     Ok(outputs)
 }
 
-/// The files that are written of a module with its listing: its object, and the listing.
+/// The output files of a module with its listing: its object, and the listing.
 fn listed_of<'a>(
     alloc: Global,
     listing: &Listing<'_>,
@@ -57,7 +57,7 @@ fn listed_of<'a>(
     Ok(outputs)
 }
 
-/// The file that is written of a source where no listing is asked for.
+/// The output file of a source where no listing is asked for.
 fn object_of_source<'a>(
     alloc: Global,
     files: &Files,
@@ -73,7 +73,7 @@ fn object_of_source<'a>(
     }
 }
 
-/// The files that are written of a source where a listing is asked for.
+/// The output files of a source where a listing is asked for.
 fn listed_of_source<'a>(
     alloc: Global,
     files: &Files,
@@ -90,7 +90,7 @@ fn listed_of_source<'a>(
     }
 }
 
-/// A source that is to be assembled, and the names of the files that are written of it.
+/// A task over files: a source to assemble, and the names of its output files.
 #[derive(Clone, Copy)]
 struct Assembly<'a> {
     source: &'a str,
@@ -103,12 +103,12 @@ impl<'a> Work for Assembly<'a> {
     ghost use Rattle.c25_chain.specs.Refusal.{refusal_of};
     ghost use Rattle.c25_options.specs.Task.{text_of};
     ghost use Rattle.c25_tasks.specs.Assembly.{asm_written, output_files};
-    ghost use Rattle.c25_tasks.specs.Files.{missing_name};
+    ghost use Rattle.c25_inputs.specs.Files.{missing_name};
 
-    /// The files that are written.
+    /// The output files.
     type Answer = Vec<Output<'a>>;
 
-    type Fault = Refusal<String>;
+    type Fault = ChainFault<String>;
 
     ghost comes_to = { λ work files result. MeetsBy refusal_of output_files (asm_written work.object.now (text_of work.list) files work.source.now) result };
 
@@ -121,15 +121,15 @@ impl<'a> Work for Assembly<'a> {
         }
     }
 
-    fn missing(fault: &Refusal<String>) -> Option<&str>
+    fn missing(fault: &ChainFault<String>) -> Option<&str>
         ensures { option_map (λ name. name.now) result ≡ missing_name fault.now }
     {
         missing_name(fault)
     }
 }
 
-/// What `asm` writes: the object of a source, and its listing where one is asked for. Sources and
-/// copied files are read from the disk, and nothing is written yet.
+/// The output files of `asm`: the object of a source, and its listing where one is asked for. The source and
+/// the files that it copies are read from the disk; nothing is written yet.
 pub(crate) fn asm_outputs<'a, D: Disk>(
     alloc: Global,
     disk: &D,

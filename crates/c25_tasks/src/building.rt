@@ -1,17 +1,17 @@
-//! What `build` makes of sources.
+//! The task `build` without symbols.
 
 ghost use Rattle.c25_options.specs.Task.{text_of, texts_of};
 ghost use Rattle.c25_tasks.specs.Building.{BuildsFrom};
 
-use crate::copies::{Build, work_over};
-use crate::sources::{Inputs, command_alone, inputs_of};
+use crate::copies::Build;
 use c25_chain::built::Built;
 use c25_chain::fault::Fault;
 use c25_disk::disk::Disk;
+use c25_inputs::sources::{Inputs, command_alone, inputs_of};
+use c25_inputs::work::work_over;
 use std::alloc::Global;
 
-/// The program of sources on a disk, under a command file where one is named. The sources are read
-/// first, and then the command file.
+/// Reads sources and then the command file, where one is named, and builds their program.
 pub(crate) fn built<D: Disk>(
     alloc: Global,
     disk: &D,

@@ -1,22 +1,19 @@
-//! What the chain does over the files of a disk.
+//! The calls of the chain as tasks over the files of a disk.
 
 ghost use Rattle.std.specs.Option.{option_map};
 ghost use Rattle.std.specs.Prelude.{◌≡◌};
-ghost use Rattle.c25_tasks.specs.Files.{ComesToBy, missing_name};
+ghost use Rattle.c25_inputs.specs.Files.{missing_name};
 
-use crate::files::{fault_of_copies, missing_name};
 use c25_chain::built::Built;
-use c25_chain::fault::{Fault, Refusal};
+use c25_chain::fault::{ChainFault, Fault};
 use c25_chain::ready::Ready;
-use c25_chain::{build, make_ready};
-use c25_chain::debug_chain;
-use c25_disk::disk::Disk;
-use c25_disk::with_copies;
+use c25_chain::{build, debug_chain, make_ready};
 use c25_disk::work::Work;
+use c25_inputs::files::missing_name;
 use c25_macro::files::Files;
 use std::alloc::Global;
 
-/// Sources that are to be linked under the text of a command.
+/// A task over files: sources to link under the text of a command file.
 #[derive(Clone, Copy)]
 pub(crate) struct Build<'a> {
     pub(crate) sources: &'a [String],
@@ -26,11 +23,11 @@ pub(crate) struct Build<'a> {
 impl<'a> Work for Build<'a> {
     ghost use Rattle.std.specs.Prelude.{map, string_bytes};
     ghost use Rattle.c25_chain.specs.Built.{Builds};
-    ghost use Rattle.c25_tasks.specs.Files.{missing_name};
+    ghost use Rattle.c25_inputs.specs.Files.{missing_name};
 
     type Answer = Built;
 
-    type Fault = Refusal<String>;
+    type Fault = ChainFault<String>;
 
     ghost comes_to = { λ work files result. Builds files (map string_bytes work.sources.now) work.command.now result };
 
@@ -40,14 +37,14 @@ impl<'a> Work for Build<'a> {
         build(alloc, files, self.sources, self.command)
     }
 
-    fn missing(fault: &Refusal<String>) -> Option<&str>
+    fn missing(fault: &ChainFault<String>) -> Option<&str>
         ensures { option_map (λ name. name.now) result ≡ missing_name fault.now }
     {
         missing_name(fault)
     }
 }
 
-/// Sources that are to be run, and the texts beside them.
+/// A task over files: sources to run, with the texts of the command file, the samples and the schedule.
 #[derive(Clone, Copy)]
 pub(crate) struct Run<'a> {
     pub(crate) sources: &'a [String],
@@ -58,12 +55,12 @@ pub(crate) struct Run<'a> {
 
 impl<'a> Work for Run<'a> {
     ghost use Rattle.c25_chain.specs.Ready.{Readies};
-    ghost use Rattle.c25_tasks.specs.Files.{missing_name};
+    ghost use Rattle.c25_inputs.specs.Files.{missing_name};
     ghost use Rattle.c25_tasks.specs.View.{readied_of};
 
     type Answer = Ready;
 
-    type Fault = Refusal<String>;
+    type Fault = ChainFault<String>;
 
     ghost comes_to = { λ work files result. Readies (readied_of files work) result };
 
@@ -80,14 +77,15 @@ impl<'a> Work for Run<'a> {
         )
     }
 
-    fn missing(fault: &Refusal<String>) -> Option<&str>
+    fn missing(fault: &ChainFault<String>) -> Option<&str>
         ensures { option_map (λ name. name.now) result ≡ missing_name fault.now }
     {
         missing_name(fault)
     }
 }
 
-/// Sources that are to be debugged, the texts beside them, and the text of a script.
+/// A task over files: sources to debug, with the texts of the command file, the samples, the schedule and the
+/// script.
 #[derive(Clone, Copy)]
 pub(crate) struct Debug<'a> {
     pub(crate) sources: &'a [String],
@@ -99,12 +97,12 @@ pub(crate) struct Debug<'a> {
 
 impl<'a> Work for Debug<'a> {
     ghost use Rattle.c25_chain.specs.Debug.{Debugs};
-    ghost use Rattle.c25_tasks.specs.Files.{missing_name};
+    ghost use Rattle.c25_inputs.specs.Files.{missing_name};
     ghost use Rattle.c25_tasks.specs.View.{debugged_of};
 
     type Answer = String;
 
-    type Fault = Refusal<String>;
+    type Fault = ChainFault<String>;
 
     ghost comes_to = { λ work files result. Debugs (debugged_of files work) work.script.now result };
 
@@ -122,24 +120,9 @@ impl<'a> Work for Debug<'a> {
         )
     }
 
-    fn missing(fault: &Refusal<String>) -> Option<&str>
+    fn missing(fault: &ChainFault<String>) -> Option<&str>
         ensures { option_map (λ name. name.now) result ≡ missing_name fault.now }
     {
         missing_name(fault)
-    }
-}
-
-/// Work over these files, and those of a disk that it asks for.
-pub(crate) fn work_over<D: Disk, W: Work<Fault = Refusal<String>>>(
-    alloc: Global,
-    disk: &D,
-    files: Files,
-    work: &W,
-) -> Result<W::Answer, Fault>
-    ensures { ComesToBy W.missing_of (D.bytes_of disk.now) files (W.comes_to work.now) result }
-{
-    match with_copies(alloc, disk, files, work) {
-        Ok(answer) => Ok(answer),
-        Err(failure) => Err(fault_of_copies(failure)),
     }
 }

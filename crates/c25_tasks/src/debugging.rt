@@ -1,23 +1,24 @@
-//! The debugging of sources from a disk.
+//! The task `debug`.
 
 ghost use Rattle.std.specs.Prelude.{string_bytes};
 ghost use Rattle.c25_options.specs.Task.{texts_of};
 ghost use Rattle.c25_tasks.specs.Debugging.{DebugsFrom, DebugsTold};
 
-use crate::copies::{Debug, work_over};
-use crate::files::read_named;
-use crate::notes::Notes;
+use crate::copies::Debug;
 use crate::report::report_answers;
-use crate::sources::{Inputs, inputs_of};
 use c25_chain::fault::Fault;
 use c25_disk::disk::Disk;
-use c25_report::ending::Report;
+use c25_explain::notes::Notes;
+use c25_inputs::files::read_named;
+use c25_inputs::sources::{Inputs, inputs_of};
+use c25_inputs::work::work_over;
 use c25_options::task::RunFiles;
+use c25_report::ending::Report;
 use std::alloc::Global;
 use std::io::Write;
 
-/// Reads the files of a session, the sources first and then the command file, the samples, the schedule
-/// and the script, and answers the script.
+/// Reads the sources, then the command file, the samples, the schedule and the script, and answers the
+/// script.
 fn answer<D: Disk>(
     alloc: Global,
     disk: &D,

@@ -1,33 +1,33 @@
-//! The disassembly of objects and hex texts.
+//! The task `dis`.
 
 ghost use Rattle.std.specs.Prelude.{◌≡◌, Some, None, false};
 ghost use Rattle.c25_chain.specs.Refusal.{IsRefusedAs};
-ghost use Rattle.c25_chain.specs.declared.fault.Refusal.TheVariants as refusal;
+ghost use Rattle.c25_chain.specs.declared.fault.ChainFault.TheVariants as refusal;
 ghost use Rattle.c25_dis.specs.Sections.{IsModuleText};
 ghost use Rattle.c25_disk.specs.declared.fault.FileFault.TheVariants as kind;
 ghost use Rattle.c25_tasks.specs.Disassembly.{Disassembles, DisassemblesBy, DisassemblesFrom, DisassemblesNamed, DisassemblesTold, IsGivenText, IsTextOf, RefusesObject, address_of, given_by, given_in, is_hex, no_address_line, object_line};
-ghost use Rattle.c25_tasks.specs.Objects.{module_in};
+ghost use Rattle.c25_inputs.specs.Objects.{module_in};
 ghost use Rattle.c25_tasks.specs.Tells.{IsLineOf};
 ghost use Rattle.c25_options.specs.Task.{text_of};
 
-use crate::files::fault_of_file;
-use crate::objects::{Object, module_of};
 use crate::report::{ending_of_fault, report_text};
-use c25_chain::fault::{Fault, Refusal};
+use c25_chain::fault::{ChainFault, Fault};
 use c25_dis::{disassemble_module, disassemble_words};
 use c25_disk::disk::Disk;
 use c25_disk::fault::FileFault;
 use c25_disk::read_binary;
 use c25_hex::read_hex;
-use c25_texts::hexadecimal_of;
+use c25_inputs::files::fault_of_file;
+use c25_inputs::objects::{Object, module_of};
 use c25_meaning_common::failure::Failure;
 use c25_meaning_common::no_memory::NoMemory;
 use c25_meaning_common::placed::Placed;
 use c25_report::ending::Ending;
+use c25_texts::hexadecimal_of;
 use std::alloc::Global;
 use std::io::Write;
 
-/// Whether bytes are taken for a hex text: they begin with `:`, as no object does.
+/// Whether bytes are read as a hex text: they begin with `:`, as no object does.
 fn is_hex(bytes: &[u8]) -> bool
     ensures { result ≡ is_hex bytes.now }
 {
@@ -37,32 +37,33 @@ fn is_hex(bytes: &[u8]) -> bool
     }
 }
 
-/// The words of a hex text from an address on, disassembled. Its first fault is refused (80 to 89).
+/// The words of a hex text from an address on, disassembled. The first fault of the text is the answer (80 to
+/// 89).
 fn words_text(alloc: Global, text: &str, start: u16) -> Result<String, Fault>
     ensures { IsTextOf (IsGivenText start) (given_by text.now) result }
 {
     match read_hex(alloc, text) {
         Ok(words) => Ok(disassemble_words(alloc, &words, start)?),
         Err(Failure::NoMemory(error)) => Err(error.into()),
-        Err(Failure::Fault(fault)) => Err(Failure::Fault(Refusal::Hex(fault))),
+        Err(Failure::Fault(fault)) => Err(Failure::Fault(ChainFault::Hex(fault))),
     }
 }
 
-/// A file whose bytes are not UTF-8.
+/// The fault of a file that is not UTF-8 (8), unless memory runs out for its name.
 fn no_text(alloc: Global, name: &str) -> Fault
     ensures { IsRefusedAs (refusal.File (record { place = name.now; fault = kind.CannotRead })) result }
 {
     match String::from_str(alloc, name) {
         Ok(place) => {
             let fault = FileFault::CannotRead;
-            Failure::Fault(Refusal::File(Placed { place, fault }))
+            Failure::Fault(ChainFault::File(Placed { place, fault }))
         }
         Err(error) => Failure::NoMemory(NoMemory::from(error)),
     }
 }
 
-/// The words of a file that is taken for a hex text, from an address on, disassembled. It is refused
-/// where it is not UTF-8 (8), and then by its first fault (80 to 89).
+/// The words of a hex file from an address on, disassembled. The faults are that it is not UTF-8 (8), and
+/// then those of its lines (80 to 89).
 fn hex_text(alloc: Global, file: &Object<'_>, start: u16) -> Result<String, Fault>
     ensures { IsTextOf (IsGivenText start) (given_in (file.now.name.now, file.now.bytes.items)) result }
 {
@@ -72,8 +73,7 @@ fn hex_text(alloc: Global, file: &Object<'_>, start: u16) -> Result<String, Faul
     }
 }
 
-/// The module of a file that is taken for an object, disassembled. Bytes of no module are refused (40
-/// to 45).
+/// The module of an object file, disassembled. Invalid bytes are fault 40 to 45.
 fn object_text(alloc: Global, file: &Object<'_>) -> Result<String, Fault>
     ensures { IsTextOf IsModuleText (module_in (file.now.name.now, file.now.bytes.items)) result }
 {
@@ -84,7 +84,7 @@ fn object_text(alloc: Global, file: &Object<'_>) -> Result<String, Fault>
     }
 }
 
-/// Tells that a word is no address, unless memory runs out.
+/// The line for an argument of `--from` that is no address, unless memory runs out.
 fn no_address(alloc: Global, word: &str) -> Ending
     ensures { IsLineOf (no_address_line word.now) result }
 {
@@ -94,7 +94,7 @@ fn no_address(alloc: Global, word: &str) -> Ending
     }
 }
 
-/// Tells that a file is an object, unless memory runs out.
+/// The line for an object where `--from` is given, unless memory runs out.
 fn is_object(alloc: Global, name: &str) -> Ending
     ensures { IsLineOf (object_line name.now) result }
 {
@@ -104,8 +104,8 @@ fn is_object(alloc: Global, name: &str) -> Ending
     }
 }
 
-/// Refuses a file that is taken for an object, since printing is to begin at an address. Bytes of no
-/// module are told as such (40 to 45).
+/// The line for an object file where `--from` is given: that it is an object, or the fault of its bytes (40
+/// to 45).
 fn refuse_object(alloc: Global, file: &Object<'_>) -> Ending
     ensures { RefusesObject (file.now.name.now, file.now.bytes.items) result }
 {
@@ -115,7 +115,7 @@ fn refuse_object(alloc: Global, file: &Object<'_>) -> Ending
     }
 }
 
-/// Prints a file that is taken for an object, unless printing is to begin at an address.
+/// Prints an object file, unless `--from` is given.
 fn print_object<O: Write>(
     alloc: Global,
     file: &Object<'_>,
@@ -130,7 +130,7 @@ fn print_object<O: Write>(
     }
 }
 
-/// Prints a file, by what it is taken for.
+/// Prints a file as a hex text or as an object, by its first byte.
 fn print_file<O: Write>(alloc: Global, file: &Object<'_>, start: Option<u16>, out: &mut O) -> Ending
     ensures { Disassembles start (file.now.name.now, file.now.bytes.items) result (O.contents out.old, O.contents out.new) }
 {
@@ -142,7 +142,7 @@ fn print_file<O: Write>(alloc: Global, file: &Object<'_>, start: Option<u16>, ou
     }
 }
 
-/// Prints a file on a disk.
+/// Reads a file from a disk, and prints it.
 fn print_named<D: Disk, O: Write>(
     alloc: Global,
     name: &str,
@@ -161,8 +161,8 @@ fn print_named<D: Disk, O: Write>(
     }
 }
 
-/// Prints a file from the address on that a word writes. What is no address is told before the file is
-/// read.
+/// Prints a file from the address that the argument of `--from` gives. An argument that is no address is
+/// reported before the file is read.
 fn print_from<D: Disk, O: Write>(
     alloc: Global,
     name: &str,
@@ -178,7 +178,7 @@ fn print_from<D: Disk, O: Write>(
     }
 }
 
-/// Prints an object, or a hex text, from an address on where a word says so, as instructions.
+/// Prints an object as instructions, or a hex text from the address of `--from` on, where that is given.
 pub(crate) fn disassemble<D: Disk, O: Write>(
     alloc: Global,
     name: &str,

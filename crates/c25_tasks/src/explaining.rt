@@ -1,4 +1,4 @@
-//! The explanation of a fault.
+//! The task `explain`.
 
 ghost use Rattle.std.specs.Prelude.{◌≡◌, IfOk, string_bytes};
 ghost use Rattle.c25_explain.specs.Explanation.{whole_text};
@@ -12,14 +12,14 @@ use c25_report::ending::Ending;
 use std::alloc::Global;
 use std::io::Write;
 
-/// The line of a number that no fault has.
+/// The text for a number that no fault has.
 fn unknown_line(alloc: Global, number: u8) -> Result<String, NoMemory>
     ensures { IfOk result (λ line. string_bytes line ≡ unknown_line number) }
 {
     Ok(format!(in alloc; "explain: no fault has the number {number}")?)
 }
 
-/// Tells that no fault has a number, unless memory runs out.
+/// The ending for a number that no fault has.
 fn unknown(alloc: Global, number: u8) -> Ending
     ensures { IsLineOf (unknown_line number) result }
 {
@@ -39,7 +39,7 @@ fn print_explanation<O: Write>(explanation: &Explanation, out: &mut O) -> Ending
     }
 }
 
-/// Prints the explanation of the fault of this number, and tells where there is none.
+/// Prints the explanation of the fault of this number; a number that no fault has is reported.
 pub(crate) fn explain_number<O: Write>(alloc: Global, number: u8, out: &mut O) -> Ending
     ensures { Explained number result (O.contents out.old, O.contents out.new) }
 {

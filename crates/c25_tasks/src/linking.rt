@@ -1,19 +1,18 @@
-//! What `link` makes of object files.
+//! The task `link`.
 
 ghost use Rattle.c25_options.specs.Task.{texts_of};
 ghost use Rattle.c25_tasks.specs.Linking.{LinksFrom};
 
-use crate::files::read_named;
-use crate::objects::{modules_of, read_objects};
 use c25_chain::built::Built;
 use c25_chain::fault::Fault;
 use c25_chain::link_modules;
 use c25_disk::disk::Disk;
+use c25_inputs::files::read_named;
+use c25_inputs::objects::{modules_of, read_objects};
 use std::alloc::Global;
 
-/// The program of object files on a disk under a command file, without listings. The command file is
-/// read first, and then the objects; but a fault of the objects' bytes is told before one of the
-/// command's lines.
+/// Reads the command file and then the objects, and links them, without listings. A fault of the objects'
+/// bytes comes before one of the command file's lines.
 #[tactic(auto, using(crate::proofs::Joined::linked_from))]
 pub(crate) fn linked<D: Disk>(
     alloc: Global,

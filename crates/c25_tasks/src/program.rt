@@ -1,4 +1,4 @@
-//! What the program does with its words.
+//! The program: the command line, the task, and the report.
 
 ghost use Rattle.std.specs.Prelude.{OnOk, map, string_bytes};
 ghost use Rattle.c25_report.specs.Ending.{IsReported};
@@ -7,14 +7,14 @@ ghost use Rattle.c25_tasks.specs.Program.{DoesWords, HasNoWords, IsProgram, effe
 use crate::task::do_task;
 use c25_disk::disk::Disk;
 use c25_meaning_common::no_memory::NoMemory;
-use c25_report::ending::{Ended, Ending, Report, finish};
 use c25_options::read::read_words;
+use c25_report::ending::{Ended, Ending, Report, finish};
 use std::alloc::{AllocError, Global};
 use std::io::{ErrorKind, Read, Write};
 use std::rt::Env;
 use std::{env, io};
 
-/// What is told of words.
+/// Runs the task of a command line, and answers its report.
 fn report_of_words<D: Disk, R: Read, O: Write>(
     alloc: Global,
     words: &[String],
@@ -30,7 +30,8 @@ fn report_of_words<D: Disk, R: Read, O: Write>(
     }
 }
 
-/// Does what words ask for, the program's name first, and tells on standard error what it comes to.
+/// Runs the task of a command line, of which the first argument is the program's name, and prints its report
+/// to `err`.
 pub fn run_words<D: Disk, R: Read, O: Write, E: Write>(
     alloc: Global,
     words: &[String],
@@ -46,7 +47,7 @@ pub fn run_words<D: Disk, R: Read, O: Write, E: Write>(
     finish(report, err)
 }
 
-/// The words of the program, its name first.
+/// The command line, with the program's name first.
 fn words_of<V: Env>(alloc: Global, env: &V) -> io::Result<Vec<String>> {
     let mut words = Vec::new(alloc);
     for word in env::args(&(env, alloc))? {
@@ -55,7 +56,7 @@ fn words_of<V: Env>(alloc: Global, env: &V) -> io::Result<Vec<String>> {
     Ok(words)
 }
 
-/// What words that cannot be had come to.
+/// The ending where the command line cannot be had: an argument is not UTF-8, or memory ran out.
 fn ending_without_words(error: &io::Error) -> Ending
     ensures { HasNoWords result }
 {
@@ -65,7 +66,7 @@ fn ending_without_words(error: &io::Error) -> Ending
     Ending::NoText
 }
 
-/// What is told of the program.
+/// Runs the task of the command line in `env`, and answers its report.
 fn report_of_program<V: Env, D: Disk, R: Read, O: Write>(
     alloc: Global,
     env: &V,
@@ -81,7 +82,7 @@ fn report_of_program<V: Env, D: Disk, R: Read, O: Write>(
     }
 }
 
-/// The program: what `run_words` does of its words. Where one is not UTF-8 the status is 2.
+/// The program: `run_words` over the command line in `env`. Where an argument is not UTF-8 the status is 2.
 pub fn run_program<V: Env, D: Disk, R: Read, O: Write, E: Write>(
     alloc: Global,
     env: &V,

@@ -1,14 +1,14 @@
-//! What answers and faults come to.
+//! Answers and faults as endings and reports.
 
 ghost use Rattle.std.specs.Prelude.{IfOk, string_bytes};
 ghost use Rattle.c25_chain.specs.FaultText.{fault_text};
 ghost use Rattle.c25_tasks.specs.Tells.{IsEndingOf, IsLineOf, IsOfSources, IsReportOf, TellsAnswers, TellsRun, TellsText};
 
-use crate::notes::{Notes, note_of};
 use c25_chain::fault::Fault;
 use c25_chain::ready::Ready;
 use c25_chain::write_fault;
 use c25_disk::disk::Disk;
+use c25_explain::notes::{Notes, note_of};
 use c25_meaning_common::failure::Failure;
 use c25_report::ending::{Ending, Report};
 use c25_report::printing::print_answers;
@@ -26,7 +26,7 @@ fn line_of(alloc: Global, fault: &Fault) -> Ending
     }
 }
 
-/// What a fault comes to.
+/// The ending of a failure: out of memory, or the line of a fault.
 #[tactic(auto, using(crate::proofs::Done::ends_of))]
 pub(crate) fn ending_of_fault(alloc: Global, fault: Fault) -> Ending
     ensures { IsEndingOf fault result }
@@ -37,7 +37,7 @@ pub(crate) fn ending_of_fault(alloc: Global, fault: Fault) -> Ending
     }
 }
 
-/// What is told of a fault: its line, and what is noted of it.
+/// The report of a failure: the line of its fault, and the note after it.
 pub(crate) fn report_of_fault<D: Disk>(
     alloc: Global,
     disk: &D,
@@ -59,7 +59,7 @@ pub(crate) fn report_of_fault<D: Disk>(
     }
 }
 
-/// Prints a text that was asked for, or tells why there is none.
+/// Prints a text, or answers the ending of the failure.
 pub(crate) fn report_text<O: Write>(
     alloc: Global,
     answer: Result<String, Fault>,
@@ -73,7 +73,7 @@ pub(crate) fn report_text<O: Write>(
     }
 }
 
-/// Prints the answers of a debugger, or tells why there are none.
+/// Prints the answers of a debugger, or answers the report of the failure.
 pub(crate) fn report_answers<D: Disk, O: Write>(
     alloc: Global,
     disk: &D,
@@ -92,7 +92,7 @@ pub(crate) fn report_answers<D: Disk, O: Write>(
     }
 }
 
-/// Runs a program that is ready and prints the run as it goes, or tells why there is none.
+/// Runs a program and prints the run as it goes, or answers the report of the failure.
 pub(crate) fn report_run<D: Disk, O: Write>(
     alloc: Global,
     disk: &D,

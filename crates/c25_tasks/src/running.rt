@@ -1,23 +1,24 @@
-//! The run of sources from a disk.
+//! The task `run`.
 
 ghost use Rattle.std.specs.Prelude.{string_bytes};
 ghost use Rattle.c25_options.specs.Task.{texts_of};
 ghost use Rattle.c25_tasks.specs.Running.{ReadiesFrom, RunsTold};
 
-use crate::copies::{Run, work_over};
-use crate::notes::Notes;
+use crate::copies::Run;
 use crate::report::report_run;
-use crate::sources::{Inputs, inputs_of};
 use c25_chain::fault::Fault;
 use c25_chain::ready::Ready;
 use c25_disk::disk::Disk;
-use c25_report::ending::Report;
+use c25_explain::notes::Notes;
+use c25_inputs::sources::{Inputs, inputs_of};
+use c25_inputs::work::work_over;
 use c25_options::task::RunFiles;
+use c25_report::ending::Report;
 use std::alloc::Global;
 use std::io::Write;
 
-/// Reads the files of a run, the sources first and then the command file, the samples and the schedule,
-/// and makes the sources ready.
+/// Reads the sources, then the command file, the samples and the schedule, and makes the program ready to
+/// run.
 fn answer<D: Disk>(
     alloc: Global,
     disk: &D,
@@ -41,8 +42,8 @@ fn answer<D: Disk>(
     work_over(alloc, disk, files, &work)
 }
 
-/// Runs sources, prints the run as it goes, and notes the registers at its end or what is noted of a fault,
-/// where they are asked for.
+/// Runs sources, and prints the run as it goes. Where they are asked for, the note has the registers at its
+/// end or the explanation of a fault.
 pub(crate) fn run_sources<D: Disk, O: Write>(
     alloc: Global,
     sources: &[&str],

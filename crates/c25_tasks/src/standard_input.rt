@@ -1,30 +1,31 @@
-//! The run of a source from standard input.
+//! The task of a program without a command line: a source on standard input is run.
 
 ghost use Rattle.std.specs.Prelude.{string_bytes};
-ghost use Rattle.c25_tasks.specs.Files.{ComesTo};
+ghost use Rattle.c25_inputs.specs.Files.{ComesTo};
 ghost use Rattle.c25_tasks.specs.Running.{ReadiesInput, ReadiesText, Runs};
 
-use crate::copies::{Run, work_over};
-use crate::files::names_of;
-use crate::notes::Notes;
+use crate::copies::Run;
 use crate::report::report_run;
-use c25_chain::fault::{Fault, Refusal};
+use c25_chain::fault::{ChainFault, Fault};
 use c25_chain::ready::Ready;
 use c25_disk::disk::Disk;
 use c25_disk::fault::FileFault;
 use c25_disk::{CannotRead, read_text};
+use c25_explain::notes::Notes;
+use c25_inputs::files::names_of;
+use c25_inputs::work::work_over;
 use c25_macro::files::{FileTwice, Files};
 use c25_meaning_common::failure::Failure;
 use c25_meaning_common::placed::Placed;
-use c25_report::ending::Report;
 use c25_options::task::DEFAULT_STEPS;
+use c25_report::ending::Report;
 use std::alloc::Global;
 use std::io::{Read, Write};
 
 /// The name of standard input as a source.
 const STANDARD_INPUT: &str = "stdin";
 
-/// Makes a text ready as the one source of the chain, with the files that it copies from a disk.
+/// Makes the program of a text as the one source ready to run; the files that it copies are read from a disk.
 fn ready_text<D: Disk>(alloc: Global, disk: &D, text: &str) -> Result<Ready, Fault>
     ensures { ReadiesText (D.bytes_of disk.now) text.now result }
 {
@@ -44,7 +45,7 @@ fn ready_text<D: Disk>(alloc: Global, disk: &D, text: &str) -> Result<Ready, Fau
     work_over(alloc, disk, files, &work)
 }
 
-/// Makes the text that a reader gives ready.
+/// Reads a text, and makes its program ready to run.
 fn answer<D: Disk, R: Read>(alloc: Global, disk: &D, reader: &mut R) -> Result<Ready, Fault>
     ensures { ReadiesInput (D.bytes_of disk.now) (R.remaining reader.old) result }
 {
@@ -54,12 +55,12 @@ fn answer<D: Disk, R: Read>(alloc: Global, disk: &D, reader: &mut R) -> Result<R
         Err(Failure::Fault(CannotRead)) => {
             let place = String::from_str(alloc, STANDARD_INPUT)?;
             let fault = FileFault::CannotRead;
-            Err(Failure::Fault(Refusal::File(Placed { place, fault })))
+            Err(Failure::Fault(ChainFault::File(Placed { place, fault })))
         }
     }
 }
 
-/// Runs what a reader gives, and prints the run as it goes.
+/// Reads a source, runs it for `DEFAULT_STEPS` steps, and prints the run as it goes.
 pub(crate) fn run_standard_input<D: Disk, R: Read, O: Write>(
     alloc: Global,
     disk: &D,

@@ -1,4 +1,4 @@
-//! What `build` makes of sources where a file is named for their symbols.
+//! The task `build` with a file for the symbols.
 
 ghost use Rattle.std.specs.Option.{option_map};
 ghost use Rattle.std.specs.Prelude.{◌≡◌, Ok, IfOk, map, string_bytes};
@@ -8,20 +8,20 @@ ghost use Rattle.c25_meaning_linking.specs.CommandText.{command_of};
 ghost use Rattle.c25_meaning_linking.specs.GoodMap.{ranges_for};
 ghost use Rattle.c25_symbols.specs.Text.{symbols_text};
 ghost use Rattle.c25_options.specs.Task.{text_of, texts_of};
-ghost use Rattle.c25_tasks.specs.Files.{missing_name};
+ghost use Rattle.c25_inputs.specs.Files.{missing_name};
 ghost use Rattle.c25_tasks.specs.Symbols.{BuildsWithSymbols, BuildsWithSymbolsFrom};
 
-use crate::copies::work_over;
-use crate::files::missing_name;
-use crate::sources::{Inputs, command_alone, inputs_of};
 use c25_chain::built::Built;
-use c25_chain::fault::{Fault, Refusal};
+use c25_chain::fault::{ChainFault, Fault};
 use c25_chain::linked::Linked;
 use c25_chain::modules::Modules;
 use c25_chain::{assemble_all, link_modules};
 use c25_cmd::read_command;
 use c25_disk::disk::Disk;
 use c25_disk::work::Work;
+use c25_inputs::files::missing_name;
+use c25_inputs::sources::{Inputs, command_alone, inputs_of};
+use c25_inputs::work::work_over;
 use c25_macro::files::Files;
 use c25_meaning_common::failure::Failure;
 use c25_meaning_common::no_memory::NoMemory;
@@ -36,7 +36,7 @@ pub(crate) struct BuiltWithSymbols {
     pub(crate) symbols: String,
 }
 
-/// The text of the symbols of modules that were linked under the command of a text.
+/// The text of the symbols of modules that were linked under the text of a command file.
 fn symbols_of(
     alloc: Global,
     modules: &[Module],
@@ -55,8 +55,8 @@ fn symbols_of(
     }
 }
 
-/// Assembles sources, the texts of which are among these files, and links their modules under the
-/// command that a text spells. It is refused as [`build`](c25_chain::build) is.
+/// Assembles the named sources, whose texts are in `files`, links their modules under the text of a command
+/// file, and writes their symbols. The faults are those of [`build`](c25_chain::build).
 fn build_with_symbols(
     alloc: Global,
     files: &Files,
@@ -72,7 +72,7 @@ fn build_with_symbols(
     Ok(BuiltWithSymbols { built, symbols })
 }
 
-/// Sources that are to be linked under the text of a command, and whose symbols are asked for.
+/// A task over files: sources to link under the text of a command file, and to write the symbols of.
 #[derive(Clone, Copy)]
 struct BuildWithSymbols<'a> {
     sources: &'a [String],
@@ -81,12 +81,12 @@ struct BuildWithSymbols<'a> {
 
 impl<'a> Work for BuildWithSymbols<'a> {
     ghost use Rattle.std.specs.Prelude.{map, string_bytes};
-    ghost use Rattle.c25_tasks.specs.Files.{missing_name};
+    ghost use Rattle.c25_inputs.specs.Files.{missing_name};
     ghost use Rattle.c25_tasks.specs.Symbols.{BuildsWithSymbols};
 
     type Answer = BuiltWithSymbols;
 
-    type Fault = Refusal<String>;
+    type Fault = ChainFault<String>;
 
     ghost comes_to = { λ work files result. BuildsWithSymbols files (map string_bytes work.sources.now) work.command.now result };
 
@@ -96,15 +96,14 @@ impl<'a> Work for BuildWithSymbols<'a> {
         build_with_symbols(alloc, files, self.sources, self.command)
     }
 
-    fn missing(fault: &Refusal<String>) -> Option<&str>
+    fn missing(fault: &ChainFault<String>) -> Option<&str>
         ensures { option_map (λ name. name.now) result ≡ missing_name fault.now }
     {
         missing_name(fault)
     }
 }
 
-/// The program of sources on a disk with its symbols, under a command file where one is named. The
-/// sources are read first, and then the command file.
+/// Reads sources and then the command file, where one is named, and builds their program with its symbols.
 pub(crate) fn built_with_symbols<D: Disk>(
     alloc: Global,
     disk: &D,

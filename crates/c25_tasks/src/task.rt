@@ -15,9 +15,7 @@ use crate::building::built;
 use crate::debugging::debug_sources;
 use crate::disassembly::disassemble;
 use crate::explaining::explain_number;
-use crate::files::fault_of_file;
 use crate::linking::linked;
-use crate::notes::{Notes, notes_for};
 use crate::report::report_of_fault;
 use crate::running::run_sources;
 use crate::standard_input::run_standard_input;
@@ -27,13 +25,15 @@ use c25_chain::built::Built;
 use c25_chain::fault::Fault;
 use c25_disk::disk::Disk;
 use c25_disk::{Output, write_outputs};
+use c25_explain::notes::{Notes, notes_for};
+use c25_inputs::files::fault_of_file;
+use c25_options::task::{RunFiles, Task};
 use c25_report::ending::{Ending, Report};
 use c25_report::texts::{ProgramFileTexts, file_names};
-use c25_options::task::{RunFiles, Task};
 use std::alloc::Global;
 use std::io::{Read, Write};
 
-/// Writes files.
+/// Writes files, and answers the report.
 fn write_files<D: Disk>(
     alloc: Global,
     outputs: &[Output<'_>],
@@ -48,7 +48,7 @@ fn write_files<D: Disk>(
     }
 }
 
-/// Writes the files that all work came to.
+/// Writes the output files of a task, or reports its failure.
 fn write_told<D: Disk>(
     alloc: Global,
     told: Result<Vec<Output<'_>>, Fault>,
@@ -78,7 +78,8 @@ fn assemble_to_disk<D: Disk>(
     write_told(alloc, told, notes, disk)
 }
 
-/// Writes the files of texts behind a base name, and behind them one of symbols, if there is one.
+/// Writes the files of a program, whose names begin with `base`, and after them the file of its symbols, if
+/// there is one.
 #[tactic(auto, using(crate::proofs::Quiet::stays, crate::proofs::Quiet::writes_texts))]
 fn write_texts<D: Disk>(
     alloc: Global,
@@ -100,7 +101,7 @@ fn write_texts<D: Disk>(
     }
 }
 
-/// Writes the files of a program behind a base name.
+/// Writes the files of a program, or reports why there is none.
 #[tactic(auto, using(crate::proofs::Quiet::writes_program))]
 fn write_program<D: Disk>(
     alloc: Global,
@@ -117,7 +118,7 @@ fn write_program<D: Disk>(
     }
 }
 
-/// Writes the files of a program behind a base name, and one of its symbols.
+/// Writes the files of a program and the file of its symbols, or reports why there is no program.
 #[tactic(auto, using(crate::proofs::Quiet::writes_symbols))]
 fn write_with_symbols<D: Disk>(
     alloc: Global,
@@ -139,7 +140,7 @@ fn write_with_symbols<D: Disk>(
     }
 }
 
-/// Builds sources, and writes the files of their program, and one of its symbols where it is named.
+/// Builds sources, and writes the files of their program, and the file of its symbols where one is named.
 fn build_to_disk<D: Disk>(
     alloc: Global,
     sources: &[&str],
@@ -163,8 +164,8 @@ fn build_to_disk<D: Disk>(
     }
 }
 
-/// Explanations where they are asked for; of a fault of the command file that is told by this name its
-/// line, and of one of these sources the lines that led there; these sources or objects are linked again.
+/// The notes of a task that reads no samples, schedule or script: explanations, where they are asked for. The
+/// command file, sources and objects are read again for them.
 fn notes_under<'a>(
     explain: bool,
     command: Option<&'a str>,
@@ -181,7 +182,7 @@ fn notes_under<'a>(
     notes_for(explain, files, None, sources, objects)
 }
 
-/// Does what the words ask for.
+/// Runs a task: reads its files, prints or writes its results, and answers the report.
 #[tactic(auto, using(crate::proofs::Quiet::stays, crate::proofs::Quiet::keeps))]
 pub(crate) fn do_task<D: Disk, R: Read, O: Write>(
     alloc: Global,

@@ -1,4 +1,4 @@
-//! The files that are written of what was built.
+//! The output files of a built program.
 
 ghost use Rattle.std.specs.Prelude.{◌≡◌, ◌++◌, ◌∷◌, [], ℕ, List, IfOk, map};
 ghost use Rattle.c25_disk.specs.Written.{contents_of};
@@ -13,7 +13,7 @@ use c25_meaning_common::no_memory::NoMemory;
 use c25_report::texts::{ProgramFileNames, ProgramFileTexts, program_outputs};
 use std::alloc::Global;
 
-/// The texts that are written of a program: both hex texts, the map, and the listings.
+/// The texts of a program's files: both hex texts, the map, and the listings.
 pub(crate) fn texts_of(built: Built) -> ProgramFileTexts
     ensures { result ≡ texts_in built }
 {
@@ -34,7 +34,7 @@ pub(crate) fn texts_of(built: Built) -> ProgramFileTexts
     }
 }
 
-/// Such files, and one more behind them.
+/// Output files with one more after them.
 fn with_file<'a>(files: Vec<Output<'a>>, file: Output<'a>) -> Result<Vec<Output<'a>>, NoMemory>
     ensures { IfOk result (λ outputs. map contents_of outputs.items ≡ map contents_of files.entry.items ++ contents_of file.entry ∷ []) }
 {
@@ -43,7 +43,7 @@ fn with_file<'a>(files: Vec<Output<'a>>, file: Output<'a>) -> Result<Vec<Output<
     Ok(outputs)
 }
 
-/// The files of such texts, and behind them that of the symbols, if there is one.
+/// The output files of a program, and after them the file of its symbols, if there is one.
 pub(crate) fn outputs_of<'a>(
     alloc: Global,
     names: &'a ProgramFileNames,

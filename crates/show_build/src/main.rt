@@ -1,8 +1,7 @@
-//! The program with words for a build, and behind it the files that it wrote: the status is 0.
+//! The program with a command line for a build. It then prints the files that the build wrote: the status is 0.
 #![tactic(auto)]
 
-use c25_disk::system::System;
-use c25_tasks::run_program;
+use c25_tasks::run_on;
 use std::process::ExitCode;
 use std::{fs, io};
 
@@ -15,7 +14,7 @@ const WRITTEN: [&str; 5] = [
     "count.2.lst",
 ];
 
-/// Prints each file that was written, under its name.
+/// Prints each file that the build wrote, under its name.
 fn show(rt: &HostRuntime) -> io::Result<()> {
     for name in WRITTEN {
         let text = fs::read_to_string(rt, name)?;
@@ -25,14 +24,7 @@ fn show(rt: &HostRuntime) -> io::Result<()> {
 }
 
 fn main(rt: HostRuntime) -> ExitCode {
-    let ended = run_program(
-        rt.alloc(),
-        &rt,
-        &mut System::new(&rt),
-        &mut rt.stdin(),
-        &mut rt.stdout(),
-        &mut rt.stderr(),
-    );
+    let ended = run_on(&rt);
     match show(&rt) {
         Ok(()) => ended.status(),
         Err(_) => ExitCode::FAILURE,

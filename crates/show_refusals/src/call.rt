@@ -1,4 +1,4 @@
-//! Calls of the program, and what must come of them.
+//! Calls of the program, compared with what they must do.
 
 use crate::memory_reader::Reading;
 use crate::world::World;
@@ -7,7 +7,7 @@ use std::alloc::{AllocError, Global};
 use std::io;
 use std::process::ExitCode;
 
-/// What must come of a call.
+/// What a call must do.
 #[derive(Clone, Copy)]
 pub(crate) struct Wanted<'a> {
     pub(crate) status: u8,
@@ -16,7 +16,7 @@ pub(crate) struct Wanted<'a> {
     pub(crate) written: &'a [u8],
 }
 
-/// This is printed, and nothing is written.
+/// The call prints this, and writes nothing.
 pub(crate) fn prints(output: &str) -> Wanted<'_> {
     Wanted {
         status: 0,
@@ -26,7 +26,7 @@ pub(crate) fn prints(output: &str) -> Wanted<'_> {
     }
 }
 
-/// These files are written, and nothing is printed.
+/// The call writes these files, and prints nothing.
 pub(crate) fn writes(written: &[u8]) -> Wanted<'_> {
     Wanted {
         status: 0,
@@ -36,7 +36,7 @@ pub(crate) fn writes(written: &[u8]) -> Wanted<'_> {
     }
 }
 
-/// A fault's line, and nothing else.
+/// The call reports this line of a fault, and does nothing else.
 pub(crate) fn refuses(errors: &str) -> Wanted<'_> {
     Wanted {
         status: 1,
@@ -46,7 +46,7 @@ pub(crate) fn refuses(errors: &str) -> Wanted<'_> {
     }
 }
 
-/// The words of a line.
+/// The arguments of a line, separated by blanks.
 pub(crate) fn words_of(alloc: Global, line: &str) -> Result<Vec<String>, AllocError> {
     let mut words = Vec::new(alloc);
     for word in line.split_whitespace() {
@@ -55,7 +55,7 @@ pub(crate) fn words_of(alloc: Global, line: &str) -> Result<Vec<String>, AllocEr
     Ok(words)
 }
 
-/// Tells a part of what came of a call that is not as it must be.
+/// Prints a difference, unless this part of a call is right.
 fn tell_unless(rt: &HostRuntime, is_right: bool, line: &str, told: &str) -> io::Result<()> {
     if is_right {
         return Ok(());
@@ -63,27 +63,35 @@ fn tell_unless(rt: &HostRuntime, is_right: bool, line: &str, told: &str) -> io::
     println!(rt; "{line}: {told}")
 }
 
-/// Tells each part of what came of a call that is not as it must be.
+/// What a call did.
+#[derive(Drop)]
+struct Called<'a> {
+    status: ExitCode,
+    output: &'a [u8],
+    errors: &'a [u8],
+    written: &'a [u8],
+}
+
+/// Prints each part of a call that is not as it must be.
 fn compare(
     rt: &HostRuntime,
     line: &str,
-    status: ExitCode,
-    output: &[u8],
-    errors: &[u8],
-    written: &[u8],
+    called: &Called<'_>,
     wanted: Wanted<'_>,
 ) -> io::Result<()> {
-    if status != ExitCode::from(wanted.status) {
+    if called.status != ExitCode::from(wanted.status) {
         println!(rt; "{line}: another status than {}", wanted.status)?;
     }
-    let has_output = output == wanted.output.as_bytes();
+    let has_output = called.output == wanted.output.as_bytes();
     tell_unless(rt, has_output, line, "another standard output")?;
-    let has_errors = errors == wanted.errors.as_bytes();
+    let has_errors = called.errors == wanted.errors.as_bytes();
     tell_unless(rt, has_errors, line, "another standard error")?;
-    tell_unless(rt, written == wanted.written, line, "other files written")
+    let has_written = called.written == wanted.written;
+    tell_unless(rt, has_written, line, "other files written")
 }
 
-/// Calls the program with a line of words, its name first, and tells each part of what comes of it that is not as it must be.
+/// Calls the program with the command line of `line`, the program's name first, and prints each part that is
+/// not as it must be.
 pub(crate) fn call(
     rt: &HostRuntime,
     line: &str,
@@ -95,5 +103,11 @@ pub(crate) fn call(
     let mut output = Vec::<u8>::new(rt.alloc());
     let mut errors = Vec::<u8>::new(rt.alloc());
     let status = run_words(rt.alloc(), &words, world, input, &mut output, &mut errors).status();
-    compare(rt, line, status, &output, &errors, &world.written, wanted)
+    let called = Called {
+        status,
+        output: &output,
+        errors: &errors,
+        written: &world.written,
+    };
+    compare(rt, line, &called, wanted)
 }

@@ -1,5 +1,5 @@
-//! Disks that refuse one write and take all others: that file is told (7), those before it are written, and
-//! nothing behind it.
+//! Disks that refuse one write and take all others: the refused file is reported (7), the files before it are
+//! written, and none after it.
 
 ghost use Rattle.std.specs.Prelude.{◌<◌, length};
 
@@ -9,7 +9,7 @@ use crate::programs::{ASSEMBLED, BUILT, FILES, LINKED, text_of};
 use crate::world::{File, World};
 use std::io;
 
-/// A call on a disk that refuses the write behind so many.
+/// A call on a disk that refuses the write after the first `before`.
 fn refuse_behind(
     rt: &HostRuntime,
     line: &str,
@@ -25,7 +25,7 @@ fn refuse_behind(
     call(rt, line, &mut world, &mut input, wanted)
 }
 
-/// The write behind so many of a call's is refused.
+/// Checks a call of which the write after the first `before` is refused.
 fn refuse_one(rt: &HostRuntime, line: &str, files: &'static [File], before: usize) -> io::Result<()>
     requires { before < length files.now }
 {
@@ -39,13 +39,13 @@ fn refuse_one(rt: &HostRuntime, line: &str, files: &'static [File], before: usiz
     refuse_behind(rt, line, before, wanted)
 }
 
-/// No write of a call is refused.
+/// Checks a call of which no write is refused.
 fn refuse_none(rt: &HostRuntime, line: &str, files: &'static [File]) -> io::Result<()> {
     let written = text_of(rt.alloc(), files)?;
     refuse_behind(rt, line, files.len(), writes(&written))
 }
 
-/// Each write of a call is refused in its turn, and then none.
+/// Checks a call with each of its writes refused in turn, and then with none refused.
 fn refuse_each(rt: &HostRuntime, line: &str, files: &'static [File]) -> io::Result<()> {
     for before in 0..files.len() {
         refuse_one(rt, line, files, before)?;
@@ -54,7 +54,7 @@ fn refuse_each(rt: &HostRuntime, line: &str, files: &'static [File]) -> io::Resu
     println!(rt; "{line}: write 1 to {} refused", files.len())
 }
 
-/// Each call that writes files.
+/// Checks each call that writes files.
 pub(crate) fn run_all(rt: &HostRuntime) -> io::Result<()> {
     println!(rt; "== disks")?;
     refuse_each(rt, "c25 asm t.asm --obj t.obj --list t.lst", &ASSEMBLED)?;

@@ -1,8 +1,8 @@
-//! Sinks that are full, readers that fail and disks that refuse, each at every place where it may: what a
-//! call does then is compared with what it must do. Printed is what differs, and how many cases there are.
+//! Full sinks, failing readers and refusing disks, each at every place where that may happen: what a call
+//! then does is compared with what it must do. Printed are the differences, and the number of cases.
 //!
-//! Then it calls the program with its own words, whose work has a fault: it prints nothing more, and the status is 1.
-//! Where a case cannot be run, the status is 2.
+//! Then the program is called with this program's own command line, whose task has a fault: nothing more is
+//! printed, and the status is 1. Where a case cannot be run, the status is 2.
 #![tactic(auto)]
 
 mod call;
@@ -14,11 +14,10 @@ mod sinks;
 mod world;
 
 use anyhow::Result;
-use c25_disk::system::System;
-use c25_tasks::run_program;
+use c25_tasks::run_on;
 use std::process::ExitCode;
 
-/// All cases.
+/// Runs all cases.
 fn run_all(rt: &HostRuntime) -> Result<()> {
     sinks::run_all(rt)?;
     readers::run_all(rt)?;
@@ -31,13 +30,5 @@ fn main(rt: HostRuntime) -> ExitCode {
         let _ = rt.eprintln(error);
         return ExitCode::from(2);
     }
-    run_program(
-        rt.alloc(),
-        &rt,
-        &mut System::new(&rt),
-        &mut rt.stdin(),
-        &mut rt.stdout(),
-        &mut rt.stderr(),
-    )
-    .status()
+    run_on(&rt).status()
 }

@@ -5,18 +5,18 @@ ghost use Rattle.std.specs.Io.{ReadsAtMost};
 use std::io;
 use std::io::{Error, ErrorKind, Read};
 
-/// What a reader does behind its bytes.
+/// What a reader does after its bytes.
 #[derive(Clone, Copy)]
 pub(crate) enum End {
-    /// It ends.
+    /// The reader ends.
     Ends,
-    /// It fails.
+    /// The reader fails.
     Fails,
-    /// It gives 61h for ever.
+    /// The reader gives 61h for ever.
     Goes,
 }
 
-/// Gives bytes at most so many at a time, and then does what is told.
+/// A reader that gives its bytes in pieces of a limited length, and then does what `end` says.
 #[derive(Clone, Copy)]
 pub(crate) struct Reading<'a> {
     pub(crate) rest: &'a [u8],
@@ -24,7 +24,7 @@ pub(crate) struct Reading<'a> {
     pub(crate) end: End,
 }
 
-/// What is given behind all bytes.
+/// Reads after the last byte.
 fn read_behind(end: End, buf: &mut [u8]) -> io::Result<usize>
     ensures { ReadsAtMost result buf.new }
 {

@@ -1,9 +1,9 @@
-//! Programs with files of each kind, and what is written of them.
+//! Programs with files of each kind, and their output files.
 
 use crate::world::File;
 use std::alloc::{AllocError, Global};
 
-/// The source `a.asm` gives the one word of port 2 out at port 3 and sleeps.
+/// The files of the cases. The source `a.asm` gives the one word of port 2 out at port 3 and sleeps.
 pub(crate) const FILES: &[File] = &[
     ("a.asm", b" IN 60h,PA2\n OUT 60h,PA3\n .copy \"b.inc\"\n"),
     ("b.inc", b"S IDLE\n B S\n"),
@@ -24,13 +24,13 @@ pub(crate) const INPUT: &[u8] = b" LACK 65\n SACL 60h\n OUT 60h,PA1\nS B S\n";
 const EMPTY: &[u8] =
     b"C25O\x02\x01\x00\x00\x00\x0B\x01\x05.text\x00\x00\x00\x00\xFF\x00\x00\x00\x00";
 
-/// What `asm` writes of `t.asm`.
+/// The files that `asm` writes of `t.asm`.
 pub(crate) const ASSEMBLED: [File; 2] = [
     ("t.obj", EMPTY),
     ("t.lst", b"     1             .title \"t\"\n"),
 ];
 
-/// What `link` writes of such an object.
+/// The files that `link` writes of an object without words.
 pub(crate) const LINKED: [File; 3] = [
     ("b.p0.hex", b":00000001FF\n"),
     ("b.p1.hex", b":00000001FF\n"),
@@ -40,7 +40,7 @@ pub(crate) const LINKED: [File; 3] = [
     ),
 ];
 
-/// What `build` writes of `c.asm`.
+/// The files that `build` writes of `c.asm`.
 pub(crate) const BUILT: [File; 4] = [
     ("b.p0.hex", b":020000000005F9\n:00000001FF\n"),
     ("b.p1.hex", b":00000001FF\n"),
@@ -51,7 +51,7 @@ pub(crate) const BUILT: [File; 4] = [
     ("b.1.lst", b"     1 0000 0005   .word 5\n"),
 ];
 
-/// Files as a disk keeps what was written: each name, a line feed, and the file's bytes.
+/// Files as `World` keeps what was written: for each its name, a line feed, and its bytes.
 pub(crate) fn text_of(alloc: Global, files: &[File]) -> Result<Vec<u8>, AllocError> {
     let mut text = Vec::new(alloc);
     for (name, bytes) in files {

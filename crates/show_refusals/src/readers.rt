@@ -1,4 +1,5 @@
-//! Files of each kind, and standard input, that are read badly: the file is told (8), and nothing else is done.
+//! Files of each kind, and standard input, whose reading fails: the file is reported (8), and nothing else is
+//! done.
 
 use crate::call::{Wanted, call, prints, refuses, writes};
 use crate::memory_reader::{End, Reading};
@@ -6,7 +7,7 @@ use crate::programs::{FILES, INPUT, LINKED, text_of};
 use crate::world::{World, bytes_of};
 use std::io;
 
-/// A line of words, and a file that is read for it; a row for each kind of file.
+/// Command lines, each with a file that it reads: one row for each kind of file.
 const READ: [(&str, &str); 9] = [
     ("c25 asm a.asm --obj b.obj", "a.asm"),
     ("c25 run a.asm", "b.inc"),
@@ -19,14 +20,15 @@ const READ: [(&str, &str); 9] = [
     ("c25", "stdin"),
 ];
 
-/// Standard input that may not be read.
+/// Standard input that must not be read.
 const CLOSED: Reading<'static> = Reading {
     rest: b"",
     most: 1,
     end: End::Fails,
 };
 
-/// Where the file of a name, or standard input, is read so, a file is told, and nothing is printed and nothing written.
+/// Checks that a file is reported, and nothing is printed or written, where the file of a name, or standard
+/// input, is read in this way.
 fn is_told(
     rt: &HostRuntime,
     line: &str,
@@ -48,7 +50,7 @@ fn whole(name: &str) -> &'static [u8] {
     }
 }
 
-/// A file fails behind these bytes, which it gives one at a time.
+/// Checks a file that fails after these bytes, which it gives one at a time.
 fn fail_behind(rt: &HostRuntime, line: &str, name: &str, rest: &[u8]) -> io::Result<()> {
     let reading = Reading {
         rest,
@@ -58,7 +60,7 @@ fn fail_behind(rt: &HostRuntime, line: &str, name: &str, rest: &[u8]) -> io::Res
     is_told(rt, line, name, name, reading)
 }
 
-/// Each read of a file fails in its turn, the last one behind its last byte.
+/// Checks a file with each of its reads failing in turn, the last one after its last byte.
 fn fail_at_each_read(rt: &HostRuntime, line: &str, name: &str) -> io::Result<()> {
     let bytes = whole(name);
     for before in 0..bytes.len() {
@@ -71,7 +73,7 @@ fn fail_at_each_read(rt: &HostRuntime, line: &str, name: &str) -> io::Result<()>
     )
 }
 
-/// A file goes on for ever.
+/// Checks a file that goes on for ever.
 fn go_on(rt: &HostRuntime, line: &str, name: &str) -> io::Result<()> {
     let reading = Reading {
         rest: whole(name),
@@ -82,7 +84,7 @@ fn go_on(rt: &HostRuntime, line: &str, name: &str) -> io::Result<()> {
     println!(rt; "{line}: {name} goes on for ever")
 }
 
-/// A file ends within a character of two, three or four bytes.
+/// Checks a file that ends within a character of two, three or four bytes.
 fn end_within_a_character(rt: &HostRuntime, line: &str, name: &str) -> io::Result<()> {
     for rest in [b"* \xC3".as_slice(), b"* \xE2\x82", b"* \xF0\x9F\x98"] {
         let reading = Reading {
@@ -95,7 +97,7 @@ fn end_within_a_character(rt: &HostRuntime, line: &str, name: &str) -> io::Resul
     println!(rt; "{line}: {name} ends within a character")
 }
 
-/// Two objects that cannot be read, of which the first is told.
+/// Checks that of two objects that cannot be read the first is reported.
 fn tell_the_first(rt: &HostRuntime) -> io::Result<()> {
     for (line, name) in [
         ("c25 link no.cmd q r --out b", "q"),
@@ -109,7 +111,7 @@ fn tell_the_first(rt: &HostRuntime) -> io::Result<()> {
     Ok(())
 }
 
-/// All files that a call reads, and standard input, a byte a read.
+/// Checks a call whose files and standard input are read one byte at a time.
 fn read_slowly(rt: &HostRuntime, line: &str, wanted: Wanted<'_>) -> io::Result<()> {
     let mut world = World::new(rt.alloc(), FILES);
     let mut input = Reading {
@@ -121,7 +123,7 @@ fn read_slowly(rt: &HostRuntime, line: &str, wanted: Wanted<'_>) -> io::Result<(
     println!(rt; "{line}: a byte a read")
 }
 
-/// Calls that read files of each kind, a byte a read.
+/// Checks calls that read files of each kind, one byte at a time.
 fn read_each_slowly(rt: &HostRuntime) -> io::Result<()> {
     let run =
         "c25 run a.asm --command no.cmd --samples samples.txt --schedule schedule.txt --steps 4";
@@ -134,7 +136,7 @@ fn read_each_slowly(rt: &HostRuntime) -> io::Result<()> {
     read_slowly(rt, "c25", prints("1 0041\nran 1000\n"))
 }
 
-/// Each kind of file in each way.
+/// Checks each kind of file with each kind of failure.
 pub(crate) fn run_all(rt: &HostRuntime) -> io::Result<()> {
     println!(rt; "== readers")?;
     for (line, name) in READ {

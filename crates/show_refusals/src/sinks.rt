@@ -1,4 +1,5 @@
-//! Sinks of 0 to 9 words, under a program that puts a word out in every second step from the third on.
+//! Sinks with room for 0 to 9 words, under a program that puts out a word in every second step from the third
+//! on.
 
 ghost use Rattle.std.specs.Prelude.{◌≡◌, IfOk};
 ghost use Rattle.c25_board.specs.Board.{steps};
@@ -13,28 +14,28 @@ use c25_board::samples::{Samples, read_samples};
 use c25_board::schedule::read_schedule;
 use c25_chain::build;
 use c25_chain::built::Built;
+use c25_debug::session::Session;
 use c25_link::Image;
 use c25_macro::files::Files;
 use c25_meaning_image::marks::marks_fit;
 use c25_meaning_processor::script::Cmd;
-use c25_debug::session::Session;
 use std::alloc::Global;
 
-/// Steps 0 and 1 make the word; step 2 and every second one behind it put it out.
+/// Steps 0 and 1 make the word; step 2 and every second step after it put it out.
 const SOURCE: &str = " LACK 65\n SACL 60h\nS OUT 60h,PA1\n B S\n";
 
-/// A sink of a fixed size, whatever size that is.
+/// A sink of a fixed size.
 trait Fixed: Sink {
-    /// How many words it takes.
+    /// How many words the sink takes.
     const ROOM: usize;
 
-    /// An empty one.
+    /// An empty sink.
     fn empty() -> Self;
 
-    /// How many words stand in it.
+    /// How many words the sink has.
     fn count(&self) -> usize;
 
-    /// Forgets its words.
+    /// Empties the sink.
     fn forget(&mut self);
 }
 
@@ -75,7 +76,7 @@ fn board_of<S: Fixed + Drop>(alloc: Global, image: &Image) -> Result<Board<Sampl
     )?)
 }
 
-/// Prints how a run ended, and what the board has come to.
+/// Prints how a run ended, and the state of the board and its sink.
 fn tell<S: Fixed + Drop>(
     rt: &HostRuntime,
     run: &str,
@@ -101,7 +102,7 @@ fn run_board<S: Fixed + Drop>(rt: &HostRuntime, board: &mut Board<Samples, S>) -
     tell(rt, "cleared, run 1", outcome, board)
 }
 
-/// Prints what a session answers to a command, and whether that tells of a word that was refused.
+/// Prints what a session answers to a command, and whether the answer reports a refused word.
 fn show<S: Fixed + Drop>(
     rt: &HostRuntime,
     session: &mut Session<'_, Samples, S>,
@@ -114,7 +115,7 @@ fn show<S: Fixed + Drop>(
     Ok(())
 }
 
-/// Runs a session into its full sink, tries the word again, and looks at where it stands.
+/// Runs a session into its full sink, tries the word again, and asks for its registers and place.
 fn debug_board<S: Fixed + Drop>(
     rt: &HostRuntime,
     session: &mut Session<'_, Samples, S>,
@@ -126,27 +127,27 @@ fn debug_board<S: Fixed + Drop>(
     Ok(())
 }
 
-/// A sink under a board.
+/// Runs the cases of a sink under a board.
 fn run_under_board<S: Fixed + Drop>(rt: &HostRuntime, image: &Image) -> Result<()> {
     let mut board = board_of::<S>(rt.alloc(), image)?;
     run_board(rt, &mut board)
 }
 
-/// A sink under a session.
+/// Runs the cases of a sink under a session.
 fn run_under_session<S: Fixed + Drop>(rt: &HostRuntime, image: &Image) -> Result<()> {
     let board = board_of::<S>(rt.alloc(), image)?;
     let mut session = Session::new(rt.alloc(), board, image);
     debug_board(rt, &mut session)
 }
 
-/// A sink under a board and under a session.
+/// Runs the cases of a sink under a board and under a session.
 fn run_sink<S: Fixed + Drop>(rt: &HostRuntime, image: &Image) -> Result<()> {
     println!(rt; "== a sink for {} words", S::ROOM)?;
     run_under_board::<S>(rt, image)?;
     run_under_session::<S>(rt, image)
 }
 
-/// A sink of each size.
+/// Runs the cases of sinks of each size.
 fn run_sinks(rt: &HostRuntime, image: &Image) -> Result<()> {
     run_sink::<FixedSink<0>>(rt, image)?;
     run_sink::<FixedSink<1>>(rt, image)?;
@@ -160,7 +161,7 @@ fn run_sinks(rt: &HostRuntime, image: &Image) -> Result<()> {
     run_sink::<FixedSink<9>>(rt, image)
 }
 
-/// The program of that source.
+/// The program of `SOURCE`.
 fn program_of(alloc: Global) -> Result<Built> {
     let mut files = Files::new(alloc);
     files.add("puts.asm", SOURCE)?;
@@ -168,7 +169,7 @@ fn program_of(alloc: Global) -> Result<Built> {
     Ok(build(alloc, &files, &sources, "")?)
 }
 
-/// All of these sinks.
+/// Runs the cases of all sinks.
 pub(crate) fn run_all(rt: &HostRuntime) -> Result<()> {
     let built = program_of(rt.alloc())?;
     run_sinks(rt, &built.linked.image)

@@ -1,25 +1,26 @@
-//! Files in memory that are read and written as a case asks for.
+//! A disk in memory whose files are read and written as a case asks for.
 
 use crate::memory_reader::{End, Reading};
-use c25_disk::disk::{Disk, Refused};
+use c25_disk::disk::{Disk, DiskFault};
 use std::alloc::Global;
 
 /// A file: its name and its bytes.
 pub(crate) type File = (&'static str, &'static [u8]);
 
-/// Files of a list, and what was written: for each file its name, a line feed, and its bytes.
+/// A disk with the files of a list. It keeps what was written: for each file its name, a line feed, and its
+/// bytes.
 #[derive(Drop)]
 pub(crate) struct World<'a> {
     files: &'static [File],
-    /// The name of a file that is read in this way and not from the list.
+    /// A file that is read in this way and not from the list, with its name.
     other: Option<(&'a str, Reading<'a>)>,
-    /// How many writes succeed before one is refused; all behind it would succeed.
+    /// How many writes succeed before one is refused; all writes after that one succeed again.
     before: usize,
     pub(crate) written: Vec<u8>,
 }
 
 impl<'a> World<'a> {
-    /// These files, of which nothing is refused.
+    /// A disk of these files that refuses nothing.
     pub(crate) fn new(alloc: Global, files: &'static [File]) -> World<'a> {
         World {
             files,
@@ -29,7 +30,7 @@ impl<'a> World<'a> {
         }
     }
 
-    /// The same, but for a file that is read in this way.
+    /// A disk of these files but for one, which is read in this way.
     pub(crate) fn with_reading(
         alloc: Global,
         files: &'static [File],
@@ -42,7 +43,7 @@ impl<'a> World<'a> {
         }
     }
 
-    /// The same, but for the write behind so many, which is refused.
+    /// A disk of these files that refuses the write after the first `before`.
     pub(crate) fn with_refusal(alloc: Global, files: &'static [File], before: usize) -> World<'a> {
         World {
             before,
@@ -50,7 +51,7 @@ impl<'a> World<'a> {
         }
     }
 
-    /// How the file of a name is read where it is not read as the others are.
+    /// How the file of a name is read, if not from the list.
     fn other_reading(&self, name: &str) -> Option<Reading<'a>> {
         let (other, reading) = self.other?;
         if other == name { Some(reading) } else { None }
@@ -76,7 +77,7 @@ impl<'a> Disk for World<'a> {
 
     ghost written = { λ _. None };
 
-    fn open(&self, name: &str) -> Result<Reading<'a>, Refused> {
+    fn open(&self, name: &str) -> Result<Reading<'a>, DiskFault> {
         if let Some(reading) = self.other_reading(name) {
             return Ok(reading);
         }
@@ -86,19 +87,19 @@ impl<'a> Disk for World<'a> {
                 most: 1,
                 end: End::Ends,
             }),
-            None => Err(Refused),
+            None => Err(DiskFault),
         }
     }
 
-    fn write(&mut self, name: &str, bytes: &[u8]) -> Result<(), Refused> {
+    fn write(&mut self, name: &str, bytes: &[u8]) -> Result<(), DiskFault> {
         if self.before == 0 {
             self.before = usize::MAX;
-            return Err(Refused);
+            return Err(DiskFault);
         }
         self.before -= 1;
         for part in [name.as_bytes(), b"\n".as_slice(), bytes] {
             if self.written.extend_from_slice(part).is_err() {
-                return Err(Refused);
+                return Err(DiskFault);
             }
         }
         Ok(())

@@ -15,4 +15,4 @@ unreachable-requires c =
 pub returns : goal.returns
 returns c =
     let same = c.get_strs.ensures ∙ raw_values-rows (found_of c.args.matches.now) c.args.id.now in
-    IfOk-weaker c.copied.result _ _ (λ v e. sym same ∙ ap (option_map (λ s. texts_of s.now)) c.in-Some.is ∙ ap (λ l. Some (texts_of l)) (sym e)) c.copied.ensures
+    IfOk-weaker c.cloned.result _ _ (λ v e. sym same ∙ ap (option_map (λ s. texts_of s.now)) c.in-Some.is ∙ ap (λ l. Some (texts_of l)) (sym e)) c.cloned.ensures

@@ -11,7 +11,7 @@ use Rattle.c25_options.proofs.read.read_by.Goals as goal
 pub found_task-requires : goal.found_task-requires
 found_task-requires c =
     let is = c.requires in
-    let words = map string_bytes c.args.words.now in
+    let words = map string_bytes c.args.arguments.now in
     let found = (c.in-Ok.ensures.matches (ap is_simple is)).1 ∙ ap (λ (a : App). subcommand_of a words) is in
     let none = ap (λ (a : App). fault_of a words) (sym is) ∙ c.in-Ok.ensures.kinds (ap is_simple_and_free is) in
     subst IsFoundComplete (sym found) (complete words none)
@@ -19,7 +19,7 @@ found_task-requires c =
 pub returns-in-Ok-clause-read : goal.returns-in-Ok-clause-read
 returns-in-Ok-clause-read c =
     let is = c.requires in
-    let words = map string_bytes c.args.words.now in
+    let words = map string_bytes c.args.arguments.now in
     let found = (c.in-Ok.ensures.matches (ap is_simple is)).1 ∙ ap (λ (a : App). subcommand_of a words) is in
     let none = ap (λ (a : App). fault_of a words) (sym is) ∙ c.in-Ok.ensures.kinds (ap is_simple_and_free is) in
     reads words _ none (subst (λ (o : Option (Text × List Row)). IfOk c.found_task.result (IsAskedBy o)) found c.found_task.ensures.asked) c.found_task.ensures.short
@@ -30,12 +30,12 @@ returns-in-Ok-clause-takes c = λ taken. short _ c.found_task.ensures.short
 pub returns-in-Err-clause-read : goal.returns-in-Err-clause-read
 returns-in-Err-clause-read c =
     let is = c.requires in
-    let words = map string_bytes c.args.words.now in
+    let words = map string_bytes c.args.arguments.now in
     let kinds = ap (λ (a : App). fault_of a words) is in
     subst (λ (k : Kinds). HasKind k c.in-Err.error) kinds (c.in-Err.ensures.kinds (ap is_simple_and_free is))
 
 pub returns-in-Err-clause-takes : goal.returns-in-Err-clause-takes
 returns-in-Err-clause-takes c =
     let is = c.requires in
-    let words = map string_bytes c.args.words.now in
+    let words = map string_bytes c.args.arguments.now in
     λ taken. c.in-Err.ensures.passes (ap (λ (a : App). takes a words) is ∙ taken)

@@ -1,7 +1,7 @@
 use Rattle.std.proofs.Common.{inl, inr, [], ◌∷◌}
 use Rattle.std.specs.Prelude.{Err}
-use Rattle.c25_tasks.specs.Files.{ReadsAll}
-use Rattle.c25_tasks.proofs.Gathered.{fails_with}
+use Rattle.c25_inputs.specs.Files.{ReadsAll}
+use Rattle.c25_inputs.proofs.Fails.{fails_with}
 use Rattle.c25_tasks.proofs.assembly.asm_outputs.Goals as goal
 
 pub returns-in_err-files : goal.returns-in_err-files

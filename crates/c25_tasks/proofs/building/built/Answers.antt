@@ -2,7 +2,7 @@ use Rattle.std.proofs.Common.{◌∙◌, ap, map, string_bytes}
 use Rattle.c25_options.specs.Task.{texts_of}
 use Rattle.c25_tasks.specs.Building.{BuildsOver}
 use Rattle.c25_tasks.proofs.Gathered.{builds_over, builds_short}
-use Rattle.c25_tasks.proofs.Gathering.{inputs_read, inputs_refused, of_command_alone}
+use Rattle.c25_inputs.proofs.Gathering.{inputs_read, inputs_refused, of_command_alone}
 use Rattle.c25_tasks.proofs.building.built.Goals as goal
 
 pub returns-in_err-inputs : goal.returns-in_err-inputs

@@ -1,10 +1,10 @@
 use Rattle.std.proofs.Common.{◌∙◌, ap, inl, inr, map, string_bytes}
 use Rattle.c25_options.specs.Task.{texts_of}
 use Rattle.c25_tasks.specs.Debugging.{DebugsOver}
-use Rattle.c25_tasks.specs.Files.{AfterNamed, IsUnread}
+use Rattle.c25_inputs.specs.Files.{AfterNamed, IsUnread}
 use Rattle.c25_tasks.proofs.Debugged.{debugs_over}
-use Rattle.c25_tasks.proofs.Gathered.{fails_with, unread_short}
-use Rattle.c25_tasks.proofs.Gathering.{inputs_read, inputs_refused}
+use Rattle.c25_inputs.proofs.Fails.{fails_with, unread_short}
+use Rattle.c25_inputs.proofs.Gathering.{inputs_read, inputs_refused}
 use Rattle.c25_tasks.proofs.debugging.answer.Goals as goal
 
 pub returns-in_err-inputs : goal.returns-in_err-inputs

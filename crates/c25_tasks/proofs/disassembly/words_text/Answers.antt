@@ -1,5 +1,5 @@
 use Rattle.std.proofs.Common.{ap}
-use Rattle.c25_chain.specs.declared.fault.Refusal.TheVariants.{Hex}
+use Rattle.c25_chain.specs.declared.fault.ChainFault.TheVariants.{Hex}
 use Rattle.c25_meaning_common.specs.Results.{told}
 use Rattle.c25_tasks.proofs.disassembly.words_text.Goals as goal
 

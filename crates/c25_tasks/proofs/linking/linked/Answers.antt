@@ -1,9 +1,9 @@
 use Rattle.std.proofs.Common.{◌∙◌, ap, inl, inr, sym}
 use Rattle.std.specs.Prelude.{Ok}
 use Rattle.c25_options.specs.Task.{texts_of}
-use Rattle.c25_tasks.specs.Files.{IsUnread}
-use Rattle.c25_tasks.specs.Objects.{IsUnreadAmong, modules_in, objects_of}
-use Rattle.c25_tasks.proofs.Gathered.{fails_with}
+use Rattle.c25_inputs.specs.Files.{IsUnread}
+use Rattle.c25_inputs.specs.Objects.{IsUnreadAmong, modules_in, objects_of}
+use Rattle.c25_inputs.proofs.Fails.{fails_with}
 use Rattle.c25_tasks.proofs.Joined.{link_told, objects_told}
 use Rattle.c25_tasks.proofs.linking.linked.Goals as goal
 

@@ -2,7 +2,7 @@ use Rattle.std.proofs.Common.{◌∙◌, ap, map, string_bytes}
 use Rattle.c25_options.specs.Task.{texts_of}
 use Rattle.c25_tasks.specs.Running.{ReadiesOver}
 use Rattle.c25_tasks.proofs.Gathered.{readies_over, readies_short}
-use Rattle.c25_tasks.proofs.Gathering.{inputs_read, inputs_refused}
+use Rattle.c25_inputs.proofs.Gathering.{inputs_read, inputs_refused}
 use Rattle.c25_tasks.proofs.running.answer.Goals as goal
 
 pub returns-in_err-inputs : goal.returns-in_err-inputs

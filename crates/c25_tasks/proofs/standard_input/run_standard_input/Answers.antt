@@ -2,7 +2,7 @@ use Rattle.std.proofs.Common.{false, string_bytes}
 use Rattle.c25_tasks.proofs.Answered.{answered, given_input}
 use Rattle.c25_tasks.proofs.Gathered.{of_input}
 use Rattle.c25_tasks.specs.Running.{IsGivenInput}
-use Rattle.c25_tasks.specs.declared.notes.Notes.TheVariants.{Nothing}
+use Rattle.c25_explain.specs.declared.notes.Notes.TheVariants.{Nothing}
 use Rattle.c25_tasks.proofs.standard_input.run_standard_input.Goals as goal
 
 pub returns : goal.returns

@@ -1,7 +1,7 @@
 use Rattle.std.proofs.Common.{◌∙◌, ap, map, string_bytes}
 use Rattle.c25_options.specs.Task.{texts_of}
 use Rattle.c25_tasks.specs.Symbols.{BuildsWithSymbolsOver}
-use Rattle.c25_tasks.proofs.Gathering.{inputs_read, inputs_refused, of_command_alone}
+use Rattle.c25_inputs.proofs.Gathering.{inputs_read, inputs_refused, of_command_alone}
 use Rattle.c25_tasks.proofs.WithSymbols.{over_same, over_told}
 use Rattle.c25_tasks.proofs.symbols.built_with_symbols.Goals as goal
 

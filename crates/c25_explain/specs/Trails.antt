@@ -1,0 +1,62 @@
+-- The trail of a fault: the lines that led to a faulty line of a source, as they are shown.
+use Rattle.std.specs.Prelude.{◌≡◌, ◌⊎◌, ℕ, List, [], ◌∷◌, ◌++◌, codes, Option, Some, None, option_and_then, unwrap_or, Ok, String}
+use Rattle.std.specs.String.{string_bytes}
+use Rattle.std.specs.declared.alloc.Global.{Global}
+use Rattle.c25_asm.specs.Trails.{IsTrail, IsWhole}
+use Rattle.c25_chain.specs.declared.fault.ChainFault.{ChainFault}
+use Rattle.c25_chain.specs.declared.fault.ChainFault.TheVariants.{Source, NoFile, Object, Command, Link, Hex, Schedule, Samples, Script, File}
+use Rattle.c25_disk.specs.Copies.{HasCopied}
+use Rattle.c25_disk.specs.Held.{Held, ReadsSources}
+use Rattle.c25_explain.specs.Note.{line_of}
+use Rattle.c25_meaning_common.specs.Faults.{placed_text}
+use Rattle.c25_meaning_expansion.specs.Files.{Files, file_name, text_named}
+use Rattle.c25_meaning_expansion.specs.declared.place.SourcePlace.{SourcePlace}
+use Rattle.c25_meaning_language.specs.ExpansionFault.{ExpansionFault, Faulty}
+use Rattle.c25_explain.specs.declared.trails.NoTrail.{NoTrail}
+use Rattle.c25_explain.specs.declared.trails.NoTrail.TheVariants.{Missing, Other}
+
+-- the text of the line at a place
+abbrev pub text_at : Files → SourcePlace → List ℕ
+text_at files place = unwrap_or (option_and_then (λ text. line_of text place.line) (text_named files (file_name files place.file))) []
+
+-- one line of the trail as it is shown: its file, its number and its text
+abbrev pub opening_text : Files → SourcePlace → List ℕ
+opening_text files place = codes "  from " ++ placed_text (file_name files place.file) place.line (text_at files place) ++ codes "\n"
+
+-- all lines of a trail as they are shown
+abbrev pub openings_text : Files → List SourcePlace → List ℕ
+openings_text files [] = []
+openings_text files (place ∷ places) = opening_text files place ++ openings_text files places
+
+-- the first fault among the sources of these names is this one, and these lines opened what is open there
+abbrev pub IsFirstTrail : Files → (sources : List (List ℕ)) → ExpansionFault → List SourcePlace → Type 0
+IsFirstTrail files [] fault trail = ⊥
+IsFirstTrail files (name ∷ names) fault trail = IsTrail files name fault trail ⊎ IsWhole files name × IsFirstTrail files names fault trail
+
+-- a text shows the trail of this fault
+abbrev pub ShowsTrail : Files → (sources : List (List ℕ)) → ExpansionFault → List ℕ → Type 0
+ShowsTrail files sources fault text = (trail : List SourcePlace) × IsFirstTrail files sources fault trail × (text ≡ openings_text files trail)
+
+-- a text shows the trail of this fault in sources on a disk, over their files and at most 256 others that
+-- they copy, or is empty
+abbrev pub ShowsTrailOver : Held → (sources : List (List ℕ)) → ExpansionFault → List ℕ → Type 0
+ShowsTrailOver held sources fault text =
+    ((given : Files) × ReadsSources held [] sources (Ok given) × (files : Files) × HasCopied held given 256 files × ShowsTrail files sources fault text) ⊎ (text ≡ [])
+
+-- the name of the file that is asked for
+abbrev pub wanted_by : NoTrail → Option (List ℕ)
+wanted_by (Missing name) = Some (string_bytes name)
+wanted_by Other = None
+
+-- what is shown of a fault: of a line of a source its trail, and of all else nothing
+abbrev pub IsTrailText : Held → (sources : List (List ℕ)) → ChainFault (String Global) → List ℕ → Type 0
+IsTrailText held sources (Source placed) text = ShowsTrailOver held sources (Faulty (string_bytes placed.place.file) placed.place.line placed.fault) text
+IsTrailText held sources (NoFile file line name) text = text ≡ []
+IsTrailText held sources (Object placed) text = text ≡ []
+IsTrailText held sources (Command placed) text = text ≡ []
+IsTrailText held sources (Link placed) text = text ≡ []
+IsTrailText held sources (Hex placed) text = text ≡ []
+IsTrailText held sources (Schedule line) text = text ≡ []
+IsTrailText held sources (Samples line) text = text ≡ []
+IsTrailText held sources (Script line) text = text ≡ []
+IsTrailText held sources (File placed) text = text ≡ []

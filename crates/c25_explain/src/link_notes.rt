@@ -1,0 +1,102 @@
+//! Notes of faults of the command file and of linking, next to the fault's line.
+
+ghost use Rattle.std.specs.Prelude.{string_bytes};
+ghost use Rattle.c25_options.specs.Task.{text_of, texts_of};
+ghost use Rattle.c25_explain.specs.LinkNotes.{ShowsLink, ShowsMissing, ShowsOf, ShowsStanding};
+
+use crate::misfits::field_text;
+use crate::ranges::missing_text;
+use crate::standing::refused_text;
+use c25_cmd::{read_command, refused_at};
+use c25_disk::disk::Disk;
+use c25_disk::read_file;
+use c25_meaning_common::placed::Placed;
+use c25_meaning_linking::link_fault::LinkFault;
+use c25_place::missing_range;
+use std::alloc::Global;
+
+/// What stands at the fault in this line of the text of a command file, shown with the file's name; empty
+/// where the text has no fault.
+fn standing_shown(alloc: Global, file: &str, line: usize, text: &str) -> String
+    ensures { ShowsStanding file.now line text.now (string_bytes result) }
+{
+    let Ok(Some(standing)) = refused_at(alloc, text) else {
+        return String::new(alloc);
+    };
+    match refused_text(alloc, file, line, standing) {
+        Ok(shown) => shown,
+        Err(_) => String::new(alloc),
+    }
+}
+
+/// What stands at the fault in this line of the command file; empty where no file is named or it cannot be
+/// read.
+pub(crate) fn standing_text<D: Disk>(
+    alloc: Global,
+    disk: &D,
+    file: Option<&str>,
+    line: usize,
+) -> String
+    ensures { ShowsOf (D.bytes_of disk.now) (text_of file.entry) (λ file text. ShowsStanding file line text) (string_bytes result) }
+{
+    let Some(file) = file else {
+        return String::new(alloc);
+    };
+    match read_file(alloc, disk, file) {
+        Ok(text) => standing_shown(alloc, file, line, text.as_str()),
+        Err(_) => String::new(alloc),
+    }
+}
+
+/// The range that the text of a command file lacks for a section; empty where it lacks none.
+fn missing_shown(alloc: Global, file: &str, section: &str, text: &str) -> String
+    ensures { ShowsMissing file.now section.now text.now (string_bytes result) }
+{
+    let Ok(command) = read_command(alloc, text) else {
+        return String::new(alloc);
+    };
+    let Ok(Some(range)) = missing_range(alloc, &command, section) else {
+        return String::new(alloc);
+    };
+    match missing_text(alloc, file, section, range) {
+        Ok(shown) => shown,
+        Err(_) => String::new(alloc),
+    }
+}
+
+/// The range that the command file lacks for a section; empty where no file is named or it cannot be read.
+fn range_text<D: Disk>(alloc: Global, disk: &D, file: Option<&str>, section: &str) -> String
+    ensures { ShowsOf (D.bytes_of disk.now) (text_of file.entry) (λ file text. ShowsMissing file section.now text) (string_bytes result) }
+{
+    let Some(file) = file else {
+        return String::new(alloc);
+    };
+    match read_file(alloc, disk, file) {
+        Ok(text) => missing_shown(alloc, file, section, text.as_str()),
+        Err(_) => String::new(alloc),
+    }
+}
+
+/// The note of a fault of linking: of 72 the range that the section lacks, of 75 the field that does not take
+/// its value. The files are read again; the note is empty where they cannot be read or memory runs out.
+pub(crate) fn link_text<D: Disk>(
+    alloc: Global,
+    disk: &D,
+    command: Option<&str>,
+    sources: &[&str],
+    objects: &[&str],
+    refusal: &Placed<String, LinkFault>,
+) -> String
+    ensures { ShowsLink (D.bytes_of disk.now) (text_of command.entry) (texts_of sources.now) (texts_of objects.now) refusal.now.fault (string_bytes refusal.now.place) (string_bytes result) }
+{
+    match refusal.fault {
+        LinkFault::NoRange => range_text(alloc, disk, command, refusal.place.as_str()),
+        LinkFault::RelocRange => field_text(alloc, disk, command, sources, objects),
+        LinkFault::Unresolved
+        | LinkFault::DefinedTwice
+        | LinkFault::DoesNotFit
+        | LinkFault::Overlap
+        | LinkFault::NoEntry
+        | LinkFault::BadRun => String::new(alloc),
+    }
+}

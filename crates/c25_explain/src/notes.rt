@@ -1,0 +1,255 @@
+//! The notes that `--explain` asks for, after the line of a fault.
+
+ghost use Rattle.std.specs.Option.{option_map};
+ghost use Rattle.std.specs.Prelude.{◌≡◌, IfOk, string_bytes};
+ghost use Rattle.c25_options.specs.Task.{text_of, texts_of};
+ghost use Rattle.c25_explain.specs.LinkNotes.{IsBehind};
+ghost use Rattle.c25_explain.specs.Notes.{AreNotesFor, IsExplained, IsExplainedAt, IsExplainedUnread, IsLineOf, IsLineOfNoText, IsNoted, IsWhy, at_line, place_of, unread_name};
+
+use crate::fault::AnyFault;
+use crate::link_notes::{link_text, standing_text};
+use crate::note::{Shown, Unread, explained, line_of};
+use crate::refusals::of_refusal;
+use crate::trails::trail_text;
+use c25_chain::fault::ChainFault;
+use c25_disk::disk::Disk;
+use c25_disk::fault::FileFault;
+use c25_disk::{read_binary, read_file};
+use c25_meaning_common::failure::Failure;
+use c25_meaning_common::no_memory::NoMemory;
+use c25_meaning_common::placed::FileLine;
+use c25_options::task::RunFiles;
+use std::alloc::Global;
+
+/// Which notes are reported after the line of a fault.
+#[derive(Clone, Copy)]
+pub enum Notes<'a> {
+    Nothing,
+    /// The explanation of the fault, after the line of the file where it is and the lines that led there. A
+    /// fault of a command file, samples, a schedule or a script has the number of its line only, so their
+    /// names are given here. The sources are expanded again to find where a line was called or copied, and
+    /// the sources or objects are linked again to find a field.
+    Explanations {
+        files: RunFiles<'a>,
+        script: Option<&'a str>,
+        sources: &'a [&'a str],
+        objects: &'a [&'a str],
+    },
+}
+
+/// Explanations, where `explain` asks for them.
+pub fn notes_for<'a>(
+    explain: bool,
+    files: RunFiles<'a>,
+    script: Option<&'a str>,
+    sources: &'a [&'a str],
+    objects: &'a [&'a str],
+) -> Notes<'a>
+    ensures { AreNotesFor explain files.entry script.entry (texts_of sources.entry.now) (texts_of objects.entry.now) result }
+{
+    if explain {
+        Notes::Explanations {
+            files,
+            script,
+            sources,
+            objects,
+        }
+    } else {
+        Notes::Nothing
+    }
+}
+
+/// The line of this number of the named file; `None` where no file is named.
+fn at_line<'a>(file: Option<&'a str>, line: usize) -> Option<FileLine<&'a str>>
+    ensures { option_map (λ place. (place.file.now, place.line)) result ≡ at_line (text_of file.entry) line }
+{
+    match file {
+        Some(file) => Some(FileLine { file, line }),
+        None => None,
+    }
+}
+
+/// The line of a file where a fault is; `None` for a fault without a line.
+fn place_of<'a>(
+    refusal: &'a ChainFault<String>,
+    files: RunFiles<'a>,
+    script: Option<&'a str>,
+) -> Option<FileLine<&'a str>>
+    ensures { option_map (λ place. (place.file.now, place.line)) result ≡ place_of files.entry script.entry refusal.entry.now }
+{
+    match refusal {
+        ChainFault::Source(placed) => at_line(Some(placed.place.file.as_str()), placed.place.line),
+        ChainFault::NoFile { file, line, .. } => at_line(Some(file.as_str()), *line),
+        ChainFault::Command(placed) => at_line(files.command, placed.place),
+        ChainFault::Samples { line } => at_line(files.samples, *line),
+        ChainFault::Schedule { line } => at_line(files.schedule, *line),
+        ChainFault::Script { line } => at_line(script, *line),
+        ChainFault::Object(_) | ChainFault::Link(_) | ChainFault::Hex(_) | ChainFault::File(_) =>
+            None,
+    }
+}
+
+/// The line of this number in the text of a file, if it has one.
+fn line_shown<'a>(file: &'a str, number: usize, text: &'a str) -> Shown<'a>
+    ensures { IsLineOf file.entry.now number text.entry.now result }
+{
+    match line_of(text, number) {
+        Some(text) => Shown::Line { file, number, text },
+        None => Shown::Nothing,
+    }
+}
+
+/// The explanation of a fault in this line of a file, after that line and the lines `behind` it.
+fn explained_at<D: Disk>(
+    alloc: Global,
+    disk: &D,
+    fault: AnyFault,
+    file: &str,
+    number: usize,
+    behind: &str,
+) -> Result<String, NoMemory>
+    ensures { IfOk result (λ note. IsExplainedAt (D.bytes_of disk.now) file.now number behind.now fault (string_bytes note)) }
+{
+    match read_file(alloc, disk, file) {
+        Ok(text) => explained(
+            alloc,
+            fault,
+            line_shown(file, number, text.as_str()),
+            behind,
+        ),
+        Err(_) => explained(alloc, fault, Shown::Nothing, behind),
+    }
+}
+
+/// The name of the file, where the fault is a file that cannot be read.
+fn unread_name(refusal: &ChainFault<String>) -> Option<&str>
+    ensures { option_map (λ name. name.now) result ≡ unread_name refusal.now }
+{
+    match refusal {
+        ChainFault::File(placed) => match placed.fault {
+            FileFault::CannotRead => Some(placed.place.as_str()),
+            FileFault::CannotWrite | FileFault::FileTwice => None,
+        },
+        _ => None,
+    }
+}
+
+/// The number of the first line that is not UTF-8, where there is one.
+fn line_of_no_text(bytes: &[u8]) -> Option<usize>
+    ensures { IsLineOfNoText bytes.now result }
+{
+    match str::from_utf8(bytes) {
+        Ok(_) => None,
+        Err(error) => {
+            let front = &bytes[..error.valid_up_to()];
+            Some(front.iter().filter(|byte| **byte == b'\n').count() + 1)
+        }
+    }
+}
+
+/// Why a file cannot be read, found by reading it again; `None` where it can be read now, or memory runs out.
+fn why_unread<D: Disk>(alloc: Global, disk: &D, name: &str) -> Option<Unread>
+    ensures { IsWhy (D.bytes_of disk.now name.now) result }
+{
+    if disk.open(name).is_err() {
+        return Some(Unread::NotOpened);
+    }
+    match read_binary(alloc, disk, name) {
+        Ok(bytes) => match line_of_no_text(bytes.as_slice()) {
+            Some(line) => Some(Unread::NotUtf8 { line }),
+            None => None,
+        },
+        Err(Failure::NoMemory(_)) => None,
+        Err(Failure::Fault(_)) => Some(Unread::NotRead),
+    }
+}
+
+/// The explanation of a fault of a file that cannot be read, after the reason for it, where that is known.
+fn explained_unread<D: Disk>(
+    alloc: Global,
+    disk: &D,
+    fault: AnyFault,
+    file: &str,
+) -> Result<String, NoMemory>
+    ensures { IfOk result (λ note. IsExplainedUnread (D.bytes_of disk.now) file.now fault (string_bytes note)) }
+{
+    match why_unread(alloc, disk, file) {
+        Some(why) => explained(alloc, fault, Shown::Unread { file, why }, ""),
+        None => explained(alloc, fault, Shown::Nothing, ""),
+    }
+}
+
+/// The lines that are shown next to the line of a fault: for a line of a source the lines that led there, for
+/// the command file what stands at the fault, for linking the range or the field.
+fn behind_text<D: Disk>(
+    alloc: Global,
+    disk: &D,
+    command: Option<&str>,
+    sources: &[&str],
+    objects: &[&str],
+    refusal: &ChainFault<String>,
+) -> String
+    ensures { IsBehind (D.bytes_of disk.now) (text_of command.entry) (texts_of sources.now) (texts_of objects.now) refusal.now (string_bytes result) }
+{
+    match refusal {
+        ChainFault::Command(placed) => standing_text(alloc, disk, command, placed.place),
+        ChainFault::Link(placed) => link_text(alloc, disk, command, sources, objects, placed),
+        ChainFault::Source(placed) => trail_text(alloc, disk, sources, placed),
+        ChainFault::NoFile { .. }
+        | ChainFault::Object(_)
+        | ChainFault::Hex(_)
+        | ChainFault::Schedule { .. }
+        | ChainFault::Samples { .. }
+        | ChainFault::Script { .. }
+        | ChainFault::File(_) => String::new(alloc),
+    }
+}
+
+/// The explanation of a fault, after the line of the file where it is and the lines next to it, or after why
+/// a file cannot be read. The files are read again; where they cannot be read or have no such line, no line
+/// is shown.
+fn explanation_of<D: Disk>(
+    alloc: Global,
+    disk: &D,
+    refusal: &ChainFault<String>,
+    files: RunFiles<'_>,
+    script: Option<&str>,
+    sources: &[&str],
+    objects: &[&str],
+) -> Result<String, NoMemory>
+    ensures { IfOk result (λ note. IsExplained (D.bytes_of disk.now) (place_of files.entry script.entry refusal.now) (text_of files.entry.command) (texts_of sources.now) (texts_of objects.now) refusal.now (string_bytes note)) }
+{
+    let fault = of_refusal(refusal);
+    let behind = behind_text(alloc, disk, files.command, sources, objects, refusal);
+    if let Some(place) = place_of(refusal, files, script) {
+        return explained_at(alloc, disk, fault, place.file, place.line, behind.as_str());
+    }
+    match unread_name(refusal) {
+        Some(file) => explained_unread(alloc, disk, fault, file),
+        None => explained(alloc, fault, Shown::Nothing, behind.as_str()),
+    }
+}
+
+/// The note of a fault; empty where none is asked for, or memory runs out.
+pub fn note_of<D: Disk>(
+    alloc: Global,
+    disk: &D,
+    refusal: &ChainFault<String>,
+    notes: Notes<'_>,
+) -> String
+    ensures { IsNoted (D.bytes_of disk.now) notes.entry refusal.now (string_bytes result) }
+{
+    let Notes::Explanations {
+        files,
+        script,
+        sources,
+        objects,
+    } = notes
+    else {
+        return String::new(alloc);
+    };
+    match explanation_of(alloc, disk, refusal, files, script, sources, objects) {
+        Ok(note) => note,
+        Err(_) => String::new(alloc),
+    }
+}

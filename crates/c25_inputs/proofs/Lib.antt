@@ -1,0 +1,3 @@
+pub mod Fails
+pub mod Gathering
+pub mod Unread

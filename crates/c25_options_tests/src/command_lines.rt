@@ -1,0 +1,463 @@
+//! Command lines. Each case is a line: what reading it answers, `|`, and the arguments after the program's
+//! name, separated by single blanks.
+
+use c25_options::fault::is_want_of_memory;
+use c25_options::read::read_words;
+use c25_options::task::{RunFiles, Task};
+use std::alloc::{AllocError, Global};
+use std::fmt;
+use std::fmt::{Display, Formatter, Write};
+use std::process::Abort;
+use std::test::Fail;
+
+/// The program's name and the arguments of a line.
+fn arguments_of(alloc: Global, line: &str) -> Result<Vec<String>, AllocError> {
+    let mut arguments = Vec::new(alloc);
+    arguments.push(String::from_str(alloc, "c25")?)?;
+    for argument in line.split(' ') {
+        arguments.push(String::from_str(alloc, argument)?)?;
+    }
+    Ok(arguments)
+}
+
+/// Operands, a blank before each.
+#[derive(Clone, Copy)]
+struct Operands<'a>(&'a [&'a str]);
+
+impl Display for Operands<'_> {
+    fn fmt<W: Write>(&self, f: &mut Formatter<W>) -> fmt::Result {
+        for argument in self.0 {
+            write!(f, " {argument}")?;
+        }
+        Ok(())
+    }
+}
+
+/// A flag by its name, shown where it was given.
+#[derive(Clone, Copy)]
+struct Flag(&'static str, bool);
+
+impl Display for Flag {
+    fn fmt<W: Write>(&self, f: &mut Formatter<W>) -> fmt::Result {
+        if self.1 {
+            write!(f, " {}", self.0)
+        } else {
+            Ok(())
+        }
+    }
+}
+
+/// An option by its name and its argument, shown where it was given.
+#[derive(Clone, Copy)]
+struct Value<'a>(&'static str, Option<&'a str>);
+
+impl Display for Value<'_> {
+    fn fmt<W: Write>(&self, f: &mut Formatter<W>) -> fmt::Result {
+        match self.1 {
+            Some(value) => write!(f, " {}={value}", self.0),
+            None => Ok(()),
+        }
+    }
+}
+
+/// The files of a run, shown where they were given.
+#[derive(Clone, Copy)]
+struct Files<'a>(&'a RunFiles<'a>);
+
+impl Display for Files<'_> {
+    fn fmt<W: Write>(&self, f: &mut Formatter<W>) -> fmt::Result {
+        let command = Value("command", self.0.command);
+        let samples = Value("samples", self.0.samples);
+        let schedule = Value("schedule", self.0.schedule);
+        write!(f, "{command}{samples}{schedule}")
+    }
+}
+
+fn show(alloc: Global, task: &Task<'_>) -> Result<String, AllocError> {
+    match task {
+        Task::RunStandardInput => String::from_str(alloc, "standard input"),
+        Task::Assemble {
+            source,
+            object,
+            listing,
+            explain,
+        } => {
+            let listing = Value("listing", *listing);
+            let explain = Flag("explain", *explain);
+            format!(in alloc; "asm {source} object={object}{listing}{explain}")
+        }
+        Task::Link {
+            command,
+            objects,
+            base,
+            explain,
+        } => {
+            let (objects, explain) = (Operands(objects), Flag("explain", *explain));
+            format!(in alloc; "link {command} :{objects} base={base}{explain}")
+        }
+        Task::Build {
+            sources,
+            base,
+            command,
+            symbols,
+            explain,
+        } => {
+            let (sources, explain) = (Operands(sources), Flag("explain", *explain));
+            let command = Value("command", *command);
+            let symbols = Value("symbols", *symbols);
+            format!(in alloc; "build{sources} base={base}{command}{symbols}{explain}")
+        }
+        Task::Run {
+            sources,
+            steps,
+            files,
+            regs,
+            explain,
+        } => {
+            let (sources, files) = (Operands(sources), Files(files));
+            let (regs, explain) = (Flag("regs", *regs), Flag("explain", *explain));
+            format!(in alloc; "run{sources} steps={steps}{files}{regs}{explain}")
+        }
+        Task::Debug {
+            sources,
+            script,
+            files,
+            explain,
+        } => {
+            let (sources, files) = (Operands(sources), Files(files));
+            let explain = Flag("explain", *explain);
+            format!(in alloc; "debug{sources} script={script}{files}{explain}")
+        }
+        Task::Explain { number } => format!(in alloc; "explain {number}"),
+        Task::Disassemble { file, from } => {
+            let from = Value("from", *from);
+            format!(in alloc; "dis {file}{from}")
+        }
+    }
+}
+
+/// What reading a command line answers: a task, or `refused`.
+fn told(alloc: Global, arguments: &[String]) -> Result<String, Fail> {
+    match read_words(alloc, arguments) {
+        Ok(task) => show(alloc, &task).map_err(Fail::from),
+        Err(fault) if is_want_of_memory(&fault) => Err("no memory".into()),
+        Err(_) => String::from_str(alloc, "refused").map_err(Fail::from),
+    }
+}
+
+/// What reading the arguments of a line answers.
+fn answer(alloc: Global, line: &str) -> Result<String, Fail> {
+    let arguments = arguments_of(alloc, line)?;
+    told(alloc, &arguments)
+}
+
+/// The cases of a text that are answered otherwise than they say, a line each, with the answer.
+fn differing(alloc: Global, cases: &str) -> Result<String, Fail> {
+    let mut out = String::new(alloc);
+    for case in cases.lines() {
+        let Some((wanted, line)) = case.split_once(" | ") else {
+            return Err(Fail::from("no bar"));
+        };
+        let answer = answer(alloc, line)?;
+        if answer.as_str() != wanted {
+            write!(out, "{line}: {answer}\n")?;
+        }
+    }
+    Ok(out)
+}
+
+/// Checks that each case of a text is answered as it says.
+fn are_answered(rt: &(impl Abort + AllocGlobal), cases: &str) -> Result<(), Fail> {
+    let differing = differing(rt.alloc(), cases)?;
+    assert_eq!(rt; differing.as_str(), "");
+    Ok(())
+}
+
+/// Checks that a command line asks for the run of standard input.
+fn run_standard_input(rt: &(impl Abort + AllocGlobal), arguments: &[String]) -> Result<(), Fail> {
+    let answer = told(rt.alloc(), arguments)?;
+    assert_eq!(rt; answer.as_str(), "standard input");
+    Ok(())
+}
+
+#[test]
+fn no_arguments_run_standard_input(rt: HostRuntime) -> Result<(), Fail> {
+    let mut arguments = Vec::new(rt.alloc());
+    run_standard_input(&rt, &arguments)?;
+    arguments.push(String::from_str(rt.alloc(), "c25")?)?;
+    run_standard_input(&rt, &arguments)
+}
+
+#[test]
+fn subcommands_take_their_arguments(rt: HostRuntime) -> Result<(), Fail> {
+    are_answered(&rt, TASKS)
+}
+
+#[test]
+fn numbers_of_steps_are_read(rt: HostRuntime) -> Result<(), Fail> {
+    are_answered(&rt, STEPS)
+}
+
+#[test]
+fn flags_and_values_are_told_apart(rt: HostRuntime) -> Result<(), Fail> {
+    are_answered(&rt, REGS)?;
+    are_answered(&rt, SYMBOLS)?;
+    are_answered(&rt, FROM)?;
+    are_answered(&rt, EXPLAIN)
+}
+
+#[test]
+fn other_command_lines_are_refused(rt: HostRuntime) -> Result<(), Fail> {
+    are_answered(&rt, REFUSED)
+}
+
+const TASKS: &str = "\
+asm a.asm object=a.obj | asm a.asm --obj a.obj
+asm a.asm object=a.obj listing=a.lst | asm a.asm --obj a.obj --list a.lst
+asm a.asm object=a.obj | asm a.asm -o a.obj
+asm a.asm object=a.obj listing=a.lst | asm -oa.obj a.asm --list a.lst
+asm a.asm object=a.obj listing=a.lst | asm --list=a.lst --obj=a.obj a.asm
+asm a.asm object=a.obj listing=a.lst | asm --list a.lst a.asm --obj a.obj
+link c.cmd : a.obj base=b | link c.cmd a.obj --out b
+link c.cmd : a.obj b.obj c.obj base=b | link c.cmd a.obj b.obj c.obj --out b
+link c.cmd : a.obj b.obj base=b | link c.cmd --out b a.obj b.obj
+link c.cmd : a.obj b.obj base=b | link c.cmd -o b a.obj b.obj
+link c.cmd : a.obj b.obj base=b | link c.cmd a.obj --out b b.obj
+link c.cmd : a.obj a.obj base=b | link --out b c.cmd a.obj a.obj
+build a.asm base=b | build a.asm --out b
+build a.asm base=b | build a.asm -o=b
+build a.asm b.asm base=b command=c.cmd | build a.asm b.asm --out b --command c.cmd
+build a.asm b.asm base=b command=c.cmd | build --command c.cmd a.asm --out=b b.asm
+run a.asm steps=1000 | run a.asm
+run a.asm b.asm c.asm steps=1000 | run a.asm b.asm c.asm
+run b.asm a.asm steps=3 command=c samples=s schedule=w | run b.asm a.asm --steps 3 --command c --samples s --schedule w
+run b.asm a.asm steps=3 command=c samples=s schedule=w | run --schedule w b.asm --samples=s a.asm --command c --steps=3
+run a.asm steps=1000 command=f samples=f schedule=f | run a.asm --command f --samples f --schedule f
+run a.asm steps=1000 samples=s | run a.asm --samples s
+run a.asm steps=1000 schedule=w | run a.asm --schedule w
+debug a.asm script=d | debug a.asm --script d
+debug a.asm b.asm script=d command=c samples=s schedule=w | debug a.asm --schedule w --samples s b.asm --script d --command c
+explain 53 | explain 53
+explain 0 | explain 0
+explain 255 | explain +0255
+dis a.obj | dis a.obj
+dis -a | dis -- -a
+run run asm help steps=1000 | run run asm help
+run -a --steps -- steps=1000 | run -- -a --steps --
+run a b steps=1000 | run a -- b
+run a b steps=2 | run a --steps 2 -- b
+run - steps=1000 command=- | run - --command -
+asm - object=- listing=- | asm - --obj - --list=-
+run a steps=1000 command=-c | run a --command=-c
+run a steps=1000 command=--steps | run a --command=--steps
+run a steps=1000 command=c=d | run a --command=c=d
+run a steps=1000 command= | run a --command=
+run a steps=1000 samples==s | run a --samples==s
+link - : - base=- | link - - --out -
+debug a script=-- | debug a --script=--
+";
+
+const STEPS: &str = "\
+run a steps=0 | run a --steps 0
+run a steps=5 | run a --steps=5
+run a steps=5 | run a --steps +5
+run a steps=5 | run a --steps=+5
+run a steps=5 | run a --steps 0000000000000000000000005
+run a steps=0 | run a --steps=-0
+run a steps=0 | run a --steps=-000
+run a steps=0 | run a --steps +0
+run a steps=999 | run a --steps 999
+run a steps=1001 | run a --steps 1001
+run a steps=4294967295 | run a --steps 4294967295
+run a steps=4294967295 | run a --steps=+0004294967295
+refused | run a --steps 4294967296
+refused | run a --steps 18446744073709551616
+refused | run a --steps 99999999999999999999999999999999
+refused | run a --steps=-1
+refused | run a --steps -0
+refused | run a --steps -1
+refused | run a --steps=
+refused | run a --steps=+
+refused | run a --steps=-
+refused | run a --steps=+-0
+refused | run a --steps=-+0
+refused | run a --steps=++5
+refused | run a --steps ten
+refused | run a --steps 10h
+refused | run a --steps 0x10
+refused | run a --steps 1,000
+refused | run a --steps 5.0
+refused | run a --steps
+refused | run a --steps 5 --steps 5
+refused | run a --steps=5 --steps 6
+";
+
+const REGS: &str = "\
+run a steps=1000 regs | run a --regs
+run a steps=1000 regs | run --regs a
+run a b steps=5 command=c samples=s schedule=w regs | run a --regs b --steps 5 --command c --samples s --schedule w
+run --regs steps=1000 | run -- --regs
+run a --regs steps=1000 regs | run --regs -- a --regs
+run a regs steps=1000 | run a regs
+run a steps=1000 command=--regs | run a --command=--regs
+refused | run --regs
+refused | run a --regs --regs
+refused | run a --regs=true
+refused | run a --regs=false
+refused | run a --regs=
+refused | run a --reg
+refused | run a --Regs
+refused | run a -regs
+refused | run a --no-regs
+refused | run a --steps --regs
+refused | debug a --script d --regs
+refused | build a --out b --regs
+refused | asm a --obj b --regs
+refused | --regs run a
+";
+
+const SYMBOLS: &str = "\
+build a base=b symbols=s | build a --out b --symbols s
+build a base=b symbols=s | build --symbols=s --out=b a
+build a c base=b command=d symbols=s | build a --symbols s c --command d -o b
+build a base=b symbols=-s | build a --out b --symbols=-s
+build a base=b symbols= | build a --out b --symbols=
+build --symbols s base=b | build --out b -- --symbols s
+refused | build a --out b --symbols
+refused | build a --symbols --out b
+refused | build a --out b --symbols -s
+refused | build a --out b --symbols s --symbols s
+refused | build a --out b --symbols=s --symbols t
+refused | build a --out b --symbol s
+refused | build a --symbols s
+refused | build --symbols s --out b
+refused | link c a --out b --symbols s
+refused | asm a --obj b --symbols s
+refused | run a --symbols s
+refused | debug a --script d --symbols s
+";
+
+const FROM: &str = "\
+dis a from=0400 | dis a --from 0400
+dis a from=0400 | dis --from=0400 a
+dis a from=zz | dis a --from zz
+dis a from=-1 | dis a --from=-1
+dis a from= | dis a --from=
+dis a from=0 | dis --from 0 -- a
+dis --from | dis -- --from
+refused | dis a --from
+refused | dis --from 0400
+refused | dis a --from -1
+refused | dis a --from 0 --from 0
+refused | dis a --from=0 --from 1
+refused | dis a --from 0 1
+refused | dis a --From 0
+refused | dis a -f 0
+refused | run a --from 0
+refused | explain 53 --from 0
+";
+
+const EXPLAIN: &str = "\
+asm a object=o explain | asm a -o o --explain
+asm a object=o listing=l explain | asm --explain a --list l --obj o
+link c : a b base=d explain | link c a --explain b --out d
+link c : a --explain base=d | link --out d -- c a --explain
+build a base=b explain | build --explain a --out b
+build a base=b command=c symbols=s explain | build a --out b --command c --explain --symbols s
+run a steps=1000 explain | run a --explain
+run a steps=1000 regs explain | run --explain a --regs
+run a steps=1000 command=--explain | run a --command=--explain
+debug a script=d explain | debug a --script d --explain
+debug a script=d command=c samples=s schedule=w explain | debug a --explain --script d --command c --samples s --schedule w
+refused | asm a -o o --explain --explain
+refused | link c a -o d --explain --explain
+refused | build a -o b --explain --explain
+refused | run a --explain --explain
+refused | debug a --script d --explain --explain
+refused | asm a -o o --explain=true
+refused | run a --explain=
+refused | run a --explain=53
+refused | run --explain
+refused | debug a --script --explain
+refused | run a --Explain
+refused | run a --expl
+refused | dis a --explain
+refused | explain 53 --explain
+refused | --explain run a
+";
+
+const REFUSED: &str = "\
+refused | run
+refused | run --steps 5
+refused | run --
+refused | debug a.asm
+refused | debug --script d
+refused | debug a.asm --script
+refused | debug a.asm --script d --steps 5
+refused | debug a.asm --script d --script e
+refused | explain
+refused | explain 256
+refused | explain FieldRange
+refused | explain 53 54
+refused | explain --number 53
+refused | dis
+refused | dis a.obj b.obj
+refused | dis --file a.obj
+refused | build a.asm
+refused | build --out b
+refused | build a.asm --out b --out b
+refused | build a.asm --out b --samples s
+refused | build a.asm --out b --list l
+refused | asm a.asm
+refused | asm --obj a.obj
+refused | asm a.asm b.asm --obj a.obj
+refused | asm a.asm --obj a.obj --obj a.obj
+refused | asm a.asm --obj a.obj --list
+refused | asm a.asm --obj a.obj --out b
+refused | asm a.asm --obj a.obj --command c
+refused | asm a.asm --obj --list l
+refused | link c.cmd a.obj
+refused | link c.cmd --out b
+refused | link --out b
+refused | link --command c.cmd a.obj --out b
+refused | run a.asm --obj a.obj
+refused | run a.asm --script d
+refused | run a.asm --out b
+refused | run a.asm --command c --command c
+refused | run a.asm --command -c
+refused | run a.asm --command --samples s
+refused | run a.asm --samples --
+refused | run a.asm --Steps 5
+refused | run a.asm --step 5
+refused | run a.asm --s 5
+refused | run a.asm -s 5
+refused | run a.asm -steps 5
+refused | run a.asm --=5
+refused | run a.asm -x
+refused | run a.asm -h
+refused | run a.asm --help
+refused | run a.asm --version
+refused | run a.asm -V
+refused | run --help
+refused | asm -h
+refused | link --help
+refused | build -h
+refused | debug --help
+refused | help
+refused | help run
+refused | -h
+refused | --help
+refused | --version
+refused | -V
+refused | --
+refused | -- run a.asm
+refused | -
+refused | assemble a.asm
+refused | Run a.asm
+refused | ru a.asm
+refused | a.asm
+refused | a.asm --steps 5
+refused | --steps 5
+refused | --steps 5 run a.asm
+refused | --command c run a.asm
+";

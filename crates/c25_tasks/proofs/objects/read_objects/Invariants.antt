@@ -1,6 +1,0 @@
-use Rattle.std.proofs.Common.{map, take}
-use Rattle.c25_tasks.specs.Objects.{AreFiles, objects_of}
-use Rattle.c25_tasks.proofs.objects.read_objects.Given as goal
-
-abbrev pub invariant-loop-name : goal.invariant-loop-name
-invariant-loop-name g l = AreFiles (g.D.Disk.bytes_of l.disk) (map (λ name. name.now) (take l.name-index l.names)) (objects_of l.objects.items)

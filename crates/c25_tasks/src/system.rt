@@ -1,0 +1,23 @@
+//! The program on the system that it runs on.
+
+ghost use Rattle.std.specs.Prelude.{None};
+ghost use Rattle.c25_tasks.specs.Program.{IsProgram, effect_of};
+
+use crate::program::run_program;
+use c25_disk::system::System;
+use c25_report::ending::Ended;
+
+/// Runs the program with the command line, the files and the standard streams of the system. Each `main`
+/// calls this function, and ends with the status of its answer.
+pub fn run_on(rt: &HostRuntime) -> Ended
+    ensures { IsProgram (λ _. None) None (effect_of result.report (None, None) (None, None)) }
+{
+    run_program(
+        rt.alloc(),
+        rt,
+        &mut System::new(rt),
+        &mut rt.stdin(),
+        &mut rt.stdout(),
+        &mut rt.stderr(),
+    )
+}
