@@ -18,8 +18,8 @@ use c25_meaning_common::failure::Failure;
 use c25_meaning_common::no_memory::NoMemory;
 use c25_meaning_common::placed::{FileLine, Placed};
 use c25_meaning_language::statement::FaultKind;
-use c25_module::{Module, write_module};
-use c25_records::read_module;
+use c25_module::Module;
+use c25_records::{read_module, write_module};
 use std::alloc::Global;
 
 /// The fault of a wrong line of a source, unless memory runs out for the file's name.

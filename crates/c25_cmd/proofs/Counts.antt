@@ -20,15 +20,15 @@ use Rattle.c25_meaning_linking.specs.CommandText.{entry_in, memory_in, sections_
 use Rattle.c25_meaning_common.specs.Results.{◌>>=◌}
 use Rattle.c25_cmd.proofs.Steps.{bound, after, chosen, wider}
 
--- fewer tokens stand behind what is read than before it
+-- fewer tokens stand after what is read than before it
 abbrev Takes : {A : Type 0} → ℕ → Reading A → Type 0
 Takes n r = IfOk r (λ x. length x.1 < n)
 
--- no more tokens stand behind it
+-- no more tokens stand after it
 abbrev Leaves : {A : Type 0} → ℕ → Reading A → Type 0
 Leaves n r = IfOk r (λ x. length x.1 ≤ n)
 
--- the same of readings that give the tokens behind them alone
+-- the same of readings that give the tokens after them alone
 abbrev TakesRest : ℕ → Result (List Token) (Placed ℕ CommandFault) → Type 0
 TakesRest n r = IfOk r (λ ts. length ts < n)
 
@@ -201,7 +201,7 @@ more_placings_take before ts =
 
 module _ {S : Type 0} (last : Want) (one : S → List Token → Reading S) (takes : (s : S) (ts : List Token) → Takes (length ts) (one s ts))
     (none_at_end : (s : S) → one s [] ≡ Err (fault_at Syntax [])) where
-  -- the rest of at_most, behind all of them
+  -- the rest of at_most, after all of them
   close : Reading S → Reading S
   close r = r >>= λ all. wanted last all.1 >>= λ end. Ok (all.0, end.1)
 

@@ -45,7 +45,7 @@ both P Q R xs more h k = λ i d l. more _ (h i d l) (k i d l)
 
 -- ---- single steps
 
--- where nothing is told, the test fails
+-- where no fault is reported, the test fails
 test_fails : (b : Bool) (fault : CommandFault) (ts : List Token) → IfOk (fault_if b fault ts) (λ _. b ≡ false)
 test_fails true fault ts = tt
 test_fails false fault ts = refl
@@ -77,7 +77,7 @@ record AreRanges (rs : List RangeData) : Type 0 where
   each : All IsRange rs
   apart : Pairwise AreApart rs
 
--- what is known of a range's place behind others
+-- what is known of a range's place after others
 record Fits (page : ℕ) (before : List RangeData) (origin size : ℕ) : Type 0 where
   words : 0 < size
   within : origin + size ≤ 65536

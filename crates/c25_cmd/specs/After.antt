@@ -1,4 +1,4 @@
--- The tokens behind one that must stand at their front.
+-- The tokens after one that must stand at their front.
 use Rattle.std.specs.Prelude.{ℕ, List, Result, Ok}
 use Rattle.c25_meaning_common.specs.Results.{◌>>=◌}
 use Rattle.c25_meaning_common.specs.declared.placed.Placed.{Placed}
@@ -7,6 +7,6 @@ use Rattle.c25_meaning_linking.specs.declared.command_token.Want.{Want}
 use Rattle.c25_meaning_linking.specs.CommandTokens.{Token}
 use Rattle.c25_meaning_linking.specs.CommandGrammar.{wanted}
 
--- they are what `wanted` leaves
+-- the tokens that `wanted` leaves
 abbrev pub after : Want → List Token → Result (List Token) (Placed ℕ CommandFault)
 after want ts = wanted want ts >>= λ x. Ok x.1

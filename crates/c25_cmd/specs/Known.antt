@@ -1,4 +1,5 @@
--- What finds the names and words of ranges, and the names of sections, that come twice.
+-- How the names and words of ranges, and the names of sections, are known, so that one that comes twice is
+-- found.
 use Rattle.std.specs.Prelude.{◌≡◌, ℕ, ◌+◌, ◌*◌, ◌<◌, ◌≤◌, ◌==◌, ◌&&◌, Bool, false, List, length, slice_index_or, nat_lt, nat_le, All}
 use Rattle.std.specs.List.{list_any}
 use Rattle.std.specs.Ordering.{nat_cmp, ordering_then}

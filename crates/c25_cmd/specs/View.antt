@@ -1,4 +1,4 @@
--- How the code's types stand for the definitions' data.
+-- What the code's types stand for among the definitions' data.
 use Rattle.std.specs.Prelude.{List, [], ◌∷◌, map, string_bytes, Option, Some, None, option_map}
 use Rattle.c25_meaning_linking.specs.CommandTokens as lexed
 use Rattle.c25_meaning_linking.specs.Command as meant
@@ -19,11 +19,11 @@ token_of t = record { kind = t.kind; place = t.place; text = string_bytes t.text
 abbrev pub tokens_of : List Token → List lexed.Token
 tokens_of = map token_of
 
--- what a number's word says of it
+-- the base and the digits of a number's word
 abbrev pub numeral_of : Numeral → meaning.Numeral
 numeral_of n = record { base = n.base; digits = n.digits.now }
 
--- a range of MEMORY; its length is called size there
+-- a range of MEMORY; the definitions call its length its size
 abbrev pub range_of : MemoryRange → meant.RangeData
 range_of r = record { page = r.page; name = string_bytes r.name; origin = r.origin; size = r.length }
 
@@ -37,7 +37,7 @@ target_of target.Anywhere = meant.Anywhere
 target_of (target.InRange name) = meant.InRange (string_bytes name)
 target_of (target.At n) = meant.At n
 
--- what is said of one section
+-- what a command says of one section
 abbrev pub placing_of : Placing → meant.PlacingData
 placing_of p = record { name = string_bytes p.name; target = target_of p.target; page = p.page; run = p.run }
 

@@ -1,4 +1,4 @@
-//! The kinds of byte, and what stands at the front of a text.
+//! The kinds of bytes, and the lexeme at the front of a text.
 
 ghost use Rattle.std.specs.Prelude.{◌≡◌, ◌≤◌, ◌<◌, ◌-◌, ◌+◌, ◌^◌, length, IfSome, drop, take};
 ghost use Rattle.std.specs.List.{prefix_len};
@@ -6,8 +6,8 @@ ghost use Rattle.std.specs.Option.{option_map_or};
 ghost use Rattle.c25_meaning_common.specs.Bytes.{is_space};
 ghost use Rattle.c25_meaning_linking.specs.CommandTokens.{sign_of, is_word, comment_len, lexeme, covered};
 
-use c25_meaning_linking::command_token::{Lexeme, Sign};
 use c25_meaning_common::bytes::{byte_at, is_blank};
+use c25_meaning_linking::command_token::{Lexeme, Sign};
 
 /// Whether a byte is a blank, a tab, or a character of a line's end, LF or CR.
 fn is_space(byte: u8) -> bool
@@ -39,7 +39,7 @@ fn is_word(byte: u8) -> bool
     byte >= 0x21 && byte <= 0x7e && !sign_of(byte).is_some() && !(byte == b'/' || byte == b'"')
 }
 
-/// What stands behind the first bytes.
+/// The bytes after the first `count`.
 pub(crate) fn behind(text: &[u8], count: usize) -> &[u8]
     ensures { result.now ≡ drop count text.now }
 {
@@ -50,7 +50,7 @@ pub(crate) fn behind(text: &[u8], count: usize) -> &[u8]
     }
 }
 
-/// The first bytes.
+/// The first `count` bytes.
 pub(crate) fn front(text: &[u8], count: usize) -> &[u8]
     ensures { result.now ≡ take count text.now }
 {
@@ -68,7 +68,7 @@ fn word_len(text: &[u8]) -> usize
     text.iter().take_while(|byte| is_word(**byte)).count()
 }
 
-/// How far a comment goes on behind its `/*`, if it is closed.
+/// How many bytes a comment has after its `/*`, if it is closed.
 fn comment_len(text: &[u8]) -> Option<usize>
     ensures value { result ≡ comment_len text.now }
     ensures bound { IfSome result (λ n. n ≤ length text.now) }
@@ -100,7 +100,7 @@ fn sign_piece(sign: Option<Sign>) -> Lexeme
     }
 }
 
-/// What stands at the front of a text that is not empty.
+/// The lexeme at the front of a text that is not empty.
 #[tactic(auto, unfolding(c25_meaning_linking::specs::CommandTokens::lexeme))]
 pub(crate) fn lexeme(text: &[u8]) -> Lexeme
     requires { 0 < length text.now }

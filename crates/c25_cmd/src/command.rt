@@ -3,12 +3,12 @@
 /// A range of a page, which sections may be placed in.
 #[derive(Drop)]
 pub struct MemoryRange {
-    /// 0 for program words, 1 for data words.
+    /// Page 0 is program memory, page 1 data memory.
     pub page: u8,
     pub name: String,
-    /// The address of its first word.
+    /// The address of the range's first word.
     pub origin: u32,
-    /// How many words it has.
+    /// How many words the range has.
     pub length: u32,
 }
 
@@ -17,10 +17,10 @@ pub struct MemoryRange {
 pub enum Target {
     /// Wherever the linker finds room.
     Anywhere,
-    /// In the range of that name.
+    /// In the range of this name.
     InRange(String),
-    /// At that address; a number above 4,294,967,295 in the text stands as 4,294,967,295 here, and is
-    /// an address of no page either.
+    /// At this address. A number above 4,294,967,295 in the text is 4,294,967,295 here, and no address of a
+    /// page either.
     At(u32),
 }
 
@@ -29,17 +29,17 @@ pub enum Target {
 pub struct Placing {
     pub name: String,
     pub target: Target,
-    /// 0 or 1 where a page is named.
+    /// The page, 0 or 1, where one is named.
     pub page: Option<u8>,
-    /// The address where they run, where it is said: they are loaded at another. A number above
-    /// 4,294,967,295 stands as that, as in [`Target::At`].
+    /// The address where the sections run, where one is given: they are loaded at another. A number above
+    /// 4,294,967,295 is 4,294,967,295 here, as in [`Target::At`].
     pub run: Option<u32>,
 }
 
 /// What a command file says.
 #[derive(Drop)]
 pub struct Command {
-    /// The name behind `-e`.
+    /// The name after `-e`.
     pub entry: Option<String>,
     /// The ranges in the order of the text, or `None` without a `MEMORY`: `MEMORY { }` has no ranges,
     /// while for a text without one the linker has ranges of its own.

@@ -12,9 +12,9 @@ use crate::bytes::front;
 use crate::command::Command;
 use crate::lexer::tokens;
 use crate::parts::command_at;
-use c25_meaning_linking::command_fault::CommandFault;
 use c25_meaning_common::failure::Failure;
 use c25_meaning_common::placed::Placed;
+use c25_meaning_linking::command_fault::CommandFault;
 use std::alloc::Global;
 
 fn line_feeds(text: &[u8]) -> usize
@@ -30,7 +30,7 @@ fn line_count(text: &str) -> usize
     text.lines().count()
 }
 
-/// The line of a place, from 1; the end stands on the last line.
+/// The number of the line of a place, from 1. The end of the text is on the last line.
 fn line_at(text: &str, place: usize) -> usize
     ensures { result ≡ line_at text.now place }
 {
@@ -41,7 +41,7 @@ fn line_at(text: &str, place: usize) -> usize
 /// Reads a command file.
 ///
 /// Words are runs of the characters 21h to 7Eh without signs, `/` and `"`; blanks, tabs, line ends
-/// and comments (`/* */`) part them. `-e name` names the entry. `MEMORY` and `SECTIONS` are
+/// and comments (`/* */`) separate them. `-e name` names the entry. `MEMORY` and `SECTIONS` are
 ///
 /// ```text
 /// MEMORY { [PAGE n :] NAME [(attributes)] : origin = number [,] length = number ... }
@@ -50,18 +50,18 @@ fn line_at(text: &str, place: usize) -> usize
 ///
 /// with `org` and `o` for `origin`, `len` and `l` for `length`, and T the name of a range or an
 /// address. `MEMORY`, `SECTIONS`, `PAGE`, `origin`, `length`, `load`, `run` and their short forms are
-/// read in either case, and are no names. A word that begins with a digit is a number: decimal
-/// without a leading 0, or hexadecimal with `0x` before it or `h` behind it, of at most 19 digits.
+/// read in either case, and are not names. A word that begins with a digit is a number: decimal
+/// without a leading 0, or hexadecimal with `0x` before it or `h` after it, of at most 19 digits.
 ///
 /// The fault is the first one from the front: `Twice` at the second `-e`, `MEMORY`, `SECTIONS` or
-/// name; behind a range's length `RangeSize` and then `RangeOverlap`, both at that number; `Syntax` at
+/// name; after a range's length `RangeSize` and then `RangeOverlap`, both at that number; `Syntax` at
 /// the first word or sign that cannot stand where it is, or at the last line where the text ends too
 /// soon.
 pub fn read_command(
     alloc: Global,
     text: &str,
 ) -> Result<Command, Failure<Placed<usize, CommandFault>>>
-    // It is the command that the text spells, or its first fault.
+    // The result is the command that the text spells, or its first fault.
     ensures read { Meets command_data (command_of text.now) result }
 
     // Ranges lie within their pages and apart, and no section comes twice.

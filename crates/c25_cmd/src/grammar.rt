@@ -1,4 +1,4 @@
-//! Single tokens.
+//! Single tokens, read from the front of the rest.
 
 ghost use Rattle.std.specs.Prelude.{◌≡◌, ◌≤◌, IfOk};
 ghost use Rattle.c25_meaning_linking.specs.CommandGrammar.{passes, begins, wanted, past, fault_at, number_at, number_of_kind, page_number_at, setting_at};
@@ -8,13 +8,13 @@ ghost use Rattle.c25_cmd.specs.After.{after};
 ghost use Rattle.c25_cmd.specs.View.{token_of, tokens_of};
 
 use crate::token::Token;
-use c25_meaning_linking::command_fault::CommandFault;
-use c25_meaning_linking::command_token::{Keyword, Kind, Sign, Want};
 use c25_meaning_common::failure::Failure;
 use c25_meaning_common::placed::Placed;
+use c25_meaning_linking::command_fault::CommandFault;
+use c25_meaning_linking::command_token::{Keyword, Kind, Sign, Want};
 
-/// A refused growth, or a fault at the byte where a token begins.
-pub(crate) type Refused = Failure<Placed<usize, CommandFault>>;
+/// Why tokens are no command: a fault at the byte where a token begins, or out of memory.
+pub(crate) type CommandFailure = Failure<Placed<usize, CommandFault>>;
 
 fn passes(want: Want, kind: Kind) -> bool
     ensures { result ≡ passes want kind }
@@ -30,7 +30,7 @@ fn passes(want: Want, kind: Kind) -> bool
     }
 }
 
-/// A fault at the first token.
+/// A fault at the place of the first token.
 fn fault_at(fault: CommandFault, tokens: &[Token]) -> Placed<usize, CommandFault>
     ensures { result ≡ fault_at fault (tokens_of tokens.now) }
 {
@@ -41,14 +41,14 @@ fn fault_at(fault: CommandFault, tokens: &[Token]) -> Placed<usize, CommandFault
     Placed { place, fault }
 }
 
-/// A refusal for a fault at the first token.
-pub(crate) fn refusal(fault: CommandFault, tokens: &[Token]) -> Refused
+/// A failure by a fault at the place of the first token.
+pub(crate) fn refusal(fault: CommandFault, tokens: &[Token]) -> CommandFailure
     ensures { result ≡ Fault (fault_at fault (tokens_of tokens.now)) }
 {
     Failure::Fault(fault_at(fault, tokens))
 }
 
-/// Whether the first token is this.
+/// Whether the first token is a wanted one.
 pub(crate) fn begins(want: Want, tokens: &[Token]) -> bool
     ensures { result ≡ begins want (tokens_of tokens.now) }
 {
@@ -58,9 +58,9 @@ pub(crate) fn begins(want: Want, tokens: &[Token]) -> bool
     }
 }
 
-/// A token that must stand here, and those behind it.
+/// The first token, which must be the wanted one, and those after it; `Syntax` otherwise.
 #[tactic(auto, unfolding(c25_meaning_linking::specs::CommandGrammar::wanted))]
-pub(crate) fn wanted(want: Want, tokens: &[Token]) -> Result<(&Token, &[Token]), Refused>
+pub(crate) fn wanted(want: Want, tokens: &[Token]) -> Result<(&Token, &[Token]), CommandFailure>
     ensures { Meets (λ x. (token_of x.0.now, tokens_of x.1.now)) (wanted want (tokens_of tokens.now)) result }
 {
     match tokens {
@@ -69,9 +69,9 @@ pub(crate) fn wanted(want: Want, tokens: &[Token]) -> Result<(&Token, &[Token]),
     }
 }
 
-/// The tokens behind one that must stand here.
+/// The tokens after a first one that must be the wanted one; `Syntax` otherwise.
 #[tactic(auto, unfolding(c25_meaning_linking::specs::CommandGrammar::wanted))]
-pub(crate) fn after(want: Want, tokens: &[Token]) -> Result<&[Token], Refused>
+pub(crate) fn after(want: Want, tokens: &[Token]) -> Result<&[Token], CommandFailure>
     ensures { Meets (λ x. tokens_of x.now) (after want (tokens_of tokens.now)) result }
 {
     match tokens {
@@ -80,7 +80,7 @@ pub(crate) fn after(want: Want, tokens: &[Token]) -> Result<&[Token], Refused>
     }
 }
 
-/// The tokens behind one that may be left out.
+/// The tokens after a first one of this kind, or all tokens where the first is another.
 pub(crate) fn past(want: Want, tokens: &[Token]) -> &[Token]
     ensures { tokens_of result.now ≡ past want (tokens_of tokens.now) }
 {
@@ -99,9 +99,9 @@ fn number_of_kind(kind: Kind) -> Option<u32>
     }
 }
 
-/// A number that must stand here, and the tokens behind it.
+/// The number that the first token must be, and the tokens after it.
 #[tactic(auto, unfolding(c25_meaning_linking::specs::CommandGrammar::number_at))]
-pub(crate) fn number_at(tokens: &[Token]) -> Result<(u32, &[Token]), Refused>
+pub(crate) fn number_at(tokens: &[Token]) -> Result<(u32, &[Token]), CommandFailure>
     ensures { Meets (λ x. (x.0, tokens_of x.1.now)) (number_at (tokens_of tokens.now)) result }
 {
     match tokens {
@@ -113,9 +113,9 @@ pub(crate) fn number_at(tokens: &[Token]) -> Result<(u32, &[Token]), Refused>
     }
 }
 
-/// The number of a page: 0 or 1.
+/// The number of a page, 0 or 1, that the first token must be, and the tokens after it.
 #[tactic(auto, unfolding(c25_meaning_linking::specs::CommandGrammar::page_number_at))]
-pub(crate) fn page_number_at(tokens: &[Token]) -> Result<(u8, &[Token]), Refused>
+pub(crate) fn page_number_at(tokens: &[Token]) -> Result<(u8, &[Token]), CommandFailure>
     ensures given { Meets (λ x. (x.0, tokens_of x.1.now)) (page_number_at (tokens_of tokens.now)) result }
     ensures low { IfOk result (λ x. x.0 ≤ 1) }
 {
@@ -126,9 +126,9 @@ pub(crate) fn page_number_at(tokens: &[Token]) -> Result<(u8, &[Token]), Refused
     Ok((number as u8, rest))
 }
 
-/// `keyword =`: the tokens behind it.
+/// The tokens after `keyword =`.
 #[tactic(auto, unfolding(c25_meaning_linking::specs::CommandGrammar::setting_at))]
-pub(crate) fn setting_at(keyword: Keyword, tokens: &[Token]) -> Result<&[Token], Refused>
+pub(crate) fn setting_at(keyword: Keyword, tokens: &[Token]) -> Result<&[Token], CommandFailure>
     ensures { Meets (λ x. tokens_of x.now) (setting_at keyword (tokens_of tokens.now)) result }
 {
     let tokens = after(Want::Keyword(keyword), tokens)?;

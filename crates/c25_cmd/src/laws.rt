@@ -15,8 +15,8 @@ pub fn spelled_commands_keep_the_rules()
     ensures { (text : List ℕ) (command : CommandData) → command_of text ≡ Ok command → IsCommand command }
 {}
 
-/// Parts, ranges and sections are read to the sign that ends them or to the first fault: a count of
-/// them that is not less than the tokens gives the same as any larger one.
+/// Parts, ranges and sections are read to the sign that ends them or to the first fault: a count in the
+/// definition that is not less than the number of tokens gives the same as any larger one.
 pub fn counts_of_the_definition_never_end_a_reading()
     ensures parts { CountIsEnough want.End part_in }
     ensures ranges { CountIsEnough (want.Sign sign.CloseBrace) more_ranges }

@@ -11,7 +11,7 @@ use crate::words::word_kind;
 use c25_meaning_linking::command_token::{Kind, Lexeme};
 use std::alloc::{AllocError, Global};
 
-/// Bytes that are a text.
+/// Bytes as the text that they are.
 pub(crate) fn text_of(bytes: &[u8]) -> &str
     requires { IsUtf8 bytes.now }
     ensures { result.now ≡ bytes.now }
@@ -34,7 +34,7 @@ fn word_token(alloc: Global, place: usize, word: &[u8]) -> Result<Token, AllocEr
     })
 }
 
-/// A token that is no word.
+/// A token other than a word, which has no text.
 fn bare_token(alloc: Global, kind: Kind, place: usize) -> Token
     ensures { token_of result ≡ record { kind = kind; place = place; text = [] } }
 {
@@ -45,7 +45,7 @@ fn bare_token(alloc: Global, kind: Kind, place: usize) -> Token
     }
 }
 
-/// The token of the lexeme at the front of a text, if it is one.
+/// The token of the lexeme at the front of a text; `None` where the lexeme is a blank or a comment.
 fn token_at(
     alloc: Global,
     piece: Lexeme,
@@ -74,7 +74,7 @@ fn push_found(tokens: &mut Vec<Token>, found: Option<Token>) -> Result<(), Alloc
     Ok(())
 }
 
-/// How many bytes a lexeme has behind its first.
+/// How many bytes a lexeme has after its first.
 fn covered(piece: Lexeme, text: &[u8]) -> usize
     ensures { result ≡ lexed.covered piece text.now }
 {
@@ -86,7 +86,7 @@ fn covered(piece: Lexeme, text: &[u8]) -> usize
     }
 }
 
-/// The tokens of a text, the end the last.
+/// The tokens of a text, the last of which is its end.
 pub(crate) fn tokens(alloc: Global, text: &[u8]) -> Result<Vec<Token>, AllocError>
     ensures { IfOk result (λ v. tokens_of v.items ≡ lexed.tokens text.now) }
 {

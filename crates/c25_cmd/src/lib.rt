@@ -21,4 +21,4 @@ mod words;
 
 pub use command::{Command, MemoryRange, Placing, Target};
 pub use command_reader::read_command;
-pub use refused::{Standing, refused_at};
+pub use refused::{RefusedAt, refused_at};

@@ -11,17 +11,18 @@ ghost use Rattle.c25_cmd.specs.View.{tokens_of, range_of, ranges_of};
 
 use crate::command::MemoryRange;
 use crate::grammar::{
-    Refused, after, begins, number_at, page_number_at, past, refusal, setting_at, wanted,
+    CommandFailure, after, begins, number_at, page_number_at, past, refusal, setting_at, wanted,
 };
-use crate::ranges::{PAGE_WORDS, Ranges, no_ranges, shares_word, take_name, take_range};
+use crate::ranges::{PAGE_WORDS, RangesSoFar, no_ranges, shares_word, take_name, take_range};
 use crate::token::Token;
 use c25_meaning_linking::command_fault::CommandFault;
 use c25_meaning_linking::command_token::{Keyword, Sign, Want};
 use std::alloc::Global;
 
-/// The page of the ranges from here on.
+/// The page of the ranges that follow, and the tokens after `PAGE n :`; the page so far and all tokens where
+/// that does not stand here.
 #[tactic(auto, unfolding(c25_meaning_linking::specs::CommandMemory::page_at))]
-fn page_at(page: u8, tokens: &[Token]) -> Result<(u8, &[Token]), Refused>
+fn page_at(page: u8, tokens: &[Token]) -> Result<(u8, &[Token]), CommandFailure>
     requires { page ≤ 1 }
     ensures given { Meets (λ x. (x.0, tokens_of x.1.now)) (page_at page (tokens_of tokens.now)) result }
     ensures low { IfOk result (λ x. x.0 ≤ 1) }
@@ -34,9 +35,9 @@ fn page_at(page: u8, tokens: &[Token]) -> Result<(u8, &[Token]), Refused>
     Ok((number, tokens))
 }
 
-/// One word in parentheses, if they are there, which counts for nothing.
+/// The tokens after one word in parentheses, which has no meaning here, if that stands at the front.
 #[tactic(auto, unfolding(c25_meaning_linking::specs::CommandMemory::attributes_at))]
-fn attributes_at(tokens: &[Token]) -> Result<&[Token], Refused>
+fn attributes_at(tokens: &[Token]) -> Result<&[Token], CommandFailure>
     ensures { Meets (λ x. tokens_of x.now) (attributes_at (tokens_of tokens.now)) result }
 {
     if !begins(Want::Sign(Sign::OpenParenthesis), tokens) {
@@ -47,13 +48,14 @@ fn attributes_at(tokens: &[Token]) -> Result<&[Token], Refused>
     after(Want::Sign(Sign::CloseParenthesis), tokens)
 }
 
-/// The origin and the length of a range of that page.
+/// The origin and the length of a range of this page, and the tokens after them; `RangeSize` or
+/// `RangeOverlap` where it may not follow the ranges before it.
 #[tactic(auto, unfolding(c25_meaning_linking::specs::CommandMemory::extent_at))]
 fn extent_at<'t>(
     page: u8,
-    ranges: &Ranges<'_>,
+    ranges: &RangesSoFar<'_>,
     tokens: &'t [Token],
-) -> Result<((u32, u32), &'t [Token]), Refused>
+) -> Result<((u32, u32), &'t [Token]), CommandFailure>
     requires page { page ≤ 1 }
     requires known { KnowsWords ranges.now.taken.items (ranges_of ranges.now.list.items) }
     ensures given { Meets (λ x. (x.0, tokens_of x.1.now)) (extent_at page (ranges_of ranges.now.list.items) (tokens_of tokens.now)) result }
@@ -73,14 +75,15 @@ fn extent_at<'t>(
     Ok(((origin, length), rest))
 }
 
-/// A range of that page, behind those that were read; its name joins theirs.
+/// A range of this page, which may follow those that were read, and the tokens after it. Its name joins
+/// theirs.
 #[tactic(auto, unfolding(c25_meaning_linking::specs::CommandMemory::range_at))]
 fn range_at<'a>(
     alloc: Global,
     page: u8,
-    ranges: &mut Ranges<'a>,
+    ranges: &mut RangesSoFar<'a>,
     tokens: &'a [Token],
-) -> Result<(MemoryRange, &'a [Token]), Refused>
+) -> Result<(MemoryRange, &'a [Token]), CommandFailure>
     requires page { page ≤ 1 }
     requires named { HasRangeNames (λ k. k.0) (λ k. k.1.now) ranges.old.names (ranges_of ranges.old.list.items) }
     requires known { KnowsWords ranges.old.taken.items (ranges_of ranges.old.list.items) }
@@ -110,14 +113,14 @@ fn range_at<'a>(
     Ok((range, rest))
 }
 
-/// Reads a range more, and answers its page.
+/// Reads a range more, and returns its page and the tokens after it.
 #[tactic(auto, unfolding(c25_meaning_linking::specs::CommandMemory::more_ranges))]
 fn add_range<'a>(
     alloc: Global,
     page: u8,
-    ranges: &mut Ranges<'a>,
+    ranges: &mut RangesSoFar<'a>,
     tokens: &'a [Token],
-) -> Result<(u8, &'a [Token]), Refused>
+) -> Result<(u8, &'a [Token]), CommandFailure>
     requires page { page ≤ 1 }
     requires named { HasRangeNames (λ k. k.0) (λ k. k.1.now) ranges.old.names (ranges_of ranges.old.list.items) }
     requires known { KnowsWords ranges.old.taken.items (ranges_of ranges.old.list.items) }
@@ -135,7 +138,10 @@ fn add_range<'a>(
 }
 
 /// The ranges up to the brace that closes them.
-fn ranges_at(alloc: Global, tokens: &[Token]) -> Result<((u8, Vec<MemoryRange>), &[Token]), Refused>
+fn ranges_at(
+    alloc: Global,
+    tokens: &[Token],
+) -> Result<((u8, Vec<MemoryRange>), &[Token]), CommandFailure>
     ensures { Meets (λ x. ((x.0.0, ranges_of x.0.1.items), tokens_of x.1.now))
         (repeated (want.Sign sign.CloseBrace) more_ranges (length tokens.now) (0, []) (tokens_of tokens.now)) result }
 {
@@ -153,12 +159,12 @@ fn ranges_at(alloc: Global, tokens: &[Token]) -> Result<((u8, Vec<MemoryRange>),
     Ok(((page, ranges.list), rest))
 }
 
-/// What stands behind the word `MEMORY`.
+/// The ranges after the word `MEMORY`.
 #[tactic(auto, unfolding(c25_meaning_linking::specs::CommandMemory::memory_at))]
 pub(crate) fn memory_at(
     alloc: Global,
     tokens: &[Token],
-) -> Result<(Vec<MemoryRange>, &[Token]), Refused>
+) -> Result<(Vec<MemoryRange>, &[Token]), CommandFailure>
     ensures { Meets (λ x. (ranges_of x.0.items, tokens_of x.1.now)) (memory_at (tokens_of tokens.now)) result }
 {
     let tokens = after(Want::Sign(Sign::OpenBrace), tokens)?;

@@ -10,7 +10,7 @@ ghost use Rattle.c25_meaning_common.specs.Results.{Meets};
 ghost use Rattle.c25_cmd.specs.View.{tokens_of, command_data};
 
 use crate::command::Command;
-use crate::grammar::{Refused, begins, past, refusal, wanted};
+use crate::grammar::{CommandFailure, begins, past, refusal, wanted};
 use crate::memory::memory_at;
 use crate::sections::sections_at;
 use crate::token::Token;
@@ -18,13 +18,13 @@ use c25_meaning_linking::command_fault::CommandFault;
 use c25_meaning_linking::command_token::{Keyword, Want};
 use std::alloc::Global;
 
-/// `-e name`.
+/// Reads `-e name`, and returns the tokens after it.
 #[tactic(auto, unfolding(c25_meaning_linking::specs::CommandText::entry_in))]
 fn entry_in<'a>(
     alloc: Global,
     command: &mut Command,
     tokens: &'a [Token],
-) -> Result<&'a [Token], Refused>
+) -> Result<&'a [Token], CommandFailure>
     ensures { Meets (λ x. (command_data command.new, tokens_of x.now)) (entry_in (command_data command.old) (tokens_of tokens.now)) result }
 {
     let (word, rest) = wanted(Want::Name, tokens)?;
@@ -39,13 +39,13 @@ fn entry_in<'a>(
     Ok(rest)
 }
 
-/// `MEMORY` and its ranges.
+/// Reads `MEMORY` and its ranges, and returns the tokens after them.
 #[tactic(auto, unfolding(c25_meaning_linking::specs::CommandText::memory_in))]
 fn memory_in<'a>(
     alloc: Global,
     command: &mut Command,
     tokens: &'a [Token],
-) -> Result<&'a [Token], Refused>
+) -> Result<&'a [Token], CommandFailure>
     requires { begins (want.Keyword keyword.Memory) (tokens_of tokens.now) ≡ true }
     ensures { Meets (λ x. (command_data command.new, tokens_of x.now)) (memory_in (command_data command.old) (tokens_of tokens.now)) result }
 {
@@ -57,13 +57,13 @@ fn memory_in<'a>(
     Ok(rest)
 }
 
-/// `SECTIONS` and its sections.
+/// Reads `SECTIONS` and its sections, and returns the tokens after them.
 #[tactic(auto, unfolding(c25_meaning_linking::specs::CommandText::sections_in))]
 fn sections_in<'a>(
     alloc: Global,
     command: &mut Command,
     tokens: &'a [Token],
-) -> Result<&'a [Token], Refused>
+) -> Result<&'a [Token], CommandFailure>
     requires { begins (want.Keyword keyword.Sections) (tokens_of tokens.now) ≡ true }
     ensures { Meets (λ x. (command_data command.new, tokens_of x.now)) (sections_in (command_data command.old) (tokens_of tokens.now)) result }
 {
@@ -75,13 +75,13 @@ fn sections_in<'a>(
     Ok(rest)
 }
 
-/// One of the three parts.
+/// Reads one of the three parts, and returns the tokens after it.
 #[tactic(auto, unfolding(c25_meaning_linking::specs::CommandText::part_in))]
 fn part_in<'a>(
     alloc: Global,
     command: &mut Command,
     tokens: &'a [Token],
-) -> Result<&'a [Token], Refused>
+) -> Result<&'a [Token], CommandFailure>
     ensures { Meets (λ x. (command_data command.new, tokens_of x.now)) (part_in (command_data command.old) (tokens_of tokens.now)) result }
 {
     if begins(Want::Keyword(Keyword::Memory), tokens) {
@@ -93,8 +93,8 @@ fn part_in<'a>(
     }
 }
 
-/// The parts up to the end.
-fn parts_at(alloc: Global, tokens: &[Token]) -> Result<(Command, &[Token]), Refused>
+/// Reads parts up to the end of the text.
+fn parts_at(alloc: Global, tokens: &[Token]) -> Result<(Command, &[Token]), CommandFailure>
     ensures { Meets (λ x. (command_data x.0, tokens_of x.1.now)) (repeated want.End part_in (length tokens.now) nothing (tokens_of tokens.now)) result }
 {
     let mut command = Command {
@@ -115,7 +115,7 @@ fn parts_at(alloc: Global, tokens: &[Token]) -> Result<(Command, &[Token]), Refu
 
 /// The command that the tokens spell.
 #[tactic(auto, unfolding(c25_meaning_linking::specs::CommandText::command_at))]
-pub(crate) fn command_at(alloc: Global, tokens: &[Token]) -> Result<Command, Refused>
+pub(crate) fn command_at(alloc: Global, tokens: &[Token]) -> Result<Command, CommandFailure>
     ensures { Meets command_data (command_at (tokens_of tokens.now)) result }
 {
     let (command, rest) = parts_at(alloc, tokens)?;

@@ -1,5 +1,5 @@
-//! The ranges so far, and what finds a name or a word that comes twice in time that does not grow
-//! with their number: a set of the names, and for each word of both pages whether it is in a range.
+//! The ranges so far, with what finds a name or a word that comes twice in a time that does not grow with
+//! their number: a set of the names, and for each word of both pages whether it is in a range.
 
 ghost use Rattle.std.specs.Prelude.{◌≡◌, ◌+◌, ◌*◌, ◌<◌, ◌≤◌, [], ◌∷◌, ◌++◌, true, not, IfOk};
 ghost use Rattle.std.specs.List.{list_any};
@@ -18,30 +18,30 @@ pub(crate) const PAGE_WORDS: u32 = 65_536;
 
 /// The ranges that have been read.
 #[derive(Drop)]
-pub(crate) struct Ranges<'a> {
+pub(crate) struct RangesSoFar<'a> {
     pub list: Vec<MemoryRange>,
-    /// The page and the name of each.
+    /// The page and the name of each range.
     pub names: BTreeSet<(u8, &'a str)>,
-    /// For each word of page 0, and behind them of page 1, whether a range has it.
+    /// For each word of page 0, and after them of page 1, whether a range has it.
     pub taken: Vec<bool>,
 }
 
 /// No ranges.
-pub(crate) fn no_ranges<'a>(alloc: Global) -> Result<Ranges<'a>, AllocError>
+pub(crate) fn no_ranges<'a>(alloc: Global) -> Result<RangesSoFar<'a>, AllocError>
     ensures named { IfOk result (λ r. HasRangeNames (λ k. k.0) (λ k. k.1.now) r.names []) }
     ensures words { IfOk result (λ r. KnowsWords r.taken.items []) }
     ensures empty { IfOk result (λ r. r.list.items ≡ []) }
 {
-    Ok(Ranges {
+    Ok(RangesSoFar {
         list: Vec::new(alloc),
         names: BTreeSet::new(alloc),
         taken: free_words(alloc, 131_072)?,
     })
 }
 
-/// Whether no range of the page has the name, which joins the names then.
+/// Adds a page and a name to those of the ranges, and returns whether they are new.
 pub(crate) fn take_name<'a>(
-    ranges: &mut Ranges<'a>,
+    ranges: &mut RangesSoFar<'a>,
     page: u8,
     name: &'a str,
 ) -> Result<bool, AllocError>
@@ -55,7 +55,7 @@ pub(crate) fn take_name<'a>(
     Ok(ranges.names.insert((page, name))?)
 }
 
-/// The number of a word among those of both pages.
+/// The number of a word among the words of both pages.
 fn word_number(page: u8, address: u32) -> usize
     requires page { page ≤ 1 }
     requires address { address ≤ 65536 }
@@ -65,7 +65,7 @@ fn word_number(page: u8, address: u32) -> usize
 }
 
 /// Whether a range of the page has one of the words.
-pub(crate) fn shares_word(ranges: &Ranges<'_>, page: u8, origin: u32, length: u32) -> bool
+pub(crate) fn shares_word(ranges: &RangesSoFar<'_>, page: u8, origin: u32, length: u32) -> bool
     requires page { page ≤ 1 }
     requires words { 0 < length }
     requires within { origin + length ≤ 65536 }
@@ -76,8 +76,8 @@ pub(crate) fn shares_word(ranges: &Ranges<'_>, page: u8, origin: u32, length: u3
     any_taken(&ranges.taken, start, start + length as usize)
 }
 
-/// Takes the words of a range.
-pub(crate) fn take_range(ranges: &mut Ranges<'_>, page: u8, origin: u32, length: u32)
+/// Marks the words of a range as taken.
+pub(crate) fn take_range(ranges: &mut RangesSoFar<'_>, page: u8, origin: u32, length: u32)
     requires page { page ≤ 1 }
     requires within { origin + length ≤ 65536 }
     requires words { 0 < length }

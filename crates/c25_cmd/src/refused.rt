@@ -1,4 +1,4 @@
-//! Where the command of a text is refused.
+//! The place where the command of a text is refused.
 
 ghost use Rattle.std.specs.Prelude.{◌≡◌, ◌≤◌, ◌<◌, ◌+◌, ◌-◌, ◌^◌, IfOk, Result, option_map, ℕ};
 ghost use Rattle.c25_meaning_linking.specs.Command.{CommandData};
@@ -10,17 +10,17 @@ ghost use Rattle.c25_cmd.specs.View.{command_data};
 
 use crate::bytes::{behind, front, lexeme};
 use crate::command::Command;
-use crate::grammar::Refused;
+use crate::grammar::CommandFailure;
 use crate::lexer::{text_of, tokens};
 use crate::parts::command_at;
-use c25_meaning_linking::command_token::Lexeme;
 use c25_meaning_common::failure::Failure;
 use c25_meaning_common::no_memory::NoMemory;
+use c25_meaning_linking::command_token::Lexeme;
 use std::alloc::Global;
 
-/// What stands in a text where its command is refused. Columns count the characters of a line from 1.
+/// What a text has at the place where its command is refused. Columns count the characters of a line from 1.
 #[derive(Clone, Copy)]
-pub enum Standing<'a> {
+pub enum RefusedAt<'a> {
     /// A word.
     Word { column: usize, text: &'a str },
     /// A sign, or the first byte of a character that can stand nowhere.
@@ -29,7 +29,7 @@ pub enum Standing<'a> {
     End,
 }
 
-/// The column behind a byte.
+/// The column after a byte.
 fn column_behind(column: usize, byte: u8) -> usize
     requires { column < 2 ^ 64 - 1 }
     ensures value { result ≡ column_behind column byte }
@@ -56,21 +56,21 @@ fn column_at(text: &[u8], place: usize) -> usize
     column
 }
 
-/// What stands at a place.
+/// What a text has at a place.
 #[tactic(auto, unfolding(crate::specs::Refused::at_front))]
-fn standing_at(text: &str, place: usize) -> Standing<'_>
+fn standing_at(text: &str, place: usize) -> RefusedAt<'_>
     ensures { standing_data result ≡ standing_at text.now place }
 {
     let column = column_at(text.as_bytes(), place);
     let rest = behind(text.as_bytes(), place);
     match rest {
-        [] => Standing::End,
+        [] => RefusedAt::End,
         [byte, ..] => match lexeme(rest) {
-            Lexeme::Word(length) => Standing::Word {
+            Lexeme::Word(length) => RefusedAt::Word {
                 column,
                 text: text_of(front(rest, length)),
             },
-            _ => Standing::Character {
+            _ => RefusedAt::Character {
                 column,
                 byte: *byte,
             },
@@ -78,8 +78,11 @@ fn standing_at(text: &str, place: usize) -> Standing<'_>
     }
 }
 
-/// What stands where the reading of a text's command ended, if it was refused.
-fn standing_of(text: &str, read: Result<Command, Refused>) -> Result<Option<Standing<'_>>, NoMemory>
+/// What a text has where the reading of its command ended, if it was refused.
+fn standing_of(
+    text: &str,
+    read: Result<Command, CommandFailure>,
+) -> Result<Option<RefusedAt<'_>>, NoMemory>
     ensures { (meant : Result CommandData (Placed ℕ CommandFault)) → Meets command_data meant read
         → IfOk result (λ standing. option_map standing_data standing ≡ standing_of text.now meant) }
 {
@@ -90,9 +93,9 @@ fn standing_of(text: &str, read: Result<Command, Refused>) -> Result<Option<Stan
     }
 }
 
-/// What stands where the command of a text is refused, which [`read_command`](crate::read_command) tells
-/// the line of. It is `None` where the text is a command.
-pub fn refused_at(alloc: Global, text: &str) -> Result<Option<Standing<'_>>, NoMemory>
+/// What a text has at the place where its command is refused, in the line that
+/// [`read_command`](crate::read_command) reports. It is `None` where the text is a command.
+pub fn refused_at(alloc: Global, text: &str) -> Result<Option<RefusedAt<'_>>, NoMemory>
     ensures { IfOk result (λ standing. option_map standing_data standing ≡ refused_at text.now) }
 {
     let found = tokens(alloc, text.as_bytes())?;

@@ -12,16 +12,18 @@ ghost use Rattle.c25_meaning_common.specs.Results.{Meets};
 ghost use Rattle.c25_cmd.specs.View.{tokens_of, target_of, placing_of, placings_of};
 
 use crate::command::{Placing, Target};
-use crate::grammar::{Refused, after, begins, number_at, page_number_at, past, refusal, wanted};
+use crate::grammar::{
+    CommandFailure, after, begins, number_at, page_number_at, past, refusal, wanted,
+};
 use crate::token::Token;
 use c25_meaning_linking::command_fault::CommandFault;
 use c25_meaning_linking::command_token::{Keyword, Sign, Want};
 use std::alloc::{AllocError, Global};
 use std::collections::BTreeSet;
 
-/// `*(name)` or nothing.
+/// Reads `*(name)` or nothing, and returns the tokens after it.
 #[tactic(auto, unfolding(c25_meaning_linking::specs::CommandSections::input_at))]
-fn input_at<'a>(name: &str, tokens: &'a [Token]) -> Result<&'a [Token], Refused>
+fn input_at<'a>(name: &str, tokens: &'a [Token]) -> Result<&'a [Token], CommandFailure>
     ensures { Meets (λ x. tokens_of x.now) (input_at name.now (tokens_of tokens.now)) result }
 {
     if !begins(Want::Sign(Sign::Star), tokens) {
@@ -36,9 +38,9 @@ fn input_at<'a>(name: &str, tokens: &'a [Token]) -> Result<&'a [Token], Refused>
     after(Want::Sign(Sign::CloseParenthesis), rest)
 }
 
-/// The braces and what stands in them, if they are there.
+/// Reads the braces and what is in them, if they are there, and returns the tokens after them.
 #[tactic(auto, unfolding(c25_meaning_linking::specs::CommandSections::contents_at))]
-fn contents_at<'a>(name: &str, tokens: &'a [Token]) -> Result<&'a [Token], Refused>
+fn contents_at<'a>(name: &str, tokens: &'a [Token]) -> Result<&'a [Token], CommandFailure>
     ensures { Meets (λ x. tokens_of x.now) (contents_at name.now (tokens_of tokens.now)) result }
 {
     if !begins(Want::Sign(Sign::OpenBrace), tokens) {
@@ -50,7 +52,7 @@ fn contents_at<'a>(name: &str, tokens: &'a [Token]) -> Result<&'a [Token], Refus
 
 /// A range's name or an address.
 #[tactic(auto, unfolding(c25_meaning_linking::specs::CommandSections::place_at))]
-fn place_at(alloc: Global, tokens: &[Token]) -> Result<(Target, &[Token]), Refused>
+fn place_at(alloc: Global, tokens: &[Token]) -> Result<(Target, &[Token]), CommandFailure>
     ensures { Meets (λ x. (target_of x.0, tokens_of x.1.now)) (place_at (tokens_of tokens.now)) result }
 {
     if begins(Want::Name, tokens) {
@@ -66,7 +68,7 @@ fn place_at(alloc: Global, tokens: &[Token]) -> Result<(Target, &[Token]), Refus
 
 /// `> T`, `load = T`, `load > T` or nothing.
 #[tactic(auto, unfolding(c25_meaning_linking::specs::CommandSections::target_at))]
-fn target_at(alloc: Global, tokens: &[Token]) -> Result<(Target, &[Token]), Refused>
+fn target_at(alloc: Global, tokens: &[Token]) -> Result<(Target, &[Token]), CommandFailure>
     ensures { Meets (λ x. (target_of x.0, tokens_of x.1.now)) (target_at (tokens_of tokens.now)) result }
 {
     if begins(Want::Sign(Sign::Greater), tokens) {
@@ -82,7 +84,7 @@ fn target_at(alloc: Global, tokens: &[Token]) -> Result<(Target, &[Token]), Refu
 
 /// `PAGE n` or nothing.
 #[tactic(auto, unfolding(c25_meaning_linking::specs::CommandSections::section_page_at))]
-fn page_at(tokens: &[Token]) -> Result<(Option<u8>, &[Token]), Refused>
+fn page_at(tokens: &[Token]) -> Result<(Option<u8>, &[Token]), CommandFailure>
     ensures { Meets (λ x. (x.0, tokens_of x.1.now)) (section_page_at (tokens_of tokens.now)) result }
 {
     if !begins(Want::Keyword(Keyword::Page), tokens) {
@@ -94,7 +96,7 @@ fn page_at(tokens: &[Token]) -> Result<(Option<u8>, &[Token]), Refused>
 
 /// `run = number` and a comma that may be left out, or nothing.
 #[tactic(auto, unfolding(c25_meaning_linking::specs::CommandSections::run_at))]
-fn run_at(tokens: &[Token]) -> Result<(Option<u32>, &[Token]), Refused>
+fn run_at(tokens: &[Token]) -> Result<(Option<u32>, &[Token]), CommandFailure>
     ensures { Meets (λ x. (x.0, tokens_of x.1.now)) (run_at (tokens_of tokens.now)) result }
 {
     if !begins(Want::Keyword(Keyword::Run), tokens) {
@@ -106,13 +108,13 @@ fn run_at(tokens: &[Token]) -> Result<(Option<u32>, &[Token]), Refused>
     Ok((Some(number), past(Want::Sign(Sign::Comma), tokens)))
 }
 
-/// What stands behind the colon of a section.
+/// What a command says of a section after the colon.
 #[tactic(auto, unfolding(c25_meaning_linking::specs::CommandSections::placing_at))]
 fn placing_at<'a>(
     alloc: Global,
     name: &str,
     tokens: &'a [Token],
-) -> Result<(Placing, &'a [Token]), Refused>
+) -> Result<(Placing, &'a [Token]), CommandFailure>
     ensures given { Meets (λ x. (placing_of x.0, tokens_of x.1.now)) (placing_at name.now (tokens_of tokens.now)) result }
     ensures name { IfOk result (λ x. string_bytes x.0.name ≡ name.now) }
 {
@@ -130,7 +132,7 @@ fn placing_at<'a>(
     Ok((placing, tokens))
 }
 
-/// The sections that have been read, and their names, which find one that comes twice in time that
+/// The sections that have been read, and their names, by which one that comes twice is found in a time that
 /// does not grow with their number.
 #[derive(Drop)]
 struct Sections<'a> {
@@ -138,7 +140,7 @@ struct Sections<'a> {
     names: BTreeSet<&'a str>,
 }
 
-/// Whether no section has the name, which joins the names then.
+/// Adds a name to those of the sections, and returns whether it is new.
 fn take_name<'a>(sections: &mut Sections<'a>, name: &'a str) -> Result<bool, AllocError>
     requires { HasNames (λ k. k.now) sections.old.names (placings_of sections.old.list.items) }
     ensures fresh { IfOk result (λ fresh. fresh ≡ not (list_any (is_placing name.now) (placings_of sections.old.list.items))) }
@@ -149,13 +151,13 @@ fn take_name<'a>(sections: &mut Sections<'a>, name: &'a str) -> Result<bool, All
     Ok(sections.names.insert(name)?)
 }
 
-/// Reads a section more.
+/// Reads a section more, and returns the tokens after it.
 #[tactic(auto, unfolding(c25_meaning_linking::specs::CommandSections::more_placings, c25_meaning_linking::specs::CommandSections::placing_at))]
 fn add_placing<'a>(
     alloc: Global,
     sections: &mut Sections<'a>,
     tokens: &'a [Token],
-) -> Result<&'a [Token], Refused>
+) -> Result<&'a [Token], CommandFailure>
     requires { HasNames (λ k. k.now) sections.old.names (placings_of sections.old.list.items) }
     ensures given { Meets (λ x. (placings_of sections.new.list.items, tokens_of x.now))
         (more_placings (placings_of sections.old.list.items) (tokens_of tokens.now)) result }
@@ -173,7 +175,7 @@ fn add_placing<'a>(
 }
 
 /// The sections up to the brace that closes them.
-fn placings_at(alloc: Global, tokens: &[Token]) -> Result<(Vec<Placing>, &[Token]), Refused>
+fn placings_at(alloc: Global, tokens: &[Token]) -> Result<(Vec<Placing>, &[Token]), CommandFailure>
     ensures { Meets (λ x. (placings_of x.0.items, tokens_of x.1.now))
         (repeated (want.Sign sign.CloseBrace) more_placings (length tokens.now) [] (tokens_of tokens.now)) result }
 {
@@ -192,12 +194,12 @@ fn placings_at(alloc: Global, tokens: &[Token]) -> Result<(Vec<Placing>, &[Token
     Ok((sections.list, rest))
 }
 
-/// What stands behind the word `SECTIONS`.
+/// The sections after the word `SECTIONS`.
 #[tactic(auto, unfolding(c25_meaning_linking::specs::CommandSections::sections_at))]
 pub(crate) fn sections_at(
     alloc: Global,
     tokens: &[Token],
-) -> Result<(Vec<Placing>, &[Token]), Refused>
+) -> Result<(Vec<Placing>, &[Token]), CommandFailure>
     ensures { Meets (λ x. (placings_of x.0.items, tokens_of x.1.now)) (sections_at (tokens_of tokens.now)) result }
 {
     let tokens = after(Want::Sign(Sign::OpenBrace), tokens)?;

@@ -4,7 +4,7 @@ ghost use Rattle.std.specs.Prelude.{◌≡◌, ◌<◌, ◌≤◌, ◌&&◌, ◌
 
 use std::alloc::{AllocError, Global};
 
-/// So many words that are free. It is refused where memory is.
+/// A list of so many free words; `AllocError` where memory runs out.
 pub fn free_words(alloc: Global, count: usize) -> Result<Vec<bool>, AllocError>
     ensures { IfOk result (λ v. v.items ≡ replicate count false) }
 {

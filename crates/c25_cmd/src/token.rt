@@ -1,4 +1,4 @@
-//! Tokens.
+//! The tokens of a command file.
 
 use c25_meaning_linking::command_token::Kind;
 
@@ -6,8 +6,8 @@ use c25_meaning_linking::command_token::Kind;
 #[derive(Drop)]
 pub(crate) struct Token {
     pub kind: Kind,
-    /// Where it begins, in bytes from 0.
+    /// The place of the token's first byte, from 0.
     pub place: usize,
-    /// What is written, where it is a word.
+    /// The token's text, where it is a word; empty otherwise.
     pub text: String,
 }

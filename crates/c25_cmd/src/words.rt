@@ -1,4 +1,4 @@
-//! What words are: reserved words, numbers or names.
+//! The kinds of words: reserved words, numbers or names.
 
 ghost use Rattle.std.specs.Prelude.{◌≡◌, IfOk};
 ghost use Rattle.std.specs.Option.{option_map_or};
@@ -6,9 +6,9 @@ ghost use Rattle.c25_meaning_linking.specs.CommandTokens.{word_numeral, is_numer
 ghost use Rattle.c25_cmd.specs.View.{numeral_of};
 
 use crate::bytes::{behind, front};
-use c25_meaning_linking::command_token::{Keyword, Kind};
 use c25_meaning_common::bytes::byte_at;
 use c25_meaning_common::digits::{are_digits, digit, value_in};
+use c25_meaning_linking::command_token::{Keyword, Kind};
 use std::alloc::{AllocError, Global};
 
 /// The base and the digits of a number.
@@ -52,7 +52,7 @@ fn is_numeral(number: Numeral<'_>) -> bool
         && !(number.base == 10 && byte_at(digits, 0) == b'0' && 1 < count)
 }
 
-/// What a word is that begins with a digit. A number above 4,294,967,295 stands as that.
+/// The kind of a word that begins with a digit. A number above 4,294,967,295 is 4,294,967,295 here.
 fn number_kind(number: Numeral<'_>) -> Kind
     ensures { result ≡ number_kind (numeral_of number.entry) }
 {
@@ -88,7 +88,7 @@ fn name_kind(keyword: Option<Keyword>) -> Kind
     }
 }
 
-/// What a word is.
+/// The kind of a word.
 #[tactic(auto, unfolding(c25_meaning_linking::specs::CommandTokens::word_kind))]
 pub(crate) fn word_kind(alloc: Global, text: &str) -> Result<Kind, AllocError>
     ensures { IfOk result (λ kind. kind ≡ word_kind text.now) }

@@ -8,7 +8,7 @@ use Rattle.std.specs.FinMap as map
 use Rattle.c25_dis.specs.Sections.{AreTexts, IsPlace, IsSection, IsSectionAt, IsSectionBy, IsWordAt, is_second, labels_at}
 use Rattle.c25_dis.specs.Words.{AreWords, IsAddressText, is_before, word_at}
 
--- behind what stood there before, a text is those of the first n numbers
+-- after what stood there before, a text is those of the first n numbers
 abbrev pub HasTexts : (ℕ → List ℕ → Type 0) → ℕ → List ℕ → List ℕ → Type 0
 HasTexts Is n before text = (own : List ℕ) × AreTexts Is n own × (text ≡ before ++ own)
 
@@ -58,11 +58,11 @@ ok_then (Err e) p f = tt
 
 -- ---- joined texts
 
--- a text behind two
+-- a text after two
 pub two_behind : (t a b x y : List ℕ) → x ≡ t ++ a → y ≡ x ++ b → y ≡ t ++ (a ++ b)
 two_behind t a b x y ex ey = rw (ey, ex) (append_assoc t a b)
 
--- a text behind three
+-- a text after three
 pub three_behind : (t a b c x y z : List ℕ) → x ≡ t ++ a → y ≡ x ++ b → z ≡ y ++ c → z ≡ t ++ (a ++ b ++ c)
 three_behind t a b c x y z ex ey ez = rw (ez, ey, ex) (simp append_assoc)
 

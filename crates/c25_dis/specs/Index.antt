@@ -22,7 +22,7 @@ abbrev pub numbered : {A : Type 0} → (A → Option ℕ) → ℕ → List A →
 numbered place_of number [] = []
 numbered place_of number (x ∷ xs) = placed_before (place_of x) number (numbered place_of (number + 1) xs)
 
--- they are in the order of their places, and those of one place in that of the list
+-- an index is in the order of places, and items of one place are in the order of their list
 pub record IsIndexOf {A : Type 0} (place_of : A → Option ℕ) (items : List A) (index : List IndexEntry) : Type 0 where
   pub sorted : IsNonDecreasingBy (λ x. x.place) index
   pub stable : (place : ℕ) → filter (is_at place) index ≡ filter (is_at place) (numbered place_of 0 items)

@@ -5,7 +5,7 @@ use Rattle.c25_meaning_instructions.specs.Show.{long_text, show}
 use Rattle.c25_meaning_instructions.specs.Table.{InRange, words}
 use Rattle.c25_meaning_instructions.specs.declared.insn.Insn.{Insn}
 
--- the words of an instruction, all of them
+-- the words are those of an instruction, all of them
 pub record IsCode (first : ℕ) (second : Option ℕ) (insn : Insn) : Type 0 where
   pub in_range : InRange insn
   pub words_are : words insn ≡ first ∷ option_to_list second
@@ -15,12 +15,12 @@ abbrev pub ReadAs : ℕ → Option ℕ → Option Insn → Type 0
 ReadAs first second (Some i) = IsCode first second i
 ReadAs first second None = (i : Insn) → IsCode first second i → ⊥
 
--- one word or two, in columns as wide
+-- one word or two, in columns of one width
 abbrev pub columns : ℕ → Option ℕ → List ℕ
 columns first None = four_digits first ++ codes "     "
 columns first (Some second) = four_digits first ++ codes " " ++ four_digits second
 
--- a second word of data, behind a comma
+-- a second word of data, after a comma
 abbrev pub further_text : Option ℕ → List ℕ
 further_text None = []
 further_text (Some second) = codes "," ++ long_text second

@@ -27,7 +27,7 @@ counts_from section External = false
 abbrev pub stands_at : ℕ → ℕ → SymbolData → Bool
 stands_at section place y = counts_from section y.kind && int_eq y.value (pos place)
 
--- a place in four digits; that behind the last of 65,536 words in five
+-- a place in four digits; the place after the last of 65,536 words in five
 abbrev pub place_text : ℕ → List ℕ
 place_text place = if place == 65536 then codes "10000" else four_digits place
 
@@ -49,7 +49,7 @@ section_name m number = elim (slice_get m.sections number) [ None ↦ [] | Some 
 abbrev pub symbol_name : Contents → ℕ → List ℕ
 symbol_name m number = elim (slice_get m.symbols number) [ None ↦ [] | Some y ↦ y.name ]
 
--- what an addend is added to
+-- the name of what an addend is added to
 abbrev pub base_text : Contents → RelocationBase → List ℕ
 base_text m (base.Section number) = section_name m number
 base_text m (base.Loaded number) = codes "load of " ++ section_name m number
@@ -61,7 +61,7 @@ addend_text (pos zero) = []
 addend_text (pos (suc n)) = codes "+" ++ signed_decimal (pos (suc n))
 addend_text (negsuc n) = signed_decimal (negsuc n)
 
--- what a relocation fills in, behind a line's text
+-- the note of what a relocation fills in, after a line's text
 abbrev pub filled_text : Contents → Relocation → List ℕ
 filled_text m r = codes "  ; " ++ base_text m r.base ++ addend_text r.addend
 
@@ -69,7 +69,7 @@ filled_text m r = codes "  ; " ++ base_text m r.base ++ addend_text r.addend
 abbrev pub relocation_at : Contents → ℕ → ℕ → Option Relocation
 relocation_at m section place = find (λ r. r.section == section && r.offset == place) m.relocations
 
--- what is filled in there
+-- the note of what is filled in at a place
 abbrev pub note_at : Contents → ℕ → ℕ → List ℕ
 note_at m section place = elim (relocation_at m section place) [ None ↦ [] | Some r ↦ filled_text m r ]
 
@@ -79,7 +79,7 @@ note_at m section place = elim (relocation_at m section place) [ None ↦ [] | S
 abbrev pub mark_at : Contents → ℕ → ℕ → Option ModuleMark
 mark_at m section place = find (λ x. x.section == section && x.offset == place) m.marks
 
--- whether it has two words
+-- whether the instruction of a mark has two words
 abbrev pub is_long : Option ModuleMark → Bool
 is_long None = false
 is_long (Some mark) = mark.size == 2
@@ -89,7 +89,7 @@ abbrev pub is_second : Contents → ℕ → ℕ → Bool
 is_second m section zero = false
 is_second m section (suc place) = is_long (mark_at m section place)
 
--- the word behind a place, where it is the second of a line
+-- the word after a place, where it is the second of a line
 abbrev pub second_by : Bool → List ℕ → ℕ → Option ℕ
 second_by true words place = slice_get words (place + 1)
 second_by false words place = None
@@ -98,7 +98,7 @@ second_by false words place = None
 abbrev pub second_at : Contents → ℕ → ℕ → Option ℕ
 second_at m section place = second_by (is_long (mark_at m section place)) (words_at m.sections section) place
 
--- what is filled into the words of the line at a place
+-- the notes of what is filled into the words of the line at a place
 abbrev pub notes_by : Option ℕ → Contents → ℕ → ℕ → List ℕ
 notes_by None m section place = note_at m section place
 notes_by (Some second) m section place = note_at m section place ++ note_at m section (place + 1)
@@ -114,13 +114,13 @@ pub record IsLineAt (m : Contents) (section place first : ℕ) (text : List ℕ)
   pub read : IsReadBy (mark_at m section place) first (second_at m section place) insn
   pub text_is : text ≡ line_text place first (second_at m section place) insn ++ notes_by (second_at m section place) m section place ++ codes "\n"
 
--- no line where there is no word, and where it stands in the line before
+-- there is no line where there is no word, and where the word is in the line before
 abbrev pub IsWordAt : Contents → ℕ → ℕ → Option ℕ → Bool → List ℕ → Type 0
 IsWordAt m section place None second text = text ≡ []
 IsWordAt m section place (Some first) true text = text ≡ []
 IsWordAt m section place (Some first) false text = IsLineAt m section place first text
 
--- a text is what stands at a place: its labels, and the line of its word
+-- a text is that of a place: its labels, and the line of its word
 pub record IsPlace (m : Contents) (section place : ℕ) (text : List ℕ) : Type 0 where
   pub line : List ℕ
   pub word : IsWordAt m section place (slice_get (words_at m.sections section) place) (is_second m section place) line
@@ -133,7 +133,7 @@ abbrev pub AreTexts : (ℕ → List ℕ → Type 0) → ℕ → List ℕ → Typ
 AreTexts Is zero text = text ≡ []
 AreTexts Is (suc n) text = (before last : List ℕ) × AreTexts Is n before × Is n last × (text ≡ before ++ last)
 
--- what a section has
+-- the body of a section in words
 abbrev pub body_text : SectionBody → List ℕ
 body_text (Uninitialised size) = codes "reserves " ++ decimal size
 body_text (Initialised words) = codes "initialised"
@@ -142,13 +142,13 @@ body_text (Initialised words) = codes "initialised"
 abbrev pub heading : SectionData → List ℕ
 heading s = codes "section " ++ s.name ++ codes " " ++ body_text s.body ++ codes "\n"
 
--- a text is a section's: its heading, and what stands at each place, also behind the last
+-- a text is a section's: its heading, and the text of each place, also of the one after the last word
 pub record IsSection (m : Contents) (section : ℕ) (s : SectionData) (text : List ℕ) : Type 0 where
   pub places : List ℕ
   pub each : AreTexts (IsPlace m section) (body_size s.body + 1) places
   pub text_is : text ≡ heading s ++ places
 
--- the same of a section that may be none, which has no text
+-- a text is that of a section, if there is one; it is empty otherwise
 abbrev pub IsSectionBy : Contents → ℕ → Option SectionData → List ℕ → Type 0
 IsSectionBy m section None text = text ≡ []
 IsSectionBy m section (Some s) text = IsSection m section s text

@@ -10,7 +10,7 @@ use Rattle.c25_dis.specs.Sections.{counts_from, label_line}
 use Rattle.c25_dis.specs.declared.index.IndexEntry.{IndexEntry}
 use Rattle.c25_dis.specs.declared.section.Places.{Places}
 
--- the place of an offset; none before the first
+-- the place of an offset; there is none before the first word
 abbrev pub offset_place : ℤ → Option ℕ
 offset_place (pos n) = Some n
 offset_place (negsuc n) = None
@@ -19,11 +19,11 @@ offset_place (negsuc n) = None
 abbrev pub symbol_place : Symbol → ℕ → Option ℕ
 symbol_place y section = if counts_from section y.kind then offset_place y.value else None
 
--- the same of an instruction
+-- where an instruction stands in the section of a number, if it does
 abbrev pub mark_place : ModuleMark → ℕ → Option ℕ
 mark_place x section = if x.section == section then Some x.offset else None
 
--- the same of a relocated field
+-- where a relocated field stands in the section of a number, if it does
 abbrev pub relocation_place : Relocation → ℕ → Option ℕ
 relocation_place r section = if r.section == section then Some r.offset else None
 

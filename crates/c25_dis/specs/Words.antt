@@ -21,12 +21,12 @@ abbrev pub is_before : ℕ → Option ℕ → Bool
 is_before address None = false
 is_before address (Some end) = nat_lt address end
 
--- an empty line where a line begins behind the end of the last one
+-- an empty line, unless the next line begins where the last one ended
 abbrev pub gap_text : Option ℕ → ℕ → List ℕ
 gap_text None address = []
 gap_text (Some end) address = if end == address then [] else codes "\n"
 
--- a text is the line of a word, behind a last line that ended at one address, and it ends at another
+-- a text is the line of a word, after a last line that ended at one address, and it ends at another
 pub record IsWordLine (next : Option ℕ) (address word : ℕ) (was end : Option ℕ) (text : List ℕ) : Type 0 where
   pub second : Option ℕ
   pub insn : Option Insn
@@ -34,7 +34,7 @@ pub record IsWordLine (next : Option ℕ) (address word : ℕ) (was end : Option
   pub end_is : end ≡ Some (address + length (word ∷ option_to_list second))
   pub text_is : text ≡ gap_text was address ++ line_text address word second insn ++ codes "\n"
 
--- what an address adds: no line where no word is, or where it stands in the last line
+-- what an address adds: no line where there is no word, or where the word is in the last line
 abbrev pub IsAddressText : Option ℕ → Option ℕ → Bool → ℕ → Option ℕ → Option ℕ → List ℕ → Type 0
 IsAddressText None next before address was end text = (end ≡ was) × (text ≡ [])
 IsAddressText (Some word) next true address was end text = (end ≡ was) × (text ≡ [])

@@ -1,4 +1,4 @@
-//! Which items of a list stand at a place of a section, found in time near linear in their number.
+//! An index of items by their places in a section, made in a time near linear in their number.
 
 ghost use Rattle.std.specs.Prelude.{◌≡◌, ℕ, OnOk, IfOk, Option, filter, find, slice_get};
 ghost use Rattle.std.specs.List.Sorted.{IsNonDecreasingBy};
@@ -14,12 +14,12 @@ pub(crate) struct IndexEntry {
     pub(crate) number: usize,
 }
 
-/// What may stand at a place of a section.
+/// An item that may stand at a place of a section.
 pub(crate) trait Stands {
-    /// The place in the section of a number, if it stands there.
+    /// The place of the item in the section of a number, if it stands there.
     ghost place_of: { Self → ℕ → Option ℕ };
 
-    /// The place in the section of a number, if it stands there.
+    /// The place of the item in the section of a number, if it stands there.
     fn place(&self, section: usize) -> Option<usize>
         ensures { result ≡ place_of self.now section };
 }
@@ -42,7 +42,7 @@ fn numbered<T: Stands>(
     Ok(index)
 }
 
-/// Brings items into the order of their places; those of one place stay in their order.
+/// Brings items into the order of their places; items of one place keep their order.
 fn sort(alloc: Global, index: &mut [IndexEntry]) -> Result<(), NoMemory>
     ensures sorted { OnOk result (IsNonDecreasingBy (λ x. x.place) index.new) }
     ensures stable { OnOk result ((place : ℕ) → filter (is_at place) index.new ≡ filter (is_at place) index.old) }
@@ -64,7 +64,7 @@ pub(crate) fn index_of<T: Stands>(
     Ok(index)
 }
 
-/// Those of a place, among items in the order of their places.
+/// The items of a place, in an index that is in the order of places.
 pub(crate) fn at(index: &[IndexEntry], place: usize) -> &[IndexEntry]
     requires { IsNonDecreasingBy (λ x. x.place) index.now }
     ensures { result.now ≡ filter (is_at place) index.now }

@@ -1,4 +1,4 @@
-//! The instruction whose words are given.
+//! The instruction that given words are.
 
 ghost use Rattle.c25_dis.specs.Lines.{ReadAs};
 ghost use Rattle.c25_dis.specs.Reading.{IsWhole};
@@ -6,8 +6,8 @@ ghost use Rattle.c25_dis.specs.Reading.{IsWhole};
 use c25_isa::{decode, size_of};
 use c25_meaning_instructions::insn::Insn;
 
-/// The instruction that has these words and no more, the second where one is given. `None` where
-/// there is none.
+/// The instruction that has these words and no more; the second is given where the line has two. `None` where
+/// the words are no instruction of that size.
 pub(crate) fn instruction(first: u16, second: Option<u16>) -> Option<Insn>
     ensures { ReadAs first second result }
 {
@@ -17,7 +17,7 @@ pub(crate) fn instruction(first: u16, second: Option<u16>) -> Option<Insn>
     }
 }
 
-/// The instruction of this size that words read as.
+/// The instruction that words decode to, if it has this size in words.
 fn whole(first: u16, second: u16, size: u16) -> Option<Insn>
     ensures { IsWhole first second size result }
 {

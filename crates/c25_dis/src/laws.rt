@@ -14,7 +14,7 @@ pub fn one_module_has_one_text()
     ensures { (m : Contents) (one other : List ℕ) → IsModuleText m one → IsModuleText m other → one ≡ other }
 {}
 
-/// Words have one text at most from an address on.
+/// The words from an address on have one text at most.
 pub fn words_have_one_text()
     ensures { (words : FinMap nat_cmp ℕ) (from : ℕ) (one other : List ℕ) → IsWordsText words from one → IsWordsText words from other → one ≡ other }
 {}

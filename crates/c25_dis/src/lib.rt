@@ -1,14 +1,14 @@
-//! Modules and the words of hex texts as text, instruction by instruction.
+//! The disassembler: modules, and the words of hex texts, as text, instruction by instruction.
 #![tactic(auto)]
 
 mod index;
 mod instruction_reader;
+mod item_places;
 pub mod laws;
 mod line;
 mod module;
 mod notes;
 mod section;
-mod standing;
 mod words;
 
 pub use module::disassemble_module;

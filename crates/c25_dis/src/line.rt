@@ -1,50 +1,34 @@
-//! Lines: an address, its words, and what they are.
+//! Lines of a disassembly: an address, its words, and what they are.
 
 ghost use Rattle.std.specs.Prelude.{◌≡◌, ◌++◌, OnOk, codes, string_bytes};
-ghost use Rattle.std.specs.List.{flat_map};
 ghost use Rattle.c25_meaning_common.specs.Digits.{four_digits};
 ghost use Rattle.c25_meaning_instructions.specs.Show.{long_text};
 ghost use Rattle.c25_dis.specs.Lines.{columns, data_text, code_text, further_text, line_text};
 
-use c25_texts::digits::four;
 use c25_isa::show;
 use c25_meaning_common::no_memory::NoMemory;
 use c25_meaning_instructions::insn::Insn;
+use c25_texts::appending::{push_four, push_text, push_texts};
+use c25_texts::digits::four;
 use std::alloc::Global;
 
-/// Appends a text.
-pub(crate) fn push_text(text: &mut String, piece: &str) -> Result<(), NoMemory>
-    ensures { OnOk result (string_bytes text.new ≡ string_bytes text.old ++ piece.now) }
-{
-    Ok(text.push_str(piece)?)
+/// The code on a line: one word or two, and their instruction, or `None` where they are data.
+#[derive(Clone, Copy)]
+pub(crate) struct Code {
+    pub first: u16,
+    pub second: Option<u16>,
+    pub insn: Option<Insn>,
 }
 
-/// Appends texts, one behind the other.
-pub(crate) fn push_texts(text: &mut String, pieces: &[&str]) -> Result<(), NoMemory>
-    ensures { OnOk result (string_bytes text.new ≡ string_bytes text.old ++ flat_map (λ piece. piece.now) pieces.now) }
-{
-    for piece in pieces {
-        push_text(text, piece)?;
-    }
-    Ok(())
-}
-
-/// Appends a word in four digits.
-fn push_word(text: &mut String, word: u16) -> Result<(), NoMemory>
-    ensures { OnOk result (string_bytes text.new ≡ string_bytes text.old ++ four_digits word) }
-{
-    push_text(text, four(word).as_str())
-}
-
-/// Appends an address, the low sixteen bits of a number.
+/// Appends the low 16 bits of an address in four hexadecimal digits.
 #[tactic(auto, using(crate::proofs::Columns::low_digits))]
 pub(crate) fn push_address(text: &mut String, address: usize) -> Result<(), NoMemory>
     ensures { OnOk result (string_bytes text.new ≡ string_bytes text.old ++ four_digits address) }
 {
-    push_word(text, (address % 65_536) as u16)
+    push_four(text, (address % 65_536) as u16)
 }
 
-/// Appends one word or two in columns that are as wide for one as for two, between blanks.
+/// Appends one word or two between blanks, in columns of one width for both.
 fn push_columns(text: &mut String, first: u16, second: Option<u16>) -> Result<(), NoMemory>
     ensures { OnOk result (string_bytes text.new ≡ string_bytes text.old ++ (codes " " ++ columns first second ++ codes " ")) }
 {
@@ -57,14 +41,14 @@ fn push_columns(text: &mut String, first: u16, second: Option<u16>) -> Result<()
     }
 }
 
-/// Appends a word as a constant of the assembler.
+/// Appends a word as a hexadecimal constant of the assembler, `05541h`.
 fn push_constant(text: &mut String, word: u16) -> Result<(), NoMemory>
     ensures { OnOk result (string_bytes text.new ≡ string_bytes text.old ++ long_text word) }
 {
     push_texts(text, &["0", four(word).as_str(), "h"])
 }
 
-/// Appends a second word of data, if there is one.
+/// Appends a comma and the second word of a `.word` line, if there is one.
 fn push_further(text: &mut String, second: Option<u16>) -> Result<(), NoMemory>
     ensures { OnOk result (string_bytes text.new ≡ string_bytes text.old ++ further_text second) }
 {
@@ -77,7 +61,7 @@ fn push_further(text: &mut String, second: Option<u16>) -> Result<(), NoMemory>
     }
 }
 
-/// Appends words as data.
+/// Appends one word or two as data, in a `.word` directive.
 fn push_data(text: &mut String, first: u16, second: Option<u16>) -> Result<(), NoMemory>
     ensures { OnOk result (string_bytes text.new ≡ string_bytes text.old ++ data_text first second) }
 {
@@ -87,18 +71,12 @@ fn push_data(text: &mut String, first: u16, second: Option<u16>) -> Result<(), N
     Ok(())
 }
 
-/// Appends words as their instruction, or as data where they are none's.
-fn push_code(
-    alloc: Global,
-    text: &mut String,
-    first: u16,
-    second: Option<u16>,
-    insn: &Option<Insn>,
-) -> Result<(), NoMemory>
-    ensures { OnOk result (string_bytes text.new ≡ string_bytes text.old ++ code_text first second insn.now) }
+/// Appends words as their instruction, or as data where they are not one.
+fn push_code(alloc: Global, text: &mut String, code: &Code) -> Result<(), NoMemory>
+    ensures { OnOk result (string_bytes text.new ≡ string_bytes text.old ++ code_text code.now.first code.now.second code.now.insn) }
 {
-    match insn {
-        None => push_data(text, first, second),
+    match &code.insn {
+        None => push_data(text, code.first, code.second),
         Some(insn) => {
             let shown = show(alloc, insn)?;
             push_text(text, &shown)
@@ -106,18 +84,16 @@ fn push_code(
     }
 }
 
-/// Appends an address, its words, and what they are.
+/// Appends a line without its end: an address, its words, and their instruction or data.
 pub(crate) fn push_line(
     alloc: Global,
     text: &mut String,
     address: usize,
-    first: u16,
-    second: Option<u16>,
-    insn: &Option<Insn>,
+    code: &Code,
 ) -> Result<(), NoMemory>
-    ensures { OnOk result (string_bytes text.new ≡ string_bytes text.old ++ line_text address first second insn.now) }
+    ensures { OnOk result (string_bytes text.new ≡ string_bytes text.old ++ line_text address code.now.first code.now.second code.now.insn) }
 {
     push_address(text, address)?;
-    push_columns(text, first, second)?;
-    push_code(alloc, text, first, second, insn)
+    push_columns(text, code.first, code.second)?;
+    push_code(alloc, text, code)
 }

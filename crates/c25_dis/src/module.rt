@@ -9,15 +9,14 @@ use c25_module::Module;
 use std::alloc::Global;
 
 /// The text of an object module: for each section, in the order of the module, a line with its name and
-/// whether it is initialised or how many words it reserves, and then for each of its places in order,
-/// also behind the last, a line `0004 NAME:` for each symbol that stands there, and one for the word
-/// there. Where a mark says that an instruction starts, that line has its address in the section, its
-/// one or two words, and the instruction as the assembler reads it; else, and where the words are no
-/// instruction's, it has them as data: `.word 05541h`. Behind it stands, after `  ; `, what linking
-/// fills into each word: a name, and an addend with its sign if it is not 0. Addresses and words are
-/// hexadecimal.
+/// whether it is initialised or how many words it reserves, and then for each of its places in order, also
+/// after the last, a line `0004 NAME:` for each symbol that stands there, and one for the word there. Where a
+/// mark says that an instruction starts, that line has its address in the section, its one or two words, and
+/// the instruction as the assembler reads it; else, and where the words are not an instruction's, it has them
+/// as data: `.word 05541h`. After that, and after `  ; `, it has what linking fills into each word: a name,
+/// and an addend with its sign if it is not 0. Addresses and words are hexadecimal.
 ///
-/// `NoMemory` where a growth was refused, and in no other case.
+/// It fails only where memory runs out.
 pub fn disassemble_module(alloc: Global, object: &Module) -> Result<String, NoMemory>
     ensures { IfOk result (λ text. IsModuleText object.now (string_bytes text)) }
 {

@@ -1,13 +1,13 @@
-//! What linking fills in, behind the text of a line.
+//! Notes after the text of a line: what linking fills into its words.
 
 ghost use Rattle.std.specs.Prelude.{◌≡◌, ◌++◌, OnOk, string_bytes};
 ghost use Rattle.c25_dis.specs.Sections.{addend_text, base_text, filled_text, section_name, symbol_name};
 ghost use Rattle.c25_module.specs.View.{contents};
 
-use crate::line::push_text;
 use c25_meaning_common::no_memory::NoMemory;
 use c25_meaning_objects::object::{Relocation, RelocationBase};
 use c25_module::Parts;
+use c25_texts::appending::push_text;
 
 /// Appends the name of the section of a number.
 fn push_section_name(text: &mut String, parts: &Parts, number: u16) -> Result<(), NoMemory>
@@ -29,7 +29,7 @@ fn push_symbol_name(text: &mut String, parts: &Parts, number: u16) -> Result<(),
     }
 }
 
-/// Appends what an addend is added to.
+/// Appends the name of what an addend is added to.
 fn push_base(text: &mut String, parts: &Parts, base: RelocationBase) -> Result<(), NoMemory>
     ensures { OnOk result (string_bytes text.new ≡ string_bytes text.old ++ base_text (contents parts.now) base) }
 {
@@ -56,7 +56,7 @@ fn push_addend(text: &mut String, addend: i32) -> Result<(), NoMemory>
     }
 }
 
-/// Appends what a relocation fills in.
+/// Appends a note of what a relocation fills in.
 pub(crate) fn push_filled(
     text: &mut String,
     parts: &Parts,

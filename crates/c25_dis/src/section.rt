@@ -1,4 +1,4 @@
-//! The text of a section: its heading, and what stands at each of its places.
+//! The text of a section: its heading, and the lines of each of its places.
 
 ghost use Rattle.std.specs.Prelude.{◌≡◌, ◌+◌, ◌^◌, ◌<◌, ◌++◌, ℕ, List, Some, OnOk, IfOk, filter, string_bytes, slice_get};
 ghost use Rattle.std.specs.List.{flat_map};
@@ -10,15 +10,16 @@ ghost use Rattle.c25_module.specs.View.{body_data, contents, section_data, symbo
 
 use crate::index::{IndexEntry, at, first_at, index_of, item_at};
 use crate::instruction_reader::instruction;
-use crate::line::{push_address, push_line, push_text, push_texts};
+use crate::line::{Code, push_address, push_line};
 use crate::notes::push_filled;
 use c25_meaning_common::no_memory::NoMemory;
 use c25_meaning_instructions::insn::Insn;
 use c25_meaning_objects::object::ModuleMark;
 use c25_module::{Body, Parts, Section, Symbol};
+use c25_texts::appending::{push_text, push_texts};
 use std::alloc::Global;
 
-/// A section of a module, by its number, and which symbols, marks and relocations stand where in it.
+/// A section of a module, by its number, with indexes of its symbols, marks and relocations.
 #[derive(Drop)]
 pub(crate) struct Places<'m> {
     parts: &'m Parts,
@@ -28,7 +29,7 @@ pub(crate) struct Places<'m> {
     relocations: Vec<IndexEntry>,
 }
 
-/// The places of a section.
+/// The section of a number with its indexes.
 fn places_of(alloc: Global, parts: &Parts, section: usize) -> Result<Places<'_>, NoMemory>
     ensures { IfOk result (λ p. AreIndexed p × (p.parts.now ≡ parts.now) × (p.section ≡ section)) }
 {
@@ -44,7 +45,7 @@ fn places_of(alloc: Global, parts: &Parts, section: usize) -> Result<Places<'_>,
     })
 }
 
-/// Appends a place in four digits, and that behind the last of 65,536 words in five.
+/// Appends a place in four hexadecimal digits; the place after the last of 65,536 words in five.
 fn push_place_text(text: &mut String, place: usize) -> Result<(), NoMemory>
     ensures { OnOk result (string_bytes text.new ≡ string_bytes text.old ++ place_text place) }
 {
@@ -55,7 +56,7 @@ fn push_place_text(text: &mut String, place: usize) -> Result<(), NoMemory>
     }
 }
 
-/// Appends the line of a symbol.
+/// Appends the line of a symbol: its place, its name and a colon.
 fn push_label(text: &mut String, place: usize, name: &str) -> Result<(), NoMemory>
     ensures { OnOk result (string_bytes text.new ≡ string_bytes text.old ++ label_line place name.now) }
 {
@@ -78,7 +79,7 @@ fn push_numbered(
     }
 }
 
-/// Appends the lines of symbols.
+/// Appends the lines of the symbols that these entries of the index name.
 fn push_labels(
     text: &mut String,
     symbols: &[Symbol],
@@ -93,7 +94,7 @@ fn push_labels(
     Ok(())
 }
 
-/// Appends the lines of the symbols of a section that stand at a place, by the index of that section.
+/// Appends the lines of the symbols at a place of a section, by the index of that section.
 fn push_labels_at(
     text: &mut String,
     symbols: &[Symbol],
@@ -118,7 +119,7 @@ fn is_long(mark: Option<ModuleMark>) -> bool
     }
 }
 
-/// The word behind a place, where the line there has two.
+/// The word after a place, where the line there has two words.
 fn second_at(words: &[u16], place: usize, is_long: bool) -> Option<u16>
     requires { place < 2 ^ 63 }
     ensures { result ≡ second_by is_long words.now place }
@@ -161,7 +162,7 @@ impl Places<'_> {
         }
     }
 
-    /// Appends what is filled in at a place.
+    /// Appends a note of what the relocation at a place fills in, if there is one.
     fn push_note(&self, text: &mut String, place: usize) -> Result<(), NoMemory>
         requires { AreIndexed self.now }
         ensures { OnOk result (string_bytes text.new ≡ string_bytes text.old ++ note_at (contents self.now.parts.now) self.now.section place) }
@@ -177,7 +178,7 @@ impl Places<'_> {
         }
     }
 
-    /// Appends what is filled into the words of a line.
+    /// Appends notes of what relocations fill into the words of a line.
     fn push_notes(
         &self,
         text: &mut String,
@@ -213,7 +214,12 @@ impl Places<'_> {
         let mark = self.mark_at(place);
         let second = second_at(words, place, is_long(mark));
         let insn = marked_instruction(mark, first, second);
-        push_line(alloc, text, place, first, second, &insn)?;
+        let code = Code {
+            first,
+            second,
+            insn,
+        };
+        push_line(alloc, text, place, &code)?;
         self.push_notes(text, place, second)?;
         push_text(text, "\n")
     }
@@ -232,7 +238,7 @@ impl Places<'_> {
         )
     }
 
-    /// Appends what stands at a place.
+    /// Appends the lines of a place: its labels, and that of its word.
     fn push_place(
         &self,
         alloc: Global,
@@ -259,7 +265,7 @@ impl Places<'_> {
         }
     }
 
-    /// Appends what stands at so many places, and behind the last.
+    /// Appends the lines of all places of a section, and the labels after its last word.
     fn push_places(
         &self,
         alloc: Global,
@@ -280,7 +286,7 @@ impl Places<'_> {
     }
 }
 
-/// Appends whether a section is initialised, or how many words it reserves.
+/// Appends the body in words: `initialised`, or how many words are reserved.
 fn push_body_text(text: &mut String, body: &Body) -> Result<(), NoMemory>
     ensures { OnOk result (string_bytes text.new ≡ string_bytes text.old ++ body_text (body_data body.now)) }
 {
@@ -299,7 +305,7 @@ fn push_heading(text: &mut String, section: &Section) -> Result<(), NoMemory>
     push_text(text, "\n")
 }
 
-/// Appends what stands in a section.
+/// Appends the lines of all places of a section's body.
 fn push_body(
     alloc: Global,
     text: &mut String,

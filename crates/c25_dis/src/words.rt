@@ -1,4 +1,4 @@
-//! The text of words by their addresses.
+//! The text of the words of a hex text, by their addresses.
 
 ghost use Rattle.std.specs.Prelude.{◌≡◌, ◌+◌, ◌≤◌, ◌++◌, ℕ, List, OnOk, IfOk, None, string_bytes};
 ghost use Rattle.c25_dis.specs.Lines.{IsCode};
@@ -6,10 +6,11 @@ ghost use Rattle.c25_dis.specs.Words.{gap_text, is_before, word_at, IsAddressTex
 ghost use Rattle.c25_meaning_instructions.specs.declared.insn.Insn.{Insn};
 
 use crate::instruction_reader::instruction;
-use crate::line::{push_line, push_text};
+use crate::line::{Code, push_line};
 use c25_meaning_common::no_memory::NoMemory;
 use c25_meaning_image::word_map::WordMap;
 use c25_meaning_instructions::insn::Insn;
+use c25_texts::appending::push_text;
 use std::alloc::Global;
 
 /// What a word is taken for: an instruction, with a second word if it has one, or data.
@@ -18,7 +19,8 @@ struct Taken {
     insn: Option<Insn>,
 }
 
-/// What a word is taken for that is no instruction alone, with the next one, if there is one.
+/// How a word is taken that is not an instruction alone: with the next one, if both are an instruction, else
+/// as data.
 fn read_two(word: u16, next: Option<u16>) -> Taken
     requires { (i : Insn) → IsCode word None i → ⊥ }
     ensures { IsTaken word next result.second result.insn }
@@ -41,7 +43,7 @@ fn read_two(word: u16, next: Option<u16>) -> Taken
     }
 }
 
-/// What a word is taken for, with the next one, if there is one.
+/// How a word is taken, where the next one is given, if there is one.
 fn read_word(word: u16, next: Option<u16>) -> Taken
     ensures { IsTaken word next result.second result.insn }
 {
@@ -54,7 +56,7 @@ fn read_word(word: u16, next: Option<u16>) -> Taken
     }
 }
 
-/// The word at an address.
+/// The word at an address, if there is one.
 fn word_at(words: &WordMap, address: u32) -> Option<u16>
     ensures { result ≡ word_at words.now address }
 {
@@ -65,7 +67,7 @@ fn word_at(words: &WordMap, address: u32) -> Option<u16>
     }
 }
 
-/// Whether an address stands before the end of the last line.
+/// Whether an address lies before the end of the last line, so that the line has its word.
 fn is_before(address: u32, end: Option<u32>) -> bool
     ensures { result ≡ is_before address end }
 {
@@ -75,7 +77,7 @@ fn is_before(address: u32, end: Option<u32>) -> bool
     }
 }
 
-/// Appends an empty line where a line begins behind the end of the last one.
+/// Appends an empty line, unless the next line begins where the last one ended.
 fn push_gap(text: &mut String, end: Option<u32>, address: u32) -> Result<(), NoMemory>
     ensures { OnOk result (string_bytes text.new ≡ string_bytes text.old ++ gap_text end address) }
 {
@@ -91,22 +93,28 @@ fn push_gap(text: &mut String, end: Option<u32>, address: u32) -> Result<(), NoM
     }
 }
 
-/// Appends the line of a word, and answers where it ends.
+/// Appends the line of the first of two words, the second of which there may be, and returns the address where
+/// the line ends.
 fn push_word_line(
     alloc: Global,
     text: &mut String,
-    next: Option<u16>,
+    words: (u16, Option<u16>),
     address: u32,
-    word: u16,
     end: Option<u32>,
 ) -> Result<Option<u32>, NoMemory>
     requires { address ≤ 65536 }
-    ensures { IfOk result (λ after. (line : List ℕ) × IsWordLine next address word end after line
+    ensures { IfOk result (λ after. (line : List ℕ) × IsWordLine words.1 address words.0 end after line
         × (string_bytes text.new ≡ string_bytes text.old ++ line)) }
 {
     push_gap(text, end, address)?;
-    let Taken { second, insn } = read_word(word, next);
-    push_line(alloc, text, address as usize, word, second, &insn)?;
+    let (first, next) = words;
+    let Taken { second, insn } = read_word(first, next);
+    let code = Code {
+        first,
+        second,
+        insn,
+    };
+    push_line(alloc, text, address as usize, &code)?;
     push_text(text, "\n")?;
     match second {
         None => Ok(Some(address + 1)),
@@ -114,7 +122,7 @@ fn push_word_line(
     }
 }
 
-/// Appends what an address adds, and answers where the last line ends.
+/// Appends the line that begins at an address, if one does, and returns the address where the last line ends.
 fn push_address_text(
     alloc: Global,
     text: &mut String,
@@ -133,19 +141,20 @@ fn push_address_text(
             if is_before(address, end) {
                 Ok(end)
             } else {
-                push_word_line(alloc, text, word_at(words, address + 1), address, word, end)
+                let pair = (word, word_at(words, address + 1));
+                push_word_line(alloc, text, pair, address, end)
             }
         }
     }
 }
 
-/// The text of words from an address on, read in the order of their addresses: where a word, or a word
-/// and the next one, are an instruction's, a line of the address, those words and the instruction as
-/// the assembler reads it, and on behind it; else a line of the address and the word as data, `.word
-/// 05541h`. An empty line stands between two lines where no word is between their addresses.
-/// Addresses and words are hexadecimal.
+/// The text of words from an address on, read in the order of their addresses. Where a word, or a word and
+/// the next one, are an instruction's, it is a line of the address, those words and the instruction as the
+/// assembler reads it, and the reading goes on after it; else a line of the address and the word as data,
+/// `.word 05541h`. An empty line stands between two lines where no word is between their addresses. Addresses
+/// and words are hexadecimal.
 ///
-/// `NoMemory` where a growth was refused, and in no other case.
+/// It fails only where memory runs out.
 pub fn disassemble_words(alloc: Global, words: &WordMap, from: u16) -> Result<String, NoMemory>
     ensures { IfOk result (λ text. IsWordsText words.now from (string_bytes text)) }
 {

@@ -1,7 +1,7 @@
 -- What is shown next to the line of a fault, in whole lines.
 use Rattle.std.specs.Prelude.{ℕ, zero, suc, ◌&&◌, ℤ, pos, negsuc, List, [], ◌∷◌, ◌++◌, Option, Some, None, codes, nat_lt, if◌then◌else◌}
 use Rattle.std.specs.Fmt.{decimal, signed_decimal}
-use Rattle.c25_cmd.specs.Refused.{Character, End, StandingData, Word}
+use Rattle.c25_cmd.specs.Refused.{Character, End, RefusedAtData, Word}
 use Rattle.c25_link.specs.Misfits.{MisfitData}
 use Rattle.c25_meaning_common.specs.Digits.{four_digits, two_digits}
 use Rattle.c25_meaning_common.specs.Faults.{placed_text}
@@ -16,13 +16,13 @@ abbrev pub byte_text : ℕ → List ℕ
 byte_text b = if nat_lt 32 b && nat_lt b 127 then b ∷ [] else codes "byte " ++ two_digits b ++ codes "h"
 
 -- what stands at a fault of a command file, and in which column
-abbrev pub standing_text : StandingData → List ℕ
+abbrev pub standing_text : RefusedAtData → List ℕ
 standing_text (Word column text) = codes "column " ++ decimal column ++ codes ": " ++ text
 standing_text (Character column b) = codes "column " ++ decimal column ++ codes ": " ++ byte_text b
 standing_text End = codes "the text ends here"
 
 -- the line of the file's name and number with what stands at the fault
-abbrev pub refused_text : List ℕ → ℕ → StandingData → List ℕ
+abbrev pub refused_text : List ℕ → ℕ → RefusedAtData → List ℕ
 refused_text file line standing = placed_text file line (standing_text standing) ++ codes "\n"
 
 -- ---- a section without a range: 72

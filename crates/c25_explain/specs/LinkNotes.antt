@@ -4,7 +4,7 @@ use Rattle.std.specs.String.{string_bytes}
 use Rattle.std.specs.declared.alloc.Global.{Global}
 use Rattle.c25_chain.specs.declared.fault.ChainFault.{ChainFault}
 use Rattle.c25_chain.specs.declared.fault.ChainFault.TheVariants.{Source, NoFile, Object, Command, Link, Hex, Schedule, Samples, Script, File}
-use Rattle.c25_cmd.specs.Refused.{StandingData, refused_at}
+use Rattle.c25_cmd.specs.Refused.{RefusedAtData, refused_at}
 use Rattle.c25_explain.specs.Details.{missing_text, refused_text}
 use Rattle.c25_disk.specs.Held.{Held, IsAllOf}
 use Rattle.c25_meaning_linking.specs.Command.{CommandData}
@@ -19,7 +19,7 @@ use Rattle.c25_explain.specs.Trails.{IsTrailText}
 
 -- what stands at the fault in this line of the text of a command file, or nothing
 abbrev pub ShowsStanding : (file : List ℕ) → (line : ℕ) → (text : List ℕ) → List ℕ → Type 0
-ShowsStanding file line text shown = ((standing : StandingData) × (refused_at text ≡ Some standing) × (shown ≡ refused_text file line standing)) ⊎ (shown ≡ [])
+ShowsStanding file line text shown = ((standing : RefusedAtData) × (refused_at text ≡ Some standing) × (shown ≡ refused_text file line standing)) ⊎ (shown ≡ [])
 
 -- the range that the text of a command file lacks for a section, or nothing
 abbrev pub ShowsMissing : (file section : List ℕ) → (text : List ℕ) → List ℕ → Type 0

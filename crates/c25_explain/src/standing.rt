@@ -4,7 +4,7 @@ ghost use Rattle.std.specs.Prelude.{◌≡◌, ◌++◌, IfOk, OnOk, string_byte
 ghost use Rattle.c25_cmd.specs.Refused.{standing_data};
 ghost use Rattle.c25_explain.specs.Details.{byte_text, refused_text, standing_text};
 
-use c25_cmd::Standing;
+use c25_cmd::RefusedAt;
 use c25_meaning_common::no_memory::NoMemory;
 use c25_texts::digits::two;
 use std::alloc::Global;
@@ -24,18 +24,18 @@ fn push_byte(text: &mut String, byte: u8) -> Result<(), NoMemory>
 }
 
 /// Appends what stands at the fault, and its column.
-fn push_standing(text: &mut String, standing: Standing<'_>) -> Result<(), NoMemory>
+fn push_standing(text: &mut String, standing: RefusedAt<'_>) -> Result<(), NoMemory>
     ensures { OnOk result (string_bytes text.new ≡ string_bytes text.old ++ standing_text (standing_data standing.entry)) }
 {
     match standing {
-        Standing::Word { column, text: word } => {
+        RefusedAt::Word { column, text: word } => {
             write!(text, "column {column}: {word}").map_err(NoMemory::from)
         }
-        Standing::Character { column, byte } => {
+        RefusedAt::Character { column, byte } => {
             write!(text, "column {column}: ")?;
             push_byte(text, byte)
         }
-        Standing::End => text.push_str("the text ends here").map_err(NoMemory::from),
+        RefusedAt::End => text.push_str("the text ends here").map_err(NoMemory::from),
     }
 }
 
@@ -44,7 +44,7 @@ pub fn refused_text(
     alloc: Global,
     file: &str,
     line: usize,
-    standing: Standing<'_>,
+    standing: RefusedAt<'_>,
 ) -> Result<String, NoMemory>
     ensures { IfOk result (λ text. string_bytes text ≡ refused_text file.now line (standing_data standing.entry)) }
 {

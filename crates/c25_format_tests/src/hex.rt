@@ -1,4 +1,4 @@
-//! Texts from outside: lines that were added up by hand.
+//! Hex texts from outside: their sums were added up by hand.
 
 use crate::values::equal;
 use c25_hex::{read_hex, write_hex};
@@ -6,7 +6,7 @@ use c25_meaning_common::no_memory::NoMemory;
 use c25_meaning_image::word_map::WordMap;
 use std::alloc::Global;
 
-/// These words.
+/// A map of these words.
 fn words_of(alloc: Global, entries: &[(u16, u16)]) -> Result<WordMap, NoMemory> {
     let mut words = WordMap::new(alloc);
     for (address, word) in entries {
@@ -15,7 +15,7 @@ fn words_of(alloc: Global, entries: &[(u16, u16)]) -> Result<WordMap, NoMemory> 
     Ok(words)
 }
 
-/// Whether these are the words of a map, and no others.
+/// Whether a map has these words, and no others.
 fn are_words(words: &WordMap, entries: &[(u16, u16)]) -> bool {
     for (address, word) in entries {
         if words.get(*address) != Some(*word) {
@@ -33,7 +33,7 @@ fn is_read(alloc: Global, text: &str, entries: &[(u16, u16)]) -> bool {
     }
 }
 
-/// Whether words are written as this text, which is read back.
+/// Whether words are written as this text, and the text is read back as the words.
 fn goes_both_ways(alloc: Global, entries: &[(u16, u16)], lines: &str) -> Result<bool, NoMemory> {
     let words = words_of(alloc, entries)?;
     let text = write_hex(alloc, &words)?;

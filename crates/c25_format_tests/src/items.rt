@@ -1,9 +1,9 @@
-//! Words, numbers and items.
+//! Words, numbers and items of texts.
 
 use crate::values::equal;
-use c25_texts::{LineFormat, decimal_of, hexadecimal_of, is_word, read_items};
 use c25_meaning_common::failure::Failure;
 use c25_meaning_common::placed::Placed;
+use c25_texts::{LineFormat, decimal_of, hexadecimal_of, is_word, read_items};
 use std::alloc::Global;
 
 #[test]
@@ -15,7 +15,7 @@ fn words_are_numbers_and_names(rt: HostRuntime) {
     equal(&rt, (decimals, hexadecimals, names), wanted);
 }
 
-/// The number of the words of a line, at most three.
+/// The format of a line of at most three words: it gives their number.
 struct Counts;
 
 impl LineFormat for Counts {
@@ -40,10 +40,10 @@ impl LineFormat for Counts {
     }
 }
 
-/// The refusal of a line, where it has too many words.
+/// Why a line is refused: it has too many words.
 type Refused = Failure<Placed<usize, &'static str>>;
 
-/// The counts of a text's lines, where there are two.
+/// The counts of a text's lines, if it has two lines.
 fn two_counts(alloc: Global, text: &str) -> Result<Option<[usize; 2]>, Refused> {
     let counts = read_items::<Counts>(alloc, text)?;
     match counts.as_slice() {

@@ -28,12 +28,12 @@ fn marks_of_an_image_fit(rt: HostRuntime) {
     let fitting = [marks_fit(&[]), fit([1, 2, 1], [0, 1, 0xffff])];
     equal(&rt, fitting, [true; 2]);
     let others = [
-        // It ends past the page.
+        // The last mark ends past the page.
         fit([1, 2, 2], [0, 1, 0xffff]),
-        // Two share a word, or do not ascend.
+        // Two marks share a word, or do not ascend.
         fit([1, 2, 1], [0, 1, 2]),
         fit([1, 1, 1], [0, 2, 1]),
-        // One has three words, or none.
+        // A mark has three words, or none.
         fit([1, 3, 1], [0, 1, 9]),
         fit([0, 1, 1], [0, 1, 9]),
     ];
@@ -45,7 +45,7 @@ fn run_mark(load: u16, run: u16, size: u16) -> RunMark {
     RunMark { load, run, size }
 }
 
-/// The one mark of an image, beside which the instructions below are loaded.
+/// The one mark of an image, next to which the instructions below are loaded.
 const MARKS: [Mark; 1] = [Mark {
     address: 0x10,
     size: 2,
@@ -67,18 +67,18 @@ fn marks_of_code_in_b0_fit(rt: HostRuntime) {
     ];
     equal(&rt, fitting, [true; 3]);
     let others = [
-        // It runs before B0, or past the page.
+        // An instruction runs before B0, or past the page.
         run_fit(run_mark(0x20, 0xfeff, 1), last),
         run_fit(two, run_mark(0x40, 0xffff, 2)),
-        // It is loaded past the page.
+        // An instruction is loaded past the page.
         run_fit(two, run_mark(0xffff, 0xff80, 2)),
-        // Two run at a word, or do not ascend.
+        // Two instructions run at one word, or do not ascend.
         run_fit(two, run_mark(0x40, 0xff01, 1)),
         run_fit(last, two),
-        // One has three words, or none.
+        // An instruction has three words, or none.
         run_fit(run_mark(0x20, 0xff00, 3), last),
         run_fit(run_mark(0x20, 0xff00, 0), last),
-        // Two are loaded at a word; the last word of one, or its first, is another's.
+        // Two instructions are loaded at one word; the last word of one, or its first, is another's.
         run_fit(two, run_mark(0x21, 0xff80, 1)),
         run_fit(two, run_mark(0x0f, 0xff80, 2)),
         run_fit(two, run_mark(0x11, 0xff80, 2)),

@@ -1,11 +1,11 @@
-//! Lists that are a module's, and lists that are none's once something is changed in them.
+//! Lists that are a module's, and lists that are not once something is changed in them.
 
 use crate::values::equal;
 use c25_meaning_objects::object::{Block, LineMark, ModuleMark, Scope, SymbolKind, Version};
 use c25_module::{Body, Parts, Section, Symbol, spells};
 use std::alloc::{AllocError, Global};
 
-/// Lists of version 2 without anything.
+/// Empty lists of version 2.
 fn no_lists(alloc: Global) -> Parts {
     Parts {
         sections: Vec::new(alloc),
@@ -75,8 +75,8 @@ fn fill(alloc: Global, parts: &mut Parts) -> Result<(), AllocError> {
     )
 }
 
-/// Whether the lists are a module's as they are, in version 1, with a symbol of the name of another, with a file that is not
-/// used, with a line of no mark, and with a block that overlaps another.
+/// Whether the lists are a module's as they are, in version 1, with a symbol of the name of another, with a
+/// file that no line uses, with a line without a mark, and with a block that overlaps another.
 fn answers(alloc: Global, parts: &mut Parts) -> Result<[bool; 6], AllocError> {
     let whole = spells(parts);
     parts.version = Version::One;
@@ -104,7 +104,8 @@ fn answers(alloc: Global, parts: &mut Parts) -> Result<[bool; 6], AllocError> {
     ])
 }
 
-/// Whether they are one of version 1 without lines and blocks, then without files too, and then without sections.
+/// Whether the lists are a module's in version 1 without lines and blocks, then without files too, and then
+/// without sections.
 fn answers_of_first(parts: &mut Parts) -> [bool; 3] {
     parts.version = Version::One;
     parts.lines.clear();

@@ -1,12 +1,12 @@
-//! Modules as bytes, and bytes as modules.
+//! Modules written as bytes, and bytes read as modules.
 
 use crate::values::equal;
 use c25_meaning_common::relocation::RelocationKind;
 use c25_meaning_objects::object::{
     Block, LineMark, ModuleMark, Relocation, RelocationBase, Scope, SymbolKind, Version,
 };
-use c25_module::{Body, Module, Parts, Section, Symbol, spells, write_module};
-use c25_records::read_module;
+use c25_module::{Body, Module, Parts, Section, Symbol, spells};
+use c25_records::{read_module, write_module};
 use std::alloc::Global;
 
 /// A section's name, its words, and how many are reserved where it has none.
@@ -15,7 +15,7 @@ type SectionRow = (&'static str, &'static [u16], u32);
 /// A symbol's kind, whether it is global, its value, and its name.
 type SymbolRow = (SymbolKind, bool, i32, &'static str);
 
-/// What a module consists of.
+/// The contents of a module that a test expects.
 #[derive(Clone, Copy)]
 struct Lists {
     version: Version,

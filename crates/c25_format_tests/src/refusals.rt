@@ -1,10 +1,10 @@
-//! Refusals of a line as they are printed.
+//! Refusals of a line, as they are printed.
 
 use crate::values::equal;
-use c25_meaning_linking::command_fault::CommandFault;
+use c25_hex::hex_fault::HexFault;
 use c25_meaning_common::failure::Failure;
 use c25_meaning_common::placed::Placed;
-use c25_hex::hex_fault::HexFault;
+use c25_meaning_linking::command_fault::CommandFault;
 use c25_meaning_processor::sample::BadSamples;
 use c25_meaning_processor::schedule::BadSchedule;
 use c25_meaning_processor::script::BadCommand;

@@ -1,9 +1,9 @@
-//! What was found and what is wanted.
+//! The comparison of what was found with what was expected.
 
 use std::fmt::Debug;
 use std::process::Abort;
 
-/// These are one value. In a function of its own the assertion is proved once for all tests.
+/// Asserts that two values are equal. In a function of its own the assertion is proved once for all tests.
 pub(crate) fn equal<T: PartialEq + Debug + Drop>(rt: &impl Abort, found: T, wanted: T) {
     assert_eq!(rt; found, wanted);
 }

@@ -92,7 +92,7 @@ cut_in n s t line p q [] rest bytes goes joined left more read =
     let f = front_of p line [] q (10 ∷ text_of rest) joined refl left in whole_front n s t line p q rest bytes goes f.0 f.1 more read
 cut_in n s t line p q (y ∷ r) rest bytes goes joined left more read = part_line n s t line p (y ∷ r) rest bytes goes joined (λ none. cc none) read
 
--- the text is cut behind a line
+-- the text is cut after a line
 cut_behind : (n : ℕ) (s t : HexState) (line p q r : List ℕ) (rest : List (List ℕ)) (bytes : map.FinMap nat_cmp ℕ) (goes : Goes s (line ∷ rest) t)
     → ((r : List ℕ) → r ++ q ≡ text_of rest → after_lines (n + 1) goes.0 (lines r) ≡ Ok bytes → ⊥)
     → p ≡ line ++ r → 10 ∷ text_of rest ≡ r ++ q → q ≢ 10 ∷ [] → after_lines n s (lines p) ≡ Ok bytes → ⊥

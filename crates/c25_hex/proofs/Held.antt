@@ -147,7 +147,7 @@ by_halves bytes done n p holds below le =
           ap (λ (i : ℕ). map.get bytes i) e ∙ holds.highs (p / 2) ∙ ap high gone
     ]
 
--- no byte behind the words is given again
+-- no byte after the words is given again
 pub none_again : (bytes : map.FinMap nat_cmp ℕ) (done : List (ℕ × ℕ)) (n place : ℕ) (bs : List ℕ) → Holds bytes done → AllBelow n done → 2 * n ≤ place → gives_again bytes place bs ≡ false
 none_again bytes done n place [] holds below le = refl
 none_again bytes done n place (b ∷ bs) holds below le =

@@ -67,7 +67,7 @@ line_bytes_fit address kind bytes is =
     (bytes_cons (address % 256) (kind ∷ bytes) (omega arith) (bytes_cons kind bytes (omega arith) is.fit))))
     (byte_alone (sum_byte (line_body address kind bytes)) (omega arith))
 
--- all behind the `:` are digits
+-- all after the `:` are digits
 pub digits_of_line : (address kind : ℕ) (bytes : List ℕ) → IsLine address kind bytes → list_all is_hex_digit (encode_upper (with_sum (line_body address kind bytes))) ≡ true
 digits_of_line address kind bytes is = digits_pass (with_sum (line_body address kind bytes)) (line_bytes_fit address kind bytes is)
 
@@ -176,7 +176,7 @@ front_refused n more front back len joined some =
     let left = some_there back some in
     short_refused front (λ lt. let e = first_is front back n more joined lt in omega arith)
 
--- a line that is cut behind its `:` or later has no effect
+-- a line that is cut after its `:` or later has no effect
 pub cut_refused : (s : HexState) (address kind : ℕ) (bytes cut rest : List ℕ) (u : HexState) → IsLine address kind bytes → cut ++ rest ≡ hex_line address kind bytes
     → cut ≢ [] → rest ≢ [] → s.ended ≡ false → after_line s cut ≡ Ok u → ⊥
 unfolding hex_line

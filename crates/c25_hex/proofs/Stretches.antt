@@ -158,14 +158,14 @@ data_goes s v set t done rest at set_is below is goes =
 data_at : (s : HexState) (set : Bool) (t : Stretch) (done : List (ℕ × ℕ)) → IsAt s set done → AllBelow t.address done → IsStretch t → IsAt (with_words s t) set (done ++ entries_of t)
 data_at s set t done at below is = record { running = at.running; base = at.base; holds = holds_words s.bytes done t.address t.words at.holds below }
 
--- the state behind a line of words and the base line before it
+-- the state after a line of words and the base line before it
 abbrev after_stretch : HexState → Bool → Stretch → HexState
 after_stretch s set t = with_words (if_base (needs_base set t) s) t where
   if_base : Bool → HexState → HexState
   if_base true s = record s { base = 65536 }
   if_base false s = s
 
--- which base holds behind a line of words
+-- which base holds after a line of words
 base_behind : (set b : Bool) (t : Stretch) → needs_base set t ≡ b → (set ≡ true → 32768 ≤ t.address) → (set || b) ≡ leb 32768 t.address
 base_behind true true t e later = cc e
 base_behind true false t e later = sym (le-leb 32768 t.address (later refl))
@@ -265,7 +265,7 @@ ascends_at m n es same h = let P : ℕ → Type 0 = λ k. Ascends k es in subst 
 reads_all : (s : HexState) (lines : List (List ℕ)) (all same : List (ℕ × ℕ)) → all ≡ same → Reads s lines all → Reads s lines same
 reads_all s lines all same e h = let P : List (ℕ × ℕ) → Type 0 = λ es. Reads s lines es in subst P e h
 
--- a line of words ends, and the lines behind it are read
+-- a line of words ends, and the lines after it are read
 line_ends : (s : HexState) (set : Bool) (t : Stretch) (done rest : List (ℕ × ℕ)) (later_on : List Stretch) → IsAt s set done → (set ≡ true → 32768 ≤ t.address) → AllBelow t.address done → IsStretch t
     → Reads (with_words (if_base (needs_base set t) s) t) (lines_on (set || needs_base set t) later_on) ((done ++ entries_of t) ++ rest)
     → Reads s (lines_on set (t ∷ later_on)) (done ++ (entries_of t ++ rest))

@@ -1,9 +1,9 @@
--- How a list of cells stands for bytes by their addresses.
+-- Lists of cells as bytes by their addresses.
 use Rattle.std.specs.Prelude.{ℕ, ◌+◌, Bool, false, ◌||◌, not, List, [], ◌∷◌, Option, Some, None, is_some}
 use Rattle.std.specs.Ordering.{nat_cmp}
 use Rattle.std.specs.FinMap as map
 
--- the bytes that are given in cells, with their addresses from one on
+-- the bytes that are given in cells, with their addresses from a first one on
 abbrev pub entries_from : ℕ → List (Option ℕ) → List (ℕ × ℕ)
 entries_from place [] = []
 entries_from place (None ∷ cells) = entries_from (place + 1) cells

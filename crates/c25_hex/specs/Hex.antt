@@ -13,7 +13,8 @@ use Rattle.c25_hex.specs.declared.hex_fault.HexFault.{HexFault}
 use Rattle.c25_meaning_common.specs.declared.placed.Placed.{Placed}
 use Rattle.c25_hex.specs.declared.hex_fault.HexFault.TheVariants.{BadStart, BadDigit, BadCount, BadSum, BadKind, OddWord, Twice, NoEnd, AfterEnd, AddressRange}
 
--- how far a text has been read: the base, the bytes given so far by their addresses, and whether the end line was met
+-- the state of a text's reading: the base, the bytes given so far by their addresses, and whether the end
+-- line was met
 pub record HexState : Type 0 where
   pub base : ℕ
   pub bytes : map.FinMap nat_cmp ℕ
@@ -21,7 +22,7 @@ pub record HexState : Type 0 where
 
 -- ---- one line
 
--- the bytes of a line: `:` and pairs of digits; an odd number of digits is no count of bytes
+-- the bytes of a line: `:` and pairs of digits; an odd number of digits is a wrong count of bytes
 unfoldable pub bytes_of : List ℕ → Result (List ℕ) HexFault
 bytes_of line =
     if not (nat_lt 0 (length line) && slice_index line 0 == 58) then Err BadStart
@@ -46,17 +47,18 @@ checked_line bytes =
     else (if not (count_fits (slice_index bytes 3) (slice_index bytes 0)) then Err BadCount
     else Ok bytes)))
 
--- bytes put at the addresses from one on
+-- bytes put at the addresses from a first one on
 abbrev pub put_bytes : map.FinMap nat_cmp ℕ → ℕ → List ℕ → map.FinMap nat_cmp ℕ
 put_bytes given place [] = given
 put_bytes given place (b ∷ bs) = put_bytes (map.insert given place b) (place + 1) bs
 
--- whether one of them is given already
+-- whether one of the bytes at these addresses has been given already
 abbrev pub gives_again : map.FinMap nat_cmp ℕ → ℕ → List ℕ → Bool
 gives_again given place [] = false
 gives_again given place (b ∷ bs) = map.contains_key given place || gives_again given (place + 1) bs
 
--- bytes under the base: none past the 65,536 of the base or the 131,072 of all words, and none that is given already
+-- bytes relative to the base: none past the 65,536 of the base or the 131,072 of all words, and none that has
+-- been given already
 unfoldable pub with_bytes : HexState → ℕ → List ℕ → Result HexState HexFault
 with_bytes s address bytes =
     if nat_lt 65536 (address + length bytes) || (nat_lt 0 (length bytes) && nat_lt 131072 (s.base + address + length bytes)) then Err AddressRange
@@ -75,7 +77,8 @@ has_odd_word given = list_any (λ e. not (map.contains_key given (other_byte e.0
 abbrev pub pair_at : List ℕ → ℕ → ℕ
 pair_at bytes at = 256 * slice_index bytes at + slice_index bytes (at + 1)
 
--- what a line does whose form is right: 0 is data, 1 the end, 2 a segment base, 4 a linear base; 3 and 5, the start addresses, do nothing
+-- the state after a line whose form is right: 0 is data, 1 the end, 2 a segment base, 4 a linear base; 3 and
+-- 5, the start addresses, change nothing
 unfoldable pub after_bytes : HexState → List ℕ → Result HexState HexFault
 after_bytes s bytes =
     if slice_index bytes 3 == 0 then with_bytes s (pair_at bytes 1) (take (slice_index bytes 0) (drop 4 bytes))
@@ -85,7 +88,7 @@ after_bytes s bytes =
     else (if slice_index bytes 3 == 3 || slice_index bytes 3 == 5 then Ok s
     else Err BadKind))))
 
--- a line, without its end, after the lines before it
+-- the state after a line, without its end, that follows the lines before it
 unfoldable pub after_line : HexState → List ℕ → Result HexState HexFault
 after_line s line =
     if list_all is_blank line then Ok s
@@ -98,12 +101,12 @@ after_line s line =
 abbrev pub numbered : {A : Type 0} → ℕ → Result A HexFault → Result A (Placed ℕ HexFault)
 numbered n read = told (λ f. record { place = n; fault = f }) read
 
--- after n lines: the bytes given in the end, or the first fault and its line
+-- the bytes given in the end, after n lines, or the first fault and its line
 unfoldable pub after_lines : ℕ → HexState → List (List ℕ) → Result (map.FinMap nat_cmp ℕ) (Placed ℕ HexFault)
 after_lines n s [] = if s.ended then Ok s.bytes else Err (record { place = n; fault = NoEnd })
 after_lines n s (line ∷ rest) = numbered (n + 1) (after_line s line) >>= λ t. after_lines (n + 1) t rest
 
--- before the first line
+-- the state before the first line
 abbrev pub start : HexState
 start = record { base = 0; bytes = map.empty; ended = false }
 
@@ -116,10 +119,11 @@ abbrev pub word_of : Option ℕ → Option ℕ → Option ℕ
 word_of (Some high) (Some low) = Some (256 * high + low)
 word_of _ _ = None
 
--- the words are those of the bytes: the word at an address has the byte at twice the address and the one behind it
+-- the words are those of the bytes: the word at an address has the byte at twice the address and the one
+-- after it
 abbrev pub HasWordsOf : map.FinMap nat_cmp ℕ → map.FinMap nat_cmp ℕ → Type 0
 HasWordsOf given words = (a : ℕ) → map.get words a ≡ word_of (map.get given (2 * a)) (map.get given (2 * a + 1))
 
--- the text spells the words
+-- a text spells words
 abbrev pub SpellsWords : List ℕ → map.FinMap nat_cmp ℕ → Type 0
 SpellsWords text words = (given : map.FinMap nat_cmp ℕ) × (bytes_given text ≡ Ok given) × HasWordsOf given words

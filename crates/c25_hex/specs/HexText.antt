@@ -22,16 +22,17 @@ hex_line address kind bytes = 58 ∷ encode_upper (with_sum (line_body address k
 
 -- ---- the words of a line
 
--- words at addresses that follow on one another
+-- words at consecutive addresses
 pub record Stretch : Type 0 where
   pub address : ℕ
   pub words : List ℕ
 
--- one word alone
+-- a stretch of one word
 abbrev pub alone : ℕ × ℕ → Stretch
 alone entry = record { address = entry.0; words = entry.1 ∷ [] }
 
--- whether a word stands on the line of the words before it: where it follows on them, they are not eight, and it is not the one at 8000h
+-- whether a word goes on the line of the words before it: its address follows theirs, they are fewer than
+-- eight, and it is not the word at 8000h
 abbrev pub goes_on : Stretch → ℕ → Bool
 goes_on s address = address == s.address + length s.words && nat_lt (length s.words) 8 && not (address == 32768)
 

@@ -1,4 +1,4 @@
--- How the reader's and the writer's types stand for the definitions' data.
+-- What the reader's and the writer's types stand for among the definitions' data.
 use Rattle.std.specs.Prelude.{ℕ, Bool, if◌then◌else◌, List, [], ◌∷◌, ◌++◌}
 use Rattle.c25_meaning_common.specs.declared.failure.Failure.{Failure}
 use Rattle.c25_meaning_common.specs.declared.failure.Failure.TheVariants.{NoMemory, Fault}
@@ -21,7 +21,7 @@ code_of kinds.SegmentStart = 3
 code_of kinds.LinearBase = 4
 code_of kinds.LinearStart = 5
 
--- how far a text has been read
+-- the state of a text's reading
 abbrev pub hex_state : Reader → HexState
 hex_state r = record { base = r.base; bytes = cells_map r.bytes.items; ended = r.ended }
 
@@ -29,7 +29,7 @@ hex_state r = record { base = r.base; bytes = cells_map r.bytes.items; ended = r
 abbrev pub stretch_of : Stretch → text.Stretch
 stretch_of s = record { address = s.address; words = s.words.items }
 
--- the line of some words with its end, behind the line of the base where that is needed
+-- the line of a stretch with its end, after the line of the base where that is needed
 abbrev pub stretch_text : Bool → text.Stretch → List ℕ
 stretch_text set s = text.text_of ((if text.needs_base set s then text.base_line ∷ [] else []) ++ text.data_line s ∷ [])
 

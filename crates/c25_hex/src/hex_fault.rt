@@ -1,32 +1,33 @@
-//! What is wrong with a hex text.
+//! The faults of hex texts.
 
 use thiserror::Error;
 
-/// Why a line, or the text, is not Intel hex of 16-bit words. It is placed at the number of a line: from
-/// 1, or 0 where a text without lines has no end. The numbers are those of the fault lines.
+/// Why a line, or the text, is not Intel hex of 16-bit words. A fault is placed at the number of a line, from
+/// 1, or at 0 where a text without lines has no end line. The numbers in parentheses are the fault numbers
+/// shown to the user.
 #[derive(Clone, Copy, Debug, Error)]
 #[error("{}", self.name())]
 pub enum HexFault {
     /// A line that is not blank does not begin with `:` (80).
     BadStart,
-    /// A character behind the `:` is no hexadecimal digit (81).
+    /// A character after the `:` is not a hexadecimal digit (81).
     BadDigit,
-    /// The digits are odd in number, the count is not that of the bytes, or the kind asks for
+    /// The digits are odd in number, the count is not that of the data bytes, or the record type calls for
     /// another count (82).
     BadCount,
     /// The bytes of a line do not add up to a multiple of 256 (83).
     BadSum,
-    /// The kind is none of 00 to 05 (84).
+    /// The record type is not one of 00 to 05 (84).
     BadKind,
-    /// At the end line one byte of a word is given and the other is not (85).
+    /// At the end line one byte of a word has been given and the other has not (85).
     OddWord,
-    /// A byte is given twice, be it equal or not (86).
+    /// A byte is given twice, equal or not (86).
     Twice,
     /// The text ends without an end line (87).
     NoEnd,
     /// A line that is not blank follows the end line (88).
     AfterEnd,
-    /// Bytes past the 65,536 of their base, or past the 131,072 of the address space (89).
+    /// A line gives bytes past the 65,536 of its base, or past the 131,072 of the address space (89).
     AddressRange,
 }
 
@@ -34,7 +35,7 @@ impl HexFault {
     ghost use Rattle.std.specs.Prelude.{◌≡◌};
     ghost use Rattle.c25_hex.specs.Faults.{hex_name, hex_number};
 
-    /// The number that it is told by.
+    /// The fault number shown to the user.
     pub fn number(&self) -> u8
         ensures { result ≡ hex_number self.now }
     {
@@ -52,7 +53,7 @@ impl HexFault {
         }
     }
 
-    /// The name that it is told by.
+    /// The fault name shown to the user.
     pub fn name(&self) -> &'static str
         ensures { result.now ≡ hex_name self.now }
     {

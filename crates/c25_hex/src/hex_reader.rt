@@ -1,4 +1,4 @@
-//! A whole hex text.
+//! A whole hex text, read.
 
 ghost use Rattle.std.specs.Prelude.{◌≡◌, IfOk, IfErr, vec_len};
 ghost use Rattle.std.specs.FinMap as map;
@@ -7,13 +7,13 @@ ghost use Rattle.c25_hex.specs.Cells.{cells_map};
 ghost use Rattle.c25_meaning_common.specs.Results.{Meets, Fails};
 ghost use Rattle.c25_hex.specs.View.{at_line, hex_state};
 
+use crate::hex_fault::HexFault;
 use crate::state::Reader;
 use crate::words::words_of;
 use c25_meaning_common::failure::Failure;
 use c25_meaning_common::no_memory::NoMemory;
 use c25_meaning_common::placed::Placed;
 use c25_meaning_image::word_map::WordMap;
-use crate::hex_fault::HexFault;
 use std::alloc::Global;
 
 fn none_given(alloc: Global) -> Result<Vec<Option<u8>>, NoMemory>
@@ -48,7 +48,7 @@ fn at_line(failure: Failure<HexFault>, line: usize) -> Failure<Placed<usize, Hex
     }
 }
 
-/// The bytes that the lines give.
+/// The bytes that the lines of a text give, by their addresses.
 fn bytes_given(alloc: Global, text: &str) -> Result<Reader, Failure<Placed<usize, HexFault>>>
     ensures { Meets (λ r. cells_map r.bytes.items) (spec.bytes_given text.now) result }
 {
@@ -72,13 +72,13 @@ fn bytes_given(alloc: Global, text: &str) -> Result<Reader, Failure<Placed<usize
 
 /// The words that an Intel hex text spells.
 ///
-/// A line is `:` and pairs of digits in either case. Lines end in LF or CRLF, the last one may lack
-/// its end, and lines of blanks and tabs are skipped.
+/// A line is `:` and pairs of digits in either case. Lines end in LF or CRLF, the last one may lack its end,
+/// and lines of blanks and tabs are skipped.
 ///
-/// The fault is the first one and its line. For one line that is, in this order:
-/// `AfterEnd`, `BadStart`, `BadDigit`, `BadCount` (of the digits), `BadSum`, `BadKind`, `BadCount`
-/// (of the kind), `AddressRange`, `Twice`; at the end line `OddWord`; and `NoEnd` at the last line,
-/// or at line 0 of a text without lines. It refuses for want of memory too.
+/// The fault is the first one and its line. For one line that is, in this order: `AfterEnd`, `BadStart`,
+/// `BadDigit`, `BadCount` (of the digits), `BadSum`, `BadKind`, `BadCount` (of the record type),
+/// `AddressRange`, `Twice`; at the end line `OddWord`; and `NoEnd` at the last line, or at line 0 of a text
+/// without lines. It fails with `NoMemory` too.
 pub fn read_hex(alloc: Global, text: &str) -> Result<WordMap, Failure<Placed<usize, HexFault>>>
     ensures found { IfOk result (λ words. spec.SpellsWords text.now words) }
     ensures refused { IfErr result (λ e. Fails (spec.bytes_given text.now) e) }

@@ -1,29 +1,29 @@
-//! The kinds of lines.
+//! The record types of Intel hex.
 
 ghost use Rattle.std.specs.Prelude.{◌≡◌, ◌<◌, MatchOption};
 ghost use Rattle.c25_hex.specs.Hex as spec;
 
-/// What a line gives, by its fourth byte.
+/// The record type of a line, its fourth byte.
 #[derive(Clone, Copy)]
 pub(crate) enum Kind {
-    /// Bytes at an address under the base.
+    /// Data bytes at an address relative to the base (00).
     Data,
-    /// The end of the text.
+    /// The end of the text (01).
     End,
-    /// A base in units of 16 bytes.
+    /// Extended segment address: a base in units of 16 bytes (02).
     SegmentBase,
-    /// A start address, which means nothing here.
+    /// Start segment address, which has no meaning here (03).
     SegmentStart,
-    /// A base in units of 65,536 bytes.
+    /// Extended linear address: a base in units of 65,536 bytes (04).
     LinearBase,
-    /// A start address, which means nothing here.
+    /// Start linear address, which has no meaning here (05).
     LinearStart,
 }
 
 impl Kind {
     ghost use Rattle.c25_hex.specs.View.{code_of};
 
-    /// The kind of a byte, where it has one.
+    /// The record type of a byte, if there is one.
     pub(crate) fn from_byte(byte: u8) -> Option<Kind>
         ensures { MatchOption result (5 < byte) (λ kind. code_of kind ≡ byte) }
     {
@@ -38,14 +38,14 @@ impl Kind {
         }
     }
 
-    /// The byte of a kind.
+    /// The byte of a record type.
     pub(crate) fn byte(self) -> u8
         ensures { result ≡ code_of self }
     {
         self as u8
     }
 
-    /// Whether a line of this kind may have so many bytes.
+    /// Whether a line of this record type may have so many data bytes.
     pub(crate) fn has_count(self, count: u8) -> bool
         ensures { result ≡ spec.count_fits (code_of self) count }
     {

@@ -7,12 +7,12 @@ ghost use Rattle.c25_hex.specs.Hex.{SpellsWords};
 ghost use Rattle.c25_hex.specs.HexText.{written};
 ghost use Rattle.c25_meaning_image.specs.WordMap.{IsWordMap};
 
-/// What is written for words is read back as these words.
+/// The text that is written for words is read back as these words.
 pub fn written_texts_are_read_back()
     ensures { (words : map.FinMap nat_cmp ℕ) → IsWordMap words → SpellsWords (written words) words }
 {}
 
-/// What begins a written text, the text without its last LF aside, spells no words.
+/// No proper beginning of a written text spells words, but for the text without its last LF.
 pub fn no_prefix_spells_words()
     ensures cut { (words other : map.FinMap nat_cmp ℕ) (front rest : List ℕ) → IsWordMap words
         → written words ≡ front ++ rest → rest ≢ [] → rest ≢ 10 ∷ [] → ¬ (SpellsWords front other) }
@@ -20,7 +20,7 @@ pub fn no_prefix_spells_words()
         → written words ≡ front ++ 10 ∷ [] → SpellsWords front words }
 {}
 
-/// Two maps of words that one text spells are one.
+/// Each text spells one map of words at most.
 pub fn one_text_spells_one_map()
     ensures { (text : List ℕ) (words other : map.FinMap nat_cmp ℕ) → SpellsWords text words → SpellsWords text other → words ≡ other }
 {}

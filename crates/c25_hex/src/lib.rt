@@ -1,4 +1,4 @@
-//! Intel hex texts: what they are, and how they are written and read.
+//! Intel hex texts: their definition, their reader and their writer.
 #![tactic(auto)]
 
 pub mod hex_fault;

@@ -7,9 +7,9 @@ ghost use Rattle.c25_hex.specs.Hex as spec;
 ghost use Rattle.c25_meaning_common.specs.Results.{Meets};
 ghost use Rattle.c25_hex.specs.View.{code_of};
 
+use crate::hex_fault::HexFault;
 use crate::kind::Kind;
 use c25_meaning_common::failure::Failure;
-use crate::hex_fault::HexFault;
 use std::alloc::Global;
 
 fn is_hex_digit(byte: u8) -> bool
@@ -26,7 +26,7 @@ fn all_digits(digits: &[u8]) -> bool
     digits.iter().all(|byte| is_hex_digit(*byte))
 }
 
-/// The bytes of a line: pairs of digits behind `:`.
+/// The bytes of a line: pairs of digits after the `:`.
 #[tactic(auto, unfolding(crate::specs::Hex::bytes_of))]
 pub(crate) fn bytes_of(alloc: Global, line: &[u8]) -> Result<Vec<u8>, Failure<HexFault>>
     ensures { Meets (λ bytes. bytes.items) (spec.bytes_of line.now) result }
@@ -57,7 +57,7 @@ pub(crate) fn sum_of(bytes: &[u8]) -> u32
     total
 }
 
-/// The kind of a line, once its count and its sum are right.
+/// The record type of a line, once its count and its sum are right.
 #[tactic(auto, unfolding(crate::specs::Hex::checked_line))]
 pub(crate) fn kind_of(bytes: &[u8]) -> Result<Kind, HexFault>
     ensures checked { MatchResult result (λ _. spec.checked_line bytes.now ≡ Ok bytes.now) (λ f. spec.checked_line bytes.now ≡ Err f) }

@@ -1,4 +1,4 @@
-//! A hex text as far as it has been read.
+//! The reading of a hex text, line by line.
 
 ghost use Rattle.std.specs.Prelude.{◌≡◌, ◌≤◌, ◌<◌, ◌+◌, ◌^◌, length, slice_index, is_some, IsTrue, OnOk, MatchResult, Ok, Err, vec_len};
 ghost use Rattle.std.specs.List.{list_all, list_any};
@@ -8,12 +8,12 @@ ghost use Rattle.c25_meaning_common.specs.Bytes.{is_blank};
 ghost use Rattle.c25_meaning_common.specs.Results.{Meets};
 ghost use Rattle.c25_hex.specs.View.{code_of, hex_state};
 
+use crate::hex_fault::HexFault;
 use crate::kind::Kind;
 use crate::line::{bytes_of, kind_of};
 use crate::state::Reader;
 use c25_meaning_common::bytes::is_blank;
 use c25_meaning_common::failure::Failure;
-use crate::hex_fault::HexFault;
 use std::alloc::Global;
 
 /// Whether a line has nothing but blanks and tabs.
@@ -29,7 +29,7 @@ fn any_given(cells: &[Option<u8>]) -> bool
     cells.iter().any(|cell| cell.is_some())
 }
 
-/// Whether one of these bytes is given already.
+/// Whether one of the bytes at these addresses has been given already.
 fn gives_again(cells: &[Option<u8>], place: usize, bytes: &[u8]) -> bool
     requires { place + length bytes.now ≤ length cells.now }
     ensures { result ≡ spec.gives_again (cells_map cells.now) place bytes.now }
@@ -56,14 +56,14 @@ fn has_odd_pair(cells: &[Option<u8>]) -> bool
     any_given(rest)
 }
 
-/// Whether one byte alone of a word is given.
+/// Whether one byte alone of some word has been given.
 fn has_odd_word(cells: &[Option<u8>]) -> bool
     ensures { result ≡ spec.has_odd_word (cells_map cells.now) }
 {
     has_odd_pair(cells)
 }
 
-/// Puts bytes from a place on.
+/// Puts bytes into the cells from a place on.
 fn put_bytes(cells: &mut Vec<Option<u8>>, place: usize, bytes: &[u8])
     requires { place + length bytes.now ≤ vec_len cells.old }
     ensures put { cells_map cells.new.items ≡ spec.put_bytes (cells_map cells.old.items) place bytes.now }
@@ -74,7 +74,7 @@ fn put_bytes(cells: &mut Vec<Option<u8>>, place: usize, bytes: &[u8])
     }
 }
 
-/// The number of two bytes of a line.
+/// The number that two bytes of a line make, the high one first.
 fn pair_at(bytes: &[u8], at: usize) -> usize
     requires { at + 2 ≤ length bytes.now }
     ensures pair { result ≡ spec.pair_at bytes.now at }
@@ -84,7 +84,7 @@ fn pair_at(bytes: &[u8], at: usize) -> usize
 }
 
 impl Reader {
-    /// Takes the bytes of a line of data.
+    /// Takes the bytes of a data line.
     #[tactic(auto, unfolding(crate::specs::Hex::with_bytes))]
     fn take_bytes(&mut self, address: usize, bytes: &[u8]) -> Result<(), HexFault>
         requires address_in { address < 2 ^ 16 }
@@ -108,7 +108,7 @@ impl Reader {
         Ok(())
     }
 
-    /// Takes a line whose form is right.
+    /// Takes a line whose form has been checked.
     #[tactic(auto, unfolding(crate::specs::Hex::after_bytes))]
     fn take_checked_line(&mut self, kind: Kind, bytes: &[u8]) -> Result<(), HexFault>
         requires long { 5 ≤ length bytes.now }

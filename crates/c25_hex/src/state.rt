@@ -1,4 +1,4 @@
-//! How far a hex text has been read.
+//! The state of a hex text's reading.
 
 ghost use Rattle.std.specs.Prelude.{◌≡◌, ◌<◌, ◌^◌, vec_len};
 

@@ -1,4 +1,4 @@
-//! The words of one line.
+//! The words of one data line.
 
 ghost use Rattle.std.specs.Prelude.{◌≡◌, ◌<◌, ◌++◌, [], ◌∷◌, length};
 ghost use Rattle.std.specs.List.{flat_map};
@@ -7,17 +7,17 @@ ghost use Rattle.c25_hex.specs.View.{stretch_of};
 
 use arrayvec::ArrayVec;
 
-/// At most eight words at addresses that follow on one another.
+/// At most eight words at consecutive addresses.
 #[derive(Drop)]
 pub(crate) struct Stretch {
     pub address: u16,
     pub words: ArrayVec<u16, 8>,
 }
 
-/// The first address of the upper half, whose words have a base of their own.
+/// The first word address of the upper half, whose words have a base of their own.
 pub(crate) const UPPER_HALF: u16 = 0x8000;
 
-/// One word alone.
+/// A stretch of one word.
 pub(crate) fn alone(address: u16, word: u16) -> Stretch
     ensures { stretch_of result ≡ spec.alone (address, word) }
 {
@@ -26,7 +26,7 @@ pub(crate) fn alone(address: u16, word: u16) -> Stretch
     Stretch { address, words }
 }
 
-/// Whether a word at an address stands on the line of these words.
+/// Whether a word at an address goes on the line of these words.
 pub(crate) fn goes_on(stretch: &Stretch, address: u16) -> bool
     ensures { result ≡ spec.goes_on (stretch_of stretch.now) address }
 {

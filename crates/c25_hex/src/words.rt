@@ -18,7 +18,7 @@ fn word_of(high: Option<u8>, low: Option<u8>) -> Option<u16>
     }
 }
 
-/// The words of the bytes.
+/// The words of the bytes in cells, two cells a word.
 pub(crate) fn words_of(alloc: Global, cells: &[Option<u8>]) -> Result<WordMap, NoMemory>
     requires { length cells.now ≡ 131072 }
     ensures { IfOk result (λ m. spec.HasWordsOf (cells_map cells.now) m) }

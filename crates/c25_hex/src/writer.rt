@@ -1,4 +1,4 @@
-//! A hex text as far as it has been written.
+//! The writing of a hex text, line by line.
 
 ghost use Rattle.std.specs.Prelude.{◌≡◌, ◌≤◌, ◌++◌, ◌||◌, [], ◌∷◌, length, OnOk, string_bytes};
 ghost use Rattle.c25_hex.specs.HexText as spec;
@@ -19,7 +19,7 @@ pub(crate) struct Writer {
     pub has_base: bool,
 }
 
-/// What makes a line's sum a multiple of 256.
+/// The byte that makes a line's sum a multiple of 256.
 fn check_sum(bytes: &[u8]) -> u8
     requires { length bytes.now ≤ 20 }
     ensures { bytes.now ++ result ∷ [] ≡ spec.with_sum bytes.now }
@@ -83,7 +83,7 @@ impl Writer {
         )
     }
 
-    /// Writes words that ascend, of which the first line is begun.
+    /// Writes ascending words, of whose first line `first` has the words so far.
     pub(crate) fn put_words(
         &mut self,
         alloc: Global,

@@ -1,4 +1,4 @@
--- Where parts begin, one behind the other.
+-- Where parts begin, one after the other.
 use Rattle.std.proofs.Common.{◌≡◌, ℕ, suc, ◌+◌, ◌≤◌, Bool, true, false, cond, List, [], ◌∷◌, ◌++◌, take, Option, Some, None, refl, sym, ap, ◌∙◌, arith, add-zero}
 use Rattle.std.specs.List.{slice_get}
 use Rattle.std.specs.Prelude.{IfSome}
@@ -83,7 +83,7 @@ run_more : (size words all : ℕ) (o : Option ℕ) → size + words ≡ all → 
 run_more size words all None e = refl
 run_more size words all (Some run) e = ap Some (let z : run + size + words ≡ run + all = omega (arith, e) in z)
 
--- the next part behind a section of its own name
+-- the next part after a section of its own name
 pub next_own : (ss : List SectionData) (s : SectionData) (places : List Place) (p : Place) (after : PartBase) → HasPlaceFor places ss s p → after.page ≡ (next_part ss p).page → after.base ≡ (next_part ss p).base + body_size s.body
     → after.run ≡ option_map (λ a. a + body_size s.body) (next_part ss p).run → after ≡ next_part (ss ++ s ∷ []) p
 next_own ss s places p after h page base run =
@@ -93,7 +93,7 @@ next_own ss s places p after h page base run =
     let runs = run_more (size_of_sections p.name ss) (body_size s.body) (size_of_sections p.name (ss ++ s ∷ [])) p.run more in
     λ i. record { page = page i; base = (base ∙ sym based) i; run = (run ∙ runs) i }
 
--- behind a section of another name
+-- after a section of another name
 next_other : (ss : List SectionData) (s : SectionData) (p : Place) → bytes_eq p.name s.name ≡ false → next_part ss p ≡ next_part (ss ++ s ∷ []) p
 next_other ss s p e =
     let same : size_of_sections p.name ss ≡ size_of_sections p.name (ss ++ s ∷ []) = omega (arith, size_more p.name ss s, other_size p.name s e) in

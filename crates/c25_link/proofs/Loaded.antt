@@ -249,7 +249,7 @@ relocation_new rs i r d section offset old lt is so fresh =
     by_test false e =
         sym (or_none (old section offset)) ∙ ap (λ b. option_or (old section offset) (cond b (Some r) None)) (sym e)
 
--- one behind another of its word
+-- one after another of its word
 pub relocation_seen : (rs : List Relocation) (i : ℕ) (r d : Relocation) (section offset : ℕ) (old : ℕ → ℕ → Option Relocation) → i < length rs → r ≡ get_or rs i d
     → ((s o : ℕ) → old s o ≡ find (is_relocation_at s o) (take i rs)) → is_some (old r.section r.offset) ≡ true
     → old section offset ≡ find (is_relocation_at section offset) (take (i + 1) rs)

@@ -2,7 +2,7 @@
 use Rattle.std.proofs.Common.{◌≡◌, ℕ, zero, suc, ◌+◌, ◌-◌, ◌<◌, ◌≤◌, Bool, true, false, ◌&&◌, ◌||◌, not, cond, eqb, eqb-true, leb, max, List, [], ◌∷◌, ◌++◌, length, get_or, take, map, filter, Option, Some, None, refl, sym, ap, subst, ◌∙◌, arith, inl, inr, ◌⊎◌, ⊎_elim, All, append_assoc}
 use borrow.Author.Tests.{eqb-false}
 use Rattle.std.specs.List.{slice_get, swap}
-use Rattle.std.specs.Prelude.{◌==◌, IfSome, is_some, unwrap_or}
+use Rattle.std.specs.Prelude.{◌==◌, IfSome, IfOk, Result, Ok, Err, is_some, unwrap_or}
 use Rattle.std.specs.List.Sorted.{IsPermutation, IsNonDecreasingBy}
 use Rattle.std.specs.Option.{option_map_or}
 use Rattle.std.proofs.Math.Seq.{get_or-append_seam, take-append_seam}
@@ -158,7 +158,7 @@ disjoint modules places number m x y is one g h on on_2 before =
 on_page : (places : List Place) (m : Contents) (x : ModuleMark) → is_on_program places m x ≡ true → section_page places m x.section ≡ 0
 on_page places m x h = eqb-true (section_page places m x.section) 0 h
 
--- the marks of a module behind one of its marks
+-- the marks of a module after one of its marks
 disjoint_all : (modules : List Contents) (places : List Place) (number : ℕ) (m : Contents) (x : ModuleMark) (xs : List ModuleMark) → slice_get modules number ≡ Some m → HasOnePart modules places → IsGood m.sections x → section_page places m x.section ≡ 0
     → All (IsGood m.sections) xs → All (Before x) xs → All (Disjoint (placed_mark modules places number m x)) (map (placed_mark modules places number m) (filter (is_on_program places m) xs))
 disjoint_all modules places number m x [] is one g on goods before = All-nil (Disjoint (placed_mark modules places number m x))
@@ -470,7 +470,7 @@ chosen_more test h xs i x d lt is =
     ∙ ap (map h) (filter-append test (take i xs) (x ∷ []))
     ∙ map-append h (filter test (take i xs)) (cond (test x) (x ∷ []) [])
 
--- one more that is chosen, behind what was there before
+-- one more that is chosen, after what was there before
 pub chosen_pushed : {A B : Type 0} (test : A → Bool) (h : A → B) (xs : List A) (i : ℕ) (x d : A) (before old new : List B) → i < length xs → x ≡ get_or xs i d → test x ≡ true
     → old ≡ before ++ map h (filter test (take i xs)) → new ≡ old ++ h x ∷ [] → new ≡ before ++ map h (filter test (take (i + 1) xs))
 chosen_pushed test h xs i x d before old new lt is on so next =
@@ -490,3 +490,8 @@ chosen_left test h xs i x d before old lt is off so =
 
 pub take_all_of : {A : Type 0} (n : ℕ) (xs ys : List A) → n ≡ length xs → take n (xs ++ ys) ≡ xs
 take_all_of n xs ys e = ap (λ k. take k (xs ++ ys)) e ∙ take-append_seam xs ys
+
+-- what follows of two facts about what a call gave
+pub ok_both : {A E : Type 0} (P Q R : A → Type 0) (r : Result A E) → ((x : A) → P x → Q x → R x) → IfOk r P → IfOk r Q → IfOk r R
+ok_both P Q R (Ok x) f p q = f x p q
+ok_both P Q R (Err e) f p q = p

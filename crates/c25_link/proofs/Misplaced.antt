@@ -1,4 +1,4 @@
--- The line beside the first mark that passes a test, and where the word of a relocation stands.
+-- The line next to the first mark that passes a test, and where the word of a relocation stands.
 use Rattle.std.proofs.Common.{◌≡◌, ℕ, zero, suc, ◌+◌, ◌<◌, ◌≤◌, ◌^◌, Bool, true, false, ◌&&◌, cond, ltb, List, [], ◌∷◌, ◌++◌, length, get_or, take, find, Option, Some, None, refl, sym, ap, ◌∙◌, arith, add-one}
 use Rattle.std.specs.List.{slice_get, zip}
 use Rattle.std.specs.Option.{option_map, option_map_or}
@@ -14,7 +14,7 @@ use Rattle.c25_link.specs.Bases.{HasRoom}
 use Rattle.c25_link.specs.Layout.{AreModules}
 use Rattle.c25_link.proofs.Told.{pairs_ended}
 
--- ---- the line beside a mark
+-- ---- the line next to a mark
 
 module _ {R : Type 0} (test : ModuleMark → Bool) (g : LineMark → R) where
   passed_over : (t : Bool) (x : ModuleMark × LineMark) (o : Option (ModuleMark × LineMark)) → cond t (Some x) o ≡ None → (t ≡ false) × (o ≡ None)

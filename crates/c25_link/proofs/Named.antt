@@ -128,7 +128,7 @@ parts_more modules places number name ss i s lt at =
     by_test true = refl
     by_test false = refl
 
--- a part behind those of its name
+-- a part after those of its name
 pub parts_next : (modules : List Contents) (places : List Place) (number : ℕ) (name : List ℕ) (ss : List Section) (i : ℕ) (s : Section) (key : List ℕ) (start old new : List PartData) (part : PartData) → i < length ss → s ≡ get_or ss i s → key ≡ (section_data s).name
     → part ≡ section_part modules places number (section_data s)
     → old ≡ start ++ map (section_part modules places number) (filter (is_section_named name) (sections_data (take i ss)))

@@ -107,7 +107,7 @@ items_more old new x i f e size before here k lt = elim (cases_lt k i) [
 pub one_longer : {A : Type 0} (old new : List A) (x : A) (i : ℕ) → new ≡ old ++ x ∷ [] → length old ≡ i → length new ≡ i + 1
 one_longer old new x i e size = let more : length new ≡ length old + 1 = ap length e ∙ length-append old (x ∷ []) in omega arith
 
--- all items, and nothing behind them
+-- all items, and nothing after them
 pub items_all : {A B : Type 0} (g : B → A) (xs : List A) (ys : List B) (i : ℕ) → length ys ≤ i → length xs ≡ i → i ≤ length ys → ((k : ℕ) → k < i → slice_get xs k ≡ option_map g (slice_get ys k))
     → (k : ℕ) → slice_get xs k ≡ option_map g (slice_get ys k)
 items_all g xs ys i whole size few each k = elim (cases_lt k i) [
@@ -139,7 +139,7 @@ pub small_section : (owner : Parts) (i : ℕ) (s : Section) → IsModule (conten
 small_section owner i s module_is lt at =
     subst (λ (x : Section). body_size (body_data x.body) ≤ 65536) (sym at) (small_sections (contents owner) owner.sections.items module_is refl i s lt)
 
--- the part of a section, behind those before it
+-- the part of a section, after those before it
 pub record PartIs (modules : List Contents) (places : List Place) (number : ℕ) (owner : Parts) (i : ℕ) (s : Section) : Type 0 where
   pub place : Place
   pub has : HasPlaceFor places (all_sections (take number modules) ++ sections_data (take i owner.sections.items)) (section_data s) place
@@ -162,7 +162,7 @@ part_there modules places number owner i s module_is room is lt at =
       here = ap (option_map (part_of modules places number)) (sym there);
     }
 
--- so a part that begins behind them is the module's
+-- so a part that begins after them is the module's
 pub part_kept : (modules : List Contents) (places : List Place) (number : ℕ) (owner : Parts) (i : ℕ) (s : Section) (part : PartBase) (k : PartIs modules places number owner i s)
     → part ≡ next_part (all_sections (take number modules) ++ sections_data (take i owner.sections.items)) k.place → Some part ≡ parts_of modules places number (contents owner) i
 part_kept modules places number owner i s part k same = ap Some (same ∙ k.part) ∙ k.here

@@ -1,4 +1,4 @@
--- Where the parts of modules stand, as the code has it.
+-- Where the parts of modules begin, as the code has it.
 use Rattle.std.specs.Prelude.{◌≡◌, ◌≤◌, ℕ, ◌+◌, List, IfSome, Option, Some, None, option_map, take}
 use Rattle.std.specs.List.{slice_get}
 use Rattle.std.specs.declared.alloc.Global.{Global}
@@ -15,7 +15,7 @@ use Rattle.c25_link.specs.declared.bases.NextParts.{NextParts}
 abbrev pub run_of : List ℕ → List Place → Option ℕ
 run_of name places = elim (place_named name places) [ None ↦ None | Some p ↦ p.run ]
 
--- where the part of a module's section stands
+-- where the part of a module's section begins
 abbrev pub part_of : List Contents → List Place → ℕ → SectionData → PartBase
 part_of modules places number s = record {
   page = page_of s.name places;
@@ -23,11 +23,11 @@ part_of modules places number s = record {
   run = option_map (λ run. run + size_of_parts s.name (take number modules)) (run_of s.name places);
 }
 
--- the parts of a module
+-- the parts of a module, by the numbers of their sections
 abbrev pub parts_of : List Contents → List Place → ℕ → Contents → ℕ → Option PartBase
 parts_of modules places number m index = option_map (part_of modules places number) (slice_get m.sections index)
 
--- the part of a number in the list of a number
+-- the part of a number in the list of a number, if there is one
 abbrev pub part_in : List (Vec PartBase Global) → ℕ → ℕ → Option PartBase
 part_in lists number index = elim (slice_get lists number) [ None ↦ None | Some parts ↦ slice_get parts.items index ]
 
@@ -35,12 +35,12 @@ part_in lists number index = elim (slice_get lists number) [ None ↦ None | Som
 abbrev pub part_at : Bases → ℕ → ℕ → Option PartBase
 part_at bases number index = part_in bases.modules.items number index
 
--- each part of each module stands where it does
+-- each part of each module begins where the code says
 abbrev pub KnowsBases : Bases → List Contents → List Place → Type 0
 KnowsBases bases modules places =
     (number index : ℕ) (m : Contents) → slice_get modules number ≡ Some m → part_at bases number index ≡ parts_of modules places number m index
 
--- the place of a section, and behind it the parts of these sections
+-- the next part of a section at a place, after the parts that these sections have of it
 abbrev pub next_part : List SectionData → Place → PartBase
 next_part sections p = record {
   page = p.page;
@@ -48,7 +48,7 @@ next_part sections p = record {
   run = option_map (λ run. run + size_of_sections p.name sections) p.run;
 }
 
--- behind the parts of these sections the next ones begin
+-- the next part of each section begins after the parts of these sections
 abbrev pub KnowsNext : NextParts → List Place → List SectionData → Type 0
 KnowsNext next places sections = (name : List ℕ) → named next.found name ≡ option_map (next_part sections) (place_named name places)
 
@@ -60,12 +60,13 @@ pub record HasRoomFor (modules : List Contents) (places : List Place) (number : 
   pub within : part_base modules places number section.name + body_size section.body ≤ 65536
   pub runs : IfSome place.run (λ run. run + size_of_parts section.name (take number modules) + body_size section.body ≤ 65536)
 
--- each section of each module has
+-- each section of each module has room for its part
 abbrev pub HasRoom : List Contents → List Place → Type 0
 HasRoom modules places =
     (number index : ℕ) (owner : Contents) (section : SectionData) → IsPart modules number index owner section → HasRoomFor modules places number section
 
--- behind the parts of these sections the place of a section has room for one more, where it is loaded and where it runs
+-- the place of a section has room for one more part after the parts of these sections, where it is loaded and
+-- where it runs
 pub record HasPlaceFor (places : List Place) (sections : List SectionData) (section : SectionData) (p : Place) : Type 0 where
   pub found : place_named section.name places ≡ Some p
   pub within : p.base + size_of_sections section.name sections + body_size section.body ≤ 65536

@@ -25,11 +25,11 @@ abbrev pub RunApart : List Contents → List Place → Type 0
 RunApart modules places = (marks : List Mark) (run_marks : List RunMark) → HasMarks modules places marks → IsPermutation (words.program_run_marks modules places) run_marks
     → IsNonDecreasingBy (λ m. m.run) run_marks → HasRunMarks modules places marks run_marks
 
--- these are modules
+-- the items of a list are modules
 abbrev pub AreModules : List Contents → Type 0
 AreModules modules = (number : ℕ) (m : Contents) → slice_get modules number ≡ Some m → IsModule m
 
--- the places
+-- the places of a layout, as clauses see them
 abbrev pub places_in : Layout → List Place
 places_in l = places_view l.places.now
 

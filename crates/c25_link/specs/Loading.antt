@@ -22,7 +22,7 @@ KnowsRelocations m c = (section offset : ℕ) → found_at m section offset ≡ 
 abbrev pub linked_at : List Contents → List Place → ℕ → Contents → ℕ → List ℕ → ℕ → ℕ
 linked_at modules places number m section words offset = linked_word modules places number m section offset (slice_index words offset)
 
--- what stands at an address once so many words were loaded from a base on
+-- the word at an address once so many words are loaded from a base on
 abbrev pub loaded : ℕ → ℕ → (ℕ → ℕ) → Option ℕ → ℕ → Option ℕ
 loaded base size word_at old address = if nat_le base address && nat_lt address (base + size) then Some (word_at (address - base)) else old
 
@@ -36,7 +36,7 @@ abbrev pub HasWordsBefore : List Contents → List Place → ℕ → ℕ → ℕ
 HasWordsBefore modules places number index page words =
     (address word : ℕ) → (finite.get words address ≡ Some word) ↔ HasWordBefore modules places number index page address word
 
--- the words of both pages are
+-- the words of both pages are those of the parts before that of a section of a module
 pub record HavePagesBefore (modules : List Contents) (places : List Place) (number index : ℕ) (pages : PageLists) : Type 0 where
   pub program : HasWordsBefore modules places number index 0 (put_all pages.program)
   pub store : HasWordsBefore modules places number index 1 (put_all pages.store)

@@ -1,4 +1,4 @@
--- What is told of a field that does not take its value.
+-- What is reported of a field that does not take its value.
 use Rattle.std.specs.Prelude.{◌≡◌, ℕ, ◌+◌, ◌==◌, ◌&&◌, ℤ, Bool, nat_le, nat_lt, List, find, Option, Result, Ok, Err, String, ◌⊎◌}
 use Rattle.std.specs.List.{zip}
 use Rattle.std.specs.Option.{option_map}
@@ -27,11 +27,12 @@ use Rattle.c25_link.specs.declared.misfits.SourceLine.{SourceLine}
 abbrev pub has_word : Relocation → ModuleMark → Bool
 has_word r mark = mark.section == r.section && nat_le mark.offset r.offset && nat_lt r.offset (mark.offset + mark.size)
 
--- the file and the line that a line of a module tells
+-- the file's name and the line's number, by the line's record in its module
 abbrev pub line_in : Contents → LineMark → List ℕ × ℕ
 line_in m told = (file_name m told.file, told.line)
 
--- those of the instruction that has the word of a relocation, where there is one that has a line
+-- the file and the line of the instruction that has the word of a relocation, where there is one that has a
+-- line
 abbrev pub instruction_line : Contents → Relocation → Option (List ℕ × ℕ)
 instruction_line m r = option_map (λ told. line_in m told.1) (find (λ told. has_word r told.0) (zip m.marks m.lines))
 
@@ -49,7 +50,7 @@ pub record MisfitData : Type 0 where
   pub value : ℤ
   pub line : Option (List ℕ × ℕ)
 
--- the field of a relocation
+-- the misfit of a relocation
 abbrev pub misfit_of : List Contents → List Place → Use → MisfitData
 misfit_of modules places u = record {
   number = u.number;
@@ -62,17 +63,17 @@ misfit_of modules places u = record {
   line = instruction_line u.owner u.relocation;
 }
 
--- the first that does not take its value
+-- the first field that does not take its value
 abbrev pub first_misfit : List Contents → List Place → Option MisfitData
 first_misfit modules places = option_map (misfit_of modules places) (find (spills modules places) (uses modules))
 
 -- ---- how the code has it
 
--- a line of a file
+-- a line of a file, as clauses see it
 abbrev pub line_of : SourceLine → List ℕ × ℕ
 line_of l = (l.file.now, l.line)
 
--- a field
+-- a misfit, as clauses see it
 abbrev pub misfit_data : Misfit → MisfitData
 misfit_data f = record {
   number = f.number;
@@ -85,7 +86,7 @@ misfit_data f = record {
   line = option_map line_of f.line;
 }
 
--- the first such field of modules under a command, or what linking refuses before it looks at fields
+-- the first field that does not take its value, or the fault that linking finds before it looks at fields
 abbrev pub FindsMisfit : List Contents → CommandData → Result (Option Misfit) (Failure (Placed (String Global) LinkFault)) → Type 0
 FindsMisfit modules command (Ok found) = (places : List Place) × (names_checked modules command.entry ≡ Ok tt) × IsGoodMap modules command places
     × (option_map misfit_data found ≡ first_misfit modules places)

@@ -14,11 +14,11 @@ definition_view d = record { number = d.number; owner = contents d.owner.now; sy
 abbrev pub definitions_view : List Definition → List words.Definition
 definitions_view ds = map definition_view ds
 
--- their names
+-- the names of definitions
 abbrev pub names_of : List words.Definition → List (List ℕ)
 names_of ds = map (λ d. d.symbol.name) ds
 
--- what was collected is these definitions, and each name finds its own
+-- the list and the map hold these definitions, and each name finds its own
 pub record HasDefinitions (d : Definitions) (ds : List words.Definition) : Type 0 where
   pub list : definitions_view d.list.items ≡ ds
   pub found : (name : List ℕ) → option_map definition_view (named d.found name) ≡ words.definition_of name ds

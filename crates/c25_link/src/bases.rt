@@ -1,4 +1,4 @@
-//! Where the parts of sections stand that modules have.
+//! Where the parts of the modules' sections begin.
 
 ghost use Rattle.std.specs.Prelude.{◌≡◌, ◌≤◌, ◌+◌, ◌==◌, ◌&&◌, ◌++◌, ◌∷◌, [], ℕ, List, IfOk, IfSome, OnOk, Some, is_some, not, option_map, take, unwrap_or};
 ghost use Rattle.std.specs.List.{slice_get};
@@ -24,7 +24,7 @@ pub(crate) struct PartBase {
     pub run: Option<u32>,
 }
 
-/// Those of each section of each module.
+/// The parts of each section of each module.
 #[derive(Drop)]
 pub(crate) struct Bases {
     modules: Vec<Vec<PartBase>>,
@@ -36,7 +36,7 @@ struct NextParts<'a> {
     found: HashMap<&'a str, PartBase>,
 }
 
-/// Where the first parts begin.
+/// Where the first part of each section begins: at the place of the section.
 fn first_parts<'a>(alloc: Global, places: &[Place<'a>]) -> Result<NextParts<'a>, AllocError>
     ensures { IfOk result (λ next. KnowsNext next (places_view places.now) []) }
 {
@@ -54,14 +54,14 @@ fn first_parts<'a>(alloc: Global, places: &[Place<'a>]) -> Result<NextParts<'a>,
     Ok(NextParts { found })
 }
 
-/// The part of a section where none begins.
+/// The part of a section that has no place.
 const NO_PART: PartBase = PartBase {
     page: 0,
     base: 0,
     run: None,
 };
 
-/// An address so many words on, if there is one.
+/// The address that lies so many words after another, if there is one.
 fn moved(address: Option<u32>, words: u32) -> Option<u32>
     ensures { IfSome address (λ a. a + words ≤ 65536) → result ≡ option_map (λ a. a + words) address }
 {
@@ -72,7 +72,7 @@ fn moved(address: Option<u32>, words: u32) -> Option<u32>
 }
 
 impl<'a> NextParts<'a> {
-    /// Where the part of a section begins; the next one of its name begins behind it.
+    /// Where the next part of a section begins. The one after it begins where it ends.
     fn take(&mut self, section: &'a Section) -> Result<PartBase, AllocError>
         requires { body_size (body_data section.now.body) ≤ 65536 }
         ensures next { (places : List place.Place) (sections : List SectionData) (p : place.Place) → KnowsNext self.old places sections
@@ -99,7 +99,7 @@ impl<'a> NextParts<'a> {
     }
 }
 
-/// The parts of a module behind those of the modules before it.
+/// The parts of a module, after those of the modules before it.
 fn module_bases<'a>(
     alloc: Global,
     owner: &'a Parts,
@@ -120,21 +120,21 @@ fn module_bases<'a>(
 }
 
 impl PartBase {
-    /// The address where its first word runs.
+    /// The address where the first word of the part runs.
     pub(crate) fn run_base(&self) -> u32
         ensures { result ≡ unwrap_or self.now.run self.now.base }
     {
         self.run.unwrap_or(self.base)
     }
 
-    /// Whether it stands on page 0 and runs there.
+    /// Whether the part is loaded on page 0 and runs where it is loaded.
     pub(crate) fn is_run_in_place(&self) -> bool
         ensures { result ≡ (self.now.page == 0 && not (is_some self.now.run)) }
     {
         self.page == 0 && self.run.is_none()
     }
 
-    /// Whether it stands on page 0 and runs elsewhere.
+    /// Whether the part is loaded on page 0 and runs elsewhere.
     pub(crate) fn is_copied(&self) -> bool
         ensures { result ≡ (self.now.page == 0 && is_some self.now.run) }
     {
@@ -159,7 +159,7 @@ impl Bases {
         Ok(Bases { modules: list })
     }
 
-    /// The part of a module's section, by their numbers.
+    /// The part of a section of a module, by the numbers of both.
     pub(crate) fn get(&self, number: usize, index: usize) -> PartBase
         ensures base { (modules : List Contents) (places : List place.Place) (m : Contents) → KnowsBases self.now modules places → slice_get modules number ≡ Some m
             → result.base ≡ section_base modules places number m index }

@@ -12,14 +12,14 @@ ghost use Rattle.c25_link.specs.View.{definition_view, definitions_view, names_o
 ghost use Rattle.c25_place.specs.View.{named, refusal_of};
 
 use c25_meaning_common::failure::Failure;
-use c25_meaning_objects::object::{Scope, SymbolKind};
 use c25_meaning_linking::link_fault::LinkFault;
+use c25_meaning_objects::object::{Scope, SymbolKind};
 use c25_module::{Module, Parts, Symbol};
-use c25_place::{Refused, refusal};
+use c25_place::{PlacingFailure, refusal};
 use std::alloc::{AllocError, Global};
 use std::collections::HashMap;
 
-/// A symbol that a module defines for all, with its module and the module's number.
+/// A global symbol that a module defines, with the module and its number.
 #[derive(Clone, Copy)]
 pub(crate) struct Definition<'a> {
     pub number: usize,
@@ -27,21 +27,21 @@ pub(crate) struct Definition<'a> {
     pub symbol: &'a Symbol,
 }
 
-/// The definitions by modules and symbols, and each by its name.
+/// The definitions of all modules: in their order, and by name.
 #[derive(Drop)]
 pub(crate) struct Definitions<'a> {
     pub list: Vec<Definition<'a>>,
     pub found: HashMap<&'a str, Definition<'a>>,
 }
 
-/// Whether a symbol is defined, and for all.
+/// Whether a symbol is global and defined in its module.
 fn is_definition(symbol: &Symbol) -> bool
     ensures { result ≡ is_definition (symbol_data symbol.now) }
 {
     symbol.scope == Scope::Global && symbol.kind != SymbolKind::External
 }
 
-/// Puts the definitions of a module behind others.
+/// Appends the definitions of a module.
 fn push_definitions<'a>(
     number: usize,
     owner: &'a Parts,
@@ -76,11 +76,11 @@ fn all_definitions<'a>(
     Ok(list)
 }
 
-/// Each definition by its name, if no name stands twice.
+/// The definitions by name, or `DefinedTwice` where a name stands twice.
 fn by_name<'a>(
     alloc: Global,
     list: &[Definition<'a>],
-) -> Result<HashMap<&'a str, Definition<'a>>, Refused>
+) -> Result<HashMap<&'a str, Definition<'a>>, PlacingFailure>
     ensures checked { MeetsBy refusal_of (λ _. tt) (refused_with fault.DefinedTwice (first_again [] (names_of (definitions_view list.now)))) result }
     ensures found { IfOk result (λ m. (name : List ℕ) → option_map definition_view (named m name) ≡ definition_of name (definitions_view list.now)) }
 {
@@ -95,8 +95,8 @@ fn by_name<'a>(
 }
 
 impl<'a> Definitions<'a> {
-    /// The definitions of all modules, unless a name is defined twice.
-    pub(crate) fn new(alloc: Global, modules: &'a [Module]) -> Result<Self, Refused>
+    /// The definitions of all modules, or `DefinedTwice` where two have one name.
+    pub(crate) fn new(alloc: Global, modules: &'a [Module]) -> Result<Self, PlacingFailure>
         ensures checked { MeetsBy refusal_of (λ _. tt) (refused_with fault.DefinedTwice (first_again [] (defined_names modules.now))) result }
         ensures found { IfOk result (λ d. HasDefinitions d (definitions modules.now)) }
     {
@@ -105,7 +105,7 @@ impl<'a> Definitions<'a> {
         Ok(Definitions { list, found })
     }
 
-    /// The definition of a name.
+    /// The definition of a name, if there is one.
     pub(crate) fn get(&self, name: &str) -> Option<Definition<'a>>
         ensures { (ds : List words.Definition) → HasDefinitions self.now ds → option_map definition_view result ≡ definition_of name.now ds }
     {

@@ -23,7 +23,7 @@ use c25_place::{Place, body_size};
 use std::alloc::{AllocError, Global};
 use std::collections::HashMap;
 
-/// The part of a section that a module has.
+/// The part that a module has of a section, as the map describes it.
 #[derive(Clone, Copy)]
 struct PartPlace {
     number: usize,
@@ -31,7 +31,7 @@ struct PartPlace {
     size: u32,
 }
 
-/// Puts a part behind those of its name.
+/// Appends a part to those of its section's name.
 fn push_part<'a>(
     alloc: Global,
     name: &'a str,
@@ -45,7 +45,7 @@ fn push_part<'a>(
     Ok(())
 }
 
-/// Puts the parts of a module behind those of the modules before it, each with those of its name.
+/// Appends the parts of a module, each to those of its section's name.
 fn add_parts<'a>(
     alloc: Global,
     layout: &Layout<'_, '_>,
@@ -69,7 +69,7 @@ fn add_parts<'a>(
     Ok(())
 }
 
-/// The parts of all modules by the names of their sections.
+/// The parts of all modules, by the names of their sections.
 #[tactic(auto, using(c25_meaning_linking::proofs::ByModules::by_modules_more, c25_meaning_linking::proofs::ByModules::by_modules_all))]
 fn parts_by_name<'a>(
     alloc: Global,
@@ -85,7 +85,7 @@ fn parts_by_name<'a>(
     Ok(found)
 }
 
-/// The parts of one section.
+/// The parts of one section, as the map has them.
 fn described_parts(alloc: Global, parts: &[PartPlace]) -> Result<Vec<Part>, AllocError>
     ensures { IfOk result (λ v. map part_data v.items ≡ map part_data_of parts.now) }
 {
@@ -100,7 +100,7 @@ fn described_parts(alloc: Global, parts: &[PartPlace]) -> Result<Vec<Part>, Allo
     Ok(described)
 }
 
-/// The parts of a name.
+/// The parts of the section of a name.
 fn parts_of<'b>(found: &'b HashMap<&str, Vec<PartPlace>>, name: &str) -> &'b [PartPlace]
     ensures { map part_data_of result.now ≡ parts_named found.now name.now }
 {
@@ -145,7 +145,7 @@ fn described_sections(
     Ok(sections)
 }
 
-/// A name with the low 32 bits of a value.
+/// A symbol of the map: a name, and the low 32 bits of a value.
 fn global_symbol(alloc: Global, name: &str, value: i64) -> Result<GlobalSymbol, AllocError>
     ensures { IfOk result (λ y. symbol_data y ≡ named_value name.now value) }
 {
@@ -155,7 +155,7 @@ fn global_symbol(alloc: Global, name: &str, value: i64) -> Result<GlobalSymbol, 
     })
 }
 
-/// The symbols that modules define for all.
+/// The global symbols that modules define, with their values.
 fn described_symbols(
     alloc: Global,
     layout: &Layout<'_, '_>,
@@ -171,7 +171,7 @@ fn described_symbols(
     Ok(symbols)
 }
 
-/// The entry and its value, where one is named.
+/// The entry and its value, where the command names one.
 fn described_entry(
     alloc: Global,
     layout: &Layout<'_, '_>,

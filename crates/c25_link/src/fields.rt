@@ -21,7 +21,7 @@ fn low7(value: i64) -> u16
     value.rem_euclid(128) as u16
 }
 
-/// The number that a field holds of a value.
+/// The number that a field holds for a value: its low 16 or 7 bits, or the 9 bits above the low 7.
 pub(crate) fn field_number(kind: RelocationKind, value: i64) -> u16
     ensures { result ≡ field_number kind value }
 {
@@ -38,7 +38,7 @@ fn is_within(low: i64, high: i64, value: i64) -> bool
     !(value < low || high < value)
 }
 
-/// Whether a field takes a value.
+/// Whether a field takes a value without loss.
 pub(crate) fn takes(kind: RelocationKind, value: i64) -> bool
     ensures { result ≡ takes kind value }
 {

@@ -8,7 +8,8 @@ ghost use Rattle.c25_meaning_linking.specs.Linking.{line_at};
 ghost use Rattle.c25_meaning_linking.specs.MapText.{IsMapOf, IsPrinted};
 ghost use Rattle.c25_link.specs.Lines.{lines_view};
 
-use crate::lines::Lines;
+use crate::lines::SourceLines;
+use crate::loading::Pages;
 use c25_map::{GlobalSymbol, Map, write_map};
 use c25_meaning_common::no_memory::NoMemory;
 use c25_meaning_image::mark::{Mark, RunMark};
@@ -23,7 +24,7 @@ pub struct Image {
     store: WordMap,
     marks: Vec<Mark>,
     run_marks: Vec<RunMark>,
-    lines: Lines,
+    lines: SourceLines,
     described: Map,
 }
 
@@ -46,22 +47,21 @@ impl Model for Image {
 }
 
 impl Image {
-    /// An image of these parts.
+    /// The image of these words, marks, lines and this map.
     pub(crate) fn new(
-        program: WordMap,
-        store: WordMap,
+        pages: Pages,
         marks: Vec<Mark>,
         run_marks: Vec<RunMark>,
-        lines: Lines,
+        lines: SourceLines,
         described: Map,
     ) -> Self
         requires lines { fit_from 0 (map (λ l. l.mark) (lines_view lines)) ≡ true }
         requires printed { IsPrinted (map_data described) }
-        ensures { result ≡ record { program = program; store = store; marks = marks.items; run_marks = run_marks.items; lines = lines_view lines; described = map_data described } }
+        ensures { result ≡ record { program = pages.program; store = pages.store; marks = marks.items; run_marks = run_marks.items; lines = lines_view lines; described = map_data described } }
     {
         Image {
-            program,
-            store,
+            program: pages.program,
+            store: pages.store,
             marks,
             run_marks,
             lines,
@@ -96,9 +96,9 @@ impl Image {
         &self.run_marks
     }
 
-    /// The name of the file and the number of the line where the instruction that is loaded at an
-    /// address of page 0 stands, counted from 1; None where there is none, or its module is of an object that tells no
-    /// lines (version 1). It takes no memory.
+    /// The name of the file and the number of the line, counted from 1, of the instruction that is loaded at
+    /// an address of page 0. It is `None` where no instruction begins there, and where its module comes from
+    /// an object without lines (version 1). It takes no memory.
     pub fn line_of(&self, address: u16) -> Option<(&str, u32)>
         ensures { option_map (λ r. (r.0.now, r.1)) result ≡ line_at address self.now.lines }
     {
@@ -113,7 +113,7 @@ impl Image {
         &self.described.symbols
     }
 
-    /// The map.
+    /// The map of the program.
     pub fn map(&self) -> &Map
         ensures { map_data result.now ≡ self.now.described }
     {

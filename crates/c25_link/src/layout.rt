@@ -1,4 +1,4 @@
-//! What the words, the instructions and the map of a program are made from.
+//! What the words, the marks and the map of a program are made from.
 
 ghost use Rattle.std.specs.Prelude.{◌<◌, ◌^◌, length};
 ghost use Rattle.c25_link.specs.Layout.{AreModules};
@@ -18,7 +18,8 @@ pub(crate) struct Layout<'m, 'p> {
     pub bases: &'p Bases,
 }
 
-/// Each of these is a module, and there are not too many for their numbers. The call changes nothing: a proof knows of each module what was read.
+/// Each item of the list is a module, and the list is shorter than 2^64. The call changes nothing: a proof
+/// knows of each module what was read.
 pub(crate) fn are_modules(modules: &[Module])
     ensures each { AreModules modules.now }
     ensures few { length modules.now < 2 ^ 64 }

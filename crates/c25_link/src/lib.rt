@@ -12,6 +12,7 @@ mod linking;
 mod loading;
 mod marks;
 mod misfits;
+mod placed_items;
 mod uses;
 mod values;
 

@@ -1,22 +1,22 @@
-//! The lines of files where the instructions on page 0 stand.
+//! The lines of files that the instructions on page 0 come from.
 
 ghost use Rattle.std.specs.Prelude.{◌≡◌, ◌++◌, ℕ, List, true, map, IfOk, OnOk};
-ghost use Rattle.std.specs.List.Sorted.{IsPermutation, IsNonDecreasingBy};
 ghost use Rattle.std.specs.Option.{option_map};
 ghost use Rattle.c25_meaning_image.specs.Marks.{fit_from};
 ghost use Rattle.c25_meaning_linking.specs.Linking.{HasLines, line_at};
 ghost use Rattle.c25_module.specs.View.{contents, files_data};
 ghost use Rattle.c25_link.specs.Layout.{IsLaidOut, IsOwner, places_in};
-ghost use Rattle.c25_link.specs.Lines.{module_places, all_places, file_at, files_view, lines_view};
+ghost use Rattle.c25_link.specs.Lines.{module_places, file_at, files_view, lines_view};
 
 use crate::layout::Layout;
 use crate::marks::placed_mark;
+use crate::placed_items::{PlacedItem, items_by_address};
 use c25_meaning_image::mark::Mark;
 use c25_module::{Module, Parts};
 use std::alloc::{AllocError, Global};
 
-/// An instruction on page 0 that has a line: the number of its module, the number of the line's file
-/// among the module's, and the line.
+/// An instruction on page 0 that has a line: its mark, the number of its module, the number of the file among
+/// the module's files, and the line.
 #[derive(Clone, Copy)]
 pub(crate) struct LinePlace {
     mark: Mark,
@@ -28,12 +28,12 @@ pub(crate) struct LinePlace {
 /// The instructions on page 0 that have a line, by their addresses, and the names of the files of each
 /// module.
 #[derive(Drop)]
-pub(crate) struct Lines {
+pub(crate) struct SourceLines {
     places: Vec<LinePlace>,
     files: Vec<Vec<String>>,
 }
 
-/// Puts those of a module behind others.
+/// Appends the instructions of a module that are on page 0 and have a line.
 fn push_places(
     layout: &Layout<'_, '_>,
     number: usize,
@@ -63,25 +63,25 @@ fn push_places(
     Ok(())
 }
 
-/// Those of all modules, by modules and marks.
-#[tactic(auto, using(c25_meaning_linking::proofs::ByModules::by_modules_more, c25_meaning_linking::proofs::ByModules::by_modules_all))]
-fn all_places(alloc: Global, layout: &Layout<'_, '_>) -> Result<Vec<LinePlace>, AllocError>
-    requires { IsLaidOut layout.now }
-    ensures { IfOk result (λ v. v.items ≡ all_places layout.now.modules.now (places_in layout.now)) }
-{
-    let mut places = Vec::new(alloc);
-    for (number, module) in layout.modules.iter().enumerate() {
-        push_places(layout, number, module.parts(), &mut places)?;
-    }
-    Ok(places)
-}
+impl PlacedItem for LinePlace {
+    ghost use Rattle.c25_link.specs.Lines.{module_places};
 
-/// Brings them into the order of their addresses.
-fn sort_by_address(places: &mut [LinePlace])
-    ensures permutation { IsPermutation places.old places.new }
-    ensures sorted { IsNonDecreasingBy (λ l. l.mark.address) places.new }
-{
-    places.sort_unstable_by_key(|place| place.mark.address);
+    ghost of_module = { module_places };
+
+    ghost address_of = { λ l. l.mark.address };
+
+    fn push_all(
+        layout: &Layout<'_, '_>,
+        number: usize,
+        owner: &Parts,
+        items: &mut Vec<LinePlace>,
+    ) -> Result<(), AllocError> {
+        push_places(layout, number, owner, items)
+    }
+
+    fn address(&self) -> u16 {
+        self.mark.address
+    }
 }
 
 /// Copies of texts.
@@ -108,17 +108,19 @@ fn all_files(alloc: Global, modules: &[Module]) -> Result<Vec<Vec<String>>, Allo
 
 /// The instructions on page 0 that have a line, by their addresses.
 #[tactic(auto, using(crate::proofs::Told::has_lines))]
-pub(crate) fn program_lines(alloc: Global, layout: &Layout<'_, '_>) -> Result<Lines, AllocError>
+pub(crate) fn program_lines(
+    alloc: Global,
+    layout: &Layout<'_, '_>,
+) -> Result<SourceLines, AllocError>
     requires { IsLaidOut layout.now }
     ensures { IfOk result (λ l. HasLines layout.now.modules.now (places_in layout.now) (lines_view l)) }
 {
     let files = all_files(alloc, layout.modules)?;
-    let mut places = all_places(alloc, layout)?;
-    sort_by_address(&mut places);
-    Ok(Lines { places, files })
+    let places = items_by_address(alloc, layout)?;
+    Ok(SourceLines { places, files })
 }
 
-/// The name of the file of a number, among those of the module of a number.
+/// The name of a file by its number in its module, and the number of the module; empty where there is none.
 fn file_name(files: &[Vec<String>], number: usize, index: usize) -> &str
     ensures { result.now ≡ file_at (files_view files.now) number index }
 {
@@ -131,7 +133,7 @@ fn file_name(files: &[Vec<String>], number: usize, index: usize) -> &str
     }
 }
 
-impl Lines {
+impl SourceLines {
     /// The file and the line of the instruction at an address, where it has one.
     #[tactic(auto, using(crate::proofs::Told::line_found, crate::proofs::Told::line_missing))]
     pub(crate) fn get(&self, address: u16) -> Option<(&str, u32)>

@@ -1,4 +1,4 @@
-//! Modules, linked under a command.
+//! Modules linked under a command.
 
 ghost use Rattle.std.specs.Prelude.{◌≡◌, IfOk, option_map};
 ghost use Rattle.c25_cmd.specs.View.{command_data};
@@ -26,7 +26,7 @@ use c25_linking_laws::linking::{instructions_run_apart, program_maps_have_their_
 use c25_meaning_common::failure::Failure;
 use c25_meaning_linking::link_fault::LinkFault;
 use c25_module::Module;
-use c25_place::{Refused, good_places, refusal};
+use c25_place::{PlacingFailure, good_places, refusal};
 use std::alloc::Global;
 
 /// The name of the entry, where a command gives one.
@@ -39,12 +39,12 @@ pub(crate) fn entry_of(command: &Command) -> Option<&str>
     }
 }
 
-/// The definitions of all modules, unless a name is defined twice, missing, or no entry.
+/// The definitions of all modules, or the first of `DefinedTwice`, `Unresolved` and `NoEntry`.
 pub(crate) fn checked_definitions<'a>(
     alloc: Global,
     modules: &'a [Module],
     entry: Option<&str>,
-) -> Result<Definitions<'a>, Refused>
+) -> Result<Definitions<'a>, PlacingFailure>
     ensures checked { MeetsBy refusal_of (λ _. tt) (names_checked modules.now (option_map (λ name. name.now) entry.entry)) result }
     ensures found { IfOk result (λ d. HasDefinitions d (definitions modules.now)) }
 {
@@ -64,12 +64,12 @@ pub(crate) fn checked_definitions<'a>(
     Ok(definitions)
 }
 
-/// The program of modules whose sections have been placed, unless a field does not take its value.
+/// The program of modules whose sections are placed, or `RelocRange` where a field does not take its value.
 fn linked_image(
     alloc: Global,
     layout: &Layout<'_, '_>,
     entry: Option<&str>,
-) -> Result<Image, Refused>
+) -> Result<Image, PlacingFailure>
     requires laid { IsLaidOut layout.now }
     requires printed { IsPrinted (map_of layout.now.modules.now (option_map (λ name. name.now) entry) (places_in layout.now)) }
     ensures { LinksAt layout.now.modules.now (places_in layout.now) (option_map (λ name. name.now) entry.entry) result }
@@ -83,31 +83,24 @@ fn linked_image(
     let lines = program_lines(alloc, layout)?;
     let described = described(alloc, layout, entry)?;
     let pages = load(alloc, layout)?;
-    Ok(Image::new(
-        pages.program,
-        pages.store,
-        marks,
-        run_marks,
-        lines,
-        described,
-    ))
+    Ok(Image::new(pages, marks, run_marks, lines, described))
 }
 
 /// Links modules under a command.
 ///
-/// Sections of one name are one section of the program, in the order of the modules. First those
-/// with an address are placed, then the other listed ones, each in the order of `SECTIONS`, then
-/// the others by first appearance: each at its address, or else at the least address where it fits
-/// in its range, or in the first such range of its page.
+/// Sections of one name are one section of the program, in the order of the modules. First those with an
+/// address are placed, then the other listed ones, each in the order of `SECTIONS`, then the others by first
+/// appearance: each at its address, or else at the least address where it fits in its range, or in the first
+/// such range of its page.
 ///
-/// The first refusal is the answer: `DefinedTwice`, `Unresolved` and `NoEntry`, each over all
-/// modules; `NoRange`, `DoesNotFit`, `Overlap` and `BadRun`, section by section as they are placed;
-/// `RelocRange` by modules and relocations.
+/// The first fault is returned: `DefinedTwice`, `Unresolved` and `NoEntry`, each over all modules; `NoRange`,
+/// `DoesNotFit`, `Overlap` and `BadRun`, section by section as they are placed; `RelocRange` by modules and
+/// relocations.
 pub fn link<'a>(
     alloc: Global,
     modules: &'a [Module],
     command: &'a Command,
-) -> Result<Image, Refused>
+) -> Result<Image, PlacingFailure>
     requires { IsCommand (command_data command.now) }
     ensures { Links modules.now (command_data command.now) result }
 {

@@ -21,10 +21,10 @@ use c25_cmd::Command;
 use c25_linking_laws::linking::instructions_run_apart;
 use c25_meaning_objects::object::{LineMark, ModuleMark, Relocation, RelocationBase};
 use c25_module::{Module, Parts};
-use c25_place::{Refused, good_places};
+use c25_place::{PlacingFailure, good_places};
 use std::alloc::Global;
 
-/// A line of a file, which counts from 1.
+/// A line of a file. Lines count from 1.
 #[derive(Clone, Copy)]
 pub struct SourceLine<'a> {
     pub file: &'a str,
@@ -34,25 +34,25 @@ pub struct SourceLine<'a> {
 /// A field that does not take its value.
 #[derive(Clone, Copy)]
 pub struct Misfit<'a> {
-    /// The number of its module, counted from 0.
+    /// The number of the field's module, counted from 0.
     pub number: usize,
-    /// The section in which its word stands.
+    /// The section that the field's word belongs to.
     pub section: &'a str,
-    /// The address where its word is loaded.
+    /// The address where the field's word is loaded.
     pub address: u16,
-    /// What it counts from.
+    /// The section or the symbol that the value counts from.
     pub base: RelocationBase,
     /// The name of that section or symbol.
     pub base_name: &'a str,
-    /// What is added to that.
+    /// The number that is added to the section's address or the symbol's value.
     pub addend: i32,
-    /// The value.
+    /// The value that does not fit.
     pub value: i64,
-    /// Where the instruction stands that has its word, if the module tells.
+    /// The line of the instruction that has the field's word, if the module has lines.
     pub line: Option<SourceLine<'a>>,
 }
 
-/// Whether the instruction of a mark has the word of a relocation.
+/// Whether the word of a relocation belongs to the instruction of a mark.
 fn has_word(relocation: &Relocation, mark: &ModuleMark) -> bool
     ensures { result ≡ has_word relocation.now mark.now }
 {
@@ -61,7 +61,7 @@ fn has_word(relocation: &Relocation, mark: &ModuleMark) -> bool
     mark.section == relocation.section && first <= word && word < first + u32::from(mark.size)
 }
 
-/// A line of a module's file.
+/// A line of a file, by the line's record in its module.
 fn source_line<'a>(owner: &'a Parts, told: &LineMark) -> SourceLine<'a>
     ensures { line_of result ≡ line_in (contents owner.now) told.now }
 {
@@ -75,7 +75,7 @@ fn source_line<'a>(owner: &'a Parts, told: &LineMark) -> SourceLine<'a>
     }
 }
 
-/// The line of a module of this number, if it has so many.
+/// The line of a number among a module's lines, if there is one.
 fn line_at(owner: &Parts, index: usize) -> Option<SourceLine<'_>>
     ensures { option_map line_of result ≡ option_map (line_in (contents owner.now)) (slice_get (contents owner.now).lines index) }
 {
@@ -85,7 +85,7 @@ fn line_at(owner: &Parts, index: usize) -> Option<SourceLine<'_>>
     }
 }
 
-/// Where the instruction stands that has the word of a relocation.
+/// The line of the instruction that has the word of a relocation, if there is one.
 fn instruction_line<'a>(owner: &'a Parts, relocation: &Relocation) -> Option<SourceLine<'a>>
     ensures { option_map line_of result ≡ instruction_line (contents owner.now) relocation.now }
 {
@@ -97,7 +97,7 @@ fn instruction_line<'a>(owner: &'a Parts, relocation: &Relocation) -> Option<Sou
     None
 }
 
-/// The name of what a relocation counts from.
+/// The name of the section or symbol that a relocation counts from.
 fn base_name(owner: &Parts, base: RelocationBase) -> &str
     ensures { result.now ≡ base_name (contents owner.now) base }
 {
@@ -109,7 +109,7 @@ fn base_name(owner: &Parts, base: RelocationBase) -> &str
     }
 }
 
-/// The field of a relocation.
+/// The misfit of a relocation whose field does not take its value.
 fn misfit_of<'a>(
     layout: &Layout<'a, '_>,
     number: usize,
@@ -167,13 +167,13 @@ fn misfit_among<'a>(layout: &Layout<'a, '_>) -> Option<Misfit<'a>>
 }
 
 /// The first field that does not take its value, by modules and relocations, where sections stand as
-/// [`link`](crate::link) places them: what it refuses with `RelocRange`, in more words. What it refuses
-/// before that is refused here too.
+/// [`link`](crate::link) places them. It is the field that `link` refuses with `RelocRange`, described in
+/// full; a fault that `link` finds before it looks at fields is returned here too.
 pub fn first_misfit<'a>(
     alloc: Global,
     modules: &'a [Module],
     command: &'a Command,
-) -> Result<Option<Misfit<'a>>, Refused>
+) -> Result<Option<Misfit<'a>>, PlacingFailure>
     requires { IsCommand (command_data command.now) }
     ensures { FindsMisfit modules.now (command_data command.now) result }
 {

@@ -1,5 +1,5 @@
-//! The relocations of all modules: which counts from a name that nothing defines, and which does not
-//! fit its field.
+//! The relocations of all modules: whether the name that one counts from is defined, and whether its value
+//! fits its field.
 
 ghost use Rattle.std.specs.Prelude.{◌≡◌, ℕ, List, find, true, false, MatchOption};
 ghost use Rattle.std.specs.Option.{option_map};
@@ -37,14 +37,14 @@ pub(crate) fn symbol_name(owner: &Parts, index: u16) -> &str
     }
 }
 
-/// Whether no module defines a name for all.
+/// Whether no module defines a global symbol of a name.
 pub(crate) fn is_missing(definitions: &Definitions<'_>, name: &str) -> bool
     ensures { (ds : List words.Definition) → HasDefinitions definitions.now ds → result ≡ is_missing ds name.now }
 {
     definitions.get(name).is_none()
 }
 
-/// The name that a relocation counts from, if nothing defines it.
+/// The name that a relocation counts from, if no module defines it.
 fn missing_base<'a>(
     definitions: &Definitions<'_>,
     owner: &'a Parts,
@@ -67,7 +67,7 @@ fn missing_base<'a>(
     }
 }
 
-/// The first such name of a module.
+/// The first name that a relocation of a module counts from and no module defines.
 #[tactic(auto, using(crate::proofs::Search::found_here, crate::proofs::Search::none_here, crate::proofs::Search::none_whole))]
 fn unresolved_in<'a>(definitions: &Definitions<'_>, owner: &'a Parts) -> Option<&'a str>
     ensures { (number : ℕ) (ds : List words.Definition) → HasDefinitions definitions.now ds
@@ -83,7 +83,7 @@ fn unresolved_in<'a>(definitions: &Definitions<'_>, owner: &'a Parts) -> Option<
     None
 }
 
-/// The first name that a relocation counts from and nothing defines.
+/// The first name that a relocation counts from and no module defines.
 #[tactic(auto, using(crate::proofs::Search::found_at, crate::proofs::Search::none_more, crate::proofs::Search::none_at_all))]
 pub(crate) fn first_unresolved<'a>(
     definitions: &Definitions<'_>,

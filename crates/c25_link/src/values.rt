@@ -1,4 +1,4 @@
-//! What symbols stand for and relocated fields hold.
+//! The values of symbols and of relocated fields.
 
 ghost use Rattle.std.specs.Prelude.{◌≡◌, ◌^◌, Some, pos, negsuc, ◌≤ℤ◌, ◌+ℤ◌};
 ghost use Rattle.c25_meaning_objects.specs.Module.{Contents};
@@ -13,7 +13,7 @@ use crate::uses::symbol_name;
 use c25_meaning_objects::object::{Relocation, RelocationBase, SymbolKind};
 use c25_module::Parts;
 
-/// A sum.
+/// The sum of a base and an addend.
 fn sum(base: i64, addend: i32) -> i64
     requires low { negsuc (2 ^ 36) ≤ℤ base }
     requires high { base ≤ℤ pos (2 ^ 36) }
@@ -22,7 +22,7 @@ fn sum(base: i64, addend: i32) -> i64
     base + i64::from(addend)
 }
 
-/// The address where a module's section begins as it is loaded.
+/// The address where a module's part of a section is loaded.
 fn section_base(layout: &Layout<'_, '_>, number: usize, index: u16) -> i64
     requires { IsLaidOut layout.now }
     ensures low { pos 0 ≤ℤ result }
@@ -32,7 +32,7 @@ fn section_base(layout: &Layout<'_, '_>, number: usize, index: u16) -> i64
     i64::from(layout.bases.get(number, usize::from(index)).base)
 }
 
-/// The address where it begins as it runs.
+/// The address where a module's part of a section runs.
 fn section_run(layout: &Layout<'_, '_>, number: usize, index: u16) -> i64
     requires { IsLaidOut layout.now }
     ensures low { pos 0 ≤ℤ result }
@@ -42,7 +42,7 @@ fn section_run(layout: &Layout<'_, '_>, number: usize, index: u16) -> i64
     i64::from(layout.bases.get(number, usize::from(index)).run_base())
 }
 
-/// What a symbol of a module stands for.
+/// The value of a symbol of a module, by its kind.
 fn kind_value(layout: &Layout<'_, '_>, number: usize, kind: SymbolKind, value: i32) -> i64
     requires { IsLaidOut layout.now }
     ensures low { negsuc (2 ^ 36) ≤ℤ result }
@@ -57,7 +57,7 @@ fn kind_value(layout: &Layout<'_, '_>, number: usize, kind: SymbolKind, value: i
     }
 }
 
-/// What a definition stands for.
+/// The value of a definition.
 pub(crate) fn definition_value(layout: &Layout<'_, '_>, definition: &Definition<'_>) -> i64
     requires { IsLaidOut layout.now }
     ensures low { negsuc (2 ^ 36) ≤ℤ result }
@@ -69,7 +69,7 @@ pub(crate) fn definition_value(layout: &Layout<'_, '_>, definition: &Definition<
     kind_value(layout, definition.number, symbol.kind, symbol.value)
 }
 
-/// What a defined name stands for, 0 where nothing defines it.
+/// The value of a global symbol by its name, 0 where no module defines it.
 pub(crate) fn name_value(layout: &Layout<'_, '_>, name: &str) -> i64
     requires { IsLaidOut layout.now }
     ensures low { negsuc (2 ^ 36) ≤ℤ result }
@@ -82,7 +82,7 @@ pub(crate) fn name_value(layout: &Layout<'_, '_>, name: &str) -> i64
     }
 }
 
-/// What a relocation adds its addend to.
+/// The address or value that a relocation adds its addend to.
 fn base_value(layout: &Layout<'_, '_>, number: usize, owner: &Parts, base: RelocationBase) -> i64
     requires laid { IsLaidOut layout.now }
     requires owner { IsOwner layout.now number (contents owner.now) }
@@ -97,7 +97,7 @@ fn base_value(layout: &Layout<'_, '_>, number: usize, owner: &Parts, base: Reloc
     }
 }
 
-/// The value that a field is filled with.
+/// The value that a relocation fills its field with.
 pub(crate) fn relocated_value(
     layout: &Layout<'_, '_>,
     number: usize,

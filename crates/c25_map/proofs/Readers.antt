@@ -32,7 +32,7 @@ use Rattle.c25_map.proofs.Steps.{tested, stepped}
 line_grows : (m n : MapData) (line : List ℕ) → with_line m line ≡ Ok n → Grows m (line ++ 10 ∷ []) n
 line_grows m n line h = subst (λ t. Grows m (t ++ 10 ∷ []) n) (join_with_byte-slice_split 32 line) (fields_grow m n (cut 32 line) h)
 
--- the text behind a map, and all of the map's lines
+-- the text after a map, and all of the map's lines
 record Ends (m n : MapData) (text : List ℕ) : Type 0 where
   same : body m ++ text ≡ body n ++ map_line (codes "END")
   printed : IsPrinted m → IsPrinted n

@@ -1,5 +1,5 @@
--- How the text of a map is read: fields, lines, and all of them from the front on. `read_map` answers what the relation
--- between texts and maps says; this is its way there.
+-- How the text of a map is read: fields, lines, and all of them from the front on. `read_map` returns what
+-- the relation between texts and maps says; this is the way in which it does.
 use Rattle.std.specs.Prelude.{ℕ, ◌+◌, ◌*◌, ◌==◌, ◌||◌, ◌&&◌, Bool, not, nat_le, List, [], ◌∷◌, ◌++◌, length, take, drop, codes, Option, Some, None, option_map, is_some, ok_or, Result, Ok, Err, if◌then◌else◌}
 use Rattle.std.specs.List.{list_all, slice_split}
 use Rattle.std.specs.Str.{bytes_eq}
@@ -82,7 +82,7 @@ unfoldable pub with_part : MapData → PartData → Result MapData MapFault
 with_part m part =
     if is_open m then ok_or (option_map (λ sections. record m { sections = sections }) (onto_last m.sections part)) BadMap else Err BadMap
 
--- whether it has been told where a section runs, or a part of it
+-- whether a section already has a run address or a part
 abbrev pub is_settled : SectionPlace → Bool
 is_settled s = is_some s.place.run || not (length s.parts == 0)
 
@@ -128,7 +128,7 @@ cut separator text = slice_split (λ b. b == separator) text
 abbrev pub with_line : MapData → List ℕ → Result MapData MapFault
 with_line m line = with_fields m (cut 32 line)
 
--- behind `END` is the end of its line, and nothing else
+-- the map, if the end of its line and nothing else follows `END`
 abbrev pub finished : MapData → List (List ℕ) → Result MapData MapFault
 finished m ([] ∷ []) = Ok m
 finished m _ = Err BadMap
@@ -138,11 +138,11 @@ unfoldable pub with_lines : MapData → List (List ℕ) → Result MapData MapFa
 with_lines m [] = Err BadMap
 with_lines m (line ∷ rest) = if bytes_eq line (codes "END") then finished m rest else (with_line m line >>= λ n. with_lines n rest)
 
--- before the first line
+-- the map before the first line
 abbrev pub nothing : MapData
 nothing = record { sections = []; symbols = []; entry = None }
 
--- behind the first line
+-- the map of the lines after a first line `C25 MAP 1`
 unfoldable pub with_head : List (List ℕ) → Result MapData MapFault
 with_head (head ∷ lines) = if bytes_eq head (codes "C25 MAP 1") then with_lines nothing lines else Err BadMap
 with_head [] = Err BadMap

@@ -1,4 +1,4 @@
--- How the code's maps stand for the definitions' data.
+-- What the code's maps stand for among the definitions' data.
 use Rattle.std.specs.Prelude.{map, option_map, string_bytes}
 use Rattle.c25_meaning_linking.specs.MapText as meant
 use Rattle.c25_map.specs.declared.map.Part.{Part}

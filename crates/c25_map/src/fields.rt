@@ -1,4 +1,4 @@
-//! What the fields of a map's line say.
+//! The lines of a map by their kinds, read from their fields.
 
 ghost use Rattle.std.specs.Prelude.{◌≡◌, [], IfOk};
 ghost use Rattle.c25_meaning_common.specs.Results.{Meets};

@@ -1,4 +1,4 @@
-//! A map, and what one line more says.
+//! A map so far, with one line more.
 
 ghost use Rattle.std.specs.Prelude.{◌≡◌, [], ◌∷◌, IfOk, map, ok_or};
 ghost use Rattle.c25_meaning_common.specs.Results.{Meets};
@@ -51,14 +51,14 @@ fn add_part(so_far: &mut Map, part: Part) -> Result<(), Failure<MapFault>>
     add_to_last(&mut so_far.sections, part)
 }
 
-/// Whether it has been told where a section runs, or a part of it.
+/// Whether a section already has a run address or a part.
 fn is_settled(section: &OutputSection) -> bool
     ensures { result ≡ reading.is_settled (section_data section.now) }
 {
     section.run.is_some() || !section.parts.is_empty()
 }
 
-/// Tells where the last section runs.
+/// Sets the address where the last section runs.
 fn run_of_last(sections: &mut Vec<OutputSection>, run: u16) -> Result<(), Failure<MapFault>>
     ensures { Meets (λ _. map section_data sections.new.items) (ok_or (reading.run_of_last (map section_data sections.old.items) run) BadMap) result }
 {
@@ -74,7 +74,7 @@ fn run_of_last(sections: &mut Vec<OutputSection>, run: u16) -> Result<(), Failur
     }
 }
 
-/// Tells where the last section runs, if neither symbols nor an entry have come yet.
+/// Sets the address where the last section runs, if neither symbols nor an entry have come yet.
 #[tactic(auto, unfolding(crate::specs::Reading::with_run))]
 fn set_run(so_far: &mut Map, run: u16) -> Result<(), Failure<MapFault>>
     ensures { Meets (λ _. map_data so_far.new) (reading.with_run (map_data so_far.old) run) result }
@@ -106,83 +106,18 @@ fn set_entry(so_far: &mut Map, entry: GlobalSymbol) -> Result<(), Failure<MapFau
     Ok(())
 }
 
-/// Adds a symbol, or sets the entry.
-#[tactic(auto, unfolding(crate::specs::Reading::with_fields))]
-fn add_named(
-    alloc: Global,
-    so_far: &mut Map,
-    kind: &str,
-    value: &str,
-    name: &str,
-) -> Result<(), Failure<MapFault>>
-    ensures { Meets (λ _. map_data so_far.new) (reading.with_fields (map_data so_far.old) (kind.now ∷ value.now ∷ name.now ∷ [])) result }
-{
-    match kind {
-        "SYMBOL" => add_symbol(so_far, symbol_of(alloc, value, name)?),
-        "ENTRY" => set_entry(so_far, symbol_of(alloc, value, name)?),
-        _ => Err(Failure::Fault(MapFault::BadMap)),
-    }
-}
-
-/// Tells where the last section runs, if the line is of that kind.
-#[tactic(auto, unfolding(crate::specs::Reading::with_fields))]
-fn add_run(so_far: &mut Map, kind: &str, run: &str) -> Result<(), Failure<MapFault>>
-    ensures { Meets (λ _. map_data so_far.new) (reading.with_fields (map_data so_far.old) (kind.now ∷ run.now ∷ [])) result }
-{
-    match kind {
-        "RUN" => set_run(so_far, word_of(run.as_bytes())?),
-        _ => Err(Failure::Fault(MapFault::BadMap)),
-    }
-}
-
-/// Adds a part, if the line is one of a part.
-#[tactic(auto, unfolding(crate::specs::Reading::with_fields))]
-fn add_part_line(
-    alloc: Global,
-    so_far: &mut Map,
-    kind: &str,
-    number: &str,
-    base: &str,
-    size: &str,
-) -> Result<(), Failure<MapFault>>
-    ensures { Meets (λ _. map_data so_far.new) (reading.with_fields (map_data so_far.old) (kind.now ∷ number.now ∷ base.now ∷ size.now ∷ [])) result }
-{
-    match kind {
-        "PART" => add_part(so_far, part_of(alloc, number, base, size)?),
-        _ => Err(Failure::Fault(MapFault::BadMap)),
-    }
-}
-
-/// Adds a section, if the line is one of a section.
-#[tactic(auto, unfolding(crate::specs::Reading::with_fields))]
-fn add_section_line(
-    alloc: Global,
-    so_far: &mut Map,
-    kind: &str,
-    page: &str,
-    base: &str,
-    size: &str,
-    name: &str,
-) -> Result<(), Failure<MapFault>>
-    ensures { Meets (λ _. map_data so_far.new) (reading.with_fields (map_data so_far.old) (kind.now ∷ page.now ∷ base.now ∷ size.now ∷ name.now ∷ [])) result }
-{
-    match kind {
-        "SECTION" => add_section(so_far, section_of(alloc, page, base, size, name)?),
-        _ => Err(Failure::Fault(MapFault::BadMap)),
-    }
-}
-
-/// Adds what the fields of a line say.
+/// Adds what the fields of a line say to the map so far: the first field is the line's kind.
 #[tactic(auto, unfolding(crate::specs::Reading::with_fields))]
 fn add_fields(alloc: Global, so_far: &mut Map, fields: &[&str]) -> Result<(), Failure<MapFault>>
     ensures { Meets (λ _. map_data so_far.new) (reading.with_fields (map_data so_far.old) (map (λ f. f.now) fields.now)) result }
 {
     match fields {
-        [kind, run] => add_run(so_far, kind, run),
-        [kind, value, name] => add_named(alloc, so_far, kind, value, name),
-        [kind, number, base, size] => add_part_line(alloc, so_far, kind, number, base, size),
-        [kind, page, base, size, name] => {
-            add_section_line(alloc, so_far, kind, page, base, size, name)
+        ["RUN", run] => set_run(so_far, word_of(run.as_bytes())?),
+        ["SYMBOL", value, name] => add_symbol(so_far, symbol_of(alloc, value, name)?),
+        ["ENTRY", value, name] => set_entry(so_far, symbol_of(alloc, value, name)?),
+        ["PART", number, base, size] => add_part(so_far, part_of(alloc, number, base, size)?),
+        ["SECTION", page, base, size, name] => {
+            add_section(so_far, section_of(alloc, page, base, size, name)?)
         }
         _ => Err(Failure::Fault(MapFault::BadMap)),
     }
@@ -195,7 +130,7 @@ fn fields_of(alloc: Global, line: &str) -> Result<Vec<&str>, AllocError>
     line.split(' ').collect(alloc)
 }
 
-/// Adds what a line says.
+/// Adds what a line says to the map so far.
 pub(crate) fn add_line(alloc: Global, so_far: &mut Map, line: &str) -> Result<(), Failure<MapFault>>
     ensures { Meets (λ _. map_data so_far.new) (reading.with_line (map_data so_far.old) line.now) result }
 {

@@ -1,13 +1,13 @@
-//! What a map of a linked program says.
+//! The sections, symbols and entry of a linked program.
 
-/// The part of a section that a module has.
+/// The part that a module has of a section.
 #[derive(Drop)]
 pub struct Part {
     /// The decimal digits of the module's number, counted from 0: a map may have a number of any size.
     pub number: String,
-    /// The address of its first word; 65,536 where an empty part stands behind a full page.
+    /// The address of the part's first word; 65,536 for an empty part after a full page.
     pub base: u32,
-    /// How many words it has.
+    /// How many words the part has.
     pub size: u32,
 }
 
@@ -15,15 +15,15 @@ pub struct Part {
 #[derive(Drop)]
 pub struct OutputSection {
     pub name: String,
-    /// 0 for program memory, 1 for data memory.
+    /// Page 0 is program memory, page 1 data memory.
     pub page: u8,
-    /// The address where its first word is loaded.
+    /// The address where the section's first word is loaded.
     pub base: u32,
-    /// How many words it has.
+    /// How many words the section has.
     pub size: u32,
-    /// The address where its first word runs, if that is another.
+    /// The address where the section's first word runs, if that is not where it is loaded.
     pub run: Option<u32>,
-    /// The parts, by modules.
+    /// The parts of the section, by modules.
     pub parts: Vec<Part>,
 }
 

@@ -2,18 +2,18 @@
 
 use thiserror::Error;
 
-/// Why a text is not read as a map. The number is that of the fault lines.
+/// Why a text is not read as a map. The number in parentheses is the fault number shown to the user.
 #[derive(Clone, Copy, Debug, Error)]
 #[error("{}", self.name())]
 pub enum MapFault {
-    /// The text is that of no map (77).
+    /// The text is not that of a map (77).
     BadMap,
 }
 
 impl MapFault {
     ghost use Rattle.std.specs.Prelude.{◌≡◌, codes};
 
-    /// The number that it is told by.
+    /// The fault number shown to the user.
     pub fn number(&self) -> u8
         ensures { result ≡ 77 }
     {
@@ -22,7 +22,7 @@ impl MapFault {
         }
     }
 
-    /// The name that it is told by.
+    /// The fault name shown to the user.
     pub fn name(&self) -> &'static str
         ensures { result.now ≡ codes "BadMap" }
     {

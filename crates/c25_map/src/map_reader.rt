@@ -13,7 +13,7 @@ use crate::map_fault::MapFault;
 use c25_meaning_common::failure::Failure;
 use std::alloc::{AllocError, Global};
 
-/// A map that says nothing.
+/// A map without sections, symbols and entry.
 fn nothing(alloc: Global) -> Map
     ensures { map_data result ≡ reading.nothing }
 {
@@ -24,7 +24,7 @@ fn nothing(alloc: Global) -> Map
     }
 }
 
-/// The map, if its last line was the text's.
+/// The map so far, if the text ends after its last line.
 fn finished(so_far: Map, rest: &[&str]) -> Result<Map, Failure<MapFault>>
     ensures { Meets map_data (reading.finished (map_data so_far) (map (λ l. l.now) rest.now)) result }
 {
@@ -34,7 +34,7 @@ fn finished(so_far: Map, rest: &[&str]) -> Result<Map, Failure<MapFault>>
     }
 }
 
-/// What the lines behind the first one say.
+/// The map that the lines after the first one spell.
 #[tactic(auto, unfolding(crate::specs::Reading::with_lines))]
 fn map_of_lines(alloc: Global, lines: &[&str]) -> Result<Map, Failure<MapFault>>
     ensures { Meets map_data (reading.with_lines reading.nothing (map (λ l. l.now) lines.now)) result }
@@ -51,8 +51,8 @@ fn map_of_lines(alloc: Global, lines: &[&str]) -> Result<Map, Failure<MapFault>>
     Err(Failure::Fault(MapFault::BadMap))
 }
 
-/// The lines of a text, without the LF that ends each. Behind the last LF stands a line more, which
-/// is empty where the text ends there.
+/// The lines of a text, without the LF that ends each. What follows the last LF is a line too, an empty one
+/// where the text ends there.
 fn lines_of(alloc: Global, text: &str) -> Result<Vec<&str>, AllocError>
     ensures { IfOk result (λ v. map (λ l. l.now) v.items ≡ reading.cut 10 text.now) }
 {
@@ -77,10 +77,9 @@ fn map_of(alloc: Global, text: &str) -> Result<Map, Failure<MapFault>>
 
 /// The map whose text this is, as [`write_map`](crate::write_map) gives it; no two maps have one text.
 ///
-/// It refuses as `BadMap` each text that is that of no map: with a line out of place or out of form,
-/// with short numbers or lower-case digits, with CR LF for LF, without its last line or its last LF.
-/// No sums are checked: sections and parts may overlap, and names may come twice.
-/// It refuses for want of memory too.
+/// The fault is `BadMap` for each text that is not a map's: with a line out of place or of another form, with
+/// short numbers or lower-case digits, with CR LF for LF, without its last line or its last LF. No sums are
+/// checked: sections and parts may overlap, and names may come twice. It fails with `NoMemory` too.
 pub fn read_map(alloc: Global, text: &str) -> Result<Map, Failure<MapFault>>
     ensures found { IfOk result (λ m. IsMapOf text.now (map_data m)) }
     ensures refused { IfErr result (λ e. IsRefused text.now e) }

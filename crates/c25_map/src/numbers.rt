@@ -8,9 +8,9 @@ ghost use Rattle.c25_meaning_common.specs.Results.{Meets};
 ghost use Rattle.c25_map.specs.Reading.{is_upper_digit, word_of, address_of, long_of, size_of, page_of};
 
 use crate::map_fault::MapFault;
-use c25_texts::{decimal_of, hexadecimal_of};
 use c25_meaning_common::bytes::is_digit;
 use c25_meaning_common::failure::Failure;
+use c25_texts::{decimal_of, hexadecimal_of};
 
 /// How many digits a size has.
 const SIZE_DIGITS: usize = 5;
@@ -35,7 +35,7 @@ fn all_digits(digits: &[u8]) -> bool
     digits.iter().all(|byte| is_digit(*byte))
 }
 
-/// Whether these are the digits of a decimal number without leading zeros.
+/// Whether bytes are the digits of a decimal number without leading zeros.
 pub(crate) fn is_number(digits: &[u8]) -> bool
     ensures { result ≡ is_number digits.now }
 {
@@ -95,7 +95,7 @@ pub(crate) fn size_of(digits: &[u8]) -> Result<u32, Failure<MapFault>>
     }
 }
 
-/// The number of a page.
+/// The number of a page: `0` or `1`.
 #[tactic(auto, unfolding(crate::specs::Reading::page_of))]
 pub(crate) fn page_of(digits: &str) -> Result<u8, Failure<MapFault>>
     ensures { Meets (λ x. x) (page_of digits.now) result }

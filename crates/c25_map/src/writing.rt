@@ -1,91 +1,32 @@
 //! The text of a map.
 
-ghost use Rattle.std.specs.Prelude.{◌≡◌, ◌<◌, ◌≤◌, ◌++◌, OnOk, IfOk, IfSome, All, map, ◌∷◌, [], string_bytes};
+ghost use Rattle.std.specs.Prelude.{◌≡◌, ◌<◌, ◌≤◌, ◌++◌, OnOk, IfOk, IfSome, All, map, string_bytes};
 ghost use Rattle.std.specs.List.{flat_map};
 ghost use Rattle.std.specs.Option.{option_map};
-ghost use Rattle.c25_meaning_linking.specs.MapText.{address_text, decimal_digit, five_digits, eight_digits, part_text, place_text, run_lines, section_text, value_text, symbol_text, entry_text, entry_lines, map_text, HasDigits};
+ghost use Rattle.c25_meaning_linking.specs.MapText.{address_text, part_text, place_text, run_lines, section_text, value_text, symbol_text, entry_text, entry_lines, map_text, HasDigits};
 ghost use Rattle.c25_meaning_common.specs.Digits.{four_digits};
 ghost use Rattle.c25_map.specs.View.{part_data, section_data, symbol_data, map_data};
 
 use crate::map::{GlobalSymbol, Map, OutputSection, Part};
-use c25_texts::digits::four;
 use c25_meaning_common::no_memory::NoMemory;
-use std::alloc::{AllocError, Global};
+use c25_texts::appending::{push_count, push_eight, push_four, push_name, push_text};
+use std::alloc::Global;
 
-/// Appends an ASCII character.
-fn push_byte(out: &mut String, byte: u8) -> Result<(), AllocError>
-    requires { byte < 128 }
-    ensures { OnOk result (string_bytes out.new ≡ string_bytes out.old ++ byte ∷ []) }
-{
-    out.push(char::from(byte))
-}
-
-/// Appends the four digits of a word.
-fn push_four(out: &mut String, number: u16) -> Result<(), AllocError>
-    ensures { OnOk result (string_bytes out.new ≡ string_bytes out.old ++ four_digits number) }
-{
-    out.push_str(four(number).as_str())
-}
-
-/// Appends an address.
-fn push_address(out: &mut String, address: u32) -> Result<(), AllocError>
+/// Appends an address in four hexadecimal digits, 65,536 as `10000`.
+fn push_address(out: &mut String, address: u32) -> Result<(), NoMemory>
     requires { address ≤ 65536 }
     ensures { OnOk result (string_bytes out.new ≡ string_bytes out.old ++ address_text address) }
 {
     if address == 65_536 {
-        out.push_str("10000")
+        push_text(out, "10000")
     } else {
         push_four(out, address as u16)
     }
 }
 
-/// Appends a decimal digit.
-fn push_digit(out: &mut String, number: u32) -> Result<(), AllocError>
-    ensures { OnOk result (string_bytes out.new ≡ string_bytes out.old ++ decimal_digit number ∷ []) }
-{
-    push_byte(out, b'0' + (number % 10) as u8)
-}
-
-/// Appends five decimal digits.
-fn push_five(out: &mut String, number: u32) -> Result<(), AllocError>
-    ensures { OnOk result (string_bytes out.new ≡ string_bytes out.old ++ five_digits number) }
-{
-    push_digit(out, number / 10_000)?;
-    push_digit(out, number / 1_000)?;
-    push_digit(out, number / 100)?;
-    push_digit(out, number / 10)?;
-    push_digit(out, number)
-}
-
-/// Appends a blank and how many words there are.
-fn push_size(out: &mut String, size: u32) -> Result<(), AllocError>
-    ensures { OnOk result (string_bytes out.new ≡ string_bytes out.old ++ 32 ∷ five_digits size) }
-{
-    out.push_str(" ")?;
-    push_five(out, size)
-}
-
-/// Appends a blank and the name that ends a line.
-fn push_name(out: &mut String, name: &str) -> Result<(), AllocError>
-    ensures { OnOk result (string_bytes out.new ≡ string_bytes out.old ++ 32 ∷ name.now ++ 10 ∷ []) }
-{
-    out.push_str(" ")?;
-    out.push_str(name)?;
-    out.push_str("\n")
-}
-
-/// Appends eight hexadecimal digits.
-#[tactic(auto, unfolding(c25_meaning_linking::specs::MapText::eight_digits))]
-fn push_eight(out: &mut String, number: u32) -> Result<(), AllocError>
-    ensures { OnOk result (string_bytes out.new ≡ string_bytes out.old ++ eight_digits number) }
-{
-    push_four(out, (number / 65_536) as u16)?;
-    push_four(out, (number % 65_536) as u16)
-}
-
 /// Appends the line of a part.
 #[tactic(auto, unfolding(c25_meaning_linking::specs::MapText::part_text))]
-fn push_part(out: &mut String, part: &Part) -> Result<(), AllocError>
+fn push_part(out: &mut String, part: &Part) -> Result<(), NoMemory>
     requires { part.now.base ≤ 65536 }
     ensures { OnOk result (string_bytes out.new ≡ string_bytes out.old ++ part_text (part_data part.now)) }
 {
@@ -93,25 +34,25 @@ fn push_part(out: &mut String, part: &Part) -> Result<(), AllocError>
     out.push_str(&part.number)?;
     out.push_str(" ")?;
     push_address(out, part.base)?;
-    push_size(out, part.size)?;
-    out.push_str("\n")
+    push_count(out, part.size)?;
+    push_text(out, "\n")
 }
 
 /// Appends the line of a section.
 #[tactic(auto, unfolding(c25_meaning_linking::specs::MapText::place_text))]
-fn push_place(out: &mut String, section: &OutputSection) -> Result<(), AllocError>
+fn push_place(out: &mut String, section: &OutputSection) -> Result<(), NoMemory>
     requires { section.now.base < 65536 }
     ensures { OnOk result (string_bytes out.new ≡ string_bytes out.old ++ place_text (section_data section.now).place) }
 {
     let page = section.page;
     write!(out, "SECTION {page} ")?;
     push_four(out, section.base as u16)?;
-    push_size(out, section.size)?;
+    push_count(out, section.size)?;
     push_name(out, &section.name)
 }
 
 /// Appends the line of the address where a section runs, if that is not where it is loaded.
-fn push_run(out: &mut String, run: Option<u32>) -> Result<(), AllocError>
+fn push_run(out: &mut String, run: Option<u32>) -> Result<(), NoMemory>
     requires { IfSome run (λ run. run < 65536) }
     ensures { OnOk result (string_bytes out.new ≡ string_bytes out.old ++ run_lines run) }
 {
@@ -119,14 +60,14 @@ fn push_run(out: &mut String, run: Option<u32>) -> Result<(), AllocError>
         Some(run) => {
             out.push_str("RUN ")?;
             push_four(out, run as u16)?;
-            out.push_str("\n")
+            push_text(out, "\n")
         }
         None => Ok(()),
     }
 }
 
 /// Appends the lines of parts.
-fn push_parts(out: &mut String, parts: &[Part]) -> Result<(), AllocError>
+fn push_parts(out: &mut String, parts: &[Part]) -> Result<(), NoMemory>
     requires { All (λ p. p.base ≤ 65536) parts.now }
     ensures { OnOk result (string_bytes out.new ≡ string_bytes out.old ++ flat_map part_text (map part_data parts.now)) }
 {
@@ -136,8 +77,8 @@ fn push_parts(out: &mut String, parts: &[Part]) -> Result<(), AllocError>
     Ok(())
 }
 
-/// Appends the lines of a section, of where it runs and of its parts.
-fn push_section(out: &mut String, section: &OutputSection) -> Result<(), AllocError>
+/// Appends the lines of a section: its own, that of its run address, and those of its parts.
+fn push_section(out: &mut String, section: &OutputSection) -> Result<(), NoMemory>
     requires { HasDigits (section_data section.now) }
     ensures { OnOk result (string_bytes out.new ≡ string_bytes out.old ++ section_text (section_data section.now)) }
 {
@@ -147,8 +88,8 @@ fn push_section(out: &mut String, section: &OutputSection) -> Result<(), AllocEr
 }
 
 /// Appends a value and its name.
-#[tactic(auto, unfolding(c25_meaning_linking::specs::MapText::value_text))]
-fn push_value(out: &mut String, symbol: &GlobalSymbol) -> Result<(), AllocError>
+#[tactic(auto, unfolding(c25_meaning_linking::specs::MapText::value_text, c25_meaning_linking::specs::MapText::eight_digits))]
+fn push_value(out: &mut String, symbol: &GlobalSymbol) -> Result<(), NoMemory>
     ensures { OnOk result (string_bytes out.new ≡ string_bytes out.old ++ value_text (symbol_data symbol.now)) }
 {
     push_eight(out, symbol.value)?;
@@ -156,7 +97,7 @@ fn push_value(out: &mut String, symbol: &GlobalSymbol) -> Result<(), AllocError>
 }
 
 /// Appends the line of a symbol.
-fn push_symbol(out: &mut String, symbol: &GlobalSymbol) -> Result<(), AllocError>
+fn push_symbol(out: &mut String, symbol: &GlobalSymbol) -> Result<(), NoMemory>
     ensures { OnOk result (string_bytes out.new ≡ string_bytes out.old ++ symbol_text (symbol_data symbol.now)) }
 {
     out.push_str("SYMBOL ")?;
@@ -164,7 +105,7 @@ fn push_symbol(out: &mut String, symbol: &GlobalSymbol) -> Result<(), AllocError
 }
 
 /// Appends the line of the entry.
-fn push_entry(out: &mut String, symbol: &GlobalSymbol) -> Result<(), AllocError>
+fn push_entry(out: &mut String, symbol: &GlobalSymbol) -> Result<(), NoMemory>
     ensures { OnOk result (string_bytes out.new ≡ string_bytes out.old ++ entry_text (symbol_data symbol.now)) }
 {
     out.push_str("ENTRY ")?;
@@ -172,7 +113,7 @@ fn push_entry(out: &mut String, symbol: &GlobalSymbol) -> Result<(), AllocError>
 }
 
 /// Appends the lines of sections.
-fn push_sections(out: &mut String, sections: &[OutputSection]) -> Result<(), AllocError>
+fn push_sections(out: &mut String, sections: &[OutputSection]) -> Result<(), NoMemory>
     requires { All (λ s. HasDigits (section_data s)) sections.now }
     ensures { OnOk result (string_bytes out.new ≡ string_bytes out.old ++ flat_map section_text (map section_data sections.now)) }
 {
@@ -193,7 +134,7 @@ pub fn push_symbols(out: &mut String, symbols: &[GlobalSymbol]) -> Result<(), No
 }
 
 /// Appends the line of the entry, if there is one.
-fn push_entry_lines(out: &mut String, entry: &Option<GlobalSymbol>) -> Result<(), AllocError>
+fn push_entry_lines(out: &mut String, entry: &Option<GlobalSymbol>) -> Result<(), NoMemory>
     ensures { OnOk result (string_bytes out.new ≡ string_bytes out.old ++ entry_lines (option_map symbol_data entry.now)) }
 {
     match entry {
@@ -202,11 +143,11 @@ fn push_entry_lines(out: &mut String, entry: &Option<GlobalSymbol>) -> Result<()
     }
 }
 
-/// The text of a map whose sections lie within their pages: a line for each section, behind it one with
-/// the address where it runs, if that is not where it is loaded, and one for each of its parts, a line
-/// for each global symbol, one for the entry if there is one, between a first line `C25 MAP 1` and a
-/// last line `END`. Addresses and values are hexadecimal in upper case, sizes decimal in five digits.
-/// It refuses for want of memory alone.
+/// The text of a map whose sections lie within their pages: a line for each section, after it one with the
+/// address where it runs, if that is not where it is loaded, and one for each of its parts, a line for each
+/// global symbol, one for the entry if there is one, between a first line `C25 MAP 1` and a last line `END`.
+/// Addresses and values are hexadecimal in upper case, sizes decimal in five digits. It fails only where
+/// memory runs out.
 pub fn write_map(alloc: Global, map: &Map) -> Result<String, NoMemory>
     requires { All HasDigits (map_data map.now).sections }
     ensures { IfOk result (λ text. string_bytes text ≡ map_text (map_data map.now)) }

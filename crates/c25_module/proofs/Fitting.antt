@@ -71,7 +71,7 @@ file_short before name e =
     let a = both (is_utf8 name) (ltb (length name) (2 ^ 32)) b.0 in
     ltb-true _ _ a.1
 
--- ---- a list looked at item by item: those behind a place are held against those before it
+-- ---- a list looked at item by item: those after a place are held against those before it
 
 -- what is left of the list, with its first item
 opened : {A : Type 0} (fits : List A → A → Bool) (xs : List A) (i : ℕ) (d : A) (b : Bool) → i < length xs → fits (take i xs) (get_or xs i d) ≡ b

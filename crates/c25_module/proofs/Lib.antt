@@ -3,5 +3,3 @@ pub mod Fitting
 pub mod Small
 mod ByName
 mod AllSymbols
-mod Lengths
-mod Puts

@@ -1,9 +1,5 @@
 -- Names and sizes of the items of a module.
-use Rattle.std.proofs.Common.{◌≡◌, ℕ, ◌<◌, ◌≤◌, true, List, [], ◌∷◌, ◌++◌, length, All, string_bytes, ◌+◌, take, get_or, ap, sym, ◌∙◌}
-use Rattle.std.specs.List.{flat_map}
-use Rattle.std.proofs.lemmas.List.{map_push, take_more}
-use Rattle.c25_meaning_objects.specs.Records.{symbol_entry}
-use Rattle.c25_module.proofs.Fitting.{one_more}
+use Rattle.std.proofs.Common.{◌≡◌, ℕ, ◌<◌, ◌≤◌, true, List, [], ◌∷◌, ◌++◌, length, All, string_bytes}
 use Rattle.std.specs.Prelude.{◌^◌, String}
 use Rattle.std.specs.declared.alloc.Global.{Global}
 use Rattle.std.specs.List.{AllByRecursion}
@@ -34,14 +30,6 @@ symbols_each version sections before (y ∷ ys) e =
 
 pub symbols_small : (version : Version) (sections : List SectionData) (ys : List Symbol) → each_fits (symbol_fits version sections) [] (symbols_data ys) ≡ true → All (λ y. length (string_bytes y.name) ≤ 128) ys
 symbols_small version sections ys e = All-from_recursion (λ y. length (string_bytes y.name) ≤ 128) ys (symbols_each version sections [] ys e)
-
--- one more symbol of a list
-pub symbols_more : (ys : List Symbol) (i : ℕ) (y : Symbol) → i < length ys → y ≡ get_or ys i y
-    → flat_map symbol_entry (symbols_data (take (i + 1) ys)) ≡ flat_map symbol_entry (symbols_data (take i ys)) ++ symbol_entry (symbol_data y)
-symbols_more ys i y lt is =
-    ap (λ (xs : List Symbol). flat_map symbol_entry (symbols_data xs)) (take_more ys i y lt ∙ ap (λ (x : Symbol). take i ys ++ x ∷ []) (sym is))
-    ∙ ap (λ (xs : List SymbolData). flat_map symbol_entry xs) (map_push symbol_data (take i ys) y)
-    ∙ one_more symbol_entry (symbols_data (take i ys)) (symbol_data y)
 
 files_each : (before : List (List ℕ)) (fs : List (String Global)) → each_fits file_fits before (files_data fs) ≡ true → AllByRecursion (λ f. length (string_bytes f) < 2 ^ 32) fs
 files_each before [] e = tt

@@ -1,4 +1,4 @@
--- What it is for names of symbols to differ, by the symbols' numbers.
+-- What it means that the names of symbols differ, by the symbols' numbers.
 use Rattle.std.specs.Prelude.{◌≡◌, ◌≢◌, ℕ, ◌+◌, ◌<◌, false, slice_index, List, [], length, Option, Some, None}
 use Rattle.std.specs.List.{slice_get}
 use Rattle.std.specs.Ordering.{is_lt, nat_cmp}
@@ -10,7 +10,7 @@ abbrev pub name_of : Option SymbolData → List ℕ
 name_of None = []
 name_of (Some y) = y.name
 
--- the name of the symbol with that number; empty where there is none
+-- the name of the symbol of a number, empty where there is none
 abbrev pub name_at : List SymbolData → ℕ → List ℕ
 name_at symbols number = name_of (slice_get symbols number)
 

@@ -1,4 +1,4 @@
--- How the lists of a module are seen: texts and vectors as lists.
+-- The lists of a module as clauses see them: texts and vectors as lists.
 use Rattle.std.specs.Prelude.{ℕ, List, map, String, string_bytes}
 use Rattle.std.specs.declared.alloc.Global.{Global}
 use Rattle.c25_meaning_objects.specs.Module.{SectionBody, Uninitialised, Initialised, SectionData, SymbolData, Contents}
@@ -8,7 +8,7 @@ use Rattle.c25_module.specs.declared.parts.Section.{Section}
 use Rattle.c25_module.specs.declared.parts.Symbol.{Symbol}
 use Rattle.c25_module.specs.declared.parts.Parts.{Parts}
 
--- what a section has
+-- the body of a section
 abbrev pub body_data : Body → SectionBody
 body_data (body.Uninitialised size) = Uninitialised size
 body_data (body.Initialised words) = Initialised words.items

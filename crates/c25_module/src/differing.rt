@@ -10,10 +10,10 @@ ghost use Rattle.c25_module.specs.View.{symbols_data};
 
 use crate::parts::Symbol;
 
-/// A module has no more symbols, so that a two-byte number names each.
+/// The most symbols that a module may have: a two-byte number names each.
 pub const MAX_SYMBOLS: usize = 65_535;
 
-/// The name of the symbol with that number; empty where there is none.
+/// The name of the symbol of a number; empty where there is none.
 fn name_at(symbols: &[Symbol], number: u16) -> &str
     ensures { result.now ≡ spec.name_at (symbols_data symbols.now) number }
 {
@@ -23,7 +23,7 @@ fn name_at(symbols: &[Symbol], number: u16) -> &str
     }
 }
 
-/// Writes 0, 1, 2 and so on.
+/// Fills a list with 0, 1, 2 and so on.
 fn count_up(numbers: &mut [u16])
     requires { length numbers.old ≤ 65535 }
     ensures { EachIndex numbers.new (λ k. slice_index numbers.new k ≡ k) }
@@ -51,7 +51,7 @@ fn neighbours_differ(symbols: &[Symbol], numbers: &[u16]) -> bool
     true
 }
 
-/// Whether no two of the symbols have one name; `numbers` is room for their numbers.
+/// Whether no two symbols have one name. `numbers` has room for the symbols' numbers.
 fn numbers_differ(symbols: &[Symbol], numbers: &mut [u16]) -> bool
     requires room { length numbers.old ≡ length symbols.now }
     requires few { length symbols.now ≤ 65535 }
@@ -62,7 +62,7 @@ fn numbers_differ(symbols: &[Symbol], numbers: &mut [u16]) -> bool
     neighbours_differ(symbols, numbers)
 }
 
-/// Whether no two of the symbols have one name.
+/// Whether no two symbols have one name. It takes no memory from the heap.
 pub(crate) fn names_differ(symbols: &[Symbol]) -> bool
     requires { length symbols.now ≤ 65535 }
     ensures { IsTrue result ↔ spec.NamesDiffer (symbols_data symbols.now) }

@@ -1,4 +1,4 @@
-//! Which items may stand in a module, behind the items before them.
+//! Which items may stand in a module, after the items before them.
 
 ghost use Rattle.std.specs.Prelude.{◌≡◌, ◌+◌};
 ghost use Rattle.std.specs.List.{slice_get};
@@ -45,7 +45,7 @@ fn size_of(body: &Body) -> usize
     }
 }
 
-/// Whether the section may follow these.
+/// Whether a section may follow the sections before it.
 pub fn section_fits(before: &[Section], section: &Section) -> bool
     ensures { result ≡ spec.section_fits (sections_data before.now) (section_data section.now) }
 {
@@ -56,7 +56,7 @@ pub fn section_fits(before: &[Section], section: &Section) -> bool
         && before.len() < 255
 }
 
-/// The words of a section by its number.
+/// The words of the section of a number; none where it is uninitialised or there is none.
 fn words_at(sections: &[Section], number: u16) -> &[u16]
     ensures { result.now ≡ spec.words_at (sections_data sections.now) number }
 {
@@ -95,7 +95,8 @@ fn mark_after(before: &[ModuleMark], mark: &ModuleMark) -> bool
     }
 }
 
-/// Whether the mark may follow these.
+/// Whether a mark may follow the marks before it: it has one word or two, lies in an initialised section, and
+/// begins after the last mark ends.
 pub fn mark_fits(sections: &[Section], before: &[ModuleMark], mark: &ModuleMark) -> bool
     ensures { result ≡ spec.mark_fits (sections_data sections.now) before.now mark.now }
 {
@@ -125,8 +126,8 @@ fn place_fits(sections: &[Section], symbol: &Symbol) -> bool
     }
 }
 
-/// Whether the symbol may stand in a module of this version with these sections, whatever its other
-/// symbols are.
+/// Whether a symbol may stand in a module of this version with these sections, whatever the other symbols
+/// are.
 pub fn symbol_stands(version: Version, sections: &[Section], symbol: &Symbol) -> bool
     ensures { result ≡ spec.symbol_stands version (sections_data sections.now) (symbol_data symbol.now) }
 {
@@ -195,7 +196,7 @@ fn field_is_clear(words: &[u16], relocation: &Relocation) -> bool
     offset < words.len() && u32::from(words[offset]) % field_values(relocation.kind) == 0
 }
 
-/// Whether the relocation may follow these.
+/// Whether a relocation may follow the relocations before it.
 pub fn relocation_fits(
     version: Version,
     sections: &[Section],
@@ -221,14 +222,14 @@ fn has_file(before: &[String], name: &str) -> bool
     false
 }
 
-/// Whether the file may follow these.
+/// Whether a file may follow the files before it.
 pub(crate) fn file_fits(before: &[String], name: &str) -> bool
     ensures { result ≡ spec.file_fits (files_data before.now) name.now }
 {
     name.len() < 1 << 32 && !has_file(before, name)
 }
 
-/// How many files are used once a line is behind those that use so many.
+/// How many files lines use, with one line more after lines that use `count` files.
 pub fn used_with(count: u32, line: &LineMark) -> u32
     ensures { result ≡ spec.used_with count line.now }
 {
@@ -236,7 +237,7 @@ pub fn used_with(count: u32, line: &LineMark) -> u32
     if file < count { count } else { file + 1 }
 }
 
-/// Whether the line may follow these, which use so many files.
+/// Whether a line may follow the lines before it, which use `used` files.
 pub fn line_fits(
     marks: &[ModuleMark],
     files: &[String],
@@ -253,7 +254,7 @@ pub fn line_fits(
         && line.line >= 1
 }
 
-/// The words that an uninitialised section reserves, by its number.
+/// How many words the uninitialised section of a number reserves; 0 where there is none.
 fn reserved_at(sections: &[Section], number: u16) -> usize
     ensures { result ≡ spec.reserved_at (sections_data sections.now) number }
 {
@@ -280,7 +281,7 @@ fn block_after(before: &[Block], block: &Block) -> bool
     }
 }
 
-/// Whether the block may follow these.
+/// Whether a block may follow the blocks before it.
 pub fn block_fits(sections: &[Section], before: &[Block], block: &Block) -> bool
     ensures { result ≡ spec.block_fits (sections_data sections.now) before.now block.now }
 {

@@ -1,4 +1,4 @@
-//! A module: lists that spell one.
+//! The type of lists that are a module's.
 
 ghost use Rattle.std.specs.Prelude.{◌≡◌};
 ghost use Rattle.c25_meaning_objects.specs.Module.{IsModule};
@@ -7,7 +7,8 @@ ghost use Rattle.c25_module.specs.View.{contents};
 use crate::parts::Parts;
 use std::marker::Model;
 
-/// Lists that are those of a module: [`module`](crate::module) makes one, and reading records does.
+/// A module: lists that [`spells`](crate::spells) accepts. [`module`](crate::module) makes one of them, and
+/// so does the reader of object records.
 #[derive(Drop)]
 pub struct Module {
     pub(crate) parts: Parts,
@@ -25,7 +26,7 @@ impl Model for Module {
 }
 
 impl Module {
-    /// Its lists, as they were given or read. They are those of a module.
+    /// The lists of the module, as they were given or read.
     pub fn parts(&self) -> &Parts
         ensures kept { contents result.now ≡ self.now }
         ensures spelled { IsModule self.now }

@@ -8,7 +8,7 @@ use crate::made::Module;
 use crate::parts::Parts;
 use crate::sized::sized;
 
-/// The module of these lists, which have to be those of one: [`spells`](crate::spells) is the test.
+/// The module that has these lists, which [`spells`](crate::spells) must accept.
 pub fn module(parts: Parts) -> Module
     requires { is_module (contents parts) ≡ true }
     ensures { result ≡ contents parts }

@@ -1,4 +1,4 @@
-//! The forms of names.
+//! The forms of names of sections and of symbols.
 
 ghost use Rattle.std.specs.Prelude.{◌≡◌};
 ghost use Rattle.std.specs.List.{list_all};
@@ -19,14 +19,15 @@ fn all_section_bytes(name: &[u8]) -> bool
     name.iter().all(|byte| is_section_byte(*byte))
 }
 
-/// Whether these are 1 to 32 characters of a section's name: 21h to 7Eh without the quote.
+/// Whether bytes are a section's name: 1 to 32 characters from 21h to 7Eh, none of them a quote.
 pub fn is_section_name(name: &[u8]) -> bool
     ensures { result ≡ spec.is_section_name name.now }
 {
     name.len() >= 1 && name.len() <= 32 && all_section_bytes(name)
 }
 
-/// Whether these are 1 to 128 characters of a symbol's name.
+/// Whether bytes are a symbol's name: 1 to 128 characters, the first of which may begin a name and the others
+/// go on one.
 pub fn is_symbol_name(name: &[u8]) -> bool
     ensures { result ≡ spec.is_symbol_name name.now }
 {

@@ -4,16 +4,16 @@ use c25_meaning_objects::object::{
     Block, LineMark, ModuleMark, Relocation, Scope, SymbolKind, Version,
 };
 
-/// What a section has: a number of reserved words, or its words.
+/// The body of a section: the number of words that it reserves, or its words.
 #[derive(Drop)]
 pub enum Body {
-    /// So many words are reserved, and nothing is loaded there.
+    /// The number of reserved words; nothing is loaded there.
     Uninitialised(u32),
     /// The words that are loaded; a field that a relocation fills is 0 in its word.
     Initialised(Vec<u16>),
 }
 
-/// A section: its name, and what it has.
+/// A section: its name and its body.
 #[derive(Drop)]
 pub struct Section {
     pub name: String,

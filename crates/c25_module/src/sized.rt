@@ -1,5 +1,5 @@
-//! The numbers of a module's lists are in the ranges of their types. The calls change nothing: a
-//! proof knows the range of a number that was read.
+//! Calls that change nothing, by which a proof knows that the numbers of a module's lists are in the ranges
+//! of their types: the range of a number is known where it has been read.
 
 ghost use Rattle.std.specs.Prelude.{◌<◌, ◌^◌, FitsSigned};
 ghost use Rattle.std.specs.Int.{w32};
@@ -67,7 +67,7 @@ fn sized_lines(lines: &[LineMark])
     }
 }
 
-/// The numbers of the lists fit.
+/// The numbers of all lists are in the ranges of their types.
 pub(crate) fn sized(parts: &Parts)
     ensures { IsSized (contents parts.now) }
 {

@@ -3,7 +3,7 @@
 #![tactic(auto)]
 
 pub use c25_module::{
-    Body, MAX_SYMBOLS, Module, Parts, Section, Symbol, is_section_name, is_symbol_name, module, spells,
-    write_module,
+    Body, MAX_SYMBOLS, Module, Parts, Section, Symbol, is_section_name, is_symbol_name, module,
+    spells,
 };
-pub use c25_records::read_module;
+pub use c25_records::{read_module, write_module};

@@ -36,7 +36,7 @@ kept_more test f bs i b d t lt is e =
     ∙ map-append f (filter test (take i bs)) (cond (test b) (b ∷ []) [])
     ∙ ap (λ zs. map f (filter test (take i bs)) ++ zs) (one f b (test b) ∙ ap (λ u. cond u (f b ∷ []) []) e)
 
--- the blocks of a name so far, behind those before
+-- the blocks of a name so far, after those before
 abbrev pub so_far : Contents → List Block → ℕ → (List ℕ → ℕ) → (List ℕ → List BlockData) → List ℕ → List BlockData
 so_far owner bs i words blocks name = blocks name ++ map (block_behind (words name)) (filter (is_block_named name owner) (take i bs))
 
@@ -79,7 +79,7 @@ block_skipped owner bs i b d words blocks p name lt is none known =
 
 -- ---- a section more
 
--- the words of a name so far, behind those before
+-- the words of a name so far, after those before
 abbrev pub words_so_far : List Section → ℕ → (List ℕ → ℕ) → List ℕ → ℕ
 words_so_far sections i words name = words name + sum_by (size_for name) (sections_data (take i sections))
 

@@ -14,7 +14,7 @@ use Rattle.c25_place.proofs.Paged.{fits_at}
 use Rattle.c25_place.specs.View.{range_view, ranges_view, wanted_view}
 use Rattle.c25_place.specs.declared.requests.Wanted.{Wanted}
 use Rattle.c25_place.specs.declared.requests.Wanted.TheVariants as wanted
-use Rattle.c25_place.specs.declared.ranges.Range.{Range}
+use Rattle.c25_place.specs.declared.ranges.PageRange.{PageRange}
 use Rattle.c25_place.proofs.Listed.{split_at}
 use Rattle.c25_meaning_linking.specs.GoodMap.{is_inside, is_taken, has_word, IsFree, IsLeastFit, NoneFits, IsFirstFit, IsBase, IsBaseAt, IsBaseIn}
 use Rattle.c25_meaning_linking.specs.Place.{Place, Covers, BlockData}
@@ -194,7 +194,7 @@ least_words taken fits size base range is some f = record { first = omega (arith
 pub origin_words : (size : ℕ) (range : RangeData) → IsRange range → size ≡ 0 → AreWords size range.origin
 origin_words size range is none = record { first = omega (arith, is.words, is.within); last = omega (arith, is.words, is.within) }
 
-pub first_fit_is : (page size base : ℕ) (blocks : List BlockData) (ranges : List Range) (i : ℕ) (d : Range) (places : List Place) → i < length ranges → All (NoneFits page size blocks places) (ranges_view (take i ranges))
+pub first_fit_is : (page size base : ℕ) (blocks : List BlockData) (ranges : List PageRange) (i : ℕ) (d : PageRange) (places : List Place) → i < length ranges → All (NoneFits page size blocks places) (ranges_view (take i ranges))
     → IsLeastFit page size blocks (range_view (get_or ranges i d)) places base → IsFirstFit page size blocks (ranges_view ranges) places base
 first_fit_is page size base blocks ranges i d places lt none fit = record {
   before = ranges_view (take i ranges);
@@ -220,19 +220,19 @@ based_in page size blocks (InRange name) first (r ∷ ranges) places answer othe
 based_in page size blocks (At address) first (r ∷ ranges) places answer other is h = absurd (other address refl)
 
 -- the first of these ranges
-pub record IsFirst (ranges : List Range) (first : Range) : Type 0 where
+pub record IsFirst (ranges : List PageRange) (first : PageRange) : Type 0 where
   pub some : 0 < length (ranges_view ranges)
   pub only : range_view first ∷ [] ≡ take 1 (ranges_view ranges)
   pub is : All IsRange (ranges_view ranges) → IsRange (range_view first)
 
-pub is_first : (ranges : List Range) (first : Range) → Some first ≡ slice_get ranges 0 → IsFirst ranges first
+pub is_first : (ranges : List PageRange) (first : PageRange) → Some first ≡ slice_get ranges 0 → IsFirst ranges first
 is_first [] first e = absurd cc
 is_first (r ∷ ranges) first e =
     let same : first ≡ r = cc in
     record {
       some = omega arith;
-      only = ap (λ (x : Range). range_view x ∷ []) same;
-      is = λ all. subst (λ (x : Range). IsRange (range_view x)) (sym same) (All-head IsRange (range_view r) (ranges_view ranges) all);
+      only = ap (λ (x : PageRange). range_view x ∷ []) same;
+      is = λ all. subst (λ (x : PageRange). IsRange (range_view x)) (sym same) (All-head IsRange (range_view r) (ranges_view ranges) all);
     }
 
 pub not_at : (w : Wanted) → ((x : ℕ) → w ≡ wanted.At x → ⊥) → (address : ℕ) → wanted_view w ≡ At address → ⊥

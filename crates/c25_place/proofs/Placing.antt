@@ -1,4 +1,4 @@
--- Sections placed one behind the other.
+-- Sections placed one after the other.
 use Rattle.std.proofs.Common.{◌≡◌, ℕ, List, [], ◌∷◌, ◌++◌, Result, Ok, Err, inr, reverse, filter, refl, sym, ap, subst, String}
 use Rattle.std.specs.declared.alloc.Global.{Global}
 use Rattle.std.proofs.lemmas.List.{reverse-append, reverse-reverse}

@@ -9,7 +9,7 @@ use Rattle.c25_meaning_linking.proofs.PlaceNames.{same_name, is_same}
 use Rattle.c25_place.specs.Ranges.{on_page, place_from}
 use Rattle.std.proofs.lemmas.List.{take-map, drop-map}
 use Rattle.c25_place.specs.View.{range_view, ranges_view}
-use Rattle.c25_place.specs.declared.ranges.Range.{Range}
+use Rattle.c25_place.specs.declared.ranges.PageRange.{PageRange}
 use Rattle.c25_place.proofs.Sized.{turned}
 
 -- ---- one range more
@@ -157,14 +157,14 @@ any_named name page (x ∷ xs) = by_test (eqb x.page page) (any_named name page 
 pub has_range : (name : List ℕ) (page : ℕ) (all : List RangeData) → is_some (place_from name 0 (on_page page all)) ≡ list_any (is_named_on name page) all
 has_range name page all = placed_some name 0 (on_page page all) ∙ any_named name page all
 
--- the range at the place that a map from names has, or none behind all
-pub taken_range : (page : ℕ) (name : List ℕ) (all : List RangeData) (list kept : List Range) (n : ℕ) (found : Option ℕ) → n ≡ length list → Pairwise AreApart all → ranges_view list ≡ on_page page all → place_from name 0 (on_page page all) ≡ found
+-- the range at the place that a map from names has, or none after all
+pub taken_range : (page : ℕ) (name : List ℕ) (all : List RangeData) (list kept : List PageRange) (n : ℕ) (found : Option ℕ) → n ≡ length list → Pairwise AreApart all → ranges_view list ≡ on_page page all → place_from name 0 (on_page page all) ≡ found
     → kept ≡ take 1 (drop (unwrap_or found n) list) → ranges_view kept ≡ filter (is_named_on name page) all
 taken_range page name all list kept n (Some j) counted apart are e is =
     let o = one_range page name j all apart e in
     ap ranges_view is ∙ sym (take-map range_view 1 (drop j list)) ∙ ap (take 1) (sym (drop-map range_view j list)) ∙ ap (λ rs. take 1 (drop j rs)) are ∙ sym o.1
 taken_range page name all list kept n None counted apart are e is = ap ranges_view (is ∙ ap (λ m. take 1 (drop m list)) counted) ∙ ap (λ rs. ranges_view (take 1 rs)) (drop_all list) ∙ sym (no_range page name all e)
   where
-    drop_all : (xs : List Range) → drop (length xs) xs ≡ []
+    drop_all : (xs : List PageRange) → drop (length xs) xs ≡ []
     drop_all [] = refl
     drop_all (x ∷ xs) = drop_all xs

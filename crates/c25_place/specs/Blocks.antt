@@ -1,4 +1,4 @@
--- What blocks ask of the addresses where sections begin, as the code has it.
+-- Where blocks let sections begin, as the code has it.
 use Rattle.std.specs.Prelude.{◌≡◌, ℕ, ◌<◌, ◌%◌, Bool, true, false, List, length, replicate, slice_index_or, unwrap_or}
 use Rattle.std.specs.Borrow.{Bor}
 use Rattle.std.specs.HashMap.{HashMap}
@@ -14,7 +14,7 @@ pub record KnowsFits (fits : List Bool) (blocks : List BlockData) : Type 0 where
   pub sized : length fits ≡ 128
   pub places : (place : ℕ) → place < 128 → slice_index_or fits place false ≡ blocks_fit place blocks
 
--- so many words, and these blocks
+-- a paging is that of so many words and these blocks
 pub record KnowsPaging (p : Paging) (words : ℕ) (blocks : List BlockData) : Type 0 where
   pub words_are : p.words % 128 ≡ words % 128
   pub fits_are : KnowsFits p.fits blocks
@@ -27,6 +27,6 @@ anywhere = record { words = 0; fits = replicate 128 true }
 abbrev pub KnowsFound : {S : Type 0} → HashMap (Bor (List ℕ)) Paging S → (List ℕ → ℕ) → (List ℕ → List BlockData) → Type 0
 KnowsFound found words blocks = (name : List ℕ) → KnowsPaging (unwrap_or (named found name) anywhere) (words name) (blocks name)
 
--- those of modules
+-- each name has the words and the blocks that modules have of it
 abbrev pub KnowsBlocks : Blocks → List Contents → Type 0
 KnowsBlocks b modules = KnowsFound b.found (λ name. size_of_parts name modules) (λ name. blocks_of name modules)

@@ -19,7 +19,7 @@ pub record IsWithin (p : Place) : Type 0 where
   pub end : p.base + p.size ≤ 65536
   pub run : IfSome p.run (λ run. run < 65536)
 
--- so many words from there on are within a page
+-- so many words from an address on are within a page
 pub record AreWords (size base : ℕ) : Type 0 where
   pub first : base < 65536
   pub last : base + size ≤ 65536
@@ -29,7 +29,7 @@ abbrev pub IsFitOrNot : List RangeData → List place.Place → Request → Resu
 IsFitOrNot ranges before r (Ok base) = IsBaseOf ranges before r (Ok base) × Runs ranges before r
 IsFitOrNot ranges before r (Err fault) = IsUnfit ranges before r fault
 
--- a place more, behind those before it
+-- one place more, after those before it
 pub record IsPlacedNext (ranges : List RangeData) (before after : List place.Place) (r : Request) : Type 0 where
   pub place : place.Place
   pub stands : Stands ranges before r place
@@ -40,13 +40,13 @@ pub record IsRefused (ranges : List RangeData) (before : List place.Place) (r : 
   pub fault_is : IsUnfit ranges before r refusal.fault
   pub name_is : refusal.place ≡ r.name
 
--- a section is placed behind those before it, or refused
+-- a section is placed after those before it, or refused
 abbrev pub IsPlacedOrRefused : List RangeData → List place.Place → List place.Place → Request → Result (Unit {0}) (Failure (Placed (String Global) LinkFault)) → Type 0
 IsPlacedOrRefused ranges before after r (Ok done) = IsPlacedNext ranges before after r
 IsPlacedOrRefused ranges before after r (Err (NoMemory n)) = Unit {0}
 IsPlacedOrRefused ranges before after r (Err (Fault f)) = IsRefused ranges before r (refusal_of f)
 
--- all sections are placed, or the first is told that cannot be
+-- all sections are placed, or the fault is that of the first that cannot be
 abbrev pub ArePlacedOrRefused : List RangeData → List Request → Result (Vec Place Global) (Failure (Placed (String Global) LinkFault)) → Type 0
 ArePlacedOrRefused ranges requests (Ok places) = ArePlaced ranges requests (places_view places.items)
 ArePlacedOrRefused ranges requests (Err (NoMemory n)) = Unit {0}

@@ -13,7 +13,7 @@ abbrev pub is_due : Bool → List Contents → PlacingData → Bool
 is_due true modules p = has_address p.target && is_there p.name modules
 is_due false modules p = not (has_address p.target) && is_there p.name modules
 
--- a section of modules with what its parts come to
+-- a section of modules with the sum of its parts
 abbrev pub request_by : List Contents → Output → PlacingData → good.Request
 request_by modules output p = record {
   name = p.name;
@@ -25,7 +25,7 @@ request_by modules output p = record {
   run = p.run;
 }
 
--- what is said of a section that is not listed
+-- what a command says of a section that it does not list
 abbrev pub unlisted : List ℕ → PlacingData
 unlisted name = record { name = name; target = Anywhere; page = None; run = None }
 

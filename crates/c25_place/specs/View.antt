@@ -1,4 +1,4 @@
--- How this crate's types stand for the definitions' data.
+-- What this crate's types stand for among the definitions' data.
 use Rattle.std.specs.Prelude.{ℕ, List, map, String, string_bytes, Option}
 use Rattle.std.specs.Borrow.{Bor}
 use Rattle.std.specs.HashMap.{HashMap, get_by}
@@ -15,7 +15,7 @@ use Rattle.c25_meaning_linking.specs.declared.link_fault.LinkFault.{LinkFault}
 use Rattle.c25_module.specs.declared.parts.Section.{Section}
 use Rattle.c25_module.specs.View.{section_data}
 use Rattle.c25_place.specs.declared.placement.Place.{Place}
-use Rattle.c25_place.specs.declared.ranges.Range.{Range}
+use Rattle.c25_place.specs.declared.ranges.PageRange.{PageRange}
 use Rattle.c25_place.specs.declared.requests.Request.{Request}
 use Rattle.c25_place.specs.declared.requests.Wanted.{Wanted}
 use Rattle.c25_place.specs.declared.requests.Wanted.TheVariants as wanted
@@ -33,11 +33,11 @@ abbrev pub sections_view : List (Bor Section) → List SectionData
 sections_view sections = map (λ s. section_data s.now) sections
 
 -- a range
-abbrev pub range_view : Range → RangeData
+abbrev pub range_view : PageRange → RangeData
 range_view r = record { page = r.page; name = r.name.now; origin = r.origin; size = r.size }
 
 -- ranges
-abbrev pub ranges_view : List Range → List RangeData
+abbrev pub ranges_view : List PageRange → List RangeData
 ranges_view ranges = map range_view ranges
 
 -- where a section is to stand

@@ -1,5 +1,4 @@
-//! Where sections may begin for the sake of their blocks, each of which lies in one page of 128 words
-//! of data memory.
+//! Where sections may begin so that each block of theirs lies in one page of 128 words of data memory.
 
 ghost use Rattle.std.specs.Prelude.{◌≡◌, ◌≤◌, ◌+◌, ◌%◌, ◌++◌, ◌∷◌, [], ◌&&◌, ℕ, List, All, length, false, nat_le, slice_index_or, unwrap_or, IfOk, OnOk};
 ghost use Rattle.std.specs.List.{sum_by};
@@ -14,10 +13,10 @@ use c25_module::{Module, Parts, Section};
 use std::alloc::{AllocError, Global};
 use std::collections::HashMap;
 
-/// How many words a page of data memory has, in which a block lies.
+/// How many words a page of data memory has. A block lies in one page.
 pub(crate) const PAGE: usize = 128;
 
-/// What the blocks of a section ask of the address where it begins.
+/// The addresses where a section may begin, for the sake of its blocks.
 #[derive(Clone, Copy)]
 pub(crate) struct Paging {
     /// How many words the section's parts have so far, but for whole pages.
@@ -33,7 +32,7 @@ pub(crate) struct Blocks<'a> {
     found: HashMap<&'a str, Paging>,
 }
 
-/// Keeps the places from which on so many words lie in one page behind an offset.
+/// Keeps the places in a page from which on `size` words at an offset lie in one page.
 fn keep_paged(fits: &mut [bool], offset: usize, size: usize)
     requires offset { offset ≤ 65663 }
     requires size { size ≤ 255 }
@@ -48,7 +47,7 @@ fn keep_paged(fits: &mut [bool], offset: usize, size: usize)
     }
 }
 
-/// What a section asks that has no part so far, where there is none.
+/// The paging so far, or that of a section without parts: it may begin anywhere.
 fn paging_or_none(paging: Option<Paging>) -> Paging
     ensures { result ≡ unwrap_or paging anywhere }
 {
@@ -62,7 +61,7 @@ fn paging_or_none(paging: Option<Paging>) -> Paging
 }
 
 impl Paging {
-    /// With a block of the part that comes next.
+    /// The paging with a block more of the next part.
     #[tactic(auto, using(crate::proofs::Paged::with_block))]
     fn with_block(self, block: &Block) -> Self
         ensures { (words : ℕ) (blocks : List BlockData) → KnowsPaging self words blocks → KnowsPaging result words (blocks ++ block_behind words block.now ∷ []) }
@@ -77,7 +76,7 @@ impl Paging {
         Paging { words, fits }
     }
 
-    /// Behind a part of so many words more.
+    /// The paging after a part of so many words more.
     #[tactic(auto, using(crate::proofs::Paged::behind))]
     fn behind(self, words: u32) -> Self
         ensures { (before : ℕ) (blocks : List BlockData) → KnowsPaging self before blocks → KnowsPaging result (before + words) blocks }
@@ -88,7 +87,7 @@ impl Paging {
     }
 }
 
-/// Adds the blocks of a module, whose parts stand behind those of the modules before it.
+/// Adds the blocks of a module, whose parts come after those of the modules before it.
 fn add_blocks<'a>(owner: &'a Parts, found: &mut HashMap<&'a str, Paging>) -> Result<(), AllocError>
     ensures { (words : List ℕ → ℕ) (blocks : List ℕ → List BlockData) → KnowsFound found.old words blocks
         → OnOk result (KnowsFound found.new words (λ name. blocks name ++ blocks_behind name (words name) (contents owner.now))) }
@@ -124,7 +123,7 @@ fn add_words<'a>(
 }
 
 impl<'a> Blocks<'a> {
-    /// What the blocks of these modules ask.
+    /// The paging of each section of these modules.
     pub(crate) fn new(alloc: Global, modules: &'a [Module]) -> Result<Self, AllocError>
         ensures { IfOk result (λ b. KnowsBlocks b modules.now) }
     {
@@ -136,7 +135,7 @@ impl<'a> Blocks<'a> {
         Ok(Blocks { found })
     }
 
-    /// What the blocks of the section of a name ask.
+    /// The paging of the section of a name.
     pub(crate) fn get(&self, name: &str) -> Paging
         ensures { (modules : List Contents) → KnowsBlocks self.now modules → KnowsPaging result (size_of_parts name.now modules) (blocks_of name.now modules) }
     {

@@ -1,4 +1,4 @@
-//! Refusals with their names.
+//! Faults of linking with the names that they are about.
 
 ghost use Rattle.std.specs.Prelude.{◌≡◌, IfOk};
 ghost use Rattle.c25_place.specs.View.{refusal_of};
@@ -9,10 +9,10 @@ use c25_meaning_common::placed::Placed;
 use c25_meaning_linking::link_fault::LinkFault;
 use std::alloc::Global;
 
-/// Why modules are not linked: a fault with a name, or want of memory.
-pub type Refused = Failure<Placed<String, LinkFault>>;
+/// Why modules are not placed or not linked: a fault with a name, or out of memory.
+pub type PlacingFailure = Failure<Placed<String, LinkFault>>;
 
-/// A fault with a copy of its name.
+/// A fault with a copy of the name that it is about; `NoMemory` where the copy cannot be made.
 pub fn refusal(
     alloc: Global,
     fault: LinkFault,

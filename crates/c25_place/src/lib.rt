@@ -14,7 +14,7 @@ mod requests;
 mod room;
 mod runs;
 
-pub use faults::{Refused, refusal};
+pub use faults::{PlacingFailure, refusal};
 pub use missing::{MissingRange, missing_range};
 pub use outputs::body_size;
 pub use placement::Place;

@@ -1,4 +1,4 @@
-//! The range that a command lacks for a section which has none to stand in.
+//! The range that a command lacks for a section without a range to stand in.
 
 ghost use Rattle.std.specs.List.{list_any};
 ghost use Rattle.std.specs.Option.{option_map};
@@ -10,7 +10,7 @@ ghost use Rattle.c25_place.specs.Missing.{has_named, has_page, missing_data, mis
 ghost use Rattle.c25_place.specs.View.{range_view, ranges_view, wanted_view};
 
 use crate::places::placings_of;
-use crate::ranges::{Range, ranges_for};
+use crate::ranges::{PageRange, ranges_for};
 use crate::requests::{Wanted, place_wanted};
 use c25_cmd::{Command, Placing};
 use c25_meaning_common::no_memory::NoMemory;
@@ -19,37 +19,37 @@ use std::alloc::Global;
 /// A range that a command lacks.
 #[derive(Clone, Copy)]
 pub enum MissingRange<'a> {
-    /// One of this name, on a page where the command names one.
+    /// A range of this name, on a page where the command names one.
     Named { name: &'a str, page: Option<u8> },
-    /// Any of this page.
+    /// Any range of this page.
     OnPage(u8),
-    /// Any at all.
+    /// Any range at all.
     Any,
 }
 
 /// Whether a range is of a page.
-fn is_of_page(range: &Range<'_>, page: u8) -> bool
+fn is_of_page(range: &PageRange<'_>, page: u8) -> bool
     ensures { result ≡ ((range_view range.now).page == page) }
 {
     range.page == page
 }
 
-/// Whether it has this name, too.
-fn is_named_on(range: &Range<'_>, name: &str, page: u8) -> bool
+/// Whether a range is of a page and has a name.
+fn is_named_on(range: &PageRange<'_>, name: &str, page: u8) -> bool
     ensures { result ≡ is_named_on name.now page (range_view range.now) }
 {
     range.page == page && name == range.name
 }
 
-/// Whether a section has this name.
+/// Whether the section that the command lists has a name.
 fn is_called(placing: &Placing, name: &str) -> bool
     ensures { result ≡ bytes_eq (placing_of placing.now).name name.now }
 {
     placing.name.as_str() == name
 }
 
-/// Whether a page has a range of this name.
-fn is_named(ranges: &[Range<'_>], name: &str, page: u8) -> bool
+/// Whether a page has a range of a name.
+fn is_named(ranges: &[PageRange<'_>], name: &str, page: u8) -> bool
     ensures { result ≡ list_any (is_named_on name.now page) (ranges_view ranges.now) }
 {
     for range in ranges {
@@ -60,8 +60,8 @@ fn is_named(ranges: &[Range<'_>], name: &str, page: u8) -> bool
     false
 }
 
-/// Whether there is a range of this name, on that page or on either.
-fn has_named(ranges: &[Range<'_>], name: &str, page: Option<u8>) -> bool
+/// Whether there is a range of a name, on a page where one is given, else on either.
+fn has_named(ranges: &[PageRange<'_>], name: &str, page: Option<u8>) -> bool
     ensures { result ≡ has_named (ranges_view ranges.now) name.now page }
 {
     match page {
@@ -71,7 +71,7 @@ fn has_named(ranges: &[Range<'_>], name: &str, page: Option<u8>) -> bool
 }
 
 /// Whether there is a range of a page.
-fn has_page(ranges: &[Range<'_>], page: u8) -> bool
+fn has_page(ranges: &[PageRange<'_>], page: u8) -> bool
     ensures { result ≡ has_page (ranges_view ranges.now) page }
 {
     for range in ranges {
@@ -82,22 +82,22 @@ fn has_page(ranges: &[Range<'_>], page: u8) -> bool
     false
 }
 
-/// What is lacked, if it is not there.
+/// The missing range, unless it is there.
 fn unless(is_there: bool, range: MissingRange<'_>) -> Option<MissingRange<'_>>
     ensures { option_map missing_data result ≡ unless is_there (missing_data range.entry) }
 {
     if is_there { None } else { Some(range) }
 }
 
-/// A range of a page.
-fn missing_on<'a>(ranges: &[Range<'_>], page: u8) -> Option<MissingRange<'a>>
+/// Any range of a page, if the page has none.
+fn missing_on<'a>(ranges: &[PageRange<'_>], page: u8) -> Option<MissingRange<'a>>
     ensures { option_map missing_data result ≡ missing_on (ranges_view ranges.now) page }
 {
     unless(has_page(ranges, page), MissingRange::OnPage(page))
 }
 
-/// The page that has no range, if one has none, where `program` and `store` tell whether pages 0 and 1
-/// have any.
+/// The missing range of a section that may stand anywhere on either page: any range of the page that has
+/// none, or any at all where neither has one. `program` and `store` say whether pages 0 and 1 have ranges.
 fn missing_page<'a>(program: bool, store: bool) -> Option<MissingRange<'a>>
     ensures { option_map missing_data result ≡ missing_page program store }
 {
@@ -109,9 +109,9 @@ fn missing_page<'a>(program: bool, store: bool) -> Option<MissingRange<'a>>
     }
 }
 
-/// What these ranges lack for a section that is to stand there, on that page.
+/// The range that these ranges lack for a section with a target and, where one is named, a page.
 fn missing_for<'a>(
-    ranges: &[Range<'_>],
+    ranges: &[PageRange<'_>],
     wanted: Wanted<'a>,
     page: Option<u8>,
 ) -> Option<MissingRange<'a>>
@@ -130,7 +130,7 @@ fn missing_for<'a>(
     }
 }
 
-/// The section of a name among those that a command lists.
+/// The section of a name among those that a command lists, if it is there.
 fn placing_named<'a>(placings: &'a [Placing], name: &str) -> Option<&'a Placing>
     ensures { option_map (λ p. placing_of p.now) result ≡ placing_named name.now (placings_of placings.now) }
 {
@@ -142,9 +142,9 @@ fn placing_named<'a>(placings: &'a [Placing], name: &str) -> Option<&'a Placing>
     None
 }
 
-/// What these ranges lack for a section that a command lists, or does not.
+/// The range that these ranges lack for a section that a command lists, or for one that it does not list.
 fn missing_placing<'a>(
-    ranges: &[Range<'_>],
+    ranges: &[PageRange<'_>],
     placing: Option<&'a Placing>,
 ) -> Option<MissingRange<'a>>
     ensures { option_map missing_data result ≡ missing_placing (ranges_view ranges.now) (option_map (λ p. placing_of p.now) placing.entry) }
@@ -155,9 +155,9 @@ fn missing_placing<'a>(
     }
 }
 
-/// The range that a command lacks for the section of this name, where [`good_places`](crate::good_places)
-/// refuses it with `NoRange`. Where that may be for either page, both have none. It is `None` where the
-/// command lacks no range.
+/// The range that a command lacks for the section of a name, where [`good_places`](crate::good_places)
+/// refuses the section with `NoRange`. Where the section might be placed on either page, both have no range.
+/// It is `None` where the command lacks no range.
 pub fn missing_range<'a>(
     alloc: Global,
     command: &'a Command,

@@ -1,4 +1,4 @@
-//! Names that were seen.
+//! Sets of names in the order in which they first appear.
 
 ghost use Rattle.std.specs.Prelude.{◌≡◌, ◌∷◌, ◌++◌, [], not, if◌then◌else◌, IfOk, OnOk};
 ghost use Rattle.c25_meaning_linking.specs.GoodMap.{is_among};
@@ -7,8 +7,8 @@ use indexmap::IndexSet;
 use std::alloc::{AllocError, Global};
 use std::marker::Model;
 
-/// Different names, in order of first sight. To see whether one is among them takes the same time
-/// however many there are.
+/// Different names, in the order of their first appearance. Whether a name is among them is found in a time
+/// that does not grow with their number.
 #[derive(Drop)]
 pub(crate) struct SeenNames<'a> {
     seen: IndexSet<&'a str>,
@@ -23,7 +23,7 @@ impl<'a> Model for SeenNames<'a> {
 }
 
 impl<'a> SeenNames<'a> {
-    /// No names.
+    /// A set without names.
     pub(crate) fn new(alloc: Global) -> Self
         ensures { result ≡ [] }
     {
@@ -32,7 +32,7 @@ impl<'a> SeenNames<'a> {
         }
     }
 
-    /// Whether a name is new; it joins the names then.
+    /// Adds a name, and returns whether it is new.
     pub(crate) fn insert(&mut self, name: &'a str) -> Result<bool, AllocError>
         ensures new { IfOk result (λ r. r ≡ not (is_among name.now self.old)) }
         ensures names { OnOk result (self.new ≡ (if is_among name.now self.old then self.old else self.old ++ name.now ∷ [])) }

@@ -1,4 +1,4 @@
-//! The sections of a program: the modules' sections of one name, taken together.
+//! The sections of a program: all modules' sections of one name, taken together.
 
 ghost use Rattle.std.specs.Prelude.{◌≡◌, ◌<◌, ◌≤◌, ◌++◌, List, All, length, false, unwrap_or, IfOk, OnOk};
 ghost use Rattle.c25_meaning_objects.specs.Module.{SectionData, body_size, has_words};
@@ -11,8 +11,8 @@ use c25_module::{Body, Module, Section};
 use std::alloc::{AllocError, Global};
 use std::collections::HashMap;
 
-/// What the modules' sections of one name come to. There may be any number of them, of up to 65,536
-/// words each.
+/// The size of the modules' sections of one name in sum, and whether one of them is initialised. There may be
+/// any number of them, of up to 65,536 words each.
 #[derive(Clone, Copy)]
 pub(crate) struct Output {
     pub size: u128,
@@ -25,7 +25,7 @@ pub(crate) struct Outputs<'a> {
     found: HashMap<&'a str, Output>,
 }
 
-/// How many words a section has.
+/// How many words the body of a section has.
 pub fn body_size(body: &Body) -> u32
     requires { body_size (body_data body.now) ≤ 65536 }
     ensures { result ≡ body_size (body_data body.now) }
@@ -36,7 +36,7 @@ pub fn body_size(body: &Body) -> u32
     }
 }
 
-/// Whether it has words that are loaded.
+/// Whether the body of a section has words that are loaded.
 fn has_words(body: &Body) -> bool
     ensures { result ≡ has_words (body_data body.now) }
 {
@@ -46,7 +46,7 @@ fn has_words(body: &Body) -> bool
     }
 }
 
-/// What no sections come to, where there are none so far.
+/// The sum so far, or that of no sections.
 fn output_or_none(output: Option<Output>) -> Output
     ensures { result ≡ unwrap_or output (record { size = 0; initialised = false }) }
 {
@@ -59,7 +59,7 @@ fn output_or_none(output: Option<Output>) -> Output
     }
 }
 
-/// Puts the sections of a module behind others.
+/// Appends the sections of a module.
 fn push_sections<'a>(own: &'a [Section], sections: &mut Vec<&'a Section>) -> Result<(), AllocError>
     requires own { All (λ s. body_size (body_data s.body) ≤ 65536) own.now }
     requires sections { AreSmall sections.old.items }
@@ -88,7 +88,7 @@ pub(crate) fn all_sections<'a>(
 }
 
 impl<'a> Outputs<'a> {
-    /// What these sections come to.
+    /// The sums of these sections, by name.
     #[tactic(auto, using(crate::proofs::Sized::output_more, crate::proofs::Sized::output_small))]
     pub(crate) fn new(alloc: Global, sections: &[&'a Section]) -> Result<Self, AllocError>
         requires small { AreSmall sections.now }
@@ -108,7 +108,7 @@ impl<'a> Outputs<'a> {
         Ok(Outputs { found })
     }
 
-    /// What the sections of a name come to, if there are any.
+    /// The sum of the sections of a name, if there are any.
     pub(crate) fn get(&self, name: &str) -> Option<Output>
         ensures { (sections : List SectionData) → KnowsOutputs self.now sections → result ≡ output_of name.now sections }
     {

@@ -14,8 +14,8 @@ ghost use Rattle.c25_place.specs.Room.{KnowsTaken, KnowsRoom, KnowsRuns};
 ghost use Rattle.c25_place.specs.View.{range_view, ranges_view, request_view, requests_view, wanted_view, place_view, places_view};
 
 use crate::blocks::{Blocks, PAGE};
-use crate::faults::{Refused, refusal};
-use crate::ranges::{Range, Ranges};
+use crate::faults::{PlacingFailure, refusal};
+use crate::ranges::{CommandRanges, PageRange};
 use crate::requests::{Request, Wanted};
 use crate::room::{PAGE_WORDS, Room, first_free};
 use crate::runs::RunWords;
@@ -44,9 +44,9 @@ struct PlacedSections<'a> {
     places: Vec<Place<'a>>,
 }
 
-/// The least address of a range that fits and from which on so many words are free.
+/// The least address of a range from which on so many words are free and which the section's blocks allow.
 #[tactic(auto, using(crate::proofs::Fits::least_fit, crate::proofs::Fits::none_fits, crate::proofs::Fits::least_words))]
-fn least_fit(range: &Range<'_>, size: u32, taken: &[bool], fits: &[bool]) -> Option<u32>
+fn least_fit(range: &PageRange<'_>, size: u32, taken: &[bool], fits: &[bool]) -> Option<u32>
     requires sized { length taken.now ≡ 65536 }
     requires paged { length fits.now ≡ 128 }
     requires range { IsRange (range_view range.now) }
@@ -63,8 +63,8 @@ fn least_fit(range: &Range<'_>, size: u32, taken: &[bool], fits: &[bool]) -> Opt
     }
 }
 
-/// The least address that fits, in the first range that has one.
-fn first_fit(ranges: &[Range<'_>], size: u32, taken: &[bool], fits: &[bool]) -> Option<u32>
+/// The least such address, in the first range that has one.
+fn first_fit(ranges: &[PageRange<'_>], size: u32, taken: &[bool], fits: &[bool]) -> Option<u32>
     requires sized { length taken.now ≡ 65536 }
     requires paged { length fits.now ≡ 128 }
     requires ranges { All IsRange (ranges_view ranges.now) }
@@ -83,7 +83,7 @@ fn first_fit(ranges: &[Range<'_>], size: u32, taken: &[bool], fits: &[bool]) -> 
 }
 
 /// Whether a section, or the address of an empty one, lies inside a range.
-fn is_inside(address: u32, size: u128, range: &Range<'_>) -> bool
+fn is_inside(address: u32, size: u128, range: &PageRange<'_>) -> bool
     requires { size < 2 ^ 100 }
     ensures { result ≡ is_inside address size (range_view range.now) }
 {
@@ -91,8 +91,8 @@ fn is_inside(address: u32, size: u128, range: &Range<'_>) -> bool
         && u128::from(address) + size.max(1) <= u128::from(range.origin) + u128::from(range.size)
 }
 
-/// Whether it lies inside one of these.
-fn any_inside(address: u32, size: u128, ranges: &[Range<'_>]) -> bool
+/// Whether a section, or the address of an empty one, lies inside one of these ranges.
+fn any_inside(address: u32, size: u128, ranges: &[PageRange<'_>]) -> bool
     requires { size < 2 ^ 100 }
     ensures { result ≡ list_any (is_inside address size) (ranges_view ranges.now) }
 {
@@ -104,8 +104,8 @@ fn any_inside(address: u32, size: u128, ranges: &[Range<'_>]) -> bool
     false
 }
 
-/// Whether a section may stand at its address, for its blocks and its ranges.
-fn may_stand(address: u32, size: u128, ranges: &[Range<'_>], fits: &[bool]) -> bool
+/// Whether a section may stand at its address, as its blocks and its ranges allow.
+fn may_stand(address: u32, size: u128, ranges: &[PageRange<'_>], fits: &[bool]) -> bool
     requires size { size < 2 ^ 100 }
     requires paged { length fits.now ≡ 128 }
     ensures stands { (blocks : List place.BlockData) → KnowsFits fits.now blocks → result ≡ may_stand address size blocks (ranges_view ranges.now) }
@@ -114,11 +114,11 @@ fn may_stand(address: u32, size: u128, ranges: &[Range<'_>], fits: &[bool]) -> b
     fits[address as usize % PAGE] && any_inside(address, size, ranges)
 }
 
-/// Where a section with an address stands.
+/// Where a section with an address stands, or the fault that it cannot.
 fn base_at(
     address: u32,
     size: u128,
-    ranges: &[Range<'_>],
+    ranges: &[PageRange<'_>],
     taken: &[bool],
     fits: &[bool],
 ) -> Result<u32, LinkFault>
@@ -139,11 +139,12 @@ fn base_at(
     Ok(address)
 }
 
-/// Where a section without an address stands; an empty one at the origin of the first range.
+/// Where a section without an address stands, or the fault that it cannot. An empty one stands at the origin
+/// of the first range.
 fn base_in(
     size: u128,
-    first: &Range<'_>,
-    ranges: &[Range<'_>],
+    first: &PageRange<'_>,
+    ranges: &[PageRange<'_>],
     taken: &[bool],
     fits: &[bool],
 ) -> Result<u32, LinkFault>
@@ -167,11 +168,11 @@ fn base_in(
     }
 }
 
-/// Where a section stands, or why it cannot.
+/// Where a section stands, or the fault that it cannot.
 fn base_of(
     wanted: Wanted<'_>,
     size: u128,
-    ranges: &[Range<'_>],
+    ranges: &[PageRange<'_>],
     taken: &[bool],
     fits: &[bool],
 ) -> Result<u32, LinkFault>
@@ -193,7 +194,7 @@ fn base_of(
 }
 
 impl<'a> PlacedSections<'a> {
-    /// No sections.
+    /// Nothing placed.
     fn new(alloc: Global) -> Result<Self, AllocError>
         ensures room { IfOk result (λ p. KnowsRoom p.room []) }
         ensures runs { IfOk result (λ p. KnowsRuns p.runs []) }
@@ -206,7 +207,7 @@ impl<'a> PlacedSections<'a> {
         })
     }
 
-    /// Whether a section may run where the command says, if it says where.
+    /// Whether a section may run where the command says, if it names a run address.
     fn may_run(&self, page: u8, size: u32, request: &Request<'_>) -> bool
         requires runs { KnowsRuns self.now.runs (places_view self.now.places.items) }
         requires size { request.now.size ≡ size }
@@ -223,10 +224,10 @@ impl<'a> PlacedSections<'a> {
         }
     }
 
-    /// Where a section stands among those before it, or why it cannot be placed.
+    /// Where a section stands after those before it, or the fault that it cannot be placed.
     fn base_for(
         &self,
-        ranges: &Ranges<'_>,
+        ranges: &CommandRanges<'_>,
         blocks: &Blocks<'_>,
         page: u8,
         request: &Request<'_>,
@@ -257,14 +258,14 @@ impl<'a> PlacedSections<'a> {
         }
     }
 
-    /// Places a section among those before it, or tells why it cannot be placed.
+    /// Places a section after those before it, or returns why it cannot be placed.
     fn place(
         &mut self,
         alloc: Global,
-        ranges: &Ranges<'_>,
+        ranges: &CommandRanges<'_>,
         blocks: &Blocks<'_>,
         request: &Request<'a>,
-    ) -> Result<(), Refused>
+    ) -> Result<(), PlacingFailure>
         requires ranges { HasRanges ranges.now }
         requires room { KnowsRoom self.old.room (places_view self.old.places.items) }
         requires runs { KnowsRuns self.old.runs (places_view self.old.places.items) }
@@ -297,14 +298,14 @@ impl<'a> PlacedSections<'a> {
     }
 }
 
-/// Places all sections in their order, or tells the first that cannot be placed.
+/// Places all sections in their order, or returns the fault of the first that cannot be placed.
 #[tactic(auto, using(crate::proofs::Placing::placed_next, crate::proofs::Placing::refused))]
 pub(crate) fn place_all<'a>(
     alloc: Global,
-    ranges: &Ranges<'_>,
+    ranges: &CommandRanges<'_>,
     blocks: &Blocks<'_>,
     requests: &[Request<'a>],
-) -> Result<Vec<Place<'a>>, Refused>
+) -> Result<Vec<Place<'a>>, PlacingFailure>
     requires ranges { HasRanges ranges.now }
     requires sizes { All (λ r. r.size < 2 ^ 100) requests.now }
     requires pages { HasPages requests.now }

@@ -7,16 +7,16 @@ ghost use Rattle.c25_meaning_linking.specs.GoodMap.{placings_for, ranges_for, re
 ghost use Rattle.c25_place.specs.Placement.{ArePlacedOrRefused, IsWithin};
 
 use crate::blocks::Blocks;
-use crate::faults::Refused;
+use crate::faults::PlacingFailure;
 use crate::outputs::{Outputs, all_sections};
 use crate::placement::{Place, place_all};
-use crate::ranges::Ranges;
+use crate::ranges::CommandRanges;
 use crate::requests::requests;
 use c25_cmd::{Command, Placing};
 use c25_module::Module;
 use std::alloc::Global;
 
-/// The sections that a command lists.
+/// The sections that a command lists; none where it has no `SECTIONS`.
 pub(crate) fn placings_of(command: &Command) -> &[Placing]
     ensures { placings_of result.now ≡ placings_for (command_data command.now) }
 {
@@ -26,13 +26,14 @@ pub(crate) fn placings_of(command: &Command) -> &[Placing]
     }
 }
 
-/// Where the sections of the program stand, or the first that cannot be placed.
+/// Where the sections of the program stand, in the order of placement, or the fault of the first that cannot
+/// be placed: `NoRange`, `DoesNotFit`, `Overlap` or `BadRun`, with its name.
 #[tactic(auto, using(crate::proofs::Commanded::pages_are))]
 pub fn good_places<'a>(
     alloc: Global,
     modules: &'a [Module],
     command: &'a Command,
-) -> Result<Vec<Place<'a>>, Refused>
+) -> Result<Vec<Place<'a>>, PlacingFailure>
     requires { IsCommand (command_data command.now) }
     ensures placed { ArePlacedOrRefused (ranges_for (command_data command.now)) (requests modules.now (placings_for (command_data command.now))) result }
     ensures within { IfOk result (λ v. All IsWithin v.items) }
@@ -41,6 +42,6 @@ pub fn good_places<'a>(
     let outputs = Outputs::new(alloc, &sections)?;
     let list = requests(alloc, &outputs, &sections, placings_of(command))?;
     let blocks = Blocks::new(alloc, modules)?;
-    let ranges = Ranges::new(alloc, command)?;
+    let ranges = CommandRanges::new(alloc, command)?;
     place_all(alloc, &ranges, &blocks, &list)
 }

@@ -1,4 +1,4 @@
-//! The ranges of both pages.
+//! The ranges of both pages, as a command gives them.
 
 ghost use Rattle.std.specs.Prelude.{◌≡◌, ◌≤◌, ℕ, List, filter, take, drop, IfOk, IfSome};
 ghost use Rattle.c25_cmd.specs.View.{command_data, ranges_of};
@@ -13,41 +13,41 @@ use c25_cmd::{Command, MemoryRange};
 use std::alloc::{AllocError, Global};
 use std::collections::HashMap;
 
-/// A range of a page.
+/// A range of a page: its first address and how many words it has.
 #[derive(Clone, Copy)]
-pub(crate) struct Range<'a> {
+pub(crate) struct PageRange<'a> {
     pub page: u8,
     pub name: &'a str,
     pub origin: u32,
     pub size: u32,
 }
 
-/// The ranges of one page, and where each name stands among them.
+/// The ranges of one page, with an index by name.
 #[derive(Drop)]
 pub(crate) struct PageRanges<'a> {
-    list: Vec<Range<'a>>,
+    list: Vec<PageRange<'a>>,
     found: HashMap<&'a str, usize>,
 }
 
-/// The ranges of both pages.
+/// The ranges of both pages under a command.
 #[derive(Drop)]
-pub(crate) struct Ranges<'a> {
+pub(crate) struct CommandRanges<'a> {
     program: PageRanges<'a>,
     store: PageRanges<'a>,
 }
 
 /// The ranges without `MEMORY`: all words of page 0, and those of page 1 from 300h on.
-fn default_ranges<'a>() -> [Range<'a>; 2]
+fn default_ranges<'a>() -> [PageRange<'a>; 2]
     ensures { ranges_view result ≡ default_ranges }
 {
     [
-        Range {
+        PageRange {
             page: 0,
             name: "PROG",
             origin: 0,
             size: 65_536,
         },
-        Range {
+        PageRange {
             page: 1,
             name: "DATA",
             origin: 768,
@@ -57,12 +57,15 @@ fn default_ranges<'a>() -> [Range<'a>; 2]
 }
 
 /// The ranges of a command file.
-fn named_ranges<'a>(alloc: Global, memory: &'a [MemoryRange]) -> Result<Vec<Range<'a>>, AllocError>
+fn named_ranges<'a>(
+    alloc: Global,
+    memory: &'a [MemoryRange],
+) -> Result<Vec<PageRange<'a>>, AllocError>
     ensures { IfOk result (λ v. ranges_view v.items ≡ ranges_of memory.now) }
 {
     let mut list = Vec::new(alloc);
     for range in memory {
-        list.push(Range {
+        list.push(PageRange {
             page: range.page,
             name: range.name.as_str(),
             origin: range.origin,
@@ -72,11 +75,11 @@ fn named_ranges<'a>(alloc: Global, memory: &'a [MemoryRange]) -> Result<Vec<Rang
     Ok(list)
 }
 
-/// The ranges of a command.
+/// The ranges of a command: those of its file, or without `MEMORY` the default ones.
 pub(crate) fn ranges_for<'a>(
     alloc: Global,
     command: &'a Command,
-) -> Result<Vec<Range<'a>>, AllocError>
+) -> Result<Vec<PageRange<'a>>, AllocError>
     ensures { IfOk result (λ v. ranges_view v.items ≡ ranges_for (command_data command.now)) }
 {
     match &command.memory {
@@ -87,7 +90,11 @@ pub(crate) fn ranges_for<'a>(
 
 /// The ranges of a page.
 #[tactic(auto, using(crate::proofs::Ranged::place_more, crate::proofs::Ranged::names_before))]
-fn page_ranges<'a>(alloc: Global, page: u8, all: &[Range<'a>]) -> Result<PageRanges<'a>, AllocError>
+fn page_ranges<'a>(
+    alloc: Global,
+    page: u8,
+    all: &[PageRange<'a>],
+) -> Result<PageRanges<'a>, AllocError>
     requires { Pairwise AreApart (ranges_view all.now) }
     ensures { IfOk result (λ p. KnowsPage p page (ranges_view all.now)) }
 {
@@ -102,8 +109,8 @@ fn page_ranges<'a>(alloc: Global, page: u8, all: &[Range<'a>]) -> Result<PageRan
     Ok(PageRanges { list, found })
 }
 
-/// The range of a number alone, if there is one.
-fn range_at<'a, 'b>(list: &'b [Range<'a>], number: usize) -> &'b [Range<'a>]
+/// A list of the range of a number alone; empty where there is none.
+fn range_at<'a, 'b>(list: &'b [PageRange<'a>], number: usize) -> &'b [PageRange<'a>]
     ensures { result.now ≡ take 1 (drop number list.now) }
 {
     if number < list.len() {
@@ -113,17 +120,17 @@ fn range_at<'a, 'b>(list: &'b [Range<'a>], number: usize) -> &'b [Range<'a>]
     }
 }
 
-/// The range of a name, if there is one.
+/// A list of the range of a name alone; empty where there is none.
 #[tactic(auto, using(crate::proofs::Ranged::one_range, crate::proofs::Ranged::no_range))]
-fn one_range<'a, 'b>(ranges: &'b PageRanges<'a>, name: &str) -> &'b [Range<'a>]
+fn one_range<'a, 'b>(ranges: &'b PageRanges<'a>, name: &str) -> &'b [PageRange<'a>]
     ensures { (page : ℕ) (all : List RangeData) → KnowsPage ranges.now page all → Pairwise AreApart all → ranges_view result.now ≡ filter (is_named_on name.now page) all }
 {
     let number = ranges.found.get(name).copied();
     range_at(&ranges.list, number.unwrap_or(ranges.list.len()))
 }
 
-impl<'a> Ranges<'a> {
-    /// The ranges of a command.
+impl<'a> CommandRanges<'a> {
+    /// The ranges of a command, by pages.
     #[tactic(auto, using(crate::proofs::Commanded::ranges_are, crate::proofs::Commanded::ranges_are_apart))]
     pub(crate) fn new(alloc: Global, command: &'a Command) -> Result<Self, AllocError>
         requires { IsCommand (command_data command.now) }
@@ -133,10 +140,10 @@ impl<'a> Ranges<'a> {
         let all = ranges_for(alloc, command)?;
         let program = page_ranges(alloc, 0, &all)?;
         let store = page_ranges(alloc, 1, &all)?;
-        Ok(Ranges { program, store })
+        Ok(CommandRanges { program, store })
     }
 
-    /// Those of page 0 or of page 1.
+    /// The ranges of page 0 or of page 1.
     fn on_page(&self, page: u8) -> &PageRanges<'a>
         requires { page ≤ 1 }
         ensures { (all : List RangeData) → KnowsRanges self.now all → KnowsPage result.now page all }
@@ -148,7 +155,8 @@ impl<'a> Ranges<'a> {
         }
     }
 
-    /// The page of a section for which none is named.
+    /// The page of a section for which the command names none: that of its range, page 0 for an address, and
+    /// without a target page 0 where it is initialised and page 1 where it is not.
     #[tactic(auto, using(crate::proofs::Ranged::has_range))]
     fn default_page(&self, wanted: Wanted<'_>, initialised: bool) -> u8
         ensures page { (all : List RangeData) → KnowsRanges self.now all → result ≡ default_page all (wanted_view wanted.entry) initialised }
@@ -167,7 +175,7 @@ impl<'a> Ranges<'a> {
         }
     }
 
-    /// The page of a section.
+    /// The page of a section: the named one, or the default.
     pub(crate) fn page_for(&self, request: &Request<'_>) -> u8
         requires { IfSome request.now.page (λ page. page ≤ 1) }
         ensures page { (all : List RangeData) (modules : List Contents) → KnowsRanges self.now all → result ≡ page_for all (request_view modules request.now) }
@@ -180,7 +188,7 @@ impl<'a> Ranges<'a> {
     }
 
     /// The ranges of a page that a section may stand in.
-    pub(crate) fn usable(&self, wanted: Wanted<'_>, page: u8) -> &[Range<'a>]
+    pub(crate) fn usable(&self, wanted: Wanted<'_>, page: u8) -> &[PageRange<'a>]
         requires { page ≤ 1 }
         ensures { (all : List RangeData) → KnowsRanges self.now all → ranges_view result.now ≡ filter (is_usable (wanted_view wanted.entry) page) all }
     {

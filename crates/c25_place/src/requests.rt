@@ -1,4 +1,4 @@
-//! The sections that are to be placed, in their order.
+//! The sections that are to be placed, in the order of placement.
 
 ghost use Rattle.std.specs.Prelude.{◌≡◌, ◌≤◌, ◌++◌, ℕ, List, map, filter, None, IfOk, OnOk, IfSome, All};
 ghost use Rattle.c25_cmd.specs.View.{target_of, placing_of, placings_of};
@@ -34,11 +34,11 @@ pub(crate) struct Request<'a> {
     pub initialised: bool,
     pub wanted: Wanted<'a>,
     pub page: Option<u8>,
-    /// Where it runs, if that is not where it is loaded.
+    /// The address where the section runs, if that is not where it is loaded.
     pub run: Option<u32>,
 }
 
-/// What a command says of the place.
+/// The target that a command gives a section, as a request has it.
 pub(crate) fn place_wanted(target: &Target) -> Wanted<'_>
     ensures { wanted_view result ≡ target_of target.now }
 {
@@ -49,7 +49,7 @@ pub(crate) fn place_wanted(target: &Target) -> Wanted<'_>
     }
 }
 
-/// Whether the place is an address.
+/// Whether a target is an address.
 fn has_address(target: &Target) -> bool
     ensures { result ≡ has_address (target_of target.now) }
 {
@@ -59,7 +59,7 @@ fn has_address(target: &Target) -> bool
     }
 }
 
-/// A listed section.
+/// The request of a section that the command lists.
 fn listed_request<'a>(placing: &'a Placing, output: Output) -> Request<'a>
     ensures request { (modules : List Contents) → request_view modules result ≡ request_by modules output (placing_of placing.now) }
     ensures page { result.page ≡ placing.now.page }
@@ -74,7 +74,7 @@ fn listed_request<'a>(placing: &'a Placing, output: Output) -> Request<'a>
     }
 }
 
-/// A section that is not listed.
+/// The request of a section that the command does not list.
 fn unlisted_request<'a>(name: &'a str, output: Output) -> Request<'a>
     ensures request { (modules : List Contents) → request_view modules result ≡ request_by modules output (unlisted name.now) }
     ensures page { result.page ≡ None }
@@ -89,7 +89,7 @@ fn unlisted_request<'a>(name: &'a str, output: Output) -> Request<'a>
     }
 }
 
-/// Puts the listed sections that a module has behind others: those with an address, or those without.
+/// Appends the listed sections that a module has: those with an address, or those without.
 #[tactic(auto, using(crate::proofs::Asked::asked_by, crate::proofs::Asked::there_by, crate::proofs::Asked::not_there_by, crate::proofs::Asked::due, crate::proofs::Asked::not_due, crate::proofs::Asked::not_due_there, crate::proofs::Asked::listed_more, crate::proofs::Asked::listed_same))]
 fn push_listed<'a>(
     with_address: bool,
@@ -126,7 +126,7 @@ fn listed_names<'a>(alloc: Global, placings: &'a [Placing]) -> Result<SeenNames<
     Ok(names)
 }
 
-/// Puts the sections whose names were not seen behind others, by first appearance.
+/// Appends the sections whose names have not appeared yet, in the order of appearance.
 #[tactic(auto, using(crate::proofs::Asked::asked_by, crate::proofs::Asked::name_new, crate::proofs::Asked::name_seen, crate::proofs::Asked::names_more))]
 fn push_unlisted<'a>(
     outputs: &Outputs<'_>,

@@ -1,4 +1,4 @@
-//! Which words of both pages are taken.
+//! The words of both pages that are taken by sections.
 
 ghost use Rattle.std.specs.Prelude.{◌≡◌, ◌<◌, ◌≤◌, ◌+◌, ◌-◌, ◌&&◌, ◌||◌, ℕ, List, [], ◌∷◌, ◌++◌, true, false, length, slice_index_or, nat_le, nat_lt, replicate, IfOk, MatchOption};
 ghost use Rattle.c25_meaning_linking.specs.Place as place;
@@ -18,8 +18,8 @@ pub(crate) struct Room {
     store: Vec<bool>,
 }
 
-/// The first of the words from `start` up to `end` from which on so many are free, among those that
-/// stand at a place of a page of 128 words that fits.
+/// The least address from `start` up to `end` from which on `size` words are free, and whose place in a page
+/// of 128 words is one that `fits` allows.
 #[tactic(auto, using(crate::proofs::Fits::run_none, crate::proofs::Fits::run_taken, crate::proofs::Fits::run_short, crate::proofs::Fits::run_unpaged, crate::proofs::Fits::run_found, crate::proofs::Fits::run_ended))]
 pub(crate) fn first_free(
     taken: &[bool],
@@ -52,7 +52,7 @@ pub(crate) fn first_free(
 }
 
 impl Room {
-    /// Both pages free.
+    /// Both pages without sections.
     #[tactic(auto, using(crate::proofs::Fits::taken_none))]
     pub(crate) fn new(alloc: Global) -> Result<Self, AllocError>
         ensures { IfOk result (λ r. KnowsRoom r []) }
@@ -63,7 +63,7 @@ impl Room {
         })
     }
 
-    /// The words of page 0 or of page 1.
+    /// For each word of page 0, or of page 1, whether it is taken.
     pub(crate) fn on_page(&self, page: u8) -> &[bool]
         requires { page ≤ 1 }
         ensures { (places : List place.Place) → KnowsRoom self.now places → KnowsTaken result.now page places }
@@ -75,7 +75,7 @@ impl Room {
         }
     }
 
-    /// Takes words of page 0 or of page 1.
+    /// Takes `size` words of page 0 or of page 1 from an address on.
     #[tactic(auto, using(crate::proofs::Fits::taken_more, crate::proofs::Fits::taken_same))]
     pub(crate) fn take(&mut self, page: u8, base: u32, size: u32)
         requires page { page ≤ 1 }

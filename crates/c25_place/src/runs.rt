@@ -1,4 +1,4 @@
-//! Where sections run that run elsewhere than they are loaded.
+//! The addresses of sections that run elsewhere than they are loaded.
 
 ghost use Rattle.std.specs.Prelude.{◌≡◌, ◌≤◌, ◌+◌, ◌++◌, ◌∷◌, [], List, true, false, length, IfOk, IfSome};
 ghost use Rattle.c25_meaning_linking.specs.GoodMap.{IsRunFree};
@@ -12,13 +12,14 @@ use std::alloc::{AllocError, Global};
 /// The address of the first word of block B0, where it is seen in program memory; B0 ends with the page.
 const B0_START: u32 = 0xFF00;
 
-/// For each word whether a section runs at it that runs elsewhere than it is loaded.
+/// For each word of page 0 whether a section runs at it that is loaded elsewhere.
 #[derive(Drop)]
 pub(crate) struct RunWords {
     taken: Vec<bool>,
 }
 
-/// Whether so many words from an address on are words of block B0, or none, at one of them.
+/// Whether `size` words from an address on lie in block B0. For no words the address alone has to be one of
+/// the block's.
 fn are_in_b0(run: u32, size: u32) -> bool
     requires { size ≤ 65536 }
     ensures yes { result ≡ true → (0xFF00 ≤ run) × (run ≤ 0xFFFF) × (run + size ≤ 0x10000) }
@@ -28,7 +29,7 @@ fn are_in_b0(run: u32, size: u32) -> bool
 }
 
 impl RunWords {
-    /// No such section.
+    /// A page at which no section runs.
     pub(crate) fn new(alloc: Global) -> Result<Self, AllocError>
         ensures { IfOk result (λ r. KnowsRuns r []) }
     {
@@ -37,7 +38,7 @@ impl RunWords {
         })
     }
 
-    /// Whether so many words from an address on are words of block B0 at which no such section runs.
+    /// Whether `size` words from an address on lie in block B0 and no section runs at them yet.
     pub(crate) fn are_open(&self, run: u32, size: u32) -> bool
         requires sized { length self.now.taken.items ≡ 65536 }
         requires size { size ≤ 65536 }
@@ -49,7 +50,7 @@ impl RunWords {
         are_in_b0(run, size) && !any_taken(&self.taken, run as usize, run as usize + size as usize)
     }
 
-    /// A section that runs elsewhere than it is loaded, if it does.
+    /// Takes the words that a section runs at, if it runs elsewhere than it is loaded.
     #[tactic(auto, using(crate::proofs::Elsewhere::runs_more, crate::proofs::Elsewhere::runs_same))]
     pub(crate) fn take(&mut self, run: Option<u32>, size: u32)
         requires sized { length self.old.taken.items ≡ 65536 }

@@ -64,7 +64,7 @@ all_taken {A} state tag payload before (x ∷ xs) n rest h =
     ∙ ap (λ (k : ℕ). read_from k (state before) (entry tag (payload x) ++ (flat_map (λ x. entry tag (payload x)) xs ++ rest))) fuel
     ∙ first ∙ others ∙ ap (λ (ys : List A). read_from n (state ys) rest) (append_assoc before (x ∷ []) xs)
 
--- what holds of an item behind others in a list each of which fits
+-- what holds of an item after others in a list each of which fits
 fits_at : {A : Type 0} (fits : List A → A → Bool) (before front back : List A) (x : A) → each_fits fits before (front ++ (x ∷ back)) ≡ true → fits (before ++ front) x ≡ true
 fits_at fits before [] back x e = ap (λ b. fits b x) (append-nil before) ∙ (both (fits before x) (each_fits fits (before ++ x ∷ []) back) e).0
 fits_at fits before (y ∷ ys) back x e =
@@ -214,7 +214,7 @@ late : (v : Version) (tag : ℕ) → v ≡ Two → tag ≤ 7 → leb tag (last_t
 late One tag is le = absurd cc
 late Two tag is le = le-leb tag 7 le
 
--- lists with nothing behind sections, behind marks and so on
+-- lists with nothing after sections, after marks and so on
 abbrev to_sections : Version → List SectionData → Contents
 to_sections v ss = record (nothing_read v) { sections = ss }
 
@@ -439,7 +439,7 @@ version_again : (v : Version) → version_of (version_code v) ≡ Ok v
 version_again One = refl
 version_again Two = refl
 
--- the spelling of a module, and bytes behind it
+-- the spelling of a module, and bytes after it
 pub module_again : (c : Contents) (tail : List ℕ) → IsSized c → is_module c ≡ true → module_of (spelling c ++ tail) ≡ cond (eqb (length tail) 0) (Ok c) (Err Trailing)
 unfolding module_of
 module_again c tail sized e =

@@ -387,7 +387,7 @@ record_adds c d tag payload small order fits e =
           ]
     ]
   where
-    -- the records behind the marks
+    -- the records after the marks
     later_adds : (c d : Contents) (tag : ℕ) (payload : List ℕ) → IsBytes payload → NotBegun c tag → has_sections c ≡ true → ListsFit c
         → cond (eqb tag 3) (with_symbol c payload) (cond (eqb tag 4) (with_relocation c payload) (cond (eqb tag 5) (with_file c payload) (cond (eqb tag 6) (with_line c payload) (cond (eqb tag 7) (with_block c payload) (Err BadTag))))) ≡ Ok d
         → Adds c d tag payload
@@ -417,7 +417,7 @@ ended_ok c d payload rest e =
     let s = both (has_sections c) (told_by c.version c) k.0 in
     (s.0, s.1, nil_from_length payload (eqb-true _ _ k.1), nil_from_length rest (eqb-true _ _ h.0), ok_is c d h.1)
 
--- what is read behind the records of `c`
+-- what is read after the records of `c`
 pub read_takes : (n : ℕ) (c d : Contents) (bytes : List ℕ) → IsBytes bytes → ListsFit c → read_from n c bytes ≡ Ok d → (records c ++ bytes ≡ records d ++ last_entry) × (is_module d ≡ true) × (c.version ≡ d.version)
 unfolding read_from
 read_takes zero c d bytes small fits e = absurd cc

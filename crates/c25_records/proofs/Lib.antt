@@ -5,3 +5,5 @@ mod Found
 mod Again
 mod Readings
 mod Names
+mod Puts
+mod Lengths

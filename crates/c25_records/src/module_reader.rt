@@ -9,7 +9,10 @@ ghost use Rattle.c25_records.specs.Names.{HasSame, Keeps};
 ghost use Rattle.c25_meaning_common.specs.Results.{Meets};
 ghost use Rattle.c25_module.specs.View.{contents};
 
-use crate::codes::version_of;
+use crate::codes::{
+    BLOCK_TAG, FILE_TAG, LAST_TAG, LINE_TAG, MARK_TAG, RELOCATION_TAG, SECTION_TAG, SYMBOL_TAG,
+    version_of,
+};
 use crate::fields::long_at;
 use crate::named_payloads::{file_after, section_after, symbol_after};
 use crate::payloads::{block_after, line_after, mark_after, relocation_after};
@@ -19,7 +22,7 @@ use c25_module::{Module, Parts, module, used_with};
 use std::alloc::Global;
 use std::collections::HashSet;
 
-/// A record: its tag, its payload, and the bytes behind it.
+/// A record: its tag, its payload, and the bytes after it.
 #[derive(Clone, Copy)]
 struct Record<'a> {
     tag: u8,
@@ -51,19 +54,19 @@ fn latest(parts: &Parts) -> u8
     ensures { result ≡ reading.latest (contents parts.now) }
 {
     if !parts.blocks.is_empty() {
-        7
+        BLOCK_TAG
     } else if !parts.lines.is_empty() {
-        6
+        LINE_TAG
     } else if !parts.files.is_empty() {
-        5
+        FILE_TAG
     } else if !parts.relocations.is_empty() {
-        4
+        RELOCATION_TAG
     } else if !parts.symbols.is_empty() {
-        3
+        SYMBOL_TAG
     } else if !parts.marks.is_empty() {
-        2
+        MARK_TAG
     } else {
-        1
+        SECTION_TAG
     }
 }
 
@@ -71,18 +74,18 @@ fn last_tag(version: Version) -> u8
     ensures { result ≡ reading.last_tag version }
 {
     match version {
-        Version::One => 4,
-        Version::Two => 7,
+        Version::One => RELOCATION_TAG,
+        Version::Two => BLOCK_TAG,
     }
 }
 
 fn is_in_order(parts: &Parts, tag: u8) -> bool
     ensures { result ≡ reading.is_in_order (contents parts.now) tag }
 {
-    latest(parts) <= tag && (tag <= last_tag(parts.version) || tag == 255)
+    latest(parts) <= tag && (tag <= last_tag(parts.version) || tag == LAST_TAG)
 }
 
-/// What has been read: the lists, the names of symbols and of files for finding one that comes
+/// The state of a reading: the lists so far, the names of symbols and of files, which find a name that comes
 /// twice, and how many files the lines use.
 #[derive(Drop)]
 struct Reader<'a> {
@@ -123,14 +126,7 @@ fn add_symbol<'a>(
     ensures kept { OnOk result (Keeps (λ k. k.now) reader.new.names reader.new.file_names reader.new.used (contents reader.new.parts)) }
 {
     let parts = &mut reader.parts;
-    let symbol = symbol_after(
-        alloc,
-        parts.version,
-        &parts.sections,
-        &parts.symbols,
-        &mut reader.names,
-        payload,
-    )?;
+    let symbol = symbol_after(alloc, parts, &mut reader.names, payload)?;
     parts.symbols.push(symbol)?;
     Ok(())
 }
@@ -219,24 +215,24 @@ fn add_record<'a>(
     ensures given { Meets (λ _. contents reader.new.parts) (reading.with_record (contents reader.old.parts) tag payload.now) result }
     ensures kept { OnOk result (Keeps (λ k. k.now) reader.new.names reader.new.file_names reader.new.used (contents reader.new.parts)) }
 {
-    if tag == 1 {
+    if tag == SECTION_TAG {
         return add_section(alloc, &mut reader.parts, payload);
     }
     if reader.parts.sections.is_empty() {
         return Err(Failure::Fault(ObjectFault::BadField));
     }
     match tag {
-        2 => add_mark(&mut reader.parts, payload),
-        3 => add_symbol(alloc, reader, payload),
-        4 => add_relocation(&mut reader.parts, payload),
-        5 => add_file(alloc, reader, payload),
-        6 => add_line(reader, payload),
-        7 => add_block(&mut reader.parts, reader.used, payload),
+        MARK_TAG => add_mark(&mut reader.parts, payload),
+        SYMBOL_TAG => add_symbol(alloc, reader, payload),
+        RELOCATION_TAG => add_relocation(&mut reader.parts, payload),
+        FILE_TAG => add_file(alloc, reader, payload),
+        LINE_TAG => add_line(reader, payload),
+        BLOCK_TAG => add_block(&mut reader.parts, reader.used, payload),
         _ => Err(Failure::Fault(ObjectFault::BadTag)),
     }
 }
 
-/// Whether the lists have what their version tells.
+/// Whether the lists have the lines, files and blocks that their version calls for.
 fn told(parts: &Parts, used: u32) -> bool
     requires { used ≡ spec.used (contents parts.now).lines }
     ensures { result ≡ spec.told_by parts.now.version (contents parts.now) }
@@ -263,7 +259,7 @@ fn ended(parts: &Parts, used: u32, payload: &[u8], rest: &[u8]) -> Result<(), Fa
     Ok(())
 }
 
-/// Reads the records up to the last one.
+/// Reads the records up to the last one into the reader's lists.
 #[tactic(auto, unfolding(c25_meaning_objects::specs::RecordReading::read_from))]
 fn read_records<'a>(
     alloc: Global,
@@ -279,7 +275,7 @@ fn read_records<'a>(
         if !is_in_order(&reader.parts, record.tag) {
             return Err(Failure::Fault(ObjectFault::BadTag));
         }
-        if record.tag == 255 {
+        if record.tag == LAST_TAG {
             return ended(&reader.parts, reader.used, record.payload, record.rest);
         }
         add_record(alloc, reader, record.tag, record.payload)?;
@@ -336,20 +332,22 @@ fn made(alloc: Global, bytes: &[u8]) -> Result<Module, Failure<ObjectFault>>
     Ok(module(parts_of(alloc, bytes)?))
 }
 
-/// The module whose spelling the bytes are, or their first fault, from the front: bytes that do not
-/// begin with `C25O`, then another version, and then for each record first that it is cut off, then
-/// that its tag is unknown or out of order, then that it has not the form of its tag or may not
-/// stand behind the records before it; and bytes after the last record. It refuses for want of
-/// memory too, and takes time near linear in the number of bytes, unless names were chosen to have
-/// one hash.
+/// The module whose spelling the bytes are, or their first fault, from the front.
+///
+/// Before the records the fault is `BadMagic` where the bytes do not begin with `C25O`, and `BadVersion`
+/// where the version is missing or neither 1 nor 2. Of a record it is first `Short` where the record is cut
+/// off, then `BadTag` where its tag is unknown or out of order, then `BadField` where its payload does not
+/// have the form of its tag or may not follow the records before it. Bytes after the last record are
+/// `Trailing`. It fails with `NoMemory` too, and takes time near linear in the number of bytes, unless names
+/// were chosen to have one hash.
 pub fn read_module(alloc: Global, bytes: &[u8]) -> Result<Module, Failure<ObjectFault>>
-    // What is read is spelled so.
+    // Bytes that are read are the spelling of the module.
     ensures found { IfOk result (λ m. bytes.now ≡ spelling m) }
 
-    // What is spelled so is read, unless memory runs out.
+    // The spelling of a module is read, unless memory runs out.
     ensures only { (c : Contents) → IsSized c → is_module c ≡ true → bytes.now ≡ spelling c → Meets (λ m. m) (Ok c) result }
 
-    // Which fault it is.
+    // The fault is the one that the definition says.
     ensures exact { Meets (λ m. m) (reading.module_of bytes.now) result }
 {
     made(alloc, bytes)

@@ -1,4 +1,4 @@
-//! What the payloads of sections and symbols say, each behind the items before it.
+//! The payloads of sections, symbols and files, read; each item is checked against the items before it.
 
 ghost use Rattle.std.specs.Prelude.{◌≡◌, ◌&&◌, not, nat_lt, true, length, ◌++◌, [], ◌∷◌, Some, IfOk, IfErr, string_bytes};
 ghost use Rattle.std.specs.Option.{ok_or, option_map};
@@ -7,14 +7,14 @@ ghost use Rattle.c25_meaning_objects.specs.Module as spec;
 ghost use Rattle.c25_meaning_objects.specs.RecordReading as reading;
 ghost use Rattle.c25_records.specs.Names.{HasNames, HasFiles};
 ghost use Rattle.c25_meaning_common.specs.Results.{IsNoMemory, Meets};
-ghost use Rattle.c25_module.specs.View.{body_data, section_data, symbol_data, sections_data, symbols_data, files_data};
+ghost use Rattle.c25_module.specs.View.{body_data, contents, section_data, symbol_data, sections_data, symbols_data, files_data};
 
 use crate::codes::{kind_of, scope_of};
 use crate::fields::{long_at, short_at, signed_at};
 use c25_meaning_common::failure::Failure;
-use c25_meaning_objects::object::{ObjectFault, Scope, SymbolKind, Version};
+use c25_meaning_objects::object::{ObjectFault, Scope, SymbolKind};
 use c25_module::{
-    Body, MAX_SYMBOLS, Section, Symbol, is_section_name, is_symbol_name, section_fits,
+    Body, MAX_SYMBOLS, Parts, Section, Symbol, is_section_name, is_symbol_name, section_fits,
     symbol_stands,
 };
 use std::alloc::Global;
@@ -30,7 +30,7 @@ fn text_of(bytes: &[u8]) -> &str
     }
 }
 
-/// What a symbol's payload says, with the bytes of its name.
+/// The fields of a symbol's payload; the name is still bytes.
 #[derive(Clone, Copy)]
 struct SymbolRecord<'a> {
     kind: SymbolKind,
@@ -60,7 +60,7 @@ fn symbol_of(bytes: &[u8]) -> Option<SymbolRecord<'_>>
     })
 }
 
-/// Whether a symbol of that name may follow these; their names, which are given, gain it.
+/// Whether a symbol of a name may follow these symbols; the name joins `names`, the set of their names.
 fn takes_name<'a>(
     before: &[Symbol],
     names: &mut HashSet<&'a str>,
@@ -74,19 +74,18 @@ fn takes_name<'a>(
     Ok(before.len() < MAX_SYMBOLS && names.insert(name)?)
 }
 
-/// The symbol that a payload says, where it may follow these.
+/// The symbol of a payload; `BadField` where it has another form or may not follow the symbols before it. Its
+/// name joins `names`.
 pub(crate) fn symbol_after<'a>(
     alloc: Global,
-    version: Version,
-    sections: &[Section],
-    before: &[Symbol],
+    before: &Parts,
     names: &mut HashSet<&'a str>,
     bytes: &'a [u8],
 ) -> Result<Symbol, Failure<ObjectFault>>
-    requires { HasNames (λ k. k.now) names.old (symbols_data before.now) }
+    requires { HasNames (λ k. k.now) names.old (contents before.now).symbols }
     ensures given { Meets symbol_data
-        (reading.checked (spec.symbol_fits version (sections_data sections.now) (symbols_data before.now)) (reading.symbol_of bytes.now)) result }
-    ensures named { IfOk result (λ y. HasNames (λ k. k.now) names.new (symbols_data before.now ++ symbol_data y ∷ [])) }
+        (reading.checked (spec.symbol_fits before.now.version (contents before.now).sections (contents before.now).symbols) (reading.symbol_of bytes.now)) result }
+    ensures named { IfOk result (λ y. HasNames (λ k. k.now) names.new ((contents before.now).symbols ++ symbol_data y ∷ [])) }
 {
     let Some(found) = symbol_of(bytes) else {
         return Err(Failure::Fault(ObjectFault::BadField));
@@ -101,10 +100,10 @@ pub(crate) fn symbol_after<'a>(
         value: found.value,
         name: String::from_str(alloc, name)?,
     };
-    if !symbol_stands(version, sections, &symbol) {
+    if !symbol_stands(before.version, &before.sections, &symbol) {
         return Err(Failure::Fault(ObjectFault::BadField));
     }
-    if !takes_name(before, names, name)? {
+    if !takes_name(&before.symbols, names, name)? {
         return Err(Failure::Fault(ObjectFault::BadField));
     }
     Ok(symbol)
@@ -146,7 +145,7 @@ fn body_of(alloc: Global, flag: u8, bytes: &[u8]) -> Result<Body, Failure<Object
     }
 }
 
-/// What a section's payload says: the bytes of its name, and what it has.
+/// The bytes of the name and the body in a section's payload.
 #[tactic(auto, unfolding(c25_meaning_objects::specs::RecordReading::section_of))]
 fn section_of(alloc: Global, bytes: &[u8]) -> Result<(&[u8], Body), Failure<ObjectFault>>
     ensures { Meets (λ s. record { name = s.0.now; body = body_data s.1 }) (ok_or (reading.section_of bytes.now) ObjectFault.BadField) result }
@@ -164,7 +163,7 @@ fn section_of(alloc: Global, bytes: &[u8]) -> Result<(&[u8], Body), Failure<Obje
     Ok((name, body))
 }
 
-/// The section that a payload says, where it may follow these.
+/// The section of a payload; `BadField` where it has another form or may not follow the sections before it.
 pub(crate) fn section_after(
     alloc: Global,
     before: &[Section],
@@ -185,8 +184,8 @@ pub(crate) fn section_after(
     Ok(section)
 }
 
-/// The name of a file that a payload is, where it may follow these; the set of their names, which is
-/// given, gains it.
+/// The name of a file that a payload is; `BadField` where it is not UTF-8, too long, or the name of a file
+/// before it. The name joins `names`.
 pub(crate) fn file_after<'a>(
     alloc: Global,
     before: &[String],

@@ -1,4 +1,5 @@
-//! What the payloads of marks and relocations say, each behind the items before it.
+//! The payloads of marks, relocations, lines and blocks, read; each item is checked against the items before
+//! it.
 
 ghost use Rattle.std.specs.Prelude.{◌≡◌};
 ghost use Rattle.c25_meaning_objects.specs.Module as spec;
@@ -26,7 +27,7 @@ fn mark_of(bytes: &[u8]) -> Option<ModuleMark>
     })
 }
 
-/// The mark that a payload says, where it may follow these.
+/// The mark of a payload; `BadField` where it has another form or may not follow the marks before it.
 pub(crate) fn mark_after(
     sections: &[Section],
     before: &[ModuleMark],
@@ -62,7 +63,8 @@ fn relocation_of(bytes: &[u8]) -> Option<Relocation>
     })
 }
 
-/// The relocation that a payload says, where it may follow these.
+/// The relocation of a payload; `BadField` where it has another form or may not follow the relocations before
+/// it.
 pub(crate) fn relocation_after(
     version: Version,
     sections: &[Section],
@@ -95,7 +97,8 @@ fn line_of(bytes: &[u8]) -> Option<LineMark>
     })
 }
 
-/// The line that a payload says, where it may follow these, which use so many files.
+/// The line of a payload, where the lines before it use `used` files; `BadField` where it has another form or
+/// may not follow them.
 pub(crate) fn line_after(
     marks: &[ModuleMark],
     files: &[String],
@@ -129,7 +132,7 @@ fn block_of(bytes: &[u8]) -> Option<Block>
     })
 }
 
-/// The block that a payload says, where it may follow these.
+/// The block of a payload; `BadField` where it has another form or may not follow the blocks before it.
 pub(crate) fn block_after(
     sections: &[Section],
     before: &[Block],

@@ -14,7 +14,7 @@ pub counts_told : {X E : Type 0} (r : Result X E) (s0 s1 s2 s3 a b c : List ℕ)
 counts_told (Ok x) s0 s1 s2 s3 a b c p q r = counts_joined s0 s1 s2 s3 a b c p q r
 counts_told (Err e) s0 s1 s2 s3 a b c p q r = r
 
--- a line of four pieces and a name, with a blank behind the second
+-- a line of four pieces and a name, with a blank after the second
 line_joined : (s0 s1 s2 s3 s4 s5 head x y name : List ℕ) → s1 ≡ s0 ++ head → s2 ≡ s1 ++ x → s3 ≡ s2 ++ 32 ∷ [] → s4 ≡ s3 ++ y → s5 ≡ s4 ++ 32 ∷ name ++ 10 ∷ []
     → s5 ≡ s0 ++ (head ++ x ++ (32 ∷ []) ++ y ++ (32 ∷ []) ++ name ++ 10 ∷ [])
 line_joined s0 s1 s2 s3 s4 s5 head x y name p q r s t =

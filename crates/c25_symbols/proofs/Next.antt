@@ -1,4 +1,4 @@
--- Where parts begin, one behind another.
+-- Where parts begin, one after another.
 use Rattle.std.proofs.Common.{◌≡◌, ℕ, ◌+◌, ◌%◌, ◌^◌, Bool, true, false, cond, List, [], ◌∷◌, ◌++◌, length, get_or, map, take, ◌<◌, Option, Some, None, refl, sym, ap, subst, ◌∙◌, add-zero, arith}
 use Rattle.std.specs.Option.{option_map, option_map_or, option_or}
 use Rattle.std.specs.Prelude.{unwrap_or}
@@ -20,8 +20,8 @@ use Rattle.c25_module.specs.View.{section_data, sections_data}
 use Rattle.c25_module.specs.declared.parts.Section.{Section}
 use Rattle.c25_symbols.specs.Parts.{AreAlike, BeginsAt, KnowsNext, at_zero, first_of, first_part, next_of, size_of_sections}
 use Rattle.c25_symbols.specs.View.{place_of, places_of, places_view}
-use Rattle.c25_symbols.specs.declared.parts.NextParts.{NextParts}
-use Rattle.c25_symbols.specs.declared.parts.PartBase.{PartBase}
+use Rattle.c25_symbols.specs.declared.parts.NextStarts.{NextStarts}
+use Rattle.c25_symbols.specs.declared.parts.PartStart.{PartStart}
 
 -- ---- lists that grow
 
@@ -53,7 +53,7 @@ or_none None = refl
 or_none (Some x) = refl
 
 -- a name that is known
-pub first_known : (other name : List ℕ) (p : Place) (known : List ℕ → Option PartBase) (q : PartBase) → name ≡ p.name → known name ≡ Some q → known other ≡ option_or (known other) (first_of (p ∷ []) other)
+pub first_known : (other name : List ℕ) (p : Place) (known : List ℕ → Option PartStart) (q : PartStart) → name ≡ p.name → known name ≡ Some q → known other ≡ option_or (known other) (first_of (p ∷ []) other)
 first_known other name p known q named there = by_test (bytes_eq other p.name) refl where
   by_test : (b : Bool) → bytes_eq other p.name ≡ b → known other ≡ option_or (known other) (option_map first_part (cond (bytes_eq other p.name) (Some p) None))
   by_test true e =
@@ -62,7 +62,7 @@ first_known other name p known q named there = by_test (bytes_eq other p.name) r
   by_test false e = sym (ap (λ (b : Bool). option_or (known other) (option_map first_part (cond b (Some p) None))) e ∙ or_none (known other))
 
 -- one that is not
-pub first_new : (other name : List ℕ) (p : Place) (known : List ℕ → Option PartBase) (part : PartBase) → name ≡ p.name → known name ≡ None → part ≡ first_part p
+pub first_new : (other name : List ℕ) (p : Place) (known : List ℕ → Option PartStart) (part : PartStart) → name ≡ p.name → known name ≡ None → part ≡ first_part p
     → cond (bytes_eq name other) (Some part) (known other) ≡ option_or (known other) (first_of (p ∷ []) other)
 first_new other name p known part named none is = by_test (bytes_eq name other) refl where
   by_test : (b : Bool) → bytes_eq name other ≡ b → cond b (Some part) (known other) ≡ option_or (known other) (option_map first_part (cond (bytes_eq other p.name) (Some p) None))
@@ -85,8 +85,8 @@ first_more places p name = by_place (place_named name places) ∙ ap (option_map
   by_place (Some q) = refl
 
 -- before all parts
-pub begins_first : (next : NextParts) (places : List Place) → ((name : List ℕ) → next_of next name ≡ unwrap_or (first_of places name) at_zero) → KnowsNext next places []
-begins_first next places known = λ name. subst (λ (p : PartBase). BeginsAt p (base_of name places + 0) (run_base_of name places + 0)) (sym (known name)) (by_place (place_named name places)) where
+pub begins_first : (next : NextStarts) (places : List Place) → ((name : List ℕ) → next_of next name ≡ unwrap_or (first_of places name) at_zero) → KnowsNext next places []
+begins_first next places known = λ name. subst (λ (p : PartStart). BeginsAt p (base_of name places + 0) (run_base_of name places + 0)) (sym (known name)) (by_place (place_named name places)) where
   by_place : (o : Option Place) → BeginsAt (unwrap_or (option_map first_part o) at_zero) (option_map_or (λ p. p.base) o 0 + 0) (option_map_or run_base o 0 + 0)
   by_place None = record { base_is = refl; run_is = refl }
   by_place (Some p) = record { base_is = ap (λ n. n % 2 ^ 32) (sym (add-zero p.base)); run_is = ap (λ n. n % 2 ^ 32) (sym (add-zero (run_base p))) }
@@ -107,12 +107,12 @@ more_size : (name : List ℕ) (ss : List SectionData) (s : SectionData) (base wo
 more_size name ss s base words e = let all = sum_by_push (size_for name) ss s in omega (arith, all, e)
 
 -- what is found once a part is put in
-pub found_part : (b : Bool) (after : PartBase) (o : Option PartBase) → unwrap_or (cond b (Some after) o) at_zero ≡ cond b after (unwrap_or o at_zero)
+pub found_part : (b : Bool) (after : PartStart) (o : Option PartStart) → unwrap_or (cond b (Some after) o) at_zero ≡ cond b after (unwrap_or o at_zero)
 found_part true after o = refl
 found_part false after o = refl
 
--- the next parts behind a section
-pub begins_next : (places : List Place) (ss : List SectionData) (s : SectionData) (known : List ℕ → PartBase) (after : PartBase) (name : List ℕ) (size : ℕ) → name ≡ s.name → AreAlike size (body_size s.body)
+-- the next parts after a section
+pub begins_next : (places : List Place) (ss : List SectionData) (s : SectionData) (known : List ℕ → PartStart) (after : PartStart) (name : List ℕ) (size : ℕ) → name ≡ s.name → AreAlike size (body_size s.body)
     → ((other : List ℕ) → BeginsAt (known other) (base_of other places + size_of_sections other ss) (run_base_of other places + size_of_sections other ss))
     → after ≡ record { base = ((known name).base + size) % 2 ^ 32; run = ((known name).run + size) % 2 ^ 32 } → (other : List ℕ)
     → BeginsAt (cond (bytes_eq name other) after (known other)) (base_of other places + size_of_sections other (ss ++ s ∷ [])) (run_base_of other places + size_of_sections other (ss ++ s ∷ []))
@@ -124,11 +124,11 @@ begins_next places ss s known after name size named alike begins is other = by_t
       let here : BeginsAt (known name) (base_of other places + size_of_sections other ss) (run_base_of other places + size_of_sections other ss) = subst (λ (n : List ℕ). BeginsAt (known n) (base_of other places + size_of_sections other ss) (run_base_of other places + size_of_sections other ss)) (sym same) (begins other) in
       record {
         base_is =
-            ap (λ (p : PartBase). p.base % 2 ^ 32) is
+            ap (λ (p : PartStart). p.base % 2 ^ 32) is
             ∙ alike_sum (2 ^ 32) (known name).base (base_of other places + size_of_sections other ss) size (body_size s.body) here.base_is alike
             ∙ ap (λ n. n % 2 ^ 32) (more_size other ss s (base_of other places) (body_size s.body) own);
         run_is =
-            ap (λ (p : PartBase). p.run % 2 ^ 32) is
+            ap (λ (p : PartStart). p.run % 2 ^ 32) is
             ∙ alike_sum (2 ^ 32) (known name).run (run_base_of other places + size_of_sections other ss) size (body_size s.body) here.run_is alike
             ∙ ap (λ n. n % 2 ^ 32) (more_size other ss s (run_base_of other places) (body_size s.body) own);
       }

@@ -10,8 +10,8 @@ use Rattle.c25_meaning_objects.specs.declared.object.SymbolKind.{SymbolKind}
 use Rattle.c25_meaning_objects.specs.declared.object.SymbolKind.TheVariants.{Absolute, InSection, Loaded, External}
 use Rattle.c25_meaning_linking.specs.Place.{Place, by_modules}
 
--- a symbol of a program: the low 32 bits of what it stands for, its kind, the name of its section, the name of its module's source, and
--- its own
+-- a symbol of a program: the low 32 bits of its value, its kind, the name of its section, the name of its
+-- module's source, and its own name
 pub record Listed : Type 0 where
   pub value : ℕ
   pub kind : SymbolKind
@@ -26,7 +26,7 @@ section_of m (InSection index) = section_name m index
 section_of m (Loaded index) = section_name m index
 section_of m External = codes "-"
 
--- the name of the source of the module of a number, if it is told
+-- the name of the source of the module of a number, empty where none is given
 abbrev pub source_of : List (List ℕ) → ℕ → List ℕ
 source_of sources number = unwrap_or (slice_get sources number) []
 
@@ -40,17 +40,17 @@ listed modules sources places number m y = record {
   name = y.name;
 }
 
--- those that it defines
+-- the symbols that the module of a number defines
 abbrev pub module_symbols : List Contents → List (List ℕ) → List Place → ℕ → Contents → List Listed
 module_symbols modules sources places number m = map (listed modules sources places number m) (filter (λ y. is_defined y.kind) m.symbols)
 
--- those of all modules, by modules and symbols
+-- the symbols that all modules define, by modules and symbols
 abbrev pub all_symbols : List Contents → List (List ℕ) → List Place → List Listed
 all_symbols modules sources places = by_modules (module_symbols modules sources places) 0 modules
 
 -- ---- their order
 
--- an item behind those that have to be before it
+-- an item put into a list, after the items that have to be before it
 abbrev pub inserted : {A : Type 0} → (A → A → Bool) → A → List A → List A
 inserted before x [] = x ∷ []
 inserted before x (y ∷ ys) = if before y x then y ∷ inserted before x ys else x ∷ (y ∷ ys)

@@ -1,4 +1,4 @@
--- The text that lists the symbols of a program by name, and behind them the ranges of its memories (own).
+-- The text that lists the symbols of a program by name, and after them the ranges of its memories (own).
 use Rattle.std.specs.Prelude.{ℕ, ◌-◌, List, ◌++◌, codes, nat_lt, if◌then◌else◌}
 use Rattle.std.specs.Fmt.{decimal}
 use Rattle.std.specs.List.{flat_map}
@@ -16,14 +16,14 @@ use Rattle.c25_symbols.specs.Used.{used_in}
 abbrev pub value_digits : ℕ → List ℕ
 value_digits n = if nat_lt n 65536 then four_digits n else eight_digits n
 
--- what a symbol's value is: a number, an address in its section, or one where its section is loaded
+-- the keyword of a symbol's kind: a number, an address in its section, or one where its section is loaded
 abbrev pub kind_text : SymbolKind → List ℕ
 kind_text Absolute = codes "SET"
 kind_text (InSection index) = codes "IN"
 kind_text (Loaded index) = codes "LOAD"
 kind_text External = codes "REF"
 
--- what it is, its section, and the source of its module
+-- the keyword of a symbol's kind, its section, and the source of its module
 unfoldable pub place_words : Listed → List ℕ
 place_words y = kind_text y.kind ++ codes " " ++ y.section ++ codes " " ++ y.source
 

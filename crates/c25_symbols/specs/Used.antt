@@ -9,7 +9,7 @@ use Rattle.c25_meaning_linking.specs.Place.{Place}
 abbrev pub has_used : ℕ → ℕ → Place → Bool
 has_used page word p = has_word page word p || (p.page == page && runs_at word p)
 
--- whether a section at one of these places is
+-- whether a section at one of these places is loaded at an address, or runs at it
 abbrev pub is_used : ℕ → List Place → ℕ → Bool
 is_used page places word = list_any (has_used page word) places
 

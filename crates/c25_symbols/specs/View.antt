@@ -1,4 +1,4 @@
--- How this crate's types stand for the definitions' data.
+-- What this crate's types stand for among the definitions' data.
 use Rattle.std.specs.Prelude.{◌≡◌, ◌<◌, ℕ, Bool, false, List, length, map, slice_index_or, Option}
 use Rattle.std.specs.Borrow.{Bor}
 use Rattle.std.specs.HashMap.{HashMap, get_by}
@@ -10,8 +10,8 @@ use Rattle.c25_meaning_linking.specs.MapText.{MapData}
 use Rattle.c25_meaning_linking.specs.Place.{Place}
 use Rattle.c25_symbols.specs.Symbols.{Listed}
 use Rattle.c25_symbols.specs.Used.{is_used}
-use Rattle.c25_symbols.specs.declared.entries.Entry.{Entry}
-use Rattle.c25_symbols.specs.declared.ranges.Range.{Range}
+use Rattle.c25_symbols.specs.declared.entries.SymbolEntry.{SymbolEntry}
+use Rattle.c25_symbols.specs.declared.ranges.RangeUse.{RangeUse}
 use Rattle.c25_symbols.specs.declared.used.UsedWords.{UsedWords}
 
 -- what a map from names has for a name
@@ -31,27 +31,27 @@ abbrev pub places_view : List OutputSection → List Place
 places_view sections = map place_of sections
 
 -- a symbol
-abbrev pub entry_view : Entry → Listed
+abbrev pub entry_view : SymbolEntry → Listed
 entry_view e = record { value = e.value; kind = e.kind; section = e.section.now; source = e.source.now; name = e.name.now }
 
 -- symbols
-abbrev pub entries_view : List Entry → List Listed
+abbrev pub entries_view : List SymbolEntry → List Listed
 entries_view entries = map entry_view entries
 
 -- a range
-abbrev pub range_view : Range → RangeData
+abbrev pub range_view : RangeUse → RangeData
 range_view r = record { page = r.page; name = r.name.now; origin = r.origin; size = r.size }
 
--- a mark for each word of a page, which the words have that are used
+-- the list has a mark for each word of a page, and those are set that sections use
 pub record KnowsPage (words : List Bool) (page : ℕ) (places : List Place) : Type 0 where
   pub sized : length words ≡ 65536
   pub used : (word : ℕ) → word < 65536 → slice_index_or words word false ≡ is_used page places word
 
--- the same of both pages
+-- the lists of both pages have the marks of the words that sections use
 pub record KnowsUsed (u : UsedWords) (places : List Place) : Type 0 where
   pub program : KnowsPage u.program.items 0 places
   pub store : KnowsPage u.store.items 1 places
 
--- a mark for each word of both pages
+-- the lists have a mark for each word of both pages
 abbrev pub AreSized : UsedWords → Type 0
 AreSized u = (length u.program.items ≡ 65536) × (length u.store.items ≡ 65536)

@@ -12,41 +12,41 @@ ghost use Rattle.c25_symbols.specs.Parts.{AreAlike, BeginsAt, KnowsNext};
 ghost use Rattle.c25_symbols.specs.Symbols.{all_symbols, listed, module_symbols, section_of, source_of};
 ghost use Rattle.c25_symbols.specs.View.{entries_view, entry_view, places_view};
 
-use crate::parts::{AT_ZERO, NextParts, PartBase};
+use crate::parts::{AT_ZERO, NextStarts, PartStart};
 use c25_map::OutputSection;
 use c25_meaning_objects::object::SymbolKind;
 use c25_module::{Module, Parts, Symbol};
 use std::alloc::{AllocError, Global};
 
-/// A symbol of a program.
+/// A symbol of a program, as its line shows it.
 #[derive(Clone, Copy)]
-pub(crate) struct Entry<'a> {
-    /// The low 32 bits of what it stands for.
+pub(crate) struct SymbolEntry<'a> {
+    /// The low 32 bits of the symbol's value.
     pub value: u32,
     pub kind: SymbolKind,
-    /// The name of its section, `-` where it is a number.
+    /// The name of the section that the symbol counts from, `-` where it is a number.
     pub section: &'a str,
-    /// The name of its module's source.
+    /// The name of the source of the symbol's module.
     pub source: &'a str,
     pub name: &'a str,
 }
 
-/// The low 32 bits of an address and an offset.
+/// The low 32 bits of the sum of an address and an offset.
 fn moved(base: u32, offset: i32) -> u32
     ensures { (address : ℕ) → AreAlike base address → result ≡ cut (pos address +ℤ offset) 32 }
 {
     base.wrapping_add_signed(offset)
 }
 
-/// The low 32 bits of a number.
+/// The low 32 bits of a number, as two's complement.
 fn low_number(value: i32) -> u32
     ensures { result ≡ cut value 32 }
 {
     value.cast_unsigned()
 }
 
-/// Where the part begins that a module has of its section of a number.
-fn part_of(next: &NextParts<'_>, owner: &Parts, index: u16) -> PartBase
+/// Where a module's part of the section of a number begins.
+fn part_of(next: &NextStarts<'_>, owner: &Parts, index: u16) -> PartStart
     ensures { (modules : List Contents) (places : List place.Place) (number : ℕ) → KnowsNext next.now places (all_sections (take number modules))
         → BeginsAt result (section_base modules places number (contents owner.now) index) (section_run modules places number (contents owner.now) index) }
 {
@@ -56,8 +56,8 @@ fn part_of(next: &NextParts<'_>, owner: &Parts, index: u16) -> PartBase
     }
 }
 
-/// The low 32 bits of what a symbol of a module stands for.
-fn low_value(next: &NextParts<'_>, owner: &Parts, kind: SymbolKind, value: i32) -> u32
+/// The low 32 bits of the value of a module's symbol.
+fn low_value(next: &NextStarts<'_>, owner: &Parts, kind: SymbolKind, value: i32) -> u32
     ensures { (modules : List Contents) (places : List place.Place) (number : ℕ) → KnowsNext next.now places (all_sections (take number modules))
         → result ≡ cut (kind_value modules places number (contents owner.now) kind value) 32 }
 {
@@ -91,7 +91,7 @@ fn section_of(owner: &Parts, kind: SymbolKind) -> &str
     }
 }
 
-/// The name of the source of the module of a number, if it is told.
+/// The name of the source of the module of a number; empty where none is given.
 fn source_of(sources: &[String], number: usize) -> &str
     ensures { result.now ≡ source_of (map string_bytes sources.now) number }
 {
@@ -108,18 +108,18 @@ fn is_defined(kind: SymbolKind) -> bool
     kind != SymbolKind::External
 }
 
-/// A symbol of a module.
+/// The entry of a module's symbol.
 fn entry_of<'a>(
-    next: &NextParts<'_>,
+    next: &NextStarts<'_>,
     owner: &'a Parts,
     source: &'a str,
     symbol: &'a Symbol,
-) -> Entry<'a>
+) -> SymbolEntry<'a>
     ensures { (modules : List Contents) (sources : List (List ℕ)) (places : List place.Place) (number : ℕ) → KnowsNext next.now places (all_sections (take number modules))
         → source.entry.now ≡ source_of sources number
         → entry_view result ≡ listed modules sources places number (contents owner.entry.now) (symbol_data symbol.entry.now) }
 {
-    Entry {
+    SymbolEntry {
         value: low_value(next, owner, symbol.kind, symbol.value),
         kind: symbol.kind,
         section: section_of(owner, symbol.kind),
@@ -128,12 +128,12 @@ fn entry_of<'a>(
     }
 }
 
-/// Puts the symbols that a module defines behind others.
+/// Appends the symbols that a module defines.
 fn push_symbols<'a>(
-    next: &NextParts<'_>,
+    next: &NextStarts<'_>,
     owner: &'a Parts,
     source: &'a str,
-    entries: &mut Vec<Entry<'a>>,
+    entries: &mut Vec<SymbolEntry<'a>>,
 ) -> Result<(), AllocError>
     ensures { (modules : List Contents) (sources : List (List ℕ)) (places : List place.Place) (number : ℕ) → KnowsNext next.now places (all_sections (take number modules))
         → source.entry.now ≡ source_of sources number
@@ -147,17 +147,17 @@ fn push_symbols<'a>(
     Ok(())
 }
 
-/// The symbols that modules define, whose sections stand where a map says, by modules and symbols.
+/// The symbols that modules define, by modules and symbols, where the map says the sections stand.
 #[tactic(auto, using(c25_meaning_linking::proofs::ByModules::by_modules_more, c25_meaning_linking::proofs::ByModules::by_modules_all))]
 pub(crate) fn all_entries<'a>(
     alloc: Global,
     modules: &'a [Module],
     sources: &'a [String],
     sections: &'a [OutputSection],
-) -> Result<Vec<Entry<'a>>, AllocError>
+) -> Result<Vec<SymbolEntry<'a>>, AllocError>
     ensures { IfOk result (λ v. entries_view v.items ≡ all_symbols modules.entry.now (map string_bytes sources.entry.now) (places_view sections.entry.now)) }
 {
-    let mut next = NextParts::new(alloc, sections)?;
+    let mut next = NextStarts::new(alloc, sections)?;
     let mut entries = Vec::new(alloc);
     for (number, module) in modules.iter().enumerate() {
         let owner = module.parts();

@@ -1,4 +1,4 @@
-//! Where the parts of modules begin, one behind another.
+//! Where the parts of modules begin, one after another.
 
 ghost use Rattle.std.specs.Prelude.{◌≡◌, ◌++◌, ◌∷◌, [], ℕ, List, IfOk, OnOk};
 ghost use Rattle.std.specs.Option.{option_or};
@@ -15,18 +15,18 @@ use std::collections::HashMap;
 
 /// Where a part begins: the low 32 bits of the address where it is loaded, and of the one where it runs.
 #[derive(Clone, Copy)]
-pub(crate) struct PartBase {
+pub(crate) struct PartStart {
     pub base: u32,
     pub run: u32,
 }
 
 /// A part that begins at address 0.
-pub(crate) const AT_ZERO: PartBase = PartBase { base: 0, run: 0 };
+pub(crate) const AT_ZERO: PartStart = PartStart { base: 0, run: 0 };
 
 /// Where the next part of each section begins.
 #[derive(Drop)]
-pub(crate) struct NextParts<'a> {
-    found: HashMap<&'a str, PartBase>,
+pub(crate) struct NextStarts<'a> {
+    found: HashMap<&'a str, PartStart>,
 }
 
 /// The low 32 bits of how many words a section has.
@@ -40,19 +40,19 @@ fn low_size(body: &Body) -> u32
 }
 
 /// Where the first part of a section begins.
-fn first_part(section: &OutputSection) -> PartBase
+fn first_part(section: &OutputSection) -> PartStart
     ensures { result ≡ first_part (place_of section.now) }
 {
-    PartBase {
+    PartStart {
         base: section.base,
         run: section.run.unwrap_or(section.base),
     }
 }
 
-/// Keeps where the first part of a section begins, unless that is known of another of its name.
+/// Keeps where the first part of a section begins, unless it is known of another section of its name.
 fn keep_first<'a>(
     section: &'a OutputSection,
-    found: &mut HashMap<&'a str, PartBase>,
+    found: &mut HashMap<&'a str, PartStart>,
 ) -> Result<(), AllocError>
     ensures { (name : List ℕ) → OnOk result (named found.new name ≡ option_or (named found.old name) (first_of (place_of section.now ∷ []) name)) }
 {
@@ -66,8 +66,8 @@ fn keep_first<'a>(
     }
 }
 
-impl<'a> NextParts<'a> {
-    /// Before all parts.
+impl<'a> NextStarts<'a> {
+    /// The starts of the first parts, before any module.
     pub(crate) fn new(alloc: Global, sections: &'a [OutputSection]) -> Result<Self, AllocError>
         ensures { IfOk result (λ next. KnowsNext next (places_view sections.now) []) }
     {
@@ -75,17 +75,17 @@ impl<'a> NextParts<'a> {
         for section in sections {
             keep_first(section, &mut found)?;
         }
-        Ok(NextParts { found })
+        Ok(NextStarts { found })
     }
 
     /// Where the next part of a section begins.
-    pub(crate) fn get(&self, name: &str) -> PartBase
+    pub(crate) fn get(&self, name: &str) -> PartStart
         ensures { result ≡ next_of self.now name.now }
     {
         self.found.get(name).copied().unwrap_or(AT_ZERO)
     }
 
-    /// Goes on behind the part of a section.
+    /// Moves on past the part of a section, so that the next part of its name begins after it.
     fn pass(&mut self, section: &'a Section) -> Result<(), AllocError>
         ensures { (places : List place.Place) (sections : List SectionData) → KnowsNext self.old places sections
             → OnOk result (KnowsNext self.new places (sections ++ section_data section.now ∷ [])) }
@@ -93,7 +93,7 @@ impl<'a> NextParts<'a> {
         let name = section.name.as_str();
         let part = self.get(name);
         let size = low_size(&section.body);
-        let after = PartBase {
+        let after = PartStart {
             base: part.base.wrapping_add(size),
             run: part.run.wrapping_add(size),
         };
@@ -101,7 +101,7 @@ impl<'a> NextParts<'a> {
         Ok(())
     }
 
-    /// Goes on behind the parts of sections.
+    /// Moves on past the parts of a module's sections.
     pub(crate) fn pass_all(&mut self, own: &'a [Section]) -> Result<(), AllocError>
         ensures { (places : List place.Place) (sections : List SectionData) → KnowsNext self.old places sections
             → OnOk result (KnowsNext self.new places (sections ++ sections_data own.now)) }

@@ -1,4 +1,4 @@
-//! The ranges of memory and their words.
+//! The lines of memory ranges: how many of their words are used.
 
 ghost use Rattle.std.specs.Prelude.{◌≡◌, ◌≤◌, ◌++◌, List, OnOk, All, string_bytes};
 ghost use Rattle.std.specs.List.{flat_map};
@@ -9,14 +9,14 @@ ghost use Rattle.c25_meaning_linking.specs.Place as place;
 ghost use Rattle.c25_symbols.specs.Text.{range_line, word_counts};
 ghost use Rattle.c25_symbols.specs.View.{AreSized, KnowsUsed, range_view};
 
-use crate::digits::{push_count, push_five, push_four, push_name};
 use crate::used::UsedWords;
 use c25_cmd::{Command, MemoryRange};
-use std::alloc::AllocError;
+use c25_meaning_common::no_memory::NoMemory;
+use c25_texts::appending::{push_count, push_five, push_four, push_name};
 
-/// A range of a page.
+/// A range of a page, whose use is printed.
 #[derive(Clone, Copy)]
-struct Range<'a> {
+struct RangeUse<'a> {
     page: u8,
     name: &'a str,
     origin: u32,
@@ -25,7 +25,7 @@ struct Range<'a> {
 
 /// Appends how many words there are, how many of them are used, and how many are free.
 #[tactic(auto, unfolding(crate::specs::Text::word_counts))]
-fn push_counts(out: &mut String, size: u32, used: u32) -> Result<(), AllocError>
+fn push_counts(out: &mut String, size: u32, used: u32) -> Result<(), NoMemory>
     requires { used ≤ size }
     ensures { OnOk result (string_bytes out.new ≡ string_bytes out.old ++ word_counts size used) }
 {
@@ -36,7 +36,7 @@ fn push_counts(out: &mut String, size: u32, used: u32) -> Result<(), AllocError>
 
 /// Appends the line of a range.
 #[tactic(auto, unfolding(crate::specs::Text::range_line))]
-fn push_range(out: &mut String, used: &UsedWords, range: &Range<'_>) -> Result<(), AllocError>
+fn push_range(out: &mut String, used: &UsedWords, range: &RangeUse<'_>) -> Result<(), NoMemory>
     requires sized { AreSized used.now }
     requires range { IsRange (range_view range.now) }
     ensures { (places : List place.Place) → KnowsUsed used.now places → OnOk result (string_bytes out.new ≡ string_bytes out.old ++ range_line places (range_view range.now)) }
@@ -51,13 +51,13 @@ fn push_range(out: &mut String, used: &UsedWords, range: &Range<'_>) -> Result<(
 }
 
 /// Appends the lines of the ranges of a command file.
-fn push_named(out: &mut String, used: &UsedWords, memory: &[MemoryRange]) -> Result<(), AllocError>
+fn push_named(out: &mut String, used: &UsedWords, memory: &[MemoryRange]) -> Result<(), NoMemory>
     requires sized { AreSized used.now }
     requires ranges { All IsRange (ranges_of memory.now) }
     ensures { (places : List place.Place) → KnowsUsed used.now places → OnOk result (string_bytes out.new ≡ string_bytes out.old ++ flat_map (range_line places) (ranges_of memory.now)) }
 {
     for range in memory {
-        let range = Range {
+        let range = RangeUse {
             page: range.page,
             name: range.name.as_str(),
             origin: range.origin,
@@ -74,7 +74,7 @@ pub(crate) fn push_ranges(
     out: &mut String,
     used: &UsedWords,
     command: &Command,
-) -> Result<(), AllocError>
+) -> Result<(), NoMemory>
     requires sized { AreSized used.now }
     requires command { IsCommand (command_data command.now) }
     ensures { (places : List place.Place) → KnowsUsed used.now places → OnOk result (string_bytes out.new ≡ string_bytes out.old ++ flat_map (range_line places) (ranges_for (command_data command.now))) }
@@ -82,13 +82,13 @@ pub(crate) fn push_ranges(
     match &command.memory {
         Some(memory) => push_named(out, used, memory),
         None => {
-            let program = Range {
+            let program = RangeUse {
                 page: 0,
                 name: "PROG",
                 origin: 0,
                 size: 65_536,
             };
-            let store = Range {
+            let store = RangeUse {
                 page: 1,
                 name: "DATA",
                 origin: 768,

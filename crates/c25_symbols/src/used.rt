@@ -1,4 +1,4 @@
-//! Which words of both pages are used.
+//! The words of both pages that sections use.
 
 ghost use Rattle.std.specs.Prelude.{◌≡◌, ◌+◌, ◌<◌, ◌≤◌, ◌||◌, ◌&&◌, ℕ, List, ◌∷◌, ◌++◌, [], false, length, nat_le, nat_lt, slice_index_or, IfOk};
 ghost use Rattle.c25_meaning_linking.specs.Place as place;
@@ -19,7 +19,7 @@ pub(crate) struct UsedWords {
     store: Vec<bool>,
 }
 
-/// Marks so many words of a page from an address on, as far as the page has them.
+/// Marks `size` words of a page from an address on, as far as the page goes.
 fn mark(words: &mut [bool], base: u32, size: u32)
     requires { length words.old ≡ 65536 }
     ensures sized { length words.new ≡ 65536 }
@@ -30,7 +30,7 @@ fn mark(words: &mut [bool], base: u32, size: u32)
     take(words, start, end);
 }
 
-/// Marks the words of a page that a section has.
+/// Marks the words of a page that a section uses, where it is loaded or where it runs.
 fn mark_section(words: &mut [bool], page: u8, section: &OutputSection)
     requires { length words.old ≡ 65536 }
     ensures sized { length words.new ≡ 65536 }
@@ -46,7 +46,7 @@ fn mark_section(words: &mut [bool], page: u8, section: &OutputSection)
     }
 }
 
-/// The words of a page that sections have.
+/// For each word of a page whether a section uses it.
 fn page_words(alloc: Global, page: u8, sections: &[OutputSection]) -> Result<Vec<bool>, AllocError>
     ensures { IfOk result (λ v. KnowsPage v.items page (places_view sections.now)) }
 {
@@ -57,7 +57,7 @@ fn page_words(alloc: Global, page: u8, sections: &[OutputSection]) -> Result<Vec
     Ok(words)
 }
 
-/// How many of so many words from an address on are marked.
+/// How many of `size` words from an address on are marked.
 fn count(words: &[bool], origin: u32, size: u32) -> u32
     requires sized { length words.now ≡ 65536 }
     requires within { origin + size ≤ 65536 }
@@ -72,7 +72,7 @@ fn count(words: &[bool], origin: u32, size: u32) -> u32
 }
 
 impl UsedWords {
-    /// Those of the sections of a map.
+    /// The words that the sections of a map use.
     pub(crate) fn new(alloc: Global, sections: &[OutputSection]) -> Result<Self, AllocError>
         ensures { IfOk result (λ used. KnowsUsed used (places_view sections.now)) }
     {
@@ -82,7 +82,7 @@ impl UsedWords {
         })
     }
 
-    /// How many of so many words of page 0 or of page 1 from an address on are used.
+    /// How many of `size` words of page 0 or of page 1, from an address on, are used.
     pub(crate) fn count(&self, page: u8, origin: u32, size: u32) -> u32
         requires sized { AreSized self.now }
         requires page { page ≤ 1 }

@@ -10,8 +10,8 @@ ghost use Rattle.c25_symbols.specs.Symbols.{symbols_by_name};
 ghost use Rattle.c25_symbols.specs.Text.{kind_text, place_words, symbol_line, symbols_text};
 ghost use Rattle.c25_symbols.specs.View.{entries_view, entry_view, places_of, places_view};
 
-use crate::digits::{push_name, push_value, push_word};
-use crate::entries::{Entry, all_entries};
+use crate::digits::push_value;
+use crate::entries::{SymbolEntry, all_entries};
 use crate::order::sort_by_name;
 use crate::ranges::push_ranges;
 use crate::used::UsedWords;
@@ -20,9 +20,11 @@ use c25_map::{Map, OutputSection};
 use c25_meaning_common::no_memory::NoMemory;
 use c25_meaning_objects::object::SymbolKind;
 use c25_module::Module;
-use std::alloc::{AllocError, Global};
+use c25_texts::appending::{push_name, push_spaced};
+use std::alloc::Global;
 
-/// What a symbol's value is.
+/// The keyword of a symbol's kind: `SET` for a number, `IN` for an address of a section, `LOAD` for one where
+/// a section is loaded.
 fn kind_text(kind: SymbolKind) -> &'static str
     ensures { result.now ≡ kind_text kind }
 {
@@ -34,19 +36,19 @@ fn kind_text(kind: SymbolKind) -> &'static str
     }
 }
 
-/// Appends what a symbol's value is, and where.
+/// Appends the keyword of a symbol's kind, its section and its source.
 #[tactic(auto, unfolding(crate::specs::Text::place_words))]
-fn push_place(out: &mut String, entry: &Entry<'_>) -> Result<(), AllocError>
+fn push_place(out: &mut String, entry: &SymbolEntry<'_>) -> Result<(), NoMemory>
     ensures { OnOk result (string_bytes out.new ≡ string_bytes out.old ++ place_words (entry_view entry.now)) }
 {
     out.push_str(kind_text(entry.kind))?;
-    push_word(out, entry.section)?;
-    push_word(out, entry.source)
+    push_spaced(out, entry.section)?;
+    push_spaced(out, entry.source)
 }
 
 /// Appends the line of a symbol.
 #[tactic(auto, unfolding(crate::specs::Text::symbol_line))]
-fn push_symbol(out: &mut String, entry: &Entry<'_>) -> Result<(), AllocError>
+fn push_symbol(out: &mut String, entry: &SymbolEntry<'_>) -> Result<(), NoMemory>
     ensures { OnOk result (string_bytes out.new ≡ string_bytes out.old ++ symbol_line (entry_view entry.now)) }
 {
     out.push_str("SYMBOL ")?;
@@ -57,7 +59,7 @@ fn push_symbol(out: &mut String, entry: &Entry<'_>) -> Result<(), AllocError>
 }
 
 /// Appends the lines of symbols, in their order.
-fn push_entries(out: &mut String, entries: &[Entry<'_>]) -> Result<(), AllocError>
+fn push_entries(out: &mut String, entries: &[SymbolEntry<'_>]) -> Result<(), NoMemory>
     ensures { OnOk result (string_bytes out.new ≡ string_bytes out.old ++ flat_map symbol_line (entries_view entries.now)) }
 {
     for entry in entries {
@@ -66,14 +68,14 @@ fn push_entries(out: &mut String, entries: &[Entry<'_>]) -> Result<(), AllocErro
     Ok(())
 }
 
-/// Appends the lines of the symbols that modules define, by their names.
+/// Appends the lines of the symbols that modules define, in the order of their names.
 fn push_symbols(
     alloc: Global,
     out: &mut String,
     modules: &[Module],
     sources: &[String],
     sections: &[OutputSection],
-) -> Result<(), AllocError>
+) -> Result<(), NoMemory>
     ensures { OnOk result (string_bytes out.new ≡ string_bytes out.old ++ flat_map symbol_line (symbols_by_name modules.now (map string_bytes sources.now) (places_view sections.now))) }
 {
     let mut entries = all_entries(alloc, modules, sources, sections)?;
@@ -81,18 +83,18 @@ fn push_symbols(
     push_entries(out, &entries)
 }
 
-/// The text of a program's symbols and of its memories: a line for each symbol that a module defines,
-/// local ones too, by their names, and behind them one for each range of the command, between a first
-/// line `C25 SYMBOLS 1` and a last line `END`.
+/// The text of a program's symbols and of its memories: a line for each symbol that a module defines, local
+/// ones too, by their names, and after them one for each range of the command, between a first line `C25
+/// SYMBOLS 1` and a last line `END`.
 ///
-/// A symbol's line is `SYMBOL`, its value in four hexadecimal digits, or in eight where it has not 16
-/// bits, `SET` for a number, `IN` for an address of a section or `LOAD` for one where a section is
-/// loaded, the name of that section, or `-`, the name of the module's source, and its own name. Those of
-/// one name stand in the order of the modules. A range's line is `RANGE`, its page, its first address,
-/// how many words it has, how many of them a section has where it is loaded or where it runs, how many
-/// are free, and its name. The sections stand where the map says.
+/// A symbol's line is `SYMBOL`, its value in four hexadecimal digits, or in eight where it does not fit in 16
+/// bits, `SET` for a number, `IN` for an address of a section or `LOAD` for one where a section is loaded,
+/// the name of that section, or `-`, the name of the module's source, and its own name. Symbols of one name
+/// are in the order of the modules. A range's line is `RANGE`, its page, its first address, how many words it
+/// has, how many of them a section uses where it is loaded or where it runs, how many are free, and its name.
+/// The sections stand where the map says.
 ///
-/// It refuses for want of memory alone.
+/// It fails only where memory runs out.
 pub fn write_symbols(
     alloc: Global,
     modules: &[Module],

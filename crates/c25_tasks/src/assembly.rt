@@ -21,7 +21,8 @@ use c25_inputs::sources::sources_of;
 use c25_inputs::work::work_over;
 use c25_macro::files::Files;
 use c25_meaning_common::no_memory::NoMemory;
-use c25_module::{Module, write_module};
+use c25_module::Module;
+use c25_records::write_module;
 use std::alloc::Global;
 
 /// The output file of a module without a listing: its object.

@@ -1,7 +1,8 @@
-//! Small texts: items read one a line, numbers read in decimal and hexadecimal, and bytes and words written
-//! in hexadecimal digits (`digits`).
+//! Small texts: items read one a line, numbers read in decimal and hexadecimal, bytes and words written in
+//! hexadecimal digits (`digits`), pieces appended to a text (`appending`).
 #![tactic(auto)]
 
+pub mod appending;
 pub mod digits;
 mod item_reader;
 mod numbers;

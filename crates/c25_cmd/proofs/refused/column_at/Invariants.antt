@@ -1,4 +1,4 @@
--- the column behind the bytes so far
+-- the column after the bytes so far
 use Rattle.std.proofs.Common.{◌≡◌, ◌≤◌, ◌+◌, take}
 use Rattle.std.specs.List.{fold}
 use Rattle.c25_cmd.specs.Refused.{column_behind}

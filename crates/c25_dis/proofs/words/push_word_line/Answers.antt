@@ -7,7 +7,7 @@ use Rattle.c25_dis.proofs.words.push_word_line.Goals as goal
 pub returns-in-Some : goal.returns-in-Some
 returns-in-Some c =
     let address = c.args.address in
-    let word = c.args.word in
+    let word = c.args.words.0 in
     let second = c.read_word-second.result.second in
     let insn = c.read_word-second.result.insn in (
       gap_text c.args.end address ++ line_text address word second insn ++ codes "\n",
@@ -25,7 +25,7 @@ returns-in-Some c =
 pub returns-in-None : goal.returns-in-None
 returns-in-None c =
     let address = c.args.address in
-    let word = c.args.word in
+    let word = c.args.words.0 in
     let second = c.read_word-second.result.second in
     let insn = c.read_word-second.result.insn in (
       gap_text c.args.end address ++ line_text address word second insn ++ codes "\n",

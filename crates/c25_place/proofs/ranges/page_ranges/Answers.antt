@@ -3,7 +3,7 @@ use Rattle.std.proofs.lemmas.List.{take_all}
 use Rattle.c25_meaning_linking.specs.Command.{RangeData}
 use Rattle.c25_place.specs.Ranges.{on_page, place_in}
 use Rattle.c25_place.specs.View.{named, ranges_view}
-use Rattle.c25_place.specs.declared.ranges.Range.{Range}
+use Rattle.c25_place.specs.declared.ranges.PageRange.{PageRange}
 use Rattle.c25_place.proofs.Kept.{list_next, found_next, kept_same, counted, one_longer}
 use Rattle.c25_place.proofs.ranges.page_ranges.Goals.{then-range-page+in_ok-insert+in_ok-push, else-range-page}
 use Rattle.c25_place.proofs.ranges.page_ranges.Goals as goal
@@ -28,6 +28,6 @@ pub returns : goal.returns
 returns c =
     let whole = take_all c.loop-range.range-index c.args.all.now c.loop-range-test.false in
     record {
-      list = c.loop-range.invariant.0 ∙ ap (λ (rs : List Range). on_page c.args.page (ranges_view rs)) whole;
-      found = λ name. c.loop-range.invariant.1 name ∙ ap (λ (rs : List Range). place_in name (on_page c.args.page (ranges_view rs))) whole;
+      list = c.loop-range.invariant.0 ∙ ap (λ (rs : List PageRange). on_page c.args.page (ranges_view rs)) whole;
+      found = λ name. c.loop-range.invariant.1 name ∙ ap (λ (rs : List PageRange). place_in name (on_page c.args.page (ranges_view rs))) whole;
     }

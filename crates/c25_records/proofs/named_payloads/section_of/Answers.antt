@@ -18,7 +18,7 @@ use Rattle.c25_records.proofs.named_payloads.section_of.Goals as goal
 abbrev named : List ℕ → SectionBody → SectionData
 named name body = record { name = name; body = body }
 
--- what stands behind the first two bytes, cut out to the end, is all of it
+-- what stands after the first two bytes, cut out to the end, is all of it
 behind_two : (bytes : List ℕ) → take (length bytes - 2) (drop 2 bytes) ≡ drop 2 bytes
 behind_two bytes = let len : length (drop 2 bytes) ≡ length bytes - 2 = omega (arith, length-drop 2 bytes) in ap (λ (k : ℕ). take k (drop 2 bytes)) (sym len) ∙ take-length (drop 2 bytes)
 

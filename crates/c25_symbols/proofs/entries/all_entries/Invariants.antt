@@ -1,4 +1,4 @@
--- the next parts begin behind the modules so far, and their symbols are there
+-- the next parts begin after the modules so far, and their symbols are there
 use Rattle.std.proofs.Common.{◌≡◌, map, string_bytes, take}
 use Rattle.c25_meaning_linking.specs.Place.{all_sections, by_modules}
 use Rattle.c25_symbols.specs.Parts.{KnowsNext}

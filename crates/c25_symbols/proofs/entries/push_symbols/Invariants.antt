@@ -1,4 +1,4 @@
--- the symbols so far that the module defines are behind those that were there
+-- the symbols so far that the module defines are after those that were there
 use Rattle.std.proofs.Common.{◌≡◌, ℕ, ◌++◌, List, filter, map, take}
 use Rattle.c25_meaning_linking.specs.Words.{is_defined}
 use Rattle.c25_meaning_objects.specs.Module.{Contents}

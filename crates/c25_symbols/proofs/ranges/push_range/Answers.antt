@@ -12,7 +12,7 @@ pub returns : goal.returns
 unfolding range_line
 returns c = λ places knows.
     let range = c.args.range.now in
-    line_told c.push_name.result (string_bytes c.args.out.now) (string_bytes c.write.new.self) (string_bytes c.push_four.new.out) (string_bytes c.push_str.new.self) (string_bytes c.push_counts.new.out)
-    (string_bytes c.push_name.new.out) (codes "RANGE " ++ decimal range.page ++ codes " ") (four_digits range.origin) (word_counts range.size (used_in places (range_view range))) range.name.now
+    line_told c.push_name.result (string_bytes c.args.out.now) (string_bytes c.write.new.self) (string_bytes c.push_four.new.text) (string_bytes c.push_str.new.self) (string_bytes c.push_counts.new.out)
+    (string_bytes c.push_name.new.text) (codes "RANGE " ++ decimal range.page ++ codes " ") (four_digits range.origin) (word_counts range.size (used_in places (range_view range))) range.name.now
     c.in_ok-write.ensures.bytes c.in_ok-push_four.ensures c.in_ok-push_str.ensures.bytes
     (c.in_ok-push_counts.ensures ∙ ap (λ (n : ℕ). string_bytes c.push_str.new.self ++ word_counts range.size n) (c.count-count.ensures.count places knows)) c.push_name.ensures

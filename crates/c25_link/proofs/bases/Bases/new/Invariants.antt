@@ -1,4 +1,4 @@
--- the parts of the modules so far are known, and the next ones begin behind them
+-- the parts of the modules so far are known, and the next ones begin after them
 use Rattle.std.proofs.Common.{◌≡◌, ◌<◌, ℕ, Some, take, length}
 use Rattle.std.specs.List.{slice_get}
 use Rattle.c25_meaning_objects.specs.Module.{Contents}

@@ -1,9 +1,0 @@
-use Rattle.std.proofs.Common.{ℕ, rules}
-use Rattle.std.proofs.lemmas.List.Sorted.{IsNonDecreasingBy-from_sort, answers_always}
-use Rattle.c25_meaning_image.specs.declared.mark.Mark.{Mark}
-use Rattle.c25_link.proofs.marks.sort_by_address.Goals as goal
-
-pub returns-clause-sorted : goal.returns-clause-sorted
-returns-clause-sorted c =
-    let address : Mark → ℕ = λ (m : Mark). m.address in
-    IsNonDecreasingBy-from_sort address _ (c.sort_unstable_by_key.ensures.sorted address (answers_always _ _ _ (λ f a r g h. search rules)))
