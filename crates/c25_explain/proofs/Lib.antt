@@ -1,4 +1,4 @@
-pub mod Notes
+pub mod NoteTexts
 pub mod Misfitted
 pub mod Noted
 pub mod Openings

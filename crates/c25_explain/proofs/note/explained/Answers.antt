@@ -1,5 +1,5 @@
 use Rattle.std.proofs.Common.{◌∙◌}
-use Rattle.c25_explain.proofs.Notes.{explains}
+use Rattle.c25_explain.proofs.NoteTexts.{explains}
 use Rattle.c25_explain.proofs.note.explained.Goals as goal
 
 pub returns : goal.returns
