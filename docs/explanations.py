@@ -79,7 +79,7 @@ def parts(body):
     """The meaning, the example and the advice of a section; an example may be empty."""
     meaning, example, advice = [], [], []
     for fence, block, paragraph in re.findall(r"(?ms)^```(\w+)[^\n]*\n(.*?)^```$|((?:^(?!```)[^\n]+\n)+)", body):
-        label = {"given": "Given:", "told": "Told:"}.get(fence)
+        label = {"given": "Given:", "reported": "Reported:"}.get(fence)
         if label and label not in example:
             example += [label, indented(block.splitlines())]
         elif paragraph:

@@ -320,7 +320,7 @@ def fault_examples():
     for _, kind, block in blocks(os.path.join(TOP, FAULTS)):
         if kind == "given":
             given = given_files(block)
-        elif kind == "told":
+        elif kind == "reported":
             yield given + (block[0],)
         elif kind.startswith("lines "):
             command = {"script": "c25 debug a.asm --script script", "hex": "c25 dis hex"}.get(kind[6:])

@@ -12,8 +12,8 @@ pub(crate) fn syntax() -> Explanation
     Explanation {
         number: 60,
         name: "Syntax",
-        meaning: r#"A word or sign that cannot stand where it is, or a text that ends too soon, which is told at its
-last line.
+        meaning: r#"A name, number or sign stands where it is not allowed, or the text ends too soon, which is reported
+at its last line.
 "#,
         example: Some(
             r#"Given:
@@ -22,15 +22,16 @@ last line.
     --- command
     MEMORY {
 
-Told:
+Reported:
 
     command:1: 60 Syntax
 "#,
         ),
-        advice: r#"Do: name objects and outputs on the command line; leave only the section's own name inside braces;
+        advice: r#"Do: name objects and outputs on the command line; put only the section's own name inside braces;
 write numbers as 16, 10h or 0x10: a leading 0, which elsewhere may mean octal, is refused. run =
-takes a number, and stands behind the target and PAGE. Not there are UNION, GROUP, fills, holes,
-alignment, assignments and -m. Page 0 is program memory and page 1 data memory; there is no other.
+takes a number, and comes after the target and PAGE. UNION, GROUP, fills, holes, alignment,
+assignments and -m are not supported. Page 0 is program memory and page 1 is data memory; there is
+no other page.
 "#,
     }
 }
@@ -41,7 +42,7 @@ pub(crate) fn range_overlap() -> Explanation
     Explanation {
         number: 61,
         name: "RangeOverlap",
-        meaning: r#"A range that shares a word with an earlier one of its page.
+        meaning: r#"A range shares a word with an earlier range of its page.
 "#,
         example: Some(
             r#"Given:
@@ -51,12 +52,12 @@ pub(crate) fn range_overlap() -> Explanation
     MEMORY { A : o = 0, l = 2
              B : o = 1, l = 2 }
 
-Told:
+Reported:
 
     command:2: 61 RangeOverlap
 "#,
         ),
-        advice: r#"Do: correct origin or length; put ranges of data memory behind PAGE 1 :.
+        advice: r#"Do: correct the origin or the length; put PAGE 1 : before ranges of data memory.
 "#,
     }
 }
@@ -67,7 +68,7 @@ pub(crate) fn range_size() -> Explanation
     Explanation {
         number: 62,
         name: "RangeSize",
-        meaning: r#"A range of length 0, or one that goes on past word FFFFh.
+        meaning: r#"A range has length 0, or goes on past word FFFFh.
 "#,
         example: Some(
             r#"Given:
@@ -76,7 +77,7 @@ pub(crate) fn range_size() -> Explanation
     --- command
     MEMORY { P : o = 0, l = 0 }
 
-Told:
+Reported:
 
     command:1: 62 RangeSize
 "#,
@@ -92,8 +93,8 @@ pub(crate) fn twice() -> Explanation
     Explanation {
         number: 63,
         name: "Twice",
-        meaning: r#"A second MEMORY, SECTIONS or -e, a second range of one name on one page, or a second entry for a
-section.
+        meaning: r#"There is a second MEMORY, SECTIONS or -e, a second range of one name on one page, or a second entry
+for a section.
 "#,
         example: Some(
             r#"Given:
@@ -103,13 +104,13 @@ section.
     -e A
     -e B
 
-Told:
+Reported:
 
     command:2: 63 Twice
 "#,
         ),
-        advice: r#"Do: put all ranges in one MEMORY and all sections in one SECTIONS. One name may stand for a range of
-each page.
+        advice: r#"Do: put all ranges in one MEMORY and all sections in one SECTIONS. A range of page 0 and a range of
+page 1 may have one name.
 "#,
     }
 }

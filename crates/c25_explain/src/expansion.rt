@@ -12,9 +12,9 @@ pub(crate) fn no_file() -> Explanation
     Explanation {
         number: 30,
         name: "NoFile",
-        meaning: r#"A file that .copy or .include names is not among those that were given. The program reads it from
-the disk and never tells 30: where it cannot, it tells 8. Who calls run_chain gives all files, and
-is told 30 at the line that copies, or at line 0 where the source itself is missing.
+        meaning: r#"A file that .copy or .include names is not among the files that were given. The program reads such a
+file from the disk and never reports 30: where it cannot, it reports 8. A caller of run_chain gives
+all files, and gets 30 at the line that copies, or at line 0 where the source itself is missing.
 "#,
         example: Some(
             r#"Given:
@@ -22,12 +22,12 @@ is told 30 at the line that copies, or at line 0 where the source itself is miss
     $ run_chain a.asm
      .copy "b.inc"
 
-Told:
+Reported:
 
     a.asm:1: 30 NoFile
 "#,
         ),
-        advice: r#"Do: add the file under exactly the name that the line has.
+        advice: r#"Do: add the file under exactly the name that stands in the line.
 "#,
     }
 }
@@ -38,20 +38,20 @@ pub(crate) fn open_block() -> Explanation
     Explanation {
         number: 31,
         name: "OpenBlock",
-        meaning: r#"An .if, .loop or .macro that is not closed in the file, macro body or loop body in which it began.
-The line is the last one of that file or body, not the one that opens the block.
+        meaning: r#"An .if, .loop or .macro is not closed in the file, macro body or loop body in which it begins. The
+line that is reported is the last one of that file or body, not the one that opens the block.
 "#,
         example: Some(
             r#"Given:
 
      .if 1
 
-Told:
+Reported:
 
     a.asm:1: 31 OpenBlock
 "#,
         ),
-        advice: r#"Do: look upwards from there for the block without its .endif, .endloop or .endm. A block cannot
+        advice: r#"Do: look upwards from that line for the block without its .endif, .endloop or .endm. A block cannot
 begin in one file or body and end in another.
 "#,
     }
@@ -63,21 +63,21 @@ pub(crate) fn stray_end() -> Explanation
     Explanation {
         number: 32,
         name: "StrayEnd",
-        meaning: r#"An .endif, .else, .elseif, .endloop, .endm that no open block belongs to, an .else or .elseif behind
-the .else, a .mexit outside every macro, or a .break outside every loop.
+        meaning: r#"An .endif, .else, .elseif, .endloop or .endm belongs to no open block, an .else or .elseif comes
+after the .else, a .mexit is outside every macro, or a .break is outside every loop.
 "#,
         example: Some(
             r#"Given:
 
      .endif
 
-Told:
+Reported:
 
     a.asm:1: 32 StrayEnd
 "#,
         ),
-        advice: r#"Do: count the blocks above it. An .endif in a macro does not close an .if of its caller; a .macro
-inside a macro needs an .endm of its own.
+        advice: r#"Do: count the blocks above the line. An .endif in a macro does not close an .if of its caller; a
+.macro inside a macro needs an .endm of its own.
 "#,
     }
 }
@@ -88,7 +88,7 @@ pub(crate) fn depth() -> Explanation
     Explanation {
         number: 33,
         name: "Depth",
-        meaning: r#"A 33rd open block: macro calls, copied files, loops and .ifs count together.
+        meaning: r#"A 33rd block is opened: macro calls, copied files, loops and .ifs count together.
 "#,
         example: Some(
             r#"Given:
@@ -98,13 +98,13 @@ pub(crate) fn depth() -> Explanation
      .endm
      R
 
-Told:
+Reported:
 
     a.asm:2: 33 Depth
 "#,
         ),
-        advice: r#"Do: look for a macro that calls itself or a file that copies itself without an .if that ends it; use
-.loop for repeating.
+        advice: r#"Do: look for a macro that calls itself, or a file that copies itself, without an .if that ends it;
+use .loop to repeat lines.
 "#,
     }
 }
@@ -115,8 +115,8 @@ pub(crate) fn lines() -> Explanation
     Explanation {
         number: 34,
         name: "Lines",
-        meaning: r#"A 200,001st line that is read for one source. Lines of macros and loops count each time, and so do
-lines that are skipped.
+        meaning: r#"More than 200,000 lines are read for one source. Lines of macros and loops count each time, and so
+do lines that are skipped.
 "#,
         example: Some(
             r#"Given:
@@ -125,7 +125,7 @@ lines that are skipped.
     * a line
      .endloop
 
-Told:
+Reported:
 
     a.asm:2: 34 Lines
 "#,
@@ -141,7 +141,7 @@ pub(crate) fn too_many_parameters() -> Explanation
     Explanation {
         number: 35,
         name: "TooManyParameters",
-        meaning: r#"A macro of more than 32 parameters.
+        meaning: r#"A macro has more than 32 parameters.
 "#,
         example: Some(
             r#"Given:
@@ -149,13 +149,12 @@ pub(crate) fn too_many_parameters() -> Explanation
     P .macro a,b,c,d,e,f,g,h,i,j,k,l,m,n,o,p,q,r,s,t,u,v,w,x,y,z,A,B,C,D,E,F,G
      .endm
 
-Told:
+Reported:
 
     a.asm:1: 35 TooManyParameters
 "#,
         ),
-        advice: r#"Do: give several values to the last parameter, which takes all that is left of the arguments, commas
-too.
+        advice: r#"Do: pass several values in the last parameter, which takes all arguments that are left, commas too.
 "#,
     }
 }
@@ -166,7 +165,7 @@ pub(crate) fn redefined() -> Explanation
     Explanation {
         number: 36,
         name: "Redefined",
-        meaning: r#"A macro with the name of a macro that is there already, or of a mnemonic in either case.
+        meaning: r#"A macro has the name of a macro that is defined already, or of a mnemonic in upper or lower case.
 "#,
         example: Some(
             r#"Given:
@@ -174,13 +173,13 @@ pub(crate) fn redefined() -> Explanation
     NOP .macro
      .endm
 
-Told:
+Reported:
 
     a.asm:1: 36 Redefined
 "#,
         ),
-        advice: r#"Do: rename it; copy a file of macros once only; move a .macro out of a macro that is called more
-than once.
+        advice: r#"Do: rename the macro; copy a file of macros only once; move a .macro out of a macro that is called
+more than once.
 "#,
     }
 }
@@ -191,8 +190,8 @@ pub(crate) fn long_line() -> Explanation
     Explanation {
         number: 38,
         name: "LongLine",
-        meaning: r#"A line that has more than 1,024 bytes once names are substituted, its comment too, or that takes
-more than 1,024 replacements.
+        meaning: r#"A line has more than 1,024 bytes after substitution, its comment included, or takes more than 1,024
+replacements.
 "#,
         example: Some(
             r#"Given:
@@ -202,12 +201,12 @@ more than 1,024 replacements.
      .asg k+k,k
      .endloop
 
-Told:
+Reported:
 
     a.asm:3: 38 LongLine
 "#,
         ),
-        advice: r#"Do: use .eval in place of .asg where a value and not a text is to be kept; part the line.
+        advice: r#"Do: use .eval in place of .asg to keep a value and not a text; split the line.
 "#,
     }
 }

@@ -14,8 +14,8 @@ pub(crate) fn cannot_write() -> Explanation
         name: "CannotWrite",
         meaning: r#"A file cannot be written. The files before it in this order stay written: the object, the listing
 (asm); B.p0.hex, B.p1.hex, B.map (link, build), listings, the file of --symbols (build). stdout: 7
-CannotWrite is standard output, of a run or of a debugger's answers, that cannot be written: a full
-disk behind `>`, a reader that has gone.
+CannotWrite means that a run or the debugger cannot write to standard output: the disk of a file
+after `>` is full, or the program that reads the output has ended.
 "#,
         example: Some(
             r#"Given:
@@ -23,12 +23,12 @@ disk behind `>`, a reader that has gone.
     $ c25 asm a.asm --obj none/a.obj
      NOP
 
-Told:
+Reported:
 
     none/a.obj: 7 CannotWrite
 "#,
         ),
-        advice: r#"Do: make the folder, which is never made here; look at rights and room.
+        advice: r#"Do: make the folder, which the program does not make; check rights and free space.
 "#,
     }
 }
@@ -40,21 +40,22 @@ pub(crate) fn cannot_read() -> Explanation
         number: 8,
         name: "CannotRead",
         meaning: r#"A file cannot be read, has more than 16,777,216 bytes, or is a text that is not UTF-8; or it is the
-257th file that is copied, which is not tried.
+257th copied file, which is refused without being read.
 "#,
         example: Some(
             r#"Given:
 
     $ c25 run a.asm
 
-Told:
+Reported:
 
     a.asm: 8 CannotRead
 "#,
         ),
-        advice: r#"Do: look at the name, rights and folder. A copied name is taken as it stands, from the folder in
-which the program runs and not that of the source. Old sources with letters beyond ASCII in comments
-are often in another code: convert them, as with iconv -f CP437 -t UTF-8.
+        advice: r#"Do: check the name, the rights and the folder. The name of a copied file is taken as it stands, from
+the folder in which the program runs and not from that of the source. Old sources often have
+comments with letters beyond ASCII in another encoding: convert them, as with iconv -f CP437 -t
+UTF-8.
 "#,
     }
 }
@@ -65,11 +66,11 @@ pub(crate) fn no_memory() -> Explanation
     Explanation {
         number: 9,
         name: "NoMemory",
-        meaning: r#"Memory ran out. There is no text that gives it; the line is memory: 9 NoMemory.
+        meaning: r#"Memory ran out. No text gives this fault; the line is memory: 9 NoMemory.
 "#,
         example: None,
-        advice: r#"Do: give the program more memory, end others, or take fewer steps in a session of the debugger where
-outputs are many: each is kept until its end.
+        advice: r#"Do: give the program more memory, end other programs, or take fewer steps in a debugger session with
+many outputs: each output is kept until the session ends.
 "#,
     }
 }
@@ -80,7 +81,7 @@ pub(crate) fn file_twice() -> Explanation
     Explanation {
         number: 37,
         name: "FileTwice",
-        meaning: r#"A source is named twice.
+        meaning: r#"A source is named twice on the command line.
 "#,
         example: Some(
             r#"Given:
@@ -88,12 +89,12 @@ pub(crate) fn file_twice() -> Explanation
     $ c25 run a.asm a.asm
      NOP
 
-Told:
+Reported:
 
     a.asm: 37 FileTwice
 "#,
         ),
-        advice: r#"Do: name it once. What several modules share is copied by each with .copy.
+        advice: r#"Do: name it once. Put what several modules share in a file that each of them copies with .copy.
 "#,
     }
 }

@@ -12,7 +12,7 @@ pub(crate) fn unresolved() -> Explanation
     Explanation {
         number: 70,
         name: "Unresolved",
-        meaning: r#"A name that is used and that no module defines as a global one.
+        meaning: r#"A name is used, and no module defines it as a global name.
 "#,
         example: Some(
             r#"Given:
@@ -20,13 +20,13 @@ pub(crate) fn unresolved() -> Explanation
      .ref X
      CALL X
 
-Told:
+Reported:
 
     link:X: 70 Unresolved
 "#,
         ),
-        advice: r#"Do: name the module that has it on the command line, and write .def X or .global X there. A name
-that is declared and not used is not missed.
+        advice: r#"Do: name the module that defines it on the command line, and write .def X or .global X in that
+module. A name that is declared and not used needs no definition.
 "#,
     }
 }
@@ -37,7 +37,7 @@ pub(crate) fn defined_twice() -> Explanation
     Explanation {
         number: 71,
         name: "DefinedTwice",
-        meaning: r#"A second module defines a global name.
+        meaning: r#"A second module defines the same global name.
 "#,
         example: Some(
             r#"Given:
@@ -48,12 +48,12 @@ pub(crate) fn defined_twice() -> Explanation
      .def GO
     GO NOP
 
-Told:
+Reported:
 
     link:GO: 71 DefinedTwice
 "#,
         ),
-        advice: r#"Do: leave .def or .global out where the name is the module's own; define a common constant in a
+        advice: r#"Do: leave out .def or .global where only one module uses the name; define a common constant in a
 copied file without .global.
 "#,
     }
@@ -65,8 +65,8 @@ pub(crate) fn no_range() -> Explanation
     Explanation {
         number: 72,
         name: "NoRange",
-        meaning: r#"The range that SECTIONS names for a section is not there, or its page has none. Without MEMORY the
-ranges are PROG (page 0, all of it) and DATA (page 1, 300h to FFFFh).
+        meaning: r#"The range that SECTIONS names for a section does not exist, or the section's page has no range.
+Without MEMORY the ranges are PROG (page 0, all of it) and DATA (page 1, 300h to FFFFh).
 "#,
         example: Some(
             r#"Given:
@@ -75,13 +75,13 @@ ranges are PROG (page 0, all of it) and DATA (page 1, 300h to FFFFh).
     --- command
     SECTIONS { .text : > ROM }
 
-Told:
+Reported:
 
     link:.text: 72 NoRange
 "#,
         ),
-        advice: r#"Do: look at the spelling and the case; give each page that is used a range. Every module has a
-.text, which needs a range also where it is empty.
+        advice: r#"Do: check the spelling and the case; give each page that is used a range. Every module has a .text,
+which needs a range even where it is empty.
 "#,
     }
 }
@@ -92,9 +92,9 @@ pub(crate) fn does_not_fit() -> Explanation
     Explanation {
         number: 73,
         name: "DoesNotFit",
-        meaning: r#"No range has room for a section in one piece with each block of it (the third operand of .bss)
-inside one page of 128 words, or at its address it does not lie wholly in one range or a block of it
-ends in the next page.
+        meaning: r#"No range has room for a section in one piece with each of its blocks (third operand of .bss) inside
+one data page of 128 words; or at its address a section does not lie wholly in one range, or a block
+of it ends in the next data page.
 "#,
         example: Some(
             r#"Given:
@@ -103,14 +103,14 @@ ends in the next page.
     --- command
     MEMORY { P : o = 0, l = 1 }
 
-Told:
+Reported:
 
     link:.text: 73 DoesNotFit
 "#,
         ),
-        advice: r#"Do: widen the range, part the section in two with names of their own, or name the section with
-another range. Two ranges that touch are not one. A section with an address and no PAGE is on page
-0, a reserved one too.
+        advice: r#"Do: widen the range, split the section into two with names of their own, or give the section another
+range. Two ranges that touch are not one range. A section with an address and no PAGE is on page 0,
+an uninitialised one too.
 "#,
     }
 }
@@ -121,7 +121,7 @@ pub(crate) fn overlap() -> Explanation
     Explanation {
         number: 74,
         name: "Overlap",
-        meaning: r#"At its address a section shares a word with one that was placed before.
+        meaning: r#"At its address a section shares a word with a section that was placed before.
 "#,
         example: Some(
             r#"Given:
@@ -133,12 +133,12 @@ pub(crate) fn overlap() -> Explanation
     SECTIONS { .text : > 0
                b : > 1 }
 
-Told:
+Reported:
 
     link:b: 74 Overlap
 "#,
         ),
-        advice: r#"Do: move one of the two; look at the lengths in the map of a program without the addresses. Sections
+        advice: r#"Do: move one of the two; the map of the program without the addresses has the lengths. Sections
 without an address never overlap: they go where there is room.
 "#,
     }
@@ -151,22 +151,22 @@ pub(crate) fn reloc_range() -> Explanation
         number: 75,
         name: "RelocRange",
         meaning: r#"A field does not take the address or value that linking gives it: a second word or .word takes
--32,768 to 65,535, a direct operand or LDPK 0 to 65,535. The name is that of the section in which
-the field stands.
+-32,768 to 65,535, a direct operand or LDPK takes 0 to 65,535. The name that is reported is that of
+the section with the field.
 "#,
         example: Some(
             r#"Given:
 
     X LAC X-1
 
-Told:
+Reported:
 
     link:.text: 75 RelocRange
 "#,
         ),
-        advice: r#"Do: look for a negative offset from the first label of a section, for a label behind the last word
-of a page (its address is 10000h), and for a global .set that is no address; keep the low bits of a
-constant in the module that defines it (A .set 12345678h&0FFFFh).
+        advice: r#"Do: look for a negative offset from the first label of a section, for a label after the last word of
+a page (its address is 10000h), and for a global .set that is not an address; keep only the low bits
+of a constant in the module that defines it (A .set 12345678h&0FFFFh).
 "#,
     }
 }
@@ -177,7 +177,7 @@ pub(crate) fn no_entry() -> Explanation
     Explanation {
         number: 76,
         name: "NoEntry",
-        meaning: r#"The name of -e is no global name that a module defines.
+        meaning: r#"The name of -e is not a global name that a module defines.
 "#,
         example: Some(
             r#"Given:
@@ -186,13 +186,13 @@ pub(crate) fn no_entry() -> Explanation
     --- command
     -e MAIN
 
-Told:
+Reported:
 
     link:MAIN: 76 NoEntry
 "#,
         ),
-        advice: r#"Do: write .def MAIN. The entry is only printed in the map: a run begins at address 0, whatever it
-is, so put a branch there.
+        advice: r#"Do: write .def with the name in the module that defines it. The entry is only printed in the map: a
+run always begins at address 0, so put a branch there.
 "#,
     }
 }
@@ -203,10 +203,10 @@ pub(crate) fn bad_run() -> Explanation
     Explanation {
         number: 78,
         name: "BadRun",
-        meaning: r#"A section may not run where run = says: outside FF00h to FFFFh, which is block B0 as program memory;
-past its end; over a word of another section that runs there and was placed before; or it has no
-words of its own that could be copied there, being reserved (.bss, .usect) or on page 1. It is told
-behind 72 to 74 of the same section.
+        meaning: r#"A section cannot run where run = says: outside FF00h to FFFFh, which is block B0 as program memory;
+past the end of B0; or over a word of another section that runs there and was placed before. Or it
+has no words that could be copied there, because it is uninitialised (.bss, .usect) or on page 1.
+For one section, 72 to 74 are reported before 78.
 "#,
         example: Some(
             r#"Given:
@@ -215,14 +215,14 @@ behind 72 to 74 of the same section.
     --- command
     SECTIONS { .text : run = 0 }
 
-Told:
+Reported:
 
     link:.text: 78 BadRun
 "#,
         ),
-        advice: r#"Do: write a number from 0FF00h on, with room for the section behind it: B0 has 256 words. Let
-sections that run there stand one behind another, by their lengths in the map. What a table in data
-memory is copied to is reserved by .bss, and needs no run =.
+        advice: r#"Do: write a number from 0FF00h on, with room for the section after it: B0 has 256 words. Put
+sections that run there one after another, by their lengths in the map. For a table that is copied
+to data memory, reserve words there with .bss; it needs no run =.
 "#,
     }
 }

@@ -12,7 +12,7 @@ pub(crate) fn bad_magic() -> Explanation
     Explanation {
         number: 40,
         name: "BadMagic",
-        meaning: r#"The file does not begin with C25O: it is no object of this assembler.
+        meaning: r#"The file does not begin with C25O: it is not an object of this assembler.
 "#,
         example: Some(
             r#"Given:
@@ -21,7 +21,7 @@ pub(crate) fn bad_magic() -> Explanation
      NOP
     --- command
 
-Told:
+Reported:
 
     a.asm: 40 BadMagic
 "#,
@@ -38,7 +38,7 @@ pub(crate) fn bad_version() -> Explanation
     Explanation {
         number: 41,
         name: "BadVersion",
-        meaning: r#"The object has another version of the records than this program reads, or ends before it.
+        meaning: r#"The object has another version of the records than this program reads, or ends before the version.
 "#,
         example: Some(
             r#"Given:
@@ -48,7 +48,7 @@ pub(crate) fn bad_version() -> Explanation
     --- a.obj
     4332354F 7F 010000000B 01052E7465787400000000 FF00000000
 
-Told:
+Reported:
 
     a.obj: 41 BadVersion
 "#,
@@ -74,12 +74,12 @@ pub(crate) fn short() -> Explanation
     --- a.obj
     4332354F 01 010000000B 01052E7465787400000000 FF000000
 
-Told:
+Reported:
 
     a.obj: 42 Short
 "#,
         ),
-        advice: r#"Do: the file was cut off, as by a full disk; write or copy it again.
+        advice: r#"Do: write or copy the file again; it was cut off, as by a full disk.
 "#,
     }
 }
@@ -90,7 +90,7 @@ pub(crate) fn bad_tag() -> Explanation
     Explanation {
         number: 43,
         name: "BadTag",
-        meaning: r#"A record has a tag that is unknown or that may not follow the records before it.
+        meaning: r#"A record has a tag that is unknown or that may not come after the records before it.
 "#,
         example: Some(
             r#"Given:
@@ -100,12 +100,12 @@ pub(crate) fn bad_tag() -> Explanation
     --- a.obj
     4332354F 01 010000000B 01052E7465787400000000 0000000000 FF00000000
 
-Told:
+Reported:
 
     a.obj: 43 BadTag
 "#,
         ),
-        advice: r#"Do: the file was changed, as by a transfer that turns line ends; copy it again as binary.
+        advice: r#"Do: copy the file again as binary; it was changed, as by a transfer that converts line ends.
 "#,
     }
 }
@@ -116,9 +116,9 @@ pub(crate) fn bad_field() -> Explanation
     Explanation {
         number: 44,
         name: "BadField",
-        meaning: r#"A record has not the form of its tag, or does not agree with those before it: a name that is none or
-stands twice, a number of a section or symbol that is not there, a size or order that cannot be, a
-first section that is not .text.
+        meaning: r#"A record does not have the form of its tag, or does not agree with the records before it: a name is
+invalid or defined twice, a section or symbol with that number does not exist, a size or an order is
+impossible, or the first section is not .text.
 "#,
         example: Some(
             r#"Given:
@@ -128,12 +128,12 @@ first section that is not .text.
     --- a.obj
     4332354F 01 FF00000000
 
-Told:
+Reported:
 
     a.obj: 44 BadField
 "#,
         ),
-        advice: r#"Do: as for 43.
+        advice: r#"Do: copy the file again as binary, as for 43.
 "#,
     }
 }
@@ -144,7 +144,7 @@ pub(crate) fn trailing() -> Explanation
     Explanation {
         number: 45,
         name: "Trailing",
-        meaning: r#"Something follows the last record.
+        meaning: r#"There are bytes after the last record.
 "#,
         example: Some(
             r#"Given:
@@ -154,12 +154,12 @@ pub(crate) fn trailing() -> Explanation
     --- a.obj
     4332354F 01 010000000B 01052E7465787400000000 FF00000000 00
 
-Told:
+Reported:
 
     a.obj: 45 Trailing
 "#,
         ),
-        advice: r#"Do: the file was padded, or two were put together; give each object by a name of its own.
+        advice: r#"Do: copy each object again under a name of its own; the file was padded, or two were put together.
 "#,
     }
 }

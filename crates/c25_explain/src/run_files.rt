@@ -11,9 +11,9 @@ pub(crate) fn bad_schedule() -> Explanation
     Explanation {
         number: 90,
         name: "BadSchedule",
-        meaning: r#"A line of the schedule that is not a step and an event, or whose step is before that of the line
-before. A step is a decimal number up to 4,294,967,295, counted from 0; the event is INT0, INT1,
-INT2, BIO0 or BIO1.
+        meaning: r#"A line of the schedule is not a step and an event, or its step is less than that of the line before.
+A step is a decimal number up to 4,294,967,295, counted from 0; an event is INT0, INT1, INT2, BIO0
+or BIO1.
 "#,
         example: Some(
             r#"Given:
@@ -23,7 +23,7 @@ INT2, BIO0 or BIO1.
     5 INT0
     4 INT1
 
-Told:
+Reported:
 
     schedule:2: 90 BadSchedule
 "#,
@@ -39,8 +39,8 @@ pub(crate) fn bad_samples() -> Explanation
     Explanation {
         number: 91,
         name: "BadSamples",
-        meaning: r#"A line of the samples that is not a port and a word. A port is a decimal number from 0 to 15; a word
-has exactly four hexadecimal digits, without h.
+        meaning: r#"A line of the samples is not a port and a word. A port is a decimal number from 0 to 15; a word has
+exactly four hexadecimal digits, without h.
 "#,
         example: Some(
             r#"Given:
@@ -49,13 +49,13 @@ has exactly four hexadecimal digits, without h.
     --- samples
     16 0000
 
-Told:
+Reported:
 
     samples:1: 91 BadSamples
 "#,
         ),
-        advice: r#"Do: write a line for each word, 2 00FF; negative samples by two's complement, -1 as FFFF. Lines that
-a run printed are read as samples, its last line left out.
+        advice: r#"Do: write a line for each word, as 2 00FF, and negative samples in two's complement, -1 as FFFF.
+Lines that a run printed can be used as samples, without its last line.
 "#,
     }
 }
@@ -66,8 +66,8 @@ pub(crate) fn bad_command() -> Explanation
     Explanation {
         number: 95,
         name: "BadCommand",
-        meaning: r#"A line of a debugger's script that is no command. Nothing is answered then, not even the lines
-before it.
+        meaning: r#"A line of a debugger's script is not a command. No line of the script is answered then, not even
+those before it.
 "#,
         example: Some(
             r#"Given:
@@ -77,7 +77,7 @@ before it.
     --- script
     hop
 
-Told:
+Reported:
 
     script:1: 95 BadCommand
 "#,

@@ -12,22 +12,23 @@ pub(crate) fn bad_label() -> Explanation
     Explanation {
         number: 10,
         name: "BadLabel",
-        meaning: r#"A label or name that is none, or a directive without the label that it needs. A label stands in
-column 1 and goes up to a blank or `;`; it begins with a letter or `_`, goes on with letters,
-digits, `_` and `$`, and has at most 128 characters; a colon may end it.
+        meaning: r#"A label or name is invalid, or a directive lacks the label that it needs. A label begins in column 1
+and ends before a blank or `;`. Its first character is a letter or `_`, the others are letters,
+digits, `_` and `$`; it has at most 128 characters, and a colon may end it.
 "#,
         example: Some(
             r#"Given:
 
     9X NOP
 
-Told:
+Reported:
 
     a.asm:1: 10 BadLabel
 "#,
         ),
-        advice: r#"Do: put a blank before what is no label, a directive above all, and one behind a label's colon. Give
-.set, .equ, .usect and .macro a label. Write local labels ($1) as names, in a macro as name?.
+        advice: r#"Do: put a blank before whatever is not a label, above all a directive, and a blank after a label's
+colon. Give .set, .equ, .usect and .macro a label. Write local labels ($1) as names, in a macro as
+name?.
 "#,
     }
 }
@@ -38,22 +39,22 @@ pub(crate) fn bad_constant() -> Explanation
     Explanation {
         number: 11,
         name: "BadConstant",
-        meaning: r#"A constant with a digit that its base does not have. A run of letters and digits that begins with a
-digit is a constant, and its last character alone says the base: h hexadecimal, q octal, b binary,
-in either case, anything else decimal.
+        meaning: r#"A constant has a digit that its base does not have. A run of letters and digits that begins with a
+digit is a constant, and its last character alone gives the base: h is hexadecimal, q octal, b
+binary, in upper or lower case; anything else is decimal.
 "#,
         example: Some(
             r#"Given:
 
      .word 12G
 
-Told:
+Reported:
 
     a.asm:1: 11 BadConstant
 "#,
         ),
         advice: r#"Do: write hexadecimal numbers as 0FFh, with a 0 before a leading letter. The prefixes 0x and `>` are
-not known.
+not accepted.
 "#,
     }
 }
@@ -64,7 +65,7 @@ pub(crate) fn open_quote() -> Explanation
     Explanation {
         number: 12,
         name: "OpenQuote",
-        meaning: r#"A quote that is not closed, or a `'` that holds another thing than one character. Strings stand in
+        meaning: r#"A quote is not closed, or a pair of `'` does not enclose exactly one character. Strings stand in
 `"`, with `""` for one inside; a character stands in `'`, with `''''` for the quote itself.
 "#,
         example: Some(
@@ -72,12 +73,12 @@ pub(crate) fn open_quote() -> Explanation
 
      .word 'A
 
-Told:
+Reported:
 
     a.asm:1: 12 OpenQuote
 "#,
         ),
-        advice: r#"Do: close it; write 'AB' as 'A'*256+'B' and `''` as 0; begin a comment with `;`.
+        advice: r#"Do: close the quote; write 'AB' as 'A'*256+'B' and `''` as 0; begin a comment with `;`.
 "#,
     }
 }
@@ -88,22 +89,22 @@ pub(crate) fn stray_text() -> Explanation
     Explanation {
         number: 13,
         name: "StrayText",
-        meaning: r#"A character that begins no token: `!` without `=`, `?`, `#`, `@`, `\`, `:`, braces, brackets, the
-backquote, a `.` without a name behind it, or any character outside 20h to 7Eh and the tab that does
-not stand in a comment.
+        meaning: r#"A character cannot begin a token: `!` without `=`, `?`, `#`, `@`, `\`, `:`, a brace, a bracket, the
+backquote, a `.` without a name after it, or any character outside comments that is neither 20h to
+7Eh nor a tab.
 "#,
         example: Some(
             r#"Given:
 
      .word @
 
-Told:
+Reported:
 
     a.asm:1: 13 StrayText
 "#,
         ),
-        advice: r#"Do: leave out the `#` of TMS320C5x forms; write `~` for all bits inverted and X = 0 for not; look
-for :name: or name? that substitution has left because nothing has that name.
+        advice: r#"Do: leave out the `#` of TMS320C5x operands; write `~` to invert all bits and X = 0 for a logical
+not; look for a :name: or name? that substitution left unchanged because nothing has that name.
 "#,
     }
 }
@@ -114,22 +115,22 @@ pub(crate) fn bad_expression() -> Explanation
     Explanation {
         number: 20,
         name: "BadExpression",
-        meaning: r#"An operand that is no expression: an operator without its operand, two operands without an operator
-or comma, parentheses that do not pair, or nothing at all between commas. Operators are those of C,
-by C's precedence.
+        meaning: r#"An operand is not a valid expression: an operator lacks its operand, two operands have no operator
+or comma between them, parentheses do not pair, or there is nothing between two commas. Operators
+and their precedence are those of C.
 "#,
         example: Some(
             r#"Given:
 
      B 1+
 
-Told:
+Reported:
 
     a.asm:1: 20 BadExpression
 "#,
         ),
-        advice: r#"Do: complete it; begin a comment with `;`; write 10h for >10; part the address form and the next
-auxiliary register by a comma.
+        advice: r#"Do: complete the expression; begin a comment with `;`; write 10h for >10; put a comma between the
+address form and the next auxiliary register.
 "#,
     }
 }
@@ -147,12 +148,12 @@ pub(crate) fn too_deep() -> Explanation
 
      LALK ~~~~~~~~~~~~~~~~~~~~~~~~~~~~~~~~~~~~~~~~~~~~~~~~~~~~~~~~~~~~~~~~~1
 
-Told:
+Reported:
 
     a.asm:1: 21 TooDeep
 "#,
         ),
-        advice: r#"Do: name a part of it with .set and use the name.
+        advice: r#"Do: define a part of the expression as a symbol with .set and use the symbol.
 "#,
     }
 }
@@ -163,23 +164,24 @@ pub(crate) fn undefined() -> Explanation
     Explanation {
         number: 22,
         name: "Undefined",
-        meaning: r#"A name that stands for nothing. Labels may be used before their line, but not in a value that is
-needed at once: in .set, .equ, .if, .elseif, .loop, .break, .eval, .space, .bss and .usect. In these
-a name of another module is 22 too. A name of .def that this module does not define is 22 as well.
+        meaning: r#"A name is not defined. Labels may be used before their line, but not in a value that is needed at
+once: in .set, .equ, .if, .elseif, .loop, .break, .eval, .space, .bss and .usect. In these
+directives a name of another module gives 22 too. A name of .def that this module does not define
+also gives 22.
 "#,
         example: Some(
             r#"Given:
 
      B X
 
-Told:
+Reported:
 
     a.asm:1: 22 Undefined
 "#,
         ),
-        advice: r#"Do: look at the spelling and the case, since names are case-sensitive; declare a name of another
-module with .ref or .global; add .mmregs for IMR and its like; move what .set and .if need before
-them. AR0 to AR7 and PA0 to PA15 alone are there from the start.
+        advice: r#"Do: check the spelling and the case, since names are case-sensitive; declare a name of another
+module with .ref or .global; add .mmregs for IMR and the other registers in data memory; move what
+.set and .if need before them. Only AR0 to AR7 and PA0 to PA15 are predefined.
 "#,
     }
 }
@@ -190,25 +192,25 @@ pub(crate) fn not_absolute() -> Explanation
     Explanation {
         number: 23,
         name: "NotAbsolute",
-        meaning: r#"An address where a number is asked for, or a sum that is no address: two addresses added, one
-negated, multiplied, shifted or compared, addresses of two sections or modules subtracted, or one
-where words run and one where they are loaded (.label). An address plus or minus a number is an
-address; two addresses of one section of this module subtract to a number, where both say where it
-runs or both where it is loaded (SPRU018, expressions and relocation).
+        meaning: r#"An address stands where a number is needed, or an operation on addresses is not allowed: addition of
+two, negation, multiplication, shift or comparison of one, subtraction of two of different sections
+or modules, or of a run address and a load address (.label). An address plus or minus a number is an
+address; two addresses of one section of this module subtract to a number, where both are run
+addresses or both are load addresses (SPRU018, expressions and relocation).
 "#,
         example: Some(
             r#"Given:
 
     X .space X
 
-Told:
+Reported:
 
     a.asm:1: 23 NotAbsolute
 "#,
         ),
-        advice: r#"Do: use a difference, as END-START, or a name with a number. For the length of code that is copied
-put a .label at both of its ends. An address needs no %128: a direct operand keeps the low seven
-bits by itself, and LDPK X takes the page.
+        advice: r#"Do: use a difference, as END-START, or a symbol that is a number. For the length of code that is
+copied put a .label at both of its ends. An address needs no %128: a direct operand keeps only the
+low seven bits, and LDPK X takes the data page.
 "#,
     }
 }
@@ -226,13 +228,13 @@ pub(crate) fn divide_by_zero() -> Explanation
 
      .word 1/0
 
-Told:
+Reported:
 
     a.asm:1: 24 DivideByZero
 "#,
         ),
-        advice: r#"Do: look at the value of the divisor where the line is used; it is valued also where the result
-would not matter, so keep it in an .if.
+        advice: r#"Do: check the value of the divisor where the line is used. It is computed even where the result
+would not matter, so put the line inside an .if.
 "#,
     }
 }
@@ -243,20 +245,20 @@ pub(crate) fn value_range() -> Explanation
     Explanation {
         number: 25,
         name: "ValueRange",
-        meaning: r#"A value outside 32 signed bits, of a constant or of any operator's result; a shift count outside 0
-to 31; a count below 0 in .space, .bss or .usect.
+        meaning: r#"A value is outside 32 signed bits, be it a constant or the result of any operator; a shift count is
+outside 0 to 31; or a count of .space, .bss or .usect is below 0.
 "#,
         example: Some(
             r#"Given:
 
      .word 1<<31
 
-Told:
+Reported:
 
     a.asm:1: 25 ValueRange
 "#,
         ),
-        advice: r#"Do: spell long numbers as two words of 16 bits. -2147483648 is a minus before a constant that is too
+        advice: r#"Do: write long numbers as two words of 16 bits. -2147483648 is a minus before a constant that is too
 large; write -2147483647-1.
 "#,
     }
@@ -268,9 +270,9 @@ pub(crate) fn defined() -> Explanation
     Explanation {
         number: 26,
         name: "Defined",
-        meaning: r#"A name that stands for something already: a second label, .set, .equ, .usect, .bss or .label of it,
-also with the same value, .mmregs where a name like IMR is there, or AR0 to AR7 and PA0 to PA15,
-which are predefined in either case.
+        meaning: r#"A name is defined already: there is a second label, .set, .equ, .usect, .bss or .label of it, even
+with the same value; or .mmregs comes where a name like IMR is defined; or the name is one of AR0 to
+AR7 and PA0 to PA15, which are predefined in upper and lower case.
 "#,
         example: Some(
             r#"Given:
@@ -278,14 +280,14 @@ which are predefined in either case.
     X NOP
     X NOP
 
-Told:
+Reported:
 
     a.asm:2: 26 Defined
 "#,
         ),
-        advice: r#"Do: rename one, or copy the file with the definition once only; take out lines that define AR0 to
-AR7 or PA0 to PA15. For a value that changes use .asg or .eval in place of .set, and in a macro
-name? for a label.
+        advice: r#"Do: rename one, or copy the file with the definition only once; take out lines that define AR0 to
+AR7 or PA0 to PA15. For a value that changes use .asg or .eval in place of .set; for a label in a
+macro use name?.
 "#,
     }
 }
@@ -296,23 +298,23 @@ pub(crate) fn unknown_mnemonic() -> Explanation
     Explanation {
         number: 50,
         name: "UnknownMnemonic",
-        meaning: r#"The first word behind the label is no mnemonic of the TMS320C25, no directive that this assembler
-has, and no macro that stands before this line.
+        meaning: r#"The first name after the label is not a mnemonic of the TMS320C25, not a directive of this
+assembler, and not a macro that is defined before this line.
 "#,
         example: Some(
             r#"Given:
 
      FOO 1
 
-Told:
+Reported:
 
     a.asm:1: 50 UnknownMnemonic
 "#,
         ),
-        advice: r#"Do: put a blank before a mnemonic in column 1, which is read as a label there, and one behind it;
-define a macro before it is called; replace mnemonics of the TMS320C5x. Not there are .long, .field,
-.float, .bfloat, .bes, .align, .asect, .mlib, .var and .newblock: write .long as two words and
-.asect as .sect with an address in the command file.
+        advice: r#"Do: put a blank before a mnemonic in column 1, where it is read as a label, and a blank after a
+mnemonic; define a macro before it is called; replace mnemonics of the TMS320C5x. This assembler
+does not have .long, .field, .float, .bfloat, .bes, .align, .asect, .mlib, .var and .newblock: write
+.long as two words and .asect as .sect with an address in the command file.
 "#,
     }
 }
@@ -323,21 +325,21 @@ pub(crate) fn operand_count() -> Explanation
     Explanation {
         number: 51,
         name: "OperandCount",
-        meaning: r#"Too few operands, or too many.
+        meaning: r#"There are too few operands, or too many.
 "#,
         example: Some(
             r#"Given:
 
      LAC
 
-Told:
+Reported:
 
     a.asm:1: 51 OperandCount
 "#,
         ),
-        advice: r#"Do: see the instruction's syntax in SPRU014. A next auxiliary register goes with an indirect operand
-alone; NORM has none; NOP and .endif have no operands, so begin the comment with `;`. .usect has no
-third operand.
+        advice: r#"Do: see the instruction's syntax in SPRU014. A next auxiliary register goes only with an indirect
+operand, and never with NORM; NOP and .endif have no operands, so begin the comment with `;`. .usect
+has no third operand.
 "#,
     }
 }
@@ -348,17 +350,17 @@ pub(crate) fn operand_form() -> Explanation
     Explanation {
         number: 52,
         name: "OperandForm",
-        meaning: r#"An operand of another form than is taken there: an indirect one where a number is asked for or a
-number where an indirect one is, a string or no string, an expression where a name is asked for; or
-a section's name that is none or belongs to a section of the other kind, with words (.sect, .data)
-or reserved (.usect, .bss).
+        meaning: r#"An operand has the wrong form: an indirect one where a number is needed or a number where an
+indirect one is, a string where none is allowed or no string where one is needed, an expression
+where a name is needed; or a section's name is invalid or belongs to a section of the other kind,
+initialised (.sect, .data) or uninitialised (.usect, .bss).
 "#,
         example: Some(
             r#"Given:
 
      LACK *
 
-Told:
+Reported:
 
     a.asm:1: 52 OperandForm
 "#,
@@ -375,22 +377,22 @@ pub(crate) fn field_range() -> Explanation
     Explanation {
         number: 53,
         name: "FieldRange",
-        meaning: r#"A number that its field does not take.
+        meaning: r#"A number does not fit in its field.
 "#,
         example: Some(
             r#"Given:
 
      LACK 256
 
-Told:
+Reported:
 
     a.asm:1: 53 FieldRange
 "#,
         ),
         advice: r#"    Field | Takes
     direct operand | 0 to 65,535; the low seven bits are kept
-    second word: LALK and its like, addresses of jumps and of MAC, MACD, BLKD, BLKP | -32,768 to
-        65,535; the low 16 bits are kept
+    second word: long immediates (LALK), addresses of branches, calls, MAC, MACD, BLKD, BLKP |
+        -32,768 to 65,535; the low 16 bits are kept
     ADDK, SUBK, LACK, LARK, RPTK, ADRK, SBRK | 0 to 255
     LDPK | 0 to 511
     MPYK | -4,096 to 4,095
@@ -401,8 +403,8 @@ Told:
     .byte | -128 to 255
     .word, .int | any; the low 16 bits are kept
 
-Do: take the instruction with the wider field (LALK for LACK, LRLK for LARK), or X&0FFh where the
-rest is to be dropped.
+Do: use the instruction with the wider field (LALK for LACK, LRLK for LARK), or write X&0FFh where
+the upper bits may be dropped.
 "#,
     }
 }
@@ -413,22 +415,21 @@ pub(crate) fn too_large() -> Explanation
     Explanation {
         number: 54,
         name: "TooLarge",
-        meaning: r#"A section of more than 65,536 words, more than 255 sections, or more than 65,535 names in a module;
-an instruction in a file beyond 65,535 that have some, or in one whose name has more than 65,535
-bytes.
+        meaning: r#"A section has more than 65,536 words, or a module has more than 255 sections or 65,535 names; or
+instructions stand in more than 65,535 files, or in a file whose name has more than 65,535 bytes.
 "#,
         example: Some(
             r#"Given:
 
      .space 1048577
 
-Told:
+Reported:
 
     a.asm:1: 54 TooLarge
 "#,
         ),
-        advice: r#"Do: remember that .space counts bits and .bss and .usect words; look for a loop that never leaves;
-part the source in several.
+        advice: r#"Do: remember that .space counts bits, and .bss and .usect count words; look for a loop that never
+ends; split the source into several modules.
 "#,
     }
 }
@@ -439,20 +440,20 @@ pub(crate) fn not_relocatable() -> Explanation
     Explanation {
         number: 55,
         name: "NotRelocatable",
-        meaning: r#"An address that only linking knows, in a field that takes numbers alone. Addresses are taken by
-direct operands, second words, LDPK, .word and .int.
+        meaning: r#"An address that is known only after linking stands in a field that takes only numbers. Direct
+operands, second words, LDPK, .word and .int take addresses.
 "#,
         example: Some(
             r#"Given:
 
     X LACK X
 
-Told:
+Reported:
 
     a.asm:1: 55 NotRelocatable
 "#,
         ),
-        advice: r#"Do: load an address with LALK or LRLK; for a length use a difference of two labels, which is a
+        advice: r#"Do: load an address with LALK or LRLK; for a length use the difference of two labels, which is a
 number.
 "#,
     }
@@ -464,21 +465,21 @@ pub(crate) fn bad_block() -> Explanation
     Explanation {
         number: 56,
         name: "BadBlock",
-        meaning: r#"Words of .bss that have to lie in one page of 128 (the third operand is not 0), and are none or more
-than 128.
+        meaning: r#"A block of .bss that must lie in one data page of 128 words (its third operand is not 0) has no
+words or more than 128.
 "#,
         example: Some(
             r#"Given:
 
      .bss X,129,1
 
-Told:
+Reported:
 
     a.asm:1: 56 BadBlock
 "#,
         ),
-        advice: r#"Do: part the words in several names, each with a page of its own; leave the third operand away where
-the program loads the page anew for each of them.
+        advice: r#"Do: split the block among several names, each in a data page of its own; leave out the third operand
+where the program loads the data page anew for each of them.
 "#,
     }
 }

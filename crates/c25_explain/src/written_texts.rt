@@ -12,9 +12,9 @@ pub(crate) fn bad_map() -> Explanation
     Explanation {
         number: 77,
         name: "BadMap",
-        meaning: r#"The text is not that of a map as write_map writes it: lines of another spelling or in another order,
-CR LF, lower-case digits, a blank more, no line feed at the end. It is told without a line, so by
-its name alone.
+        meaning: r#"The text is not a map as write_map writes it: lines have another spelling or order, CR LF,
+lower-case digits or an extra blank, or there is no line feed at the end. The fault has no line
+number and is printed by its name alone.
 "#,
         example: Some(
             r#"Given:
@@ -25,7 +25,7 @@ its name alone.
     SECTION 0 0000 5 .text
     END
 
-Told:
+Reported:
 
     BadMap
 "#,
@@ -51,12 +51,12 @@ pub(crate) fn bad_start() -> Explanation
     :02004000240595
     00000001FF
 
-Told:
+Reported:
 
     hex:2: 80 BadStart
 "#,
         ),
-        advice: r#"Do: take out comments and blanks before the `:`. Texts of other formats (S-records, Tektronix) are
+        advice: r#"Do: take out comments, and blanks before the `:`. Texts of other formats (S-records, Tektronix) are
 not read.
 "#,
     }
@@ -68,7 +68,8 @@ pub(crate) fn bad_digit() -> Explanation
     Explanation {
         number: 81,
         name: "BadDigit",
-        meaning: r#"A character behind the `:` is no hexadecimal digit; a blank behind the digits is one too.
+        meaning: r#"A character after the `:` is not a hexadecimal digit; a blank after the digits counts as such a
+character.
 "#,
         example: Some(
             r#"Given:
@@ -77,7 +78,7 @@ pub(crate) fn bad_digit() -> Explanation
     --- hex
     :0000000lFF
 
-Told:
+Reported:
 
     hex:1: 81 BadDigit
 "#,
@@ -93,8 +94,8 @@ pub(crate) fn bad_count() -> Explanation
     Explanation {
         number: 82,
         name: "BadCount",
-        meaning: r#"The digits are odd in number, or the bytes are not as many as the first one says and five more, or
-the kind asks for another count: 0 for 01, 2 for 02 and 04, 4 for 03 and 05.
+        meaning: r#"The number of digits is odd, or the line does not have five bytes more than its first byte says, or
+the record type needs another count: 0 for 01, 2 for 02 and 04, 4 for 03 and 05.
 "#,
         example: Some(
             r#"Given:
@@ -103,12 +104,12 @@ the kind asks for another count: 0 for 01, 2 for 02 and 04, 4 for 03 and 05.
     --- hex
     :0200400024
 
-Told:
+Reported:
 
     hex:1: 82 BadCount
 "#,
         ),
-        advice: r#"Do: the line was cut off or joined with another; write the text again.
+        advice: r#"Do: write the text again; the line was cut off or joined with another one.
 "#,
     }
 }
@@ -128,12 +129,12 @@ pub(crate) fn bad_sum() -> Explanation
     --- hex
     :02004000240594
 
-Told:
+Reported:
 
     hex:1: 83 BadSum
 "#,
         ),
-        advice: r#"Do: a byte was changed; write the text again. After a change by hand the last byte is the two's
+        advice: r#"Do: write the text again; a byte was changed. After a change by hand the last byte must be the two's
 complement of the sum of all others.
 "#,
     }
@@ -145,7 +146,7 @@ pub(crate) fn bad_kind() -> Explanation
     Explanation {
         number: 84,
         name: "BadKind",
-        meaning: r#"The kind of the line is none of 00 to 05.
+        meaning: r#"The record type of the line is not one of 00 to 05.
 "#,
         example: Some(
             r#"Given:
@@ -154,7 +155,7 @@ pub(crate) fn bad_kind() -> Explanation
     --- hex
     :0200400624058F
 
-Told:
+Reported:
 
     hex:1: 84 BadKind
 "#,
@@ -170,8 +171,8 @@ pub(crate) fn odd_word() -> Explanation
     Explanation {
         number: 85,
         name: "OddWord",
-        meaning: r#"At the end line one byte of a word is given and the other is not. A word's byte address is twice its
-address, the high byte first.
+        meaning: r#"One byte of a word is given and the other is not, which is reported at the end line. The byte
+address of a word is twice its address, and its high byte comes first.
 "#,
         example: Some(
             r#"Given:
@@ -181,12 +182,12 @@ address, the high byte first.
     :01004000249B
     :00000001FF
 
-Told:
+Reported:
 
     hex:2: 85 OddWord
 "#,
         ),
-        advice: r#"Do: have both bytes of each word in one text. Texts with high and low bytes apart, as for two
+        advice: r#"Do: give both bytes of each word in one text. Texts with high and low bytes apart, as for two
 memories of 8 bits, are not read.
 "#,
     }
@@ -198,7 +199,7 @@ pub(crate) fn twice() -> Explanation
     Explanation {
         number: 86,
         name: "Twice",
-        meaning: r#"A byte is given twice, also with the same value.
+        meaning: r#"A byte is given twice, even if with the same value.
 "#,
         example: Some(
             r#"Given:
@@ -208,7 +209,7 @@ pub(crate) fn twice() -> Explanation
     :02004000240595
     :02004000240595
 
-Told:
+Reported:
 
     hex:2: 86 Twice
 "#,
@@ -224,7 +225,8 @@ pub(crate) fn no_end() -> Explanation
     Explanation {
         number: 87,
         name: "NoEnd",
-        meaning: r#"The text ends without its end line. It is told at the last line, or at line 0 of an empty text.
+        meaning: r#"The text ends without its end line. The fault is reported at the last line, or at line 0 of an empty
+text.
 "#,
         example: Some(
             r#"Given:
@@ -233,12 +235,12 @@ pub(crate) fn no_end() -> Explanation
     --- hex
     :02004000240595
 
-Told:
+Reported:
 
     hex:1: 87 NoEnd
 "#,
         ),
-        advice: r#"Do: the text was cut off; it ends with :00000001FF.
+        advice: r#"Do: write the text again; it was cut off. A whole text ends with :00000001FF.
 "#,
     }
 }
@@ -249,7 +251,7 @@ pub(crate) fn after_end() -> Explanation
     Explanation {
         number: 88,
         name: "AfterEnd",
-        meaning: r#"A line that is not blank follows the end line.
+        meaning: r#"A line that is not blank comes after the end line.
 "#,
         example: Some(
             r#"Given:
@@ -259,12 +261,12 @@ pub(crate) fn after_end() -> Explanation
     :00000001FF
     :00000001FF
 
-Told:
+Reported:
 
     hex:2: 88 AfterEnd
 "#,
         ),
-        advice: r#"Do: two texts were put together; the text of each page is one of its own.
+        advice: r#"Do: separate the two texts that were put together; each page has a text of its own.
 "#,
     }
 }
@@ -275,7 +277,7 @@ pub(crate) fn address_range() -> Explanation
     Explanation {
         number: 89,
         name: "AddressRange",
-        meaning: r#"Bytes past the 65,536 of their base, or past byte address 1FFFFh, the last of 65,536 words.
+        meaning: r#"Bytes lie past the 65,536 of their base, or past byte address 1FFFFh, the last of 65,536 words.
 "#,
         example: Some(
             r#"Given:
@@ -284,12 +286,12 @@ pub(crate) fn address_range() -> Explanation
     --- hex
     :02FFFF00000000
 
-Told:
+Reported:
 
     hex:1: 89 AddressRange
 "#,
         ),
-        advice: r#"Do: look whether the other tool counts in words where this format has bytes.
+        advice: r#"Do: check whether the other tool counts in words where this format counts in bytes.
 "#,
     }
 }
