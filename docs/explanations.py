@@ -3,20 +3,21 @@
 
 usage: python3 docs/explanations.py [--write | --check]     (from the top of the repository)
 
-It prints the explanation of each fault. --write puts them into crates/c25_explain/src, a file for each group of faults of the page;
---check tells of each of these files that is another than would be written or is not there, and ends with status 1 where it tells one.
+It prints the explanation of each fault. --write puts the explanations into crates/c25_explain/src, a file for each group of faults
+of the page; --check names each of these files that is missing or differs from what --write would write, and ends with status 1 where
+there is one.
 
-An explanation is the fault's heading, as `53 FieldRange`, and what the section has, in three parts:
+An explanation is the fault's heading, as `53 FieldRange`, and what its section has, in three parts:
 
-- the meaning: what stands before the first example, or before the advice where there is no example;
-- the example: of the examples the first, which is the smallest: what is given and the line that is told, each indented by four blanks.
-  The others, and the blocks of lines that are told alike, stand on the page alone: a reader at a terminal wants one case that can be
-  seen at once;
-- the advice: what stands behind the examples, of which the last paragraph begins with `Do:`.
+- the meaning: the text before the first example, or before the advice where there is no example;
+- the example: the first one of the section, which is the smallest: the input and the line that is reported, each indented by four
+  blanks. The other examples, and the blocks of lines that give the same fault, are on the page only: a reader at a terminal wants one
+  case that can be seen at once;
+- the advice: the text after the examples. Its last paragraph begins with `Do:`.
 
-Of them all there are paragraphs, in lines of at most 100 columns, without the marks of links, and without those of code that has a
-letter or a digit (of signs alone, as `;`, they stay, since nothing else would part them from the sentence), and tables, a line for each
-row, indented by four blanks. Paragraphs, tables and parts have an empty line between them.
+Paragraphs are printed in lines of at most 100 columns, without the marks of links, and without the backquotes of code that has a
+letter or a digit. Code of signs alone, as `;`, keeps its backquotes, since nothing else would separate it from the sentence. Tables
+have a line for each row, indented by four blanks. Paragraphs, tables and parts have an empty line between them.
 """
 import os
 import re
@@ -25,7 +26,7 @@ import textwrap
 
 PAGE, FOLDER = "docs/FAULTS.md", "crates/c25_explain/src"
 COLUMNS, INDENT = 100, "    "
-# Of each group of the page that has faults, its file, and the variant of `AnyFault` and the type that its faults have.
+# For each group of the page that has faults: its file, and the variant of `AnyFault`, the crate and the type of its faults.
 GROUPS = {
     "A line of a source": ("source_lines", "Source", "c25_meaning_language", "statement.FaultKind"),
     "Macros, conditional lines, loops, copied files": ("expansion", "Source", "c25_meaning_language", "statement.FaultKind"),
@@ -46,14 +47,14 @@ def text_of(path):
 
 
 def sections(text, mark):
-    """The headings of a level with what stands under each."""
+    """The headings of a level with the text under each."""
     for part in re.split(rf"(?m)^{mark} ", text)[1:]:
         heading, _, body = part.partition("\n")
         yield heading, body
 
 
 def plain(text):
-    """A text without the marks of links, and of code that has a letter or a digit."""
+    """A text without the marks of links, and without the backquotes of code that has a letter or a digit."""
     text = re.sub(r"\[([^]]*)\]\([^)]*\)", r"\1", text)
     return re.sub(r"`([^`]*)`", lambda code: code[1] if re.search(r"[A-Za-z0-9]", code[1]) else code[0], text)
 
@@ -83,13 +84,13 @@ def parts(body):
         if label and label not in example:
             example += [label, indented(block.splitlines())]
         elif paragraph:
-            behind = example or advice or paragraph.startswith("Do:")
-            (advice if behind else meaning).append(paragraph_text(paragraph))
+            is_advice = example or advice or paragraph.startswith("Do:")
+            (advice if is_advice else meaning).append(paragraph_text(paragraph))
     return ["\n\n".join(part) + "\n" if part else "" for part in (meaning, example, advice)]
 
 
 def explanations():
-    """Of each group that has faults, their headings and the parts of their explanations."""
+    """For each group that has faults: their headings and the parts of their explanations."""
     for title, body in sections(text_of(PAGE), "##"):
         faults = {heading: parts(section) for heading, section in sections(body, "###")}
         if faults:
@@ -109,7 +110,7 @@ def literal(text):
 
 
 def function(heading, parts_of_it, variant):
-    """The function of a fault, as `field_range` of `53 FieldRange`, which answers its explanation."""
+    """The function that returns the explanation of a fault, as `field_range` for `53 FieldRange`."""
     number, name = heading.split()
     fault = ALONE.get(name) or f"({variant} fault.{name})"
     snake = re.sub(r"(?<=[a-z])(?=[A-Z])", "_", name).lower()
@@ -147,7 +148,7 @@ def main(words):
         return 0
     if "--check" in words:
         wrong = [path for path, text in sources().items() if not os.path.isfile(path) or text_of(path) != text]
-        print("\n".join(f"{path} is another than python3 docs/explanations.py --write makes of {PAGE}" for path in wrong) or f"the explanations are those of {PAGE}")
+        print("\n".join(f"{path} is not what python3 docs/explanations.py --write makes of {PAGE}" for path in wrong) or f"the explanations are those of {PAGE}")
         return 1 if wrong else 0
     print("\n".join(whole(heading, text) for _, faults in explanations() for heading, text in faults.items()), end="")
     return 0

@@ -1,25 +1,25 @@
 #!/usr/bin/env python3
-"""Makes what the crate c25_examples runs and what it has to print.
+"""Makes what the crate c25_examples runs and what it must print.
 
     python3 examples/sessions.py            writes it
-    python3 examples/sessions.py --check    says which files are others, and writes nothing
+    python3 examples/sessions.py --check    names the files that would change, and writes nothing
 
-`args` has what is run of `data/`: folders, each with a file `session` (a command a line), and files of packed cases
-(their form is told in crates/c25_examples/src/packed.rt). `stdout` has each one's name and what must be printed: of a
-folder its commands with what a terminal shows behind them, of packed cases their number.
+`args` names what is run in `data/`: folders, each with a file `session` (one command a line), and files of packed cases
+(crates/c25_examples/src/packed.rt describes their form). `stdout` has the name of each and what must be printed: for a
+folder its commands, each followed by what a terminal shows, and for packed cases their number.
 
-- `programs/NAME` is a copy of the larger program examples/NAME: its command is its `session`, and what it must print its
-  `output.txt`, which `expected.py` works out (examples/README.md).
-- `pages/NAME` is all taken from a page (README.md, docs/MANUAL.md, docs/manual/): the folder's files, the commands and
-  what the page shows behind them. A block `console` has a shell's commands, of which `cat FILE` makes the file where no
-  command of the page writes it; of a block `listing` its source is assembled; each line of a block `faults` is a source,
-  and its comment is the fault that must be told of it.
-- `faults.cases` has the examples of docs/FAULTS.md that words of the program reach: the form of its blocks is told there.
-  `explained.cases` has those of them that take `--explain`, with the note of each fault, made of the same page.
-  `pages/faults` has the others of them: calls of a library on a file, which a session has too.
-- `cases/NAME` stands as it is, with its files, its `session` and its `output.txt`: what a terminal shows of it, where a line
-  `{NUMBER}` stands for what `--explain` tells of the fault of that number behind the line that it shows.
-- `cases/*.cases` and `random/*.cases` stand as they are.
+- `programs/NAME` is a copy of the larger program examples/NAME: its command is in its `session`, and what it must print
+  in its `output.txt`, which `expected.py` works out (examples/README.md).
+- `pages/NAME` is taken from a page (README.md, docs/MANUAL.md, docs/manual/): the folder's files, the commands and what
+  the page shows after them. A block `console` has a shell's commands; `cat FILE` among them makes the file where no
+  command of the page writes it. The source of a block `listing` is assembled. Each line of a block `faults` is a source,
+  and its comment is the fault that must be reported for it.
+- `faults.cases` has the examples of docs/FAULTS.md that a command line can give; that page describes the form of its
+  blocks. `explained.cases` has those of these examples that take `--explain`, with the note of each fault, made of the
+  same page. `pages/faults` has the other examples: calls of a library on a file, which a session has too.
+- `cases/NAME` is used as it is, with its files, its `session` and its `output.txt`: what a terminal shows, where a line
+  `{NUMBER}` stands for what `--explain` prints about the fault of that number after the line that it shows.
+- `cases/*.cases` and `random/*.cases` are used as they are.
 
 The program itself is not run here: `rt ci` runs it.
 """
@@ -38,21 +38,21 @@ import explanations  # noqa: E402
 CRATE = os.path.join(TOP, "crates", "c25_examples")
 DATA = os.path.join(CRATE, "data")
 PROGRAMS = ["fir", "biquad", "tone", "ring", "modem", "pi", "decimal", "fft", "lms", "mulaw", "float", "divide", "roots"]
-# What belongs to a larger program and is not run.
+# Files of a larger program that are not run.
 BESIDE = ("expected.py", "output.txt", "README.md", "samples.csv", "samples.wav")
 PAGES = ["README.md", "docs/MANUAL.md"] + ["docs/manual/%s.md" % name for name in (
     "language", "macros", "linking", "program", "formats", "limits", "debugging")]
 FAULTS = "docs/FAULTS.md"
-# Programs whose samples are made of another file, and the words with which examples/tools/signals.py makes them.
+# Programs whose samples are made of another file, and the arguments with which examples/tools/signals.py makes them.
 RECORDED = {"mulaw": ["samples.wav"], "fir": ["samples.csv", "--column", "2", "--fractions"]}
-# Calls of libraries that no word of the program makes, or not of every text (crates/c25_examples/src/library.rt).
+# Calls of libraries that no command line makes, or not on every text (crates/c25_examples/src/library.rt).
 LIBRARY = ("read_hex", "read_map", "run_chain", "line_of", "list", "values")
-# Commands that show something and are none of the program's: what they show is not looked at.
+# Commands of other programs that show something: what they show is not compared.
 OTHERS = ("ls", "od ", "cmp ")
-# The subcommands that explain a fault where they are asked to.
+# The subcommands that take `--explain`.
 EXPLAINING = ("asm", "link", "build", "run", "debug")
-# Of the examples whose fault is told in a body or in a copied file, the lines of `a.asm` that led there, the innermost first, and how
-# often each did: calls, `.copy`, and `.endloop`, which opens the turns of its loop.
+# For the examples whose fault is in a body or in a copied file: the lines of `a.asm` that led there, the innermost first, and how
+# often each did: calls, `.copy`, and `.endloop`, which starts the turns of its loop.
 LED = {
     "a.asm:2: 53 FieldRange, 1": [(4, 1)],
     "a.asm:3: 31 OpenBlock, 1": [(4, 1)],
@@ -62,7 +62,7 @@ LED = {
     "a.asm:3: 38 LongLine, 1": [(4, 1)],
 }
 
-# Of the examples with a fault of the command file, or a section or a field that linking refuses, what is told beside it.
+# For the examples with a fault of the command file, or a section or a field that linking refuses: what is printed in addition.
 KNOWN = {
     "command:1: 60 Syntax, 1": ["command:1: the text ends here"],
     "command:1: 60 Syntax, 2": ["command:1: column 18: >"],
@@ -143,7 +143,7 @@ class Folder:
                 self.made.update("%s.%s" % (value, end) for end in ["p0.hex", "p1.hex", "map"] + listings)
 
     def command(self, where, command, shown):
-        """A command of a block, and the lines behind it."""
+        """A command of a block, and the lines after it."""
         first, _, then = command.partition("; ")
         if command.startswith("cat ") and command[4:] not in self.made:
             self.file(where, command[4:], shown)
@@ -161,7 +161,7 @@ class Folder:
         elif not command.startswith(OTHERS):
             subprocess.run(["sh", "-c", command], cwd=self.path, check=True)
             if shown:
-                sys.exit("%s: what `%s` shows is no program's" % (where, command))
+                sys.exit("%s: the output of `%s` cannot be checked" % (where, command))
 
     def console(self, where, block):
         if block and block[0].startswith("$ "):
@@ -206,7 +206,7 @@ def program(name, data):
 
 
 def notes():
-    """Of each number of a fault what is told of it behind the line that is shown: what it means, what to do, where its example is."""
+    """For each fault number, what `--explain` prints after the line that it shows: the meaning, the advice, where the example is."""
     return {heading.split()[0]: "\n%s\n%s\nExample: c25 explain %s\n" % (meaning, advice, heading.split()[0])
             for _, faults in explanations.explanations() for heading, (meaning, _, advice) in faults.items()}
 
@@ -220,7 +220,7 @@ def with_notes(lines):
 
 
 def case_folders():
-    """The folders of cases, which stand."""
+    """The folders of cases, which are used as they are."""
     for name in sorted(os.listdir(os.path.join(DATA, "cases"))):
         folder = os.path.join(DATA, "cases", name)
         if os.path.isdir(folder):
@@ -265,7 +265,7 @@ def file_bytes(name, lines):
 
 
 def words_of(files, command):
-    """The words of an example behind the program's name."""
+    """The command line of an example, without the program's name."""
     if command is not None:
         return command.split()[1:]
     beside = [option for option in ("command", "samples", "schedule") if option in files]
@@ -274,7 +274,7 @@ def words_of(files, command):
 
 
 def is_run(told):
-    """Whether this is told of a run, and not of a fault."""
+    """Whether this line reports the end of a run, and not a fault."""
     return told.startswith(("left ", "ran "))
 
 
@@ -285,13 +285,13 @@ def led(files, name):
 
 
 def beside(name):
-    """What is told beside an example's fault."""
+    """What is printed in addition to the line of an example's fault."""
     return "".join(line + "\n" for line in KNOWN.get(name, []))
 
 
 def note_of(files, name, told):
-    """What `--explain` tells of an example's fault: the line where it is, if it is told of one that is there, or that a file is not
-    there, what led to it or is told beside it, and what it means."""
+    """What `--explain` prints for an example's fault: its line, where the file has it, or that the file cannot be opened; what led to
+    the line or is printed in addition; and what the fault means."""
     place, fault = told.rsplit(": ", 1)
     file, _, number = place.rpartition(":")
     lines, shown = files.get(file, []), ""
@@ -303,7 +303,7 @@ def note_of(files, name, told):
 
 
 def packed_case(name, files, words, told, note=""):
-    """An example as a packed case: the fault's line goes to standard error, that of a run to standard output."""
+    """An example as a packed case: a fault's line goes to standard error, that of a run to standard output."""
     runs = is_run(told)
     line = told.encode() + b"\n" + note.encode()
     out = b"case %s\n" % name.encode() + b"".join(b"word %s\n" % word.encode() for word in words)
@@ -334,7 +334,7 @@ def is_library(command):
 
 
 def library_faults(data):
-    """The folder of those examples that are calls of a library. A file is named by what is told of it, numbered."""
+    """The folder of those examples that are calls of a library. A file is named by the line that is reported for it, with a number."""
     folder, seen = Folder(os.path.join(data, "pages/faults")), {}
     for files, command, told in fault_examples():
         if not is_library(command):
@@ -356,7 +356,7 @@ def library_faults(data):
 
 
 def program_faults():
-    """The examples that words of the program reach: names of cases, their lines numbered, files, words and lines."""
+    """The examples that a command line can give: a name (the reported line with a number), files, command line and reported line."""
     seen = {}
     for files, command, told in fault_examples():
         if not is_library(command):
@@ -376,14 +376,14 @@ def faults(data):
 
 
 def explained(data):
-    """The same of faults that are explained."""
+    """The file of packed cases with `--explain`."""
     return write_packed(data, "explained.cases", (
         (name, files, words + ["--explain"], told, note_of(files, name, told))
         for name, files, words, told in program_faults() if words[0] in EXPLAINING and not is_run(told)))
 
 
 def recorded():
-    """The samples that are others than signals.py makes of their recording or table."""
+    """The files of samples that differ from what signals.py makes of their recording or table."""
     for name, words in RECORDED.items():
         folder = os.path.join(TOP, "examples", name)
         script = os.path.join(TOP, "examples", "tools", "signals.py")
@@ -393,7 +393,7 @@ def recorded():
 
 
 def differing(made, standing):
-    """The files of the one folder that are others in the other, or not there, and the same the other way."""
+    """The files that differ between two folders, or that one of them lacks."""
     names = {os.path.relpath(os.path.join(at, name), top)
              for top in (made, standing) for at, _, files in os.walk(top) for name in files}
     for name in sorted(names):
@@ -403,7 +403,7 @@ def differing(made, standing):
 
 
 def make(made):
-    """Makes the folders and files below the first of each pair, which stand below the second: the pairs."""
+    """Makes the files and folders anew: pairs of what was made and what is in the repository."""
     told = [program(name, made) for name in PROGRAMS] + [page(path, made) for path in PAGES]
     told += [library_faults(made), faults(made), explained(made)]
     told += case_folders()
@@ -418,7 +418,7 @@ def make(made):
 
 
 def check(pairs):
-    """The files that stand and are others than those that were made, or than signals.py makes."""
+    """The files of the repository that differ from those that were made, or from what signals.py makes."""
     for one, other in pairs:
         if os.path.isdir(one):
             yield from differing(one, other)
@@ -431,7 +431,7 @@ def main():
     with tempfile.TemporaryDirectory() as made:
         pairs = make(made)
         if sys.argv[1:] == ["--check"]:
-            sys.exit("".join("%s is another\n" % os.path.relpath(path, TOP) for path in check(pairs)) or 0)
+            sys.exit("".join("%s differs\n" % os.path.relpath(path, TOP) for path in check(pairs)) or 0)
         for one, other in pairs:
             if os.path.isdir(one):
                 shutil.rmtree(other, ignore_errors=True)

@@ -4,11 +4,11 @@
 usage: python3 tools/altered.py PROGRAM [--seed S] [--first K] [--count N] [--keep FOLDER]
 
 Run K of a seed is always the same: it takes a call of the gate's examples (tools/cases.py; objects are those of the cases), alters
-one to three of its files or its words, and looks at what the program does. Each run must end by itself, within 2 seconds of
+one to three of its files or its command line, and looks at what the program does. Each run must end by itself, within 2 seconds of
 processor time, with status 0, 1, 2 or 3; with status 1 nothing stands on standard output and one line `PLACE: NUMBER Name` on
-standard error, behind which only `--explain` tells more, and nothing is written; with status 0 or 3 nothing stands on standard error
-but the three lines of `--regs`. What does not is kept in FOLDER as a folder with its files and `words`, and told; status 1 then. A
-folder of this form can be compared with another program's answers.
+standard error, after which only `--explain` prints more, and nothing is written; with status 0 or 3 nothing stands on standard error
+but the three lines of `--regs`. A run that does otherwise is reported and kept in FOLDER, as a folder with its files and its command
+line in `words`; the status is 1 then. A folder of this form can be compared with another program's answers.
 
 --make FOLDER writes the runs as such folders, and runs nothing.
 """
@@ -93,7 +93,7 @@ def fewer(number):
 
 
 def needed(call):
-    """The files of a call that its words name, and those that these copy."""
+    """The files that a call's command line names, and those that these copy."""
     named = {name: data for name, data in call.files.items() if name in call.words}
     whole = b"".join(named.values())
     return {name: data for name, data in call.files.items() if name in named or name.encode() in whole}
@@ -104,7 +104,7 @@ class Cases:
 
     def __init__(self):
         self.calls = [call for calls in cases.groups().values() for call in calls if call.words and call.words[0] in ("asm", "link", "build", "run", "debug")]
-        # (a run of the examples that goes on for long would measure the processor)
+        # (a long run of the examples would measure only the speed of the processor)
         for call in self.calls:
             call.files = needed(call)
         self.calls = [call for call in self.calls if sum(map(len, call.files.values())) < 200000]
@@ -126,7 +126,7 @@ class Cases:
                 files[name] = alterations(rng, files[name], self.others[os.path.splitext(name)[1]])
             else:
                 words = altered_words(rng, words)
-        # (how long so many steps take says nothing of the text that asks for them)
+        # (the time of many steps says nothing about the text that asks for them)
         for at, word in enumerate(words[:-1]):
             value = words[at + 1]
             if word == "--script" and value in files:
@@ -137,7 +137,7 @@ class Cases:
 
 
 def wrong(status, output, errors, written, seconds):
-    """Why an answer may not be so, or None."""
+    """What is wrong with an answer, or None."""
     if status not in (0, 1, 2, 3):
         return "status %d" % status
     if seconds > SECONDS:

@@ -1,14 +1,14 @@
 #!/usr/bin/env python3
-"""Runs many altered files in one process: the calls of altered.py, and texts of hex and maps, which no word of the program reads.
+"""Runs many altered files in one process: the calls of altered.py, and hex texts and maps, which no command line reads.
 
 usage: python3 tools/altered_calls.py CALLS [--seed S] [--first K] [--count N] [--each N] [--keep FOLDER]
 
-CALLS is what tools/calls.py keeps: with the name of a file it makes the packed calls in it (tools/calls/src/packed.rt.txt). So many
-of them (100) go to each process. Call K of a seed is always the same: one of nine alters a hex text or a map of the examples, the
+CALLS is what tools/calls.py keeps: with the name of a file it makes the packed calls in it (tools/calls/src/packed.rt.txt). Each process
+gets N of them (--each, 100). Call K of a seed is always the same: one of nine alters a hex text or a map of the examples, the
 others are those of altered.py with this seed and number; of one in 200, a file is made 1 MiB long by repeating some of it.
 
-Looked for is what altered.py looks for, and that a map that is read is written as it was read, and words of a hex text as a text
-of the same words. Where a process does not come to its end, or takes more than 2 seconds of processor time, its calls are made
+It looks for what altered.py looks for; also, a map that is read must be written again as it was, and the words of a hex text as a
+text of the same words. Where a process does not come to its end, or takes more than 2 seconds of processor time, its calls are made
 again by half as many a process, down to one.
 """
 import collections
@@ -55,7 +55,7 @@ class Calls(altered.Cases):
 
 
 def lengthened(rng, data, is_debugged):
-    """Data of 1 MiB: some of it again and again. (How many steps and words a script asks for says nothing of its text.)"""
+    """Data of 1 MiB: some of it again and again. (The number of steps and words that a script asks for says nothing about its text.)"""
     lines = data.splitlines(True) or [b"\n"]
     first = rng.randrange(len(lines))
     some = b"".join(lines[first:first + rng.choice((1, 3, 1000))])

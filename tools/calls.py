@@ -3,8 +3,8 @@
 
     python3 tools/calls.py
 
-After some minutes it is tools/out/calls. Nothing is proved for it, and it says nothing of what is claimed here: the checks on
-indices and sums that a proof makes needless are in it. The crate is none of crates.txt, and its sources end in .rt.txt, since
+After some minutes it is tools/out/calls. Nothing is proved for it, and it says nothing about what is claimed here: the checks on
+indices and sums that a proof makes needless are in it. The crate is not one of crates.txt, and its sources end in .rt.txt, since
 the gate reads no other file of that ending than those of crates that it proves. So it is built in a copy of the repository.
 
 `rt try` hands one module to clang, with a sanitizer that takes memory its own way. The module is taken from the folder of

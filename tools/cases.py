@@ -1,4 +1,4 @@
-"""The calls of the program c25 that stand in this repository as data: what the gate's examples run."""
+"""The calls of the program c25 that this repository has as data: what the gate's examples run."""
 import os
 import shlex
 
@@ -7,7 +7,7 @@ DATA = os.path.join(TOP, "crates", "c25_examples", "data")
 
 
 class Call:
-    """Words behind the program's name, the bytes on standard input, and the files that lie there, by their names."""
+    """A command line without the program's name, the bytes on standard input, and the files in the folder, by their names."""
 
     def __init__(self, name, words, given, files):
         self.name, self.words, self.given, self.files = name, words, given, files
@@ -46,7 +46,7 @@ def session_calls(folder):
 
 
 def packed_calls(path):
-    """The calls of a file of packed cases; crates/c25_examples/src/packed.rt tells its form."""
+    """The calls of a file of packed cases; crates/c25_examples/src/packed.rt describes its form."""
     with open(path, "rb") as file:
         rest = file.read()
     calls, base = [], os.path.basename(path)
@@ -70,7 +70,7 @@ def packed_calls(path):
 
 
 def groups():
-    """Of each folder and of each file of packed cases its calls, by its name."""
+    """The calls of each folder and of each file of packed cases, by its name."""
     found = {}
     for part in ("programs", "pages", "cases"):
         top = os.path.join(DATA, part)

@@ -3,16 +3,16 @@
 
 usage: python3 tools/refused_calls.py CALLS [--rest] [--most N]
 
-CALLS is what tools/calls.py keeps. It makes each call of the libraries that takes memory, one behind another, and makes one that
-is refused memory once more. It is run with every request granted, where it must print tools/calls/stdout, and then again for
+CALLS is what tools/calls.py keeps. It makes each call of the libraries that takes memory, one after another, and repeats one that
+is refused memory. It is run with every request granted, where it must print tools/calls/stdout, and then again for
 each of its requests with that one refused (--rest: with all from that one on; --most N: at most so many runs). Every run must be
 
-  told   what it prints is tools/calls/stdout, but for lines that a call was refused memory, and what that call was made on is as
-         it was; one behind it answers in full, the same call too. With --rest the run ends there
-  full   tools/calls/stdout as it is: the request could be done without
-  ended  the same up to where the run ends with status 1, with no call refused: a list that a call is given could not be made
+  reported  it prints tools/calls/stdout, except for lines that say that a call was refused memory. What that call was made on
+            is unchanged; the calls after it answer in full, the repeated one too. With --rest the run ends there
+  full      it prints tools/calls/stdout as it is: the request could be done without
+  ended     it prints the same up to where the run ends with status 1, with no call refused: a list for a call could not be made
 
-It prints how often each call was told, and what was none of these, with status 1 if anything was.
+It prints how often each call reported a refusal, and the runs that are none of these three, with status 1 if there are any.
 """
 import collections
 import os
@@ -23,7 +23,7 @@ import cases
 from refused_memory import Sweep, chosen
 
 WANTED = os.path.join(cases.TOP, "tools", "calls", "stdout")
-# An expansion that was refused memory answers so from then on.
+# An expansion that was refused memory reports that from then on.
 FOR_EVER = "next_line"
 
 
@@ -43,7 +43,7 @@ def without_refusals(lines):
 
 
 def granted(lines, wanted):
-    """The lines with those of a refused expansion as they are wanted: all of its lines from one on tell the refusal."""
+    """The lines with those of a refused expansion as they are wanted: all of its lines from one on report the refusal."""
     refused, left = False, list(lines)
     for at, (mine, theirs) in enumerate(zip(lines, wanted)):
         refused = refused or mine == FOR_EVER + ": NoMemory"
@@ -57,17 +57,17 @@ def granted(lines, wanted):
 def kind_of(answer, wanted, rest):
     """What an answer is, and the name of the call that was refused first."""
     lines = answer.output.decode("utf-8", "replace").splitlines()
-    told = [line.partition(": ")[0] for line in lines if line.endswith(": NoMemory")]
-    refused = told[0] if told else None
+    reports = [line.partition(": ")[0] for line in lines if line.endswith(": NoMemory")]
+    refused = reports[0] if reports else None
     left = without_refusals(lines)
-    # (one request that is refused is told by one call, once)
-    if left is None or not rest and len(set(told) if refused == FOR_EVER else told) > 1:
+    # (one refused request is reported by one call, once)
+    if left is None or not rest and len(set(reports) if refused == FOR_EVER else reports) > 1:
         return "another", refused
     left = granted(left, wanted)
     if answer.status == 0 and left == wanted:
-        return ("told" if refused else "full"), refused
+        return ("reported" if refused else "full"), refused
     if answer.status == 1 and left == wanted[:len(left)] and (rest or not refused):
-        return ("told" if refused else "ended"), refused
+        return ("reported" if refused else "ended"), refused
     return "another", refused
 
 

@@ -3,19 +3,20 @@
 
 usage: python3 tools/refused_memory.py PROGRAM [--rest] [--most N] [--groups WORD]
 
-What is run are the calls of the gate's examples (tools/cases.py): the manual's commands, the larger programs, the cases and the
-faults of docs/FAULTS.md; --groups keeps to the groups whose names hold the word (random/.. only where it says so). Each call is
+It runs the calls of the gate's examples (tools/cases.py): the manual's commands, the larger programs, the cases and the
+faults of docs/FAULTS.md; --groups runs only the groups whose names have WORD in them (random/.. only with --groups). Each call is
 run with every request granted, and then again for each of its requests with that one refused (--rest: with all from that one on);
-where there are more than N requests (400), for the first N/2 and N/2 of the others, evenly spread. Every run must come to one of
+where there are more than N requests (400), for the first N/2 and N/2 of the others, evenly spread. Every run must end in one of
+these ways:
 
-  told   status 1, `memory: 9 NoMemory` on standard error, nothing on standard output (of a run with `--regs` all of it or nothing),
-         and no file written or changed
-  full   the status, the outputs and the files of the run with every request granted: the request could be done without, or only
-         what `--explain` tells behind a fault's line is less: nothing, or what a fault means without the line that is shown or without
-         those that led to it
+  reported  status 1, `memory: 9 NoMemory` on standard error, nothing on standard output (or, for a run with `--regs`, all of it),
+            and no file written or changed
+  full      the status, the outputs and the files of the run with every request granted: the request could be done without, or only
+            what `--explain` prints after a fault's line is less: nothing, or what the fault means without the line that is shown
+            or without the lines that led to it
 
-It prints a row for each group, then what was neither, and ends with status 1 if anything was. PROGRAM must be linked dynamically;
-`cc` makes the library that refuses (tools/refuse.c), in a temporary folder.
+It prints a row for each group, then the runs that ended in neither way, and ends with status 1 if there are any. PROGRAM must
+be linked dynamically; `cc` makes the library that refuses (tools/refuse.c), in a temporary folder.
 """
 import itertools
 import os
@@ -46,20 +47,20 @@ class Answer:
         return (self.status, self.output, self.errors, self.written) == (other.status, other.output, other.errors, other.written)
 
     def explains_less(self, other):
-        """Whether it is the other answer, a fault, but for a note that is not there, shows no line, or none of those that led to it."""
+        """Whether it is the other answer, a fault, but without its note, or with a note that lacks the line or the lines that led to it."""
         line, _, note = other.errors.partition(b"\n")
-        shown, _, behind = note.partition(b"\n")
-        rows = behind.splitlines(keepends=True)
+        shown, _, after = note.partition(b"\n")
+        rows = after.splitlines(keepends=True)
         led = sum(1 for _ in itertools.takewhile(lambda row: row.startswith(b"  from "), rows))
         meant = b"".join(rows[led:])
-        less = (line + b"\n", line + b"\n" + behind, line + b"\n" + shown + b"\n" + meant, line + b"\n" + meant)
+        less = (line + b"\n", line + b"\n" + after, line + b"\n" + shown + b"\n" + meant, line + b"\n" + meant)
         return (self.status, self.output, self.written) == (1, b"", {}) and other.status == 1 and self.errors in less
 
-    def is_told(self):
+    def is_reported(self):
         return (self.status, self.output, self.errors, self.written) == (1, b"", TOLD, {})
 
     def lacks_registers(self, other):
-        """Whether it is the other answer, a run with its registers, but that memory was refused for these."""
+        """Whether it is the other answer, a run with its registers, but memory was refused for the registers."""
         return (self.status, self.output, self.errors, self.written) == (1, other.output, TOLD, {})
 
     def __str__(self):
@@ -81,7 +82,7 @@ class Sweep:
         write_files(self.folder, files)
 
     def run(self, call, first, last):
-        """The answer of a call with these requests refused; the folder has the call's files before and behind it."""
+        """The answer of a call with these requests refused; the folder has the call's files before and after it."""
         reader, writer = os.pipe()
         env = dict(os.environ, LD_PRELOAD=self.library, REFUSE_FROM=str(first), REFUSE_TO=str(last), REFUSE_COUNT=str(writer))
         try:
@@ -121,7 +122,7 @@ def behind_writes(sweep, calls):
 
 
 def swept(sweep, name, calls, most, rest):
-    """The numbers of calls, requests, runs, and of those told, full and neither; and the lines on the last."""
+    """The numbers of calls, requests and runs, and of runs reported, full and neither; and the lines about the last."""
     tally, lines = [0] * 6, []
     for call, full in behind_writes(sweep, calls):
         sweep.lay(call.files)
@@ -130,10 +131,10 @@ def swept(sweep, name, calls, most, rest):
         for number in chosen(full.requests, most):
             answer = sweep.run(call, number, full.requests * 2 if rest else number)
             tally[2] += 1
-            # (a call may itself be told of memory by nothing: where the whole is a fault, that fault is the full answer)
+            # (where the full answer is a fault, that fault may come instead of `memory: 9 NoMemory`)
             enough = answer.same(full) or "--explain" in call.words and answer.explains_less(full)
-            told = answer.is_told() or "--regs" in call.words and answer.lacks_registers(full)
-            kind = 4 if enough else 3 if told else 5
+            reported = answer.is_reported() or "--regs" in call.words and answer.lacks_registers(full)
+            kind = 4 if enough else 3 if reported else 5
             tally[kind] += 1
             if kind == 5:
                 lines.append("%s, request %d: %s" % (call.name, number, answer))
@@ -158,14 +159,14 @@ def main(words):
             rest = rest[2:]
         else:
             sys.exit(__doc__)
-    most, behind, wanted = int(options["--most"]), "--rest" in flags, options["--groups"]
+    most, from_one_on, wanted = int(options["--most"]), "--rest" in flags, options["--groups"]
     whole, wrong = [0] * 6, []
-    row("Group", ("calls", "requests", "runs", "told", "full", "neither"))
+    row("Group", ("calls", "requests", "runs", "reported", "full", "neither"))
     with tempfile.TemporaryDirectory(dir="/dev/shm" if os.path.isdir("/dev/shm") else None) as room:
         for name, calls in cases.groups().items():
             if name.startswith("random/") if wanted is None else wanted not in name:
                 continue
-            tally, lines = swept(Sweep(words[0], room), name, calls, most, behind)
+            tally, lines = swept(Sweep(words[0], room), name, calls, most, from_one_on)
             row(name, tally)
             whole, wrong = [a + b for a, b in zip(whole, tally)], wrong + lines
     row("all", whole)

@@ -3,8 +3,8 @@
 
     python3 tools/unproved.py
 
-After two or three minutes it is tools/out/c25-unproved. No contract has been looked at for it: what it answers may be wrong,
-and says nothing of what is claimed here. It stops at an index out of bounds, a sum that overflows and a bad access, and
+After two or three minutes it is tools/out/c25-unproved. No contract has been checked for it: what it answers may be wrong,
+and says nothing about what is claimed here. It stops at an index out of bounds, a sum that overflows and a bad access, and
 so is slow: a second or two to start, and some seconds for a million steps. The proved one is crates/c25/out/c25.
 
 `rt try` removes what it makes when it ends, so the executable is taken from its folder while it runs.

@@ -1,5 +1,5 @@
 #!/usr/bin/env python3
-"""Tries the wrong bodies that stand outside the gate: the prover must refuse each of them.
+"""Tries the wrong bodies that are kept outside the gate: the prover must refuse each of them.
 
 usage: python3 tools/wrong_bodies.py [CRATE..]     (from the top of the repository; no name: all crates)
 
@@ -22,7 +22,7 @@ LINE = re.compile(r"must-fail (\w+)/([\w.-]+\.edit): (.*)")
 
 
 def crates_with_wrong_bodies(names):
-    """The crates that have a folder `wrong`, those of these names alone where there are any."""
+    """The crates that have a folder `wrong`; where names are given, only those."""
     found = [it for it in sorted(os.listdir("crates")) if os.path.isdir(f"crates/{it}/wrong")]
     lacking = sorted(set(names) - set(found))
     if lacking:

@@ -38,7 +38,7 @@ def filtered(x):
     y = section(x, [round(c * 16384) for c in exact_coefficients()], lambda total: held((total + 0x2000) >> 14))
     ideal = section(x, exact_coefficients(), held)
     assert all(abs(v - w) < 60 for v, w in zip(y, ideal))       # about 0.002 of full scale
-    # Both limits are met at full scale, and behind the step y comes to rest.
+    # Both limits are met at full scale, and after the step y comes to rest.
     assert min(y[64:]) == -0x8000 and max(y[64:]) == 0x7FFF and max(map(abs, y[:64])) < 0x6000
     assert all(abs(v - 0x7FFF) < 100 for v in y[-8:])
     return y

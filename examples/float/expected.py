@@ -2,7 +2,7 @@
 
 A product of two words has at most 31 bits, so it is a float without rounding; frexp gives its mantissa between 0.5 and
 1. A negative mantissa is normal from -1 to below -0.5, so that of a negative power of two is -1, with one less in the
-exponent. The mantissa is cut to 15 bits behind the point, downwards.
+exponent. The mantissa is cut to 15 bits after the point, downwards.
 """
 import math
 import sys

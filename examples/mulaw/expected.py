@@ -13,7 +13,7 @@ COUNT = 24
 
 
 def intervals():
-    """Of each positive value's byte the first size, the size behind the last, and the value, for 14 bits."""
+    """For the byte of each positive value: its first size, the size after its last one, and the value, in 14 bits."""
     first = 0
     for segment in range(8):
         width = 2 << segment

@@ -1,7 +1,7 @@
 """What pi.asm writes, by the controller's equations. Prints it; `samples` prints samples.txt, `schedule` schedule.txt.
 
 The controller is in fixed point, with limits where pi.asm promises them; no instruction is looked at. The speeds are
-those of a motor with a load, which turns as the controller's torques tell it: so the samples close the loop.
+those of a motor with a load, which turns as the controller's torques drive it: so the samples close the loop.
 """
 import sys
 

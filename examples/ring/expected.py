@@ -1,8 +1,8 @@
-"""What ring.asm writes, by a queue. Prints it; with the word `samples`, prints samples.txt.
+"""What ring.asm writes, by a queue. Prints it; with the argument `samples`, prints samples.txt.
 
 The requests of schedule.txt are served in their order: INT0 puts the next sample into a queue of at most 8, or loses
 it, and INT1 takes the oldest one out, or none. They are so far apart that each is served before the next comes; of two
-at one time INT0 is the first, and the main program goes on behind both. No instruction is looked at.
+at one time INT0 is the first, and the main program goes on after both. No instruction is read.
 """
 import collections
 import itertools

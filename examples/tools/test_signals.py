@@ -32,7 +32,7 @@ class Signals(unittest.TestCase):
         self.addCleanup(self.held.cleanup)
 
     def call(self, *words, given=b"", **files):
-        """The script's status, output and errors. `a_wav=` is the file a.wav, which it is called beside."""
+        """The script's status, output and errors. `a_wav=` is the file a.wav in the folder where it runs."""
         for name, data in files.items():
             with open(os.path.join(self.held.name, name.replace("_", ".")), "wb") as file:
                 file.write(data)

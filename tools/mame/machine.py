@@ -1,4 +1,4 @@
-"""The machine of MAME's whose TMS32025 is compared with c25, without its ROMs and without a picture or a sound."""
+"""The MAME machine whose TMS32025 is compared with c25, without its ROMs and without a picture or a sound."""
 import os
 import re
 import shutil
@@ -24,7 +24,7 @@ class Mame:
                 file.truncate(int(size))
 
     def run(self, script, *words, **given):
-        """Runs one of the scripts beside this file, to its own end, with what is given in its environment."""
+        """Runs one of the scripts next to this file until it ends, with these variables in its environment."""
         around = dict(os.environ, SDL_VIDEODRIVER="dummy", SDL_AUDIODRIVER="dummy", HOME=self.folder, **given)
         subprocess.run([self.program, MACHINE, "-rompath", "roms", "-skip_gameinfo", "-video", "none", "-sound", "none", "-nothrottle",
                         "-autoboot_delay", "0", "-autoboot_script", os.path.join(HERE, script), *words],

@@ -18,7 +18,7 @@ BRANCHES = "B BANZ BBNZ BBZ BC BIOZ BGEZ BGZ BLEZ BLZ BNC BNV BNZ BV BZ".split()
 REPEATED = """ADD *+|ADDC *+|APAC|BLKD 230h,*+|BLKP 150h,*-|DMOV *-|LTA *+|LTD *-|MAC 148h,*+|MACD 150h,*-|MAR *0+|MPYA *+|MPYS *-|NORM *+|
 NORM *-|POP|PUSH|ROL|ROR|SFL|SFR|SPAC|SQRA *-|SQRS *+|SUB *-,3|SUBB *-|SUBC *|TBLR *+""".replace("\n", "").split("|")
 
-# What MAME is known to do otherwise, so that a program of several instructions would go on with another state.
+# Instructions on which MAME is known to differ, so that a program of several instructions would go on with another state.
 KNOWN = {"ADDH", "SUBH", "SUBC", "NEG"}
 
 
@@ -69,7 +69,7 @@ class Program:
         return operand, ",AR%d" % self.rng.randrange(1, 8) if next_register and self.rng.random() < 0.4 else ""
 
     def memory(self):
-        """An operand in memory, and the next register behind it."""
+        """An operand in memory, and the next register after it."""
         if self.rng.random() < 0.4:
             return str(self.rng.randint(*PAGES[self.page])), ""
         return self.indirect()

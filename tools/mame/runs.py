@@ -4,21 +4,21 @@
 usage: python3 tools/mame/runs.py PROGRAM [--seed S] [--alone N] [--programs N] [--most K] [--keep FOLDER] [--jobs J]
 
 PROGRAM is crates/c25/out/c25. It wants `mame` (Debian's package of that name) in the path or in /usr/games; files of zeros stand for
-the ROMs of the machine whose processor runs the programs. N programs have one instruction, or one repeated, behind a random state
-(--alone, 2000), N others up to K of them (--programs, 2000; --most, 6); programs.py makes them. Compared are ACC, P, T,
-the auxiliary registers, both status words, RPTC, the stack, and 544 words of data memory, when a program has come to its end.
+the ROMs of the machine whose processor runs the programs. N programs have one instruction, or one repeated, after a random state
+(--alone, 2000), N others up to K of them (--programs, 2000; --most, 6); programs.py makes them. It compares ACC, P, T,
+the auxiliary registers, both status words, RPTC, the stack, and 544 words of data memory at the end of each program.
 All 130 mnemonics are tried: IN reads 0 and BIO is low, since that machine's ports and line have no devices, TBLW writes to block B0,
 since the rest of its program memory cannot be written, IDLE is never waked, and EINT lets no interrupt through, since none comes.
 
-MAME is known to do otherwise, and each such difference is counted by its kind:
+MAME is known to differ in these cases, and each difference is counted by its kind:
 
-- NEG: C is put at bit 9 of ST0, where INTM stands, and not of ST1;
+- NEG: C is put at bit 9 of ST0, the bit of INTM, and not of ST1;
 - ADDH, SUBH: under OVM 1 the upper half alone is saturated;
 - SUBC: the dividend and the divisor are compared without their signs;
-- *BR0+: the sum with reversed carry is added to the register, in place of being put into it; *BR0-: the register is changed otherwise;
+- *BR0+: the sum with reversed carry is added to the register, instead of being put into it; *BR0-: the register is changed otherwise;
 - where a sum or a difference is saturated, C is that of the saturated number (counted under OVM 1, with what follows of it).
 
-All but the last are tried alone. Any other difference is told with its program, which is kept in FOLDER; status 1 then.
+All but the last are tried alone. Any other difference is reported with its program, which is kept in FOLDER; the status is 1 then.
 """
 import argparse
 import collections
@@ -40,7 +40,7 @@ ST1 = {"ARB": (13, 7), "CNF": (12, 1), "TC": (11, 1), "SXM": (10, 1), "C": (9, 1
 
 
 def end_of(acc, p, t, registers, st0, st1, rptc, stack, memory):
-    """Where a run stands, by names."""
+    """The state of a run, by names."""
     end = {"ACC": acc, "P": p, "T": t, "RPTC": rptc, "stack": stack, "memory": memory}
     end.update(("AR%d" % at, word) for at, word in enumerate(registers))
     for word, fields in ((st0, ST0), (st1, ST1)):
@@ -65,7 +65,7 @@ def hex_words(path):
 
 
 def told_by(text):
-    """The ends that a script's `regs`, `stack` and `data` tell, one behind another."""
+    """The ends that a script's `regs`, `stack` and `data` print, one after another."""
     pattern = re.compile(r"PC (\w+) ACC (\w+) P (\w+) T (\w+) ST0 (\w+) ST1 (\w+) RPTC (\w+)\nAR ([^\n]*)\nSTACK ([^\n]*)\n"
                          r"((?:[0-9A-F]{4} [^\n]*\n){68})")
     for told in pattern.finditer(text):
@@ -75,7 +75,7 @@ def told_by(text):
 
 
 class Case:
-    """A program in a folder of its own: its words, and where it stands before what is tried and at its end."""
+    """A program in a folder of its own: its command line, and its state before what is tried and at its end."""
 
     def __init__(self, program, folder, made):
         self.folder, self.made = folder, made
@@ -107,7 +107,7 @@ class Case:
 
 
 def ends_by_mame(folder, cases):
-    """Where MAME's processor stands behind each case's program."""
+    """The state of MAME's processor after each case's program."""
     programs, ends = (os.path.join(folder, it) for it in ("programs", "ends"))
     with open(programs, "w", encoding="ascii") as file:
         file.writelines(case.line() + "\n" for case in cases)

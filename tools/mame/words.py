@@ -4,15 +4,15 @@
 usage: python3 tools/mame/words.py PROGRAM
 
 PROGRAM is crates/c25/out/c25; it wants `mame` (Debian's package of that name). Each of the 65,536 words stands before 1234h and a NOP;
-c25 prints them by `dis`. Compared are the mnemonic, how many words the instruction has, and its operands, however they are written.
+c25 prints them by `dis`. It compares the mnemonic, the number of words of the instruction, and the operands, however they are written.
 
-MAME reads more words, and prints three instructions otherwise; these are counted by their kind:
+MAME accepts more words, and prints three instructions in another form; these differences are counted by their kind:
 
 - change 3 of an auxiliary register is reserved, and low bits without a next register are to be 0: MAME looks at neither;
 - CONF is the TMS320C26's;
 - MPYU is printed as MPYS, and of ADRK and SBRK a constant of 80h or more as an indirect operand.
 
-Any other difference is told; status 1 then.
+Any other difference is reported; the status is 1 then.
 """
 import collections
 import os
@@ -40,7 +40,7 @@ def hex_text(words):
 
 
 def by_c25(program, folder):
-    """Of each word, how many words the instruction has and its text, or None where it is data."""
+    """For each word, how many words the instruction has and its text, or None where it is data."""
     for first in range(0, 65536, PART):
         path = os.path.join(folder, "words.hex")
         with open(path, "w", encoding="ascii") as file:
@@ -53,7 +53,7 @@ def by_c25(program, folder):
 
 
 def by_mame(folder):
-    """The same of MAME's debugger."""
+    """For each word, what MAME's debugger prints, in the same form."""
     Mame(folder).run("words.lua", "-debug", "-debugger", "none", FOLDER=folder)
     for first in range(0, 65536, 2730):
         with open(os.path.join(folder, str(first)), encoding="ascii") as text:
