@@ -9,6 +9,8 @@ mod memory;
 #[cfg(test)]
 mod program;
 #[cfg(test)]
+mod public_calls;
+#[cfg(test)]
 mod values;
 #[cfg(test)]
 mod worlds;
