@@ -1,0 +1,61 @@
+-- What is known of the processor before a statement acts: DP, an ST0 saved in memory, INTM, EINT and repeats (SPRU014,
+-- "Memory Addressing Modes", "Status Registers", "Interrupts").
+use Rattle.std.specs.Prelude.{◌≡◌, ℕ, ◌%◌, ◌<◌, Bool, true, false, Option, None, Some}
+use Rattle.c25_meaning_processor.specs.declared.registers.Registers.{Registers}
+use Rattle.c25_meaning_processor.specs.Memory.{Memory}
+
+-- a word of data page 0 in which an ST0 is saved, and the DP of that ST0
+pub record Saved : Type 0 where
+  pub address : ℕ
+  pub page : ℕ
+
+-- what is known before a statement acts: DP, if it is known; a word in which ST0 is saved, if one is known; whether INTM is surely
+-- 1; whether EINT surely was the last instruction, so that no interrupt is taken yet; and whether surely no repeat is running
+pub record Known : Type 0 where
+  pub page : Option ℕ
+  pub saved : Option Saved
+  pub masked : Bool
+  pub shadowed : Bool
+  pub once : Bool
+
+-- what is known of the registers is true of them
+pub record IsTrueOf (known : Known) (r : Registers) : Type 0 where
+  pub page : (p : ℕ) → known.page ≡ Some p → r.dp ≡ p
+  pub masked : known.masked ≡ true → r.intm ≡ true
+  pub shadowed : known.shadowed ≡ true → r.shadowed ≡ true
+  pub once : known.once ≡ true → r.repeating ≡ false
+
+-- what is known of a saved ST0 is true: its word is on page 0, and the low nine bits of that word are the DP
+abbrev pub IsSaved : Known → Memory → Type 0
+IsSaved known words = (v : Saved) → known.saved ≡ Some v → (v.address < 128) × (words v.address % 512 ≡ v.page)
+
+-- all that the second knows, the first knows too
+pub record Implies (known weaker : Known) : Type 0 where
+  pub page : (p : ℕ) → weaker.page ≡ Some p → known.page ≡ Some p
+  pub saved : (v : Saved) → weaker.saved ≡ Some v → known.saved ≡ Some v
+  pub masked : weaker.masked ≡ true → known.masked ≡ true
+  pub shadowed : weaker.shadowed ≡ true → known.shadowed ≡ true
+  pub once : weaker.once ≡ true → known.once ≡ true
+
+-- what is known after a reset: DP is 0, no ST0 is saved, INTM is 1, EINT was not the last instruction, and no repeat is running
+abbrev pub known_on_reset : Known
+known_on_reset = record { page = Some 0; saved = None; masked = true; shadowed = false; once = true }
+
+-- what is known and supposed of a whole program, by contexts: context 0 is the program itself, each other context is one routine,
+-- called or begun by an interrupt while one and the same is known. `known_at` says what is known in a context before the statement
+-- at an address acts, `known_on_return` what is known where the routine of a context returns, and `depth` how many words calls and
+-- interrupts have at most on the stack in a context. The rest is supposed: `spared` is the data word that the statement at an
+-- address does not write, `may_go` says to which addresses BACC or CALA at an address goes, and `lines` has the bits of the
+-- interrupt lines that IMR lets through
+pub record Knowledge : Type 0 where
+  pub known_at : (context address : ℕ) → Option Known
+  pub known_on_return : (context : ℕ) → Option Known
+  pub depth : (context : ℕ) → ℕ
+  pub spared : (address : ℕ) → Option ℕ
+  pub may_go : (address target : ℕ) → Bool
+  pub lines : ℕ
+
+-- an address is reached, in a context, with at least what is known there
+abbrev pub LeadsTo : Knowledge → Known → (context address : ℕ) → Type 0
+LeadsTo knowledge known context address =
+    (there : Known) × (knowledge.known_at context address ≡ Some there) × Implies known there

@@ -1,0 +1,10 @@
+pub mod Words
+pub mod Left
+pub mod Stack
+pub mod Interrupted
+pub mod Acting
+pub mod Sure
+pub mod Closed
+pub mod Runs
+pub mod Operands
+pub mod Example
