@@ -1,59 +1,37 @@
 -- A statement that acts leads on to where no more is known.
-use Rattle.std.proofs.Common.{◌≡◌, ℕ, zero, suc, ◌+◌, ◌-◌, ◌%◌, ◌^◌, ◌≤◌, ◌⊎◌, Bool, true, false, not, ◌&&◌, ◌||◌, if◌then◌else◌, Option, None, Some, Ok, Err, List, [], ◌∷◌, ◌++◌, length, refl, sym, ap, ◌∙◌, subst, arith, inl, inr, ℤ}
-use Rattle.std.specs.Prelude.{nat_lt, take, drop, slice_index, slice_get}
+use Rattle.std.proofs.Common.{◌≡◌, ℕ, ◌+◌, ◌-◌, ◌%◌, ◌^◌, ◌≤◌, ◌⊎◌, Bool, true, false, ◌&&◌, if◌then◌else◌, Option, None, Some, Ok, Err, List, length, refl, sym, ap, ◌∙◌, subst, arith, inl, inr}
+use Rattle.std.specs.Prelude.{nat_lt, drop}
 use Rattle.std.specs.Option.{option_and_then}
-use Rattle.c25_meaning_instructions.specs.declared.insn.Addr.{Addr}
 use Rattle.c25_meaning_instructions.specs.declared.insn.Addr.TheVariants.{Direct, Indirect}
 use Rattle.c25_meaning_instructions.specs.declared.insn.Change.{Change}
-use Rattle.c25_meaning_instructions.specs.declared.insn.PlainOperand.{PlainOperand}
 use Rattle.c25_meaning_instructions.specs.declared.insn.Insn.{Insn}
 use Rattle.c25_meaning_instructions.specs.declared.insn.Insn.TheVariants as insn
-use Rattle.c25_meaning_instructions.specs.declared.mnemonic.ShiftedName.{ShiftedName}
-use Rattle.c25_meaning_instructions.specs.declared.mnemonic.ShiftedName.TheVariants as shifted
-use Rattle.c25_meaning_instructions.specs.declared.mnemonic.ArMemName.{ArMemName}
-use Rattle.c25_meaning_instructions.specs.declared.mnemonic.ArMemName.TheVariants as ar_mem
-use Rattle.c25_meaning_instructions.specs.declared.mnemonic.PortName.{PortName}
-use Rattle.c25_meaning_instructions.specs.declared.mnemonic.PortName.TheVariants as port
-use Rattle.c25_meaning_instructions.specs.declared.mnemonic.ShortName.{ShortName}
-use Rattle.c25_meaning_instructions.specs.declared.mnemonic.ShortName.TheVariants as short
-use Rattle.c25_meaning_instructions.specs.declared.mnemonic.LongName.{LongName}
-use Rattle.c25_meaning_instructions.specs.declared.mnemonic.LongName.TheVariants as long
-use Rattle.c25_meaning_instructions.specs.declared.mnemonic.MemName.{MemName}
 use Rattle.c25_meaning_instructions.specs.declared.mnemonic.MemName.TheVariants as mem
-use Rattle.c25_meaning_instructions.specs.declared.mnemonic.LongMemName.{LongMemName}
-use Rattle.c25_meaning_instructions.specs.declared.mnemonic.LongMemName.TheVariants as long_mem
 use Rattle.c25_meaning_instructions.specs.declared.mnemonic.JumpName.{JumpName}
 use Rattle.c25_meaning_instructions.specs.declared.mnemonic.JumpName.TheVariants as jump
-use Rattle.c25_meaning_instructions.specs.declared.mnemonic.PlainName.{PlainName}
 use Rattle.c25_meaning_instructions.specs.declared.mnemonic.PlainName.TheVariants as plain
 use Rattle.c25_meaning_instructions.specs.Table.{size_of}
-use Rattle.c25_meaning_processor.specs.Arithmetic.{normalized}
-use Rattle.c25_meaning_image.specs.Marks.{is_code}
 use Rattle.c25_meaning_processor.specs.declared.registers.Registers.{Registers}
 use Rattle.c25_meaning_processor.specs.declared.lines.Lines.{Lines}
-use Rattle.c25_meaning_processor.specs.declared.stop.Stop.TheVariants.{CodeWrite, BadRepeat}
-use Rattle.c25_meaning_processor.specs.State.{World, State, StepResult, data_at, with_program, in_program_b0, loaded_marks, under, holds}
-use Rattle.c25_meaning_processor.specs.Operand.{address_of, after_operand}
-use Rattle.c25_meaning_processor.specs.Effect.{to, store_program, input, mem_effect, mem_address, mem_operand, shifted_effect, ar_mem_effect, port_effect, bit_effect, short_effect, long_effect, long_mem_effect, jump_effect, branch, plain_effect, norm_effect, operand_change, settle, operand_word, effect}
-use Rattle.c25_meaning_processor.specs.Step.{advanced, begun, clear_of_b0, executed, has, interrupted, is_unrepeatable, latched, stepped, taken_under, vectored}
+use Rattle.c25_meaning_processor.specs.declared.stop.Stop.TheVariants.{BadRepeat}
+use Rattle.c25_meaning_processor.specs.State.{World, State, StepResult, under, holds}
+use Rattle.c25_meaning_processor.specs.Operand.{after_operand}
+use Rattle.c25_meaning_processor.specs.Effect.{jump_effect, branch, effect}
+use Rattle.c25_meaning_processor.specs.Step.{advanced, begun, clear_of_b0, executed, is_unrepeatable, stepped}
 use Rattle.c25_meaning_processor.specs.Statements.{Statements, Copied, copied_at, outside_b0, standing, standing_by, statement_at, statement_step}
-use Rattle.c25_meaning_processor.specs.Reset.{reset}
-use Rattle.c25_meaning_processor.specs.Run.{Signals, Reaches}
 use Rattle.c25_meaning_instructions.specs.Table.{words}
-use Rattle.std.proofs.Common.{◌<◌, ◌*◌}
-use Rattle.std.specs.Prelude.{◌==◌}
-use Rattle.std.proofs.lemmas.Bool.Decides.{nat_tests}
+use Rattle.std.proofs.Common.{◌<◌}
 use Rattle.c25_meaning_processor.specs.State.{with_data}
 use Rattle.c25_meaning_processor.specs.Status.{st0}
-use Rattle.c25_page_laws.proofs.Words.{Same, effect_same, st0_page, data_there, low_data}
-use Rattle.c25_page_laws.proofs.Left.{Shows, shows, weaker, and_true, Ready, then_known, Ends, operand_true, operand_pc, operand_stack, effect_ends}
+use Rattle.c25_page_laws.proofs.Words.{Same, effect_same, st0_page, data_there}
+use Rattle.c25_page_laws.proofs.Left.{Shows, weaker, and_true, Ready, then_known, Ends, operand_true, operand_pc, operand_stack, effect_ends}
 use Rattle.c25_page_laws.proofs.Stack.{Stacked, Fits, FitsAfter, on, into, back_to}
 use Rattle.c25_page_laws.proofs.Interrupted.{begun_fits}
-use Rattle.c25_meaning_pages.specs.Inductive.{MayStand, IsInductive, IsSurelyOn}
+use Rattle.c25_meaning_pages.specs.Inductive.{MayStand, IsInductive}
 use Rattle.c25_meaning_pages.specs.Known.{Saved, IsSaved, Known, IsTrueOf, Implies, Knowledge, LeadsTo}
-use Rattle.c25_meaning_pages.specs.KnownAfter.{loaded_page, written_address, Saves, Spares, IsSavedAfter, known_after}
-use Rattle.c25_meaning_pages.specs.Routines.{ReturnsTo, Begins, MayReturn, LeadsOn, known_on_entry, Interrupts}
-use Rattle.c25_meaning_pages.specs.Supposed.{IsSupposed, goes_by_accumulator, LetsNoOther, StepAsSupposed}
+use Rattle.c25_meaning_pages.specs.KnownAfter.{written_address, Saves, Spares, IsSavedAfter, known_after}
+use Rattle.c25_meaning_pages.specs.Routines.{LeadsOn}
+use Rattle.c25_meaning_pages.specs.Supposed.{IsSupposed, goes_by_accumulator}
 
 module _ (ss : Statements) (a : Knowledge) (inductive : IsInductive ss a) where
   -- where a jump leads

@@ -1,12 +1,11 @@
 -- A program whose knowledge is inductive and closed: LDPK 4 at address 0, and B 1 at address 1.
-use Rattle.std.proofs.Common.{◌≡◌, ℕ, zero, suc, ◌+◌, ◌%◌, ◌^◌, ◌≤◌, ◌⊎◌, true, false, Option, None, Some, refl, subst, arith, inl, inr}
+use Rattle.std.proofs.Common.{◌≡◌, ℕ, zero, suc, ◌+◌, ◌≤◌, true, None, Some, refl, subst, arith, inl, inr}
 use Rattle.c25_meaning_instructions.specs.declared.insn.Insn.{Insn}
 use Rattle.c25_meaning_instructions.specs.Table.{size_of}
 use Rattle.c25_meaning_processor.specs.Statements.{statement_at, copied_at}
-use Rattle.c25_meaning_processor.specs.Step.{is_unrepeatable}
 use Rattle.c25_meaning_pages.specs.Inductive.{MayStand, IsInductive, IsClosed, IsSurelyOn}
-use Rattle.c25_meaning_pages.specs.Known.{Saved, Known, Implies, LeadsTo}
-use Rattle.c25_meaning_pages.specs.KnownAfter.{IsSavedAfter, known_after}
+use Rattle.c25_meaning_pages.specs.Known.{Known, Implies}
+use Rattle.c25_meaning_pages.specs.KnownAfter.{IsSavedAfter}
 use Rattle.c25_meaning_pages.specs.Routines.{Acts}
 use Rattle.c25_page_laws.specs.Example.{load_page, stay, example_program, on_page, example_table, example_knowledge}
 

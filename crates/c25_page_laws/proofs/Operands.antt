@@ -1,12 +1,11 @@
 -- Direct operands are on the page of DP.
-use Rattle.std.proofs.Common.{◌≡◌, ℕ, ◌+◌, ◌*◌, ◌/◌, ◌%◌, ◌^◌, ◌-◌, ◌&&◌, Bool, true, false, if◌then◌else◌, Option, None, Some, refl, sym, ap, ◌∙◌, arith, pos}
+use Rattle.std.proofs.Common.{◌≡◌, ℕ, ◌+◌, ◌*◌, ◌/◌, ◌%◌, ◌^◌, ◌-◌, ◌&&◌, Bool, true, false, if◌then◌else◌, Some, refl, ap, ◌∙◌, arith, pos}
 use Rattle.std.specs.Prelude.{nat_lt}
 use Rattle.c25_meaning_common.specs.Fields.{field_number}
 use Rattle.c25_meaning_common.specs.declared.relocation.RelocationKind.TheVariants.{Low7}
 use Rattle.c25_meaning_instructions.specs.declared.insn.Addr.TheVariants.{Direct, Indirect}
 use Rattle.c25_meaning_instructions.specs.declared.insn.Insn.{Insn}
 use Rattle.c25_meaning_instructions.specs.declared.insn.Insn.TheVariants as insn
-use Rattle.c25_meaning_instructions.specs.declared.mnemonic.MemName.{MemName}
 use Rattle.c25_meaning_instructions.specs.declared.mnemonic.MemName.TheVariants as mem
 use Rattle.c25_meaning_instructions.specs.Table.{size_of}
 use Rattle.c25_meaning_processor.specs.declared.registers.Registers.{Registers}
