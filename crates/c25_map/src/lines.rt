@@ -106,18 +106,83 @@ fn set_entry(so_far: &mut Map, entry: GlobalSymbol) -> Result<(), Failure<MapFau
     Ok(())
 }
 
-/// Adds what the fields of a line say to the map so far: the first field is the line's kind.
+/// Adds a symbol, or sets the entry.
+#[tactic(auto, unfolding(crate::specs::Reading::with_fields))]
+fn add_named(
+    alloc: Global,
+    so_far: &mut Map,
+    kind: &str,
+    value: &str,
+    name: &str,
+) -> Result<(), Failure<MapFault>>
+    ensures { Meets (λ _. map_data so_far.new) (reading.with_fields (map_data so_far.old) (kind.now ∷ value.now ∷ name.now ∷ [])) result }
+{
+    match kind {
+        "SYMBOL" => add_symbol(so_far, symbol_of(alloc, value, name)?),
+        "ENTRY" => set_entry(so_far, symbol_of(alloc, value, name)?),
+        _ => Err(Failure::Fault(MapFault::BadMap)),
+    }
+}
+
+/// Sets the address where the last section runs, if the line is a `RUN` line.
+#[tactic(auto, unfolding(crate::specs::Reading::with_fields))]
+fn add_run(so_far: &mut Map, kind: &str, run: &str) -> Result<(), Failure<MapFault>>
+    ensures { Meets (λ _. map_data so_far.new) (reading.with_fields (map_data so_far.old) (kind.now ∷ run.now ∷ [])) result }
+{
+    match kind {
+        "RUN" => set_run(so_far, word_of(run.as_bytes())?),
+        _ => Err(Failure::Fault(MapFault::BadMap)),
+    }
+}
+
+/// Adds a part, if the line is a `PART` line.
+#[tactic(auto, unfolding(crate::specs::Reading::with_fields))]
+fn add_part_line(
+    alloc: Global,
+    so_far: &mut Map,
+    kind: &str,
+    number: &str,
+    base: &str,
+    size: &str,
+) -> Result<(), Failure<MapFault>>
+    ensures { Meets (λ _. map_data so_far.new) (reading.with_fields (map_data so_far.old) (kind.now ∷ number.now ∷ base.now ∷ size.now ∷ [])) result }
+{
+    match kind {
+        "PART" => add_part(so_far, part_of(alloc, number, base, size)?),
+        _ => Err(Failure::Fault(MapFault::BadMap)),
+    }
+}
+
+/// Adds a section, if the line is a `SECTION` line.
+#[tactic(auto, unfolding(crate::specs::Reading::with_fields))]
+fn add_section_line(
+    alloc: Global,
+    so_far: &mut Map,
+    kind: &str,
+    page: &str,
+    base: &str,
+    size: &str,
+    name: &str,
+) -> Result<(), Failure<MapFault>>
+    ensures { Meets (λ _. map_data so_far.new) (reading.with_fields (map_data so_far.old) (kind.now ∷ page.now ∷ base.now ∷ size.now ∷ name.now ∷ [])) result }
+{
+    match kind {
+        "SECTION" => add_section(so_far, section_of(alloc, page, base, size, name)?),
+        _ => Err(Failure::Fault(MapFault::BadMap)),
+    }
+}
+
+/// Adds what the fields of a line say to the map so far.
 #[tactic(auto, unfolding(crate::specs::Reading::with_fields))]
 fn add_fields(alloc: Global, so_far: &mut Map, fields: &[&str]) -> Result<(), Failure<MapFault>>
     ensures { Meets (λ _. map_data so_far.new) (reading.with_fields (map_data so_far.old) (map (λ f. f.now) fields.now)) result }
 {
     match fields {
-        ["RUN", run] => set_run(so_far, word_of(run.as_bytes())?),
-        ["SYMBOL", value, name] => add_symbol(so_far, symbol_of(alloc, value, name)?),
-        ["ENTRY", value, name] => set_entry(so_far, symbol_of(alloc, value, name)?),
-        ["PART", number, base, size] => add_part(so_far, part_of(alloc, number, base, size)?),
-        ["SECTION", page, base, size, name] => {
-            add_section(so_far, section_of(alloc, page, base, size, name)?)
+        [kind, run] => add_run(so_far, kind, run),
+        [kind, value, name] => add_named(alloc, so_far, kind, value, name),
+        [kind, number, base, size] => add_part_line(alloc, so_far, kind, number, base, size),
+        [kind, page, base, size, name] => {
+            add_section_line(alloc, so_far, kind, page, base, size, name)
         }
         _ => Err(Failure::Fault(MapFault::BadMap)),
     }

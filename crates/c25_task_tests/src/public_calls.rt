@@ -13,7 +13,7 @@ use c25_hex::{read_hex, write_hex};
 use c25_link::{Image, link, read_map};
 use c25_macro::{Expander, Files};
 use c25_meaning_objects::object::Version;
-use c25_obj::{Module, Parts, module, read_module, spells, write_module};
+use c25_obj::{Body, Module, Parts, Section, module, read_module, spells, write_module};
 use c25_text::{Line, first_word, split_line};
 use std::alloc::Global;
 use std::test::Fail;
@@ -73,10 +73,15 @@ fn made_of(parts: Parts) -> Option<Module> {
     None
 }
 
-/// The lists of a module of version 1 that have nothing.
-fn no_lists(alloc: Global) -> Parts {
-    Parts {
-        sections: Vec::new(alloc),
+/// The lists of a module of version 1 whose section `.text` has no words.
+fn empty_lists(alloc: Global) -> Result<Parts, Fail> {
+    let mut sections = Vec::new(alloc);
+    sections.push(Section {
+        name: String::from_str(alloc, ".text")?,
+        body: Body::Initialised(Vec::new(alloc)),
+    })?;
+    Ok(Parts {
+        sections,
         marks: Vec::new(alloc),
         symbols: Vec::new(alloc),
         relocations: Vec::new(alloc),
@@ -84,14 +89,15 @@ fn no_lists(alloc: Global) -> Parts {
         files: Vec::new(alloc),
         lines: Vec::new(alloc),
         blocks: Vec::new(alloc),
-    }
+    })
 }
 
-/// Lists of nothing are a module's.
+/// These lists are a module's.
 #[test]
-fn lists_of_modules(rt: HostRuntime) {
-    let found = made_of(no_lists(rt.alloc()));
+fn lists_of_modules(rt: HostRuntime) -> Result<(), Fail> {
+    let found = made_of(empty_lists(rt.alloc())?);
     equal(&rt, found.is_some(), true);
+    Ok(())
 }
 
 /// The map and the hex text of page 0 of a program, read back.
@@ -123,7 +129,7 @@ fn run_once(alloc: Global, files: &Files, sources: &[String]) -> Result<Chain, F
 
 /// What the debugger answers to one step of that source.
 fn step_once(alloc: Global, files: &Files, sources: &[String]) -> Result<String, Fail> {
-    match debug_chain(alloc, files, sources, "", "", "", "step\n") {
+    match debug_chain(alloc, files, sources, "", "", "", "step 1\n") {
         Ok(answers) => Ok(answers),
         Err(_) => Err(Fail::from("the debugger refuses the source")),
     }

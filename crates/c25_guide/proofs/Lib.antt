@@ -1,0 +1,9 @@
+pub mod Affects
+pub mod Changes
+pub mod Constants
+pub mod Names
+pub mod Operands
+pub mod Readings
+pub mod StatusWords
+pub mod Sums
+pub mod Values
