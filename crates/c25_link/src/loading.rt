@@ -54,15 +54,6 @@ fn by_word(alloc: Global, owner: &Parts) -> Result<ByWord, AllocError>
     Ok(found)
 }
 
-/// A module whose sections are loaded: its number, its lists, and its relocations by their words.
-#[derive(Clone, Copy)]
-struct LoadedModule<'a> {
-    layout: &'a Layout<'a, 'a>,
-    number: usize,
-    owner: &'a Parts,
-    relocations: &'a ByWord,
-}
-
 /// A word of a module with its field filled, where a relocation fills one.
 fn linked_word(
     layout: &Layout<'_, '_>,
@@ -87,29 +78,26 @@ fn linked_word(
 
 /// Loads the words of a section from an address on.
 fn load_words(
-    module: &LoadedModule<'_>,
+    layout: &Layout<'_, '_>,
+    number: usize,
+    owner: &Parts,
+    relocations: &ByWord,
     section: u16,
     base: u32,
     words: &[u16],
     page: &mut WordList,
 ) -> Result<(), NoMemory>
-    requires laid { IsLaidOut module.now.layout.now }
-    requires owner { IsOwner module.now.layout.now module.now.number (contents module.now.owner.now) }
-    requires relocations { KnowsRelocations module.now.relocations.now (contents module.now.owner.now) }
+    requires laid { IsLaidOut layout.now }
+    requires owner { IsOwner layout.now number (contents owner.now) }
+    requires relocations { KnowsRelocations relocations.now (contents owner.now) }
     requires within { base + length words.now ≤ 65536 }
     ensures { (address : ℕ) → OnOk result (finite.get (put_all page.new) address
-        ≡ loaded base (length words.now) (linked_at module.now.layout.now.modules.now (places_in module.now.layout.now) module.now.number (contents module.now.owner.now) section words.now) (finite.get (put_all page.old) address) address) }
+        ≡ loaded base (length words.now) (linked_at layout.now.modules.now (places_in layout.now) number (contents owner.now) section words.now) (finite.get (put_all page.old) address) address) }
 {
     for (offset, word) in words.iter().enumerate() {
         let address = (base as usize + offset) as u16;
-        let relocation = module.relocations.get(&(section, offset as u16));
-        let linked = linked_word(
-            module.layout,
-            module.number,
-            module.owner,
-            relocation,
-            *word,
-        );
+        let relocation = relocations.get(&(section, offset as u16));
+        let linked = linked_word(layout, number, owner, relocation, *word);
         page.push(address, linked)?;
     }
     Ok(())
@@ -118,27 +106,48 @@ fn load_words(
 /// Loads a section of a module where its part stands.
 #[tactic(auto, using(crate::proofs::Loaded::section_loaded, crate::proofs::Loaded::section_passed, crate::proofs::Loaded::none_elsewhere, crate::proofs::Loaded::none_uninitialised))]
 fn load_section(
-    module: &LoadedModule<'_>,
+    layout: &Layout<'_, '_>,
+    number: usize,
+    owner: &Parts,
+    relocations: &ByWord,
     index: usize,
     pages: &mut PageLists,
 ) -> Result<(), NoMemory>
-    requires laid { IsLaidOut module.now.layout.now }
-    requires owner { IsOwner module.now.layout.now module.now.number (contents module.now.owner.now) }
-    requires relocations { KnowsRelocations module.now.relocations.now (contents module.now.owner.now) }
-    requires section { index < length (contents module.now.owner.now).sections }
-    requires before { HavePagesBefore module.now.layout.now.modules.now (places_in module.now.layout.now) module.now.number index pages.old }
-    ensures { OnOk result (HavePagesBefore module.now.layout.now.modules.now (places_in module.now.layout.now) module.now.number (index + 1) pages.new) }
+    requires laid { IsLaidOut layout.now }
+    requires owner { IsOwner layout.now number (contents owner.now) }
+    requires relocations { KnowsRelocations relocations.now (contents owner.now) }
+    requires section { index < length (contents owner.now).sections }
+    requires before { HavePagesBefore layout.now.modules.now (places_in layout.now) number index pages.old }
+    ensures { OnOk result (HavePagesBefore layout.now.modules.now (places_in layout.now) number (index + 1) pages.new) }
 {
-    let part = module.layout.bases.get(module.number, index);
-    let section = &module.owner.sections[index];
+    let part = layout.bases.get(number, index);
+    let section = &owner.sections[index];
     match &section.body {
         Body::Uninitialised(_) => Ok(()),
         Body::Initialised(words) => {
             let index = index as u16;
             if part.page == 0 {
-                load_words(module, index, part.base, words, &mut pages.program)
+                load_words(
+                    layout,
+                    number,
+                    owner,
+                    relocations,
+                    index,
+                    part.base,
+                    words,
+                    &mut pages.program,
+                )
             } else {
-                load_words(module, index, part.base, words, &mut pages.store)
+                load_words(
+                    layout,
+                    number,
+                    owner,
+                    relocations,
+                    index,
+                    part.base,
+                    words,
+                    &mut pages.store,
+                )
             }
         }
     }
@@ -159,14 +168,8 @@ fn load_module(
     ensures { OnOk result (HavePagesBefore layout.now.modules.now (places_in layout.now) (number + 1) 0 pages.new) }
 {
     let relocations = by_word(alloc, owner)?;
-    let module = LoadedModule {
-        layout,
-        number,
-        owner,
-        relocations: &relocations,
-    };
     for index in 0..owner.sections.len() {
-        load_section(&module, index, pages)?;
+        load_section(layout, number, owner, &relocations, index, pages)?;
     }
     Ok(())
 }
