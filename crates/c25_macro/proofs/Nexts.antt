@@ -14,11 +14,11 @@ use Rattle.c25_meaning_expansion.proofs.ExpansionFirst.{comes_to_first}
 use Rattle.c25_macro.specs.Config.{Refuses}
 use Rattle.c25_macro.specs.SourceFrames.{after}
 use Rattle.c25_macro.specs.declared.frames.Source.{Source}
-use Rattle.c25_macro.specs.declared.expansion_fault.ExpansionFault.{ExpansionFault}
-use Rattle.c25_macro.specs.declared.expansion_fault.ExpansionFault.TheVariants.{Faulty, Missing}
+use Rattle.c25_macro.specs.declared.expander_fault.ExpanderFault.{ExpanderFault}
+use Rattle.c25_macro.specs.declared.expander_fault.ExpanderFault.TheVariants.{Faulty, Missing}
 
 -- a refusal, which may be that memory ran out
-pub first_refusing : (files : Files) (s : Table) (n : ℕ) (old mid : Config) (failure : Failure ExpansionFault) → Leads files s n old mid → Refuses (rewrite files s mid) failure → Refuses (first files s old) failure
+pub first_refusing : (files : Files) (s : Table) (n : ℕ) (old mid : Config) (failure : Failure ExpanderFault) → Leads files s n old mid → Refuses (rewrite files s mid) failure → Refuses (first files s old) failure
 first_refusing files s n old mid (NoMemory e) leads h = tt
 first_refusing files s n old mid (Fault (Faulty place kind)) leads h = comes_to_first files s old (Faults place kind) (n, mid, leads, h) tt
 first_refusing files s n old mid (Fault (Missing place name)) leads h = comes_to_first files s old (Misses place (string_bytes name)) (n, mid, leads, h) tt

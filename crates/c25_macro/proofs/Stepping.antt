@@ -14,7 +14,7 @@ use Rattle.c25_meaning_language.specs.Value.{Table}
 use Rattle.c25_meaning_expansion.specs.Trail.{trail_after}
 use Rattle.c25_macro.specs.Config.{Follows, Refuses, refused_by}
 use Rattle.c25_macro.specs.Tracers.{IsToldAs, Moved, Shows, Steps, Trace, fault_in}
-use Rattle.c25_macro.specs.declared.expansion_fault.ExpansionFault.{ExpansionFault}
+use Rattle.c25_macro.specs.declared.expander_fault.ExpanderFault.{ExpanderFault}
 use Rattle.c25_macro.specs.declared.state.LineResult.{LineResult}
 use Rattle.c25_macro.specs.declared.state.LineResult.TheVariants as progress
 use Rattle.c25_macro.specs.declared.tracer.Step.{Step}
@@ -52,7 +52,7 @@ module _ (s : Table) (old new : Trace) (files : new.files ≡ old.files) where
   steps progress.Finished step.Finished bounded trail e is = (new.at, e)
 
   -- the rewriting fails
-  pub stops : (refusal : Failure ExpansionFault) (answer : Failure StepFault) → new.trail ≡ old.trail → Refuses (rewrite old.files s old.at) refusal
+  pub stops : (refusal : Failure ExpanderFault) (answer : Failure StepFault) → new.trail ≡ old.trail → Refuses (rewrite old.files s old.at) refusal
       → IsToldAs old.files refusal answer → Steps s old (Err answer) new
   stops (NoMemory n) (NoMemory m) trail e is = tt
   stops (NoMemory n) (Fault f) trail e is = absurd is

@@ -16,8 +16,8 @@ use Rattle.c25_macro.specs.declared.state.Mode.TheVariants as mode
 use Rattle.c25_macro.specs.declared.state.ExpanderState.{ExpanderState}
 use Rattle.c25_macro.specs.declared.state.LineResult.{LineResult}
 use Rattle.c25_macro.specs.declared.state.LineResult.TheVariants as progress
-use Rattle.c25_macro.specs.declared.expansion_fault.ExpansionFault.{ExpansionFault}
-use Rattle.c25_macro.specs.declared.expansion_fault.ExpansionFault.TheVariants.{Faulty, Missing}
+use Rattle.c25_macro.specs.declared.expander_fault.ExpanderFault.{ExpanderFault}
+use Rattle.c25_macro.specs.declared.expander_fault.ExpanderFault.TheVariants.{Faulty, Missing}
 
 -- the mode that an expander's mode stands for; `body` is the lines that were read since the mark
 abbrev pub mode_of : Mode → List Row → exp.Mode
@@ -42,38 +42,38 @@ config s = record {
 }
 
 -- the rewriting that a refusal stands for
-abbrev pub refused_by : ExpansionFault → Rewriting
+abbrev pub refused_by : ExpanderFault → Rewriting
 refused_by (Faulty place kind) = Faults place kind
 refused_by (Missing place name) = Misses place (string_bytes name)
 
 -- a failure is this rewriting, or memory ran out
-abbrev pub Refuses : Rewriting → Failure ExpansionFault → Type 0
+abbrev pub Refuses : Rewriting → Failure ExpanderFault → Type 0
 Refuses r (NoMemory n) = Unit {0}
 Refuses r (Fault refusal) = r ≡ refused_by refusal
 
 -- the answer is the next line, which is read and counted, or that no line is left, or the refusal of one line
 -- too many
-abbrev pub IsNextRow : ExpanderState → Result (Option Row) (Failure ExpansionFault) → ExpanderState → Type 0
+abbrev pub IsNextRow : ExpanderState → Result (Option Row) (Failure ExpanderFault) → ExpanderState → Type 0
 IsNextRow old (Ok (Some row)) new =
     (old.top.lines.rest ≡ row ∷ new.top.lines.rest) × (new.top.lines.passed ≡ old.top.lines.passed ++ row ∷ []) × ((old.left == 0) ≡ false) × (new.left ≡ old.left - 1)
 IsNextRow old (Ok None) new = (old.top.lines.rest ≡ []) × (new.top.lines.rest ≡ []) × (new.left ≡ old.left)
 IsNextRow old (Err failure) new = (row : Row) × (rest : List Row) × (old.top.lines.rest ≡ row ∷ rest) × ((old.left == 0) ≡ true) × (failure ≡ Fault (Faulty row.place fault.Lines))
 
 -- the answer of one rewriting is this one, and leads to this configuration
-abbrev pub Follows : Rewriting → Result LineResult (Failure ExpansionFault) → Config → Type 0
+abbrev pub Follows : Rewriting → Result LineResult (Failure ExpanderFault) → Config → Type 0
 Follows r (Ok (progress.Given row)) new = r ≡ Gives row new
 Follows r (Ok progress.Consumed) new = r ≡ Goes new
 Follows r (Ok progress.Finished) new = r ≡ Finishes new
 Follows r (Err failure) new = Refuses r failure
 
 -- the answer of a part of a rewriting that gives no line is this rewriting, and leads to this configuration
-abbrev pub GoesOn : {A : Type 0} → Rewriting → Result A (Failure ExpansionFault) → Config → Type 0
+abbrev pub GoesOn : {A : Type 0} → Rewriting → Result A (Failure ExpanderFault) → Config → Type 0
 GoesOn r (Ok x) new = r ≡ Goes new
 GoesOn r (Err failure) new = Refuses r failure
 
 -- the answer of a call for the next line is this rewriting, the first that does not merely go on, and leads
 -- to this configuration
-abbrev pub Answers : Rewriting → Result (Option Row) (Failure ExpansionFault) → Config → Type 0
+abbrev pub Answers : Rewriting → Result (Option Row) (Failure ExpanderFault) → Config → Type 0
 Answers r (Ok (Some row)) new = r ≡ Gives row new
 Answers r (Ok None) new = r ≡ Finishes new
 Answers r (Err failure) new = Refuses r failure

@@ -10,13 +10,13 @@ use Rattle.c25_macro.specs.Config.{config}
 use Rattle.c25_macro.specs.Expander as exp
 use Rattle.c25_macro.specs.Expander.{ExpandFault, begun_at, Tells}
 use Rattle.c25_macro.specs.declared.answer.ExpLine.{ExpLine}
-use Rattle.c25_macro.specs.declared.expansion_fault.ExpansionFault.{ExpansionFault}
-use Rattle.c25_macro.specs.declared.expansion_fault.ExpansionFault.TheVariants as refusal
+use Rattle.c25_macro.specs.declared.expander_fault.ExpanderFault.{ExpanderFault}
+use Rattle.c25_macro.specs.declared.expander_fault.ExpanderFault.TheVariants as refusal
 use Rattle.c25_macro.specs.declared.stage.Stage.{Stage}
 use Rattle.c25_macro.specs.declared.stage.Stage.TheVariants as stage
 
 -- the failure that a refusal is, with the name of the line's file
-abbrev pub failure_in : Files → Failure ExpansionFault → Failure ExpansionFault
+abbrev pub failure_in : Files → Failure ExpanderFault → Failure ExpansionFault
 failure_in files (NoMemory n) = NoMemory n
 failure_in files (Fault (refusal.Faulty place kind)) = Fault (Faulty (file_name files place.file) place.line kind)
 failure_in files (Fault (refusal.Missing place name)) = Fault (Missing (file_name files place.file) place.line (string_bytes name))
@@ -31,6 +31,6 @@ stage_of files name (stage.Faulty f) = exp.Failed (Fault (Faulty f.place.file.no
 stage_of files name (stage.Missing file line wanted) = exp.Failed (Fault (Missing file.now line (string_bytes wanted)))
 
 -- after this refusal the expansion stands at the failure, and the answer reports it
-abbrev pub IsRefused : Files → List ℕ → Failure ExpansionFault → Stage → Result (Option ExpLine) (Failure ExpandFault) → Type 0
+abbrev pub IsRefused : Files → List ℕ → Failure ExpanderFault → Stage → Result (Option ExpLine) (Failure ExpandFault) → Type 0
 IsRefused files name refusal new (Err e) = (stage_of files name new ≡ exp.Failed (failure_in files refusal)) × Tells (failure_in files refusal) e
 IsRefused files name refusal new (Ok o) = ⊥

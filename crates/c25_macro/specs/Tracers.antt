@@ -16,7 +16,7 @@ use Rattle.c25_meaning_language.specs.Value.{Table}
 use Rattle.c25_meaning_expansion.specs.Trail.{trail_after}
 use Rattle.c25_macro.specs.Config.{config, refused_by}
 use Rattle.c25_macro.specs.Expander.{shown}
-use Rattle.c25_macro.specs.declared.expansion_fault.ExpansionFault.{ExpansionFault}
+use Rattle.c25_macro.specs.declared.expander_fault.ExpanderFault.{ExpanderFault}
 use Rattle.c25_macro.specs.declared.state.LineResult.{LineResult}
 use Rattle.c25_macro.specs.declared.state.LineResult.TheVariants as progress
 use Rattle.c25_macro.specs.declared.tracer.Step.{Step}
@@ -80,7 +80,7 @@ Shows files progress.Finished Finished = Unit {0}
 Shows files progress step = ⊥
 
 -- the failure of a step reports that of the state, with the name of the line's file
-abbrev pub IsToldAs : Files → Failure ExpansionFault → Failure StepFault → Type 0
+abbrev pub IsToldAs : Files → Failure ExpanderFault → Failure StepFault → Type 0
 IsToldAs files (NoMemory n) (NoMemory m) = Unit {0}
 IsToldAs files (Fault refusal) (Fault f) = fault_by files (refused_by refusal) ≡ Some (fault_in f)
 IsToldAs files refusal told = ⊥

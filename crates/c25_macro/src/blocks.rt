@@ -14,7 +14,7 @@ ghost use Rattle.c25_macro.specs.Config.{config, GoesOn};
 ghost use Rattle.c25_macro.specs.SourceFrames.{test_of};
 ghost use Rattle.c25_macro.specs.declared.state.Mode.TheVariants as modes;
 
-use crate::expansion_fault::{ExpansionFault, fault};
+use crate::expander_fault::{ExpanderFault, fault};
 use crate::frames::{Branches, ExitTarget, Kind, Source, SourceFrame};
 use crate::state::{ExpanderState, Mode};
 use crate::values::{is_zero, number};
@@ -60,7 +60,7 @@ impl<'a> ExpanderState<'a> {
         place: SourcePlace,
         name: String,
         parameters: Vec<String>,
-    ) -> Result<(), Failure<ExpansionFault>>
+    ) -> Result<(), Failure<ExpanderFault>>
         ensures { GoesOn (rule.begins_macro place (string_bytes name) (bytes_of_names parameters.items) (config self.old)) result (config self.new) }
     {
         if self.is_taken(name.as_str()) {
@@ -82,7 +82,7 @@ impl<'a> ExpanderState<'a> {
         place: SourcePlace,
         body: Rows<'a>,
         arguments: Arguments,
-    ) -> Result<(), Failure<ExpansionFault>>
+    ) -> Result<(), Failure<ExpanderFault>>
         requires expansions { (config self.old).names.count < 2 ^ 31 }
         requires reading { self.old.mode ≡ modes.Reading }
         ensures { GoesOn (rule.begins_expansion place body.entry arguments (config self.old)) result (config self.new) }
@@ -101,7 +101,7 @@ impl<'a> ExpanderState<'a> {
         &mut self,
         block: ExitTarget,
         place: SourcePlace,
-    ) -> Result<(), Failure<ExpansionFault>>
+    ) -> Result<(), Failure<ExpanderFault>>
         requires reading { self.old.mode ≡ modes.Reading }
         ensures { GoesOn (rule.leaves (test_of block) place (config self.old)) result (config self.new) }
     {
@@ -113,7 +113,7 @@ impl<'a> ExpanderState<'a> {
     }
 
     /// Collects the lines that follow, as the body of a loop of so many turns.
-    fn collect(&mut self, place: SourcePlace, turns: usize) -> Result<(), Failure<ExpansionFault>>
+    fn collect(&mut self, place: SourcePlace, turns: usize) -> Result<(), Failure<ExpanderFault>>
         ensures { GoesOn (rule.collects place turns (config self.old)) result (config self.new) }
     {
         if self.is_full() {
@@ -131,7 +131,7 @@ impl<'a> ExpanderState<'a> {
         symbols: &Symbols,
         place: SourcePlace,
         count: Option<Expr>,
-    ) -> Result<(), Failure<ExpansionFault>>
+    ) -> Result<(), Failure<ExpanderFault>>
         ensures { GoesOn (rule.begins_loop symbols.now place (option_map tree_of count) (config self.old)) result (config self.new) }
     {
         match count {
@@ -144,7 +144,7 @@ impl<'a> ExpanderState<'a> {
     }
 
     /// `.break`, given whether its condition holds.
-    fn break_if(&mut self, holds: bool, place: SourcePlace) -> Result<(), Failure<ExpansionFault>>
+    fn break_if(&mut self, holds: bool, place: SourcePlace) -> Result<(), Failure<ExpanderFault>>
         requires reading { self.old.mode ≡ modes.Reading }
         ensures { GoesOn (rule.breaks_if holds place (config self.old)) result (config self.new) }
     {
@@ -165,7 +165,7 @@ impl<'a> ExpanderState<'a> {
         symbols: &Symbols,
         place: SourcePlace,
         condition: Option<Expr>,
-    ) -> Result<(), Failure<ExpansionFault>>
+    ) -> Result<(), Failure<ExpanderFault>>
         requires reading { self.old.mode ≡ modes.Reading }
         ensures { GoesOn (rule.breaks symbols.now place (option_map tree_of condition) (config self.old)) result (config self.new) }
     {
@@ -179,7 +179,7 @@ impl<'a> ExpanderState<'a> {
     }
 
     /// `.asg`
-    pub(crate) fn assign(&mut self, name: &str, text: String) -> Result<(), Failure<ExpansionFault>>
+    pub(crate) fn assign(&mut self, name: &str, text: String) -> Result<(), Failure<ExpanderFault>>
         ensures { GoesOn (exp.Goes (record (config self.old) { names = exp.assigned name.now (string_bytes text) (config self.old).names })) result (config self.new) }
     {
         self.names.assign(name, text).map_err(Failure::NoMemory)
@@ -193,7 +193,7 @@ impl<'a> ExpanderState<'a> {
         place: SourcePlace,
         expression: Expr,
         name: &str,
-    ) -> Result<(), Failure<ExpansionFault>>
+    ) -> Result<(), Failure<ExpanderFault>>
         ensures { GoesOn (rule.evaluates symbols.now place (tree_of expression) name.now (config self.old)) result (config self.new) }
     {
         let number = match number(symbols, expression) {
@@ -211,7 +211,7 @@ impl<'a> ExpanderState<'a> {
         files: &'a Files,
         place: SourcePlace,
         name: String,
-    ) -> Result<(), Failure<ExpansionFault>>
+    ) -> Result<(), Failure<ExpanderFault>>
         requires reading { self.old.mode ≡ modes.Reading }
         ensures { GoesOn (rule.copies files.now place (string_bytes name) (config self.old)) result (config self.new) }
     {
@@ -224,13 +224,13 @@ impl<'a> ExpanderState<'a> {
                 let last = rows.last_place(place);
                 self.open(Kind::Copied, last, rows)
             }
-            None => Err(Failure::Fault(ExpansionFault::Missing { place, name })),
+            None => Err(Failure::Fault(ExpanderFault::Missing { place, name })),
         }
     }
 
     /// `.end`
     #[tactic(auto, unfolding(c25_meaning_expansion::specs::ExpansionRules::ends_all))]
-    pub(crate) fn end_all(&mut self, place: SourcePlace) -> Result<(), Failure<ExpansionFault>>
+    pub(crate) fn end_all(&mut self, place: SourcePlace) -> Result<(), Failure<ExpanderFault>>
         requires reading { self.old.mode ≡ modes.Reading }
         ensures { GoesOn (rule.ends_all place (config self.old)) result (config self.new) }
     {

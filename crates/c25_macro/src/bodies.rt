@@ -11,7 +11,7 @@ ghost use Rattle.c25_macro.specs.Config.{config, ForBody, GoesOn};
 ghost use Rattle.c25_macro.specs.declared.state.Mode.TheVariants as modes;
 
 use crate::directive::directive_in;
-use crate::expansion_fault::ExpansionFault;
+use crate::expander_fault::ExpanderFault;
 use crate::frames::Kind;
 use crate::macros::Macro;
 use crate::state::{ExpanderState, Mode};
@@ -29,7 +29,7 @@ impl<'a> ExpanderState<'a> {
         name: String,
         parameters: Vec<String>,
         nested: usize,
-    ) -> Result<(), Failure<ExpansionFault>>
+    ) -> Result<(), Failure<ExpanderFault>>
         requires few { nested < 2 ^ 32 }
         requires reading { self.old.mode ≡ modes.Reading }
         ensures { ForBody self.old.top.lines.passed row.entry (λ body. GoesOn (rule.in_macro row.entry (rule.directive_in (first_word row.entry.text)) (string_bytes name) (bytes_of_names parameters.items) body nested (config self.old)) result (config self.new)) }
@@ -63,7 +63,7 @@ impl<'a> ExpanderState<'a> {
         place: SourcePlace,
         turns: usize,
         body: Rows<'a>,
-    ) -> Result<(), Failure<ExpansionFault>>
+    ) -> Result<(), Failure<ExpanderFault>>
         requires reading { self.old.mode ≡ modes.Reading }
         ensures { GoesOn (rule.turns_begin place turns body.entry (config self.old)) result (config self.new) }
     {
@@ -83,7 +83,7 @@ impl<'a> ExpanderState<'a> {
         row: Row<'a>,
         turns: usize,
         nested: usize,
-    ) -> Result<(), Failure<ExpansionFault>>
+    ) -> Result<(), Failure<ExpanderFault>>
         requires few { nested < 2 ^ 32 }
         requires reading { self.old.mode ≡ modes.Reading }
         ensures { ForBody self.old.top.lines.passed row.entry (λ body. GoesOn (rule.in_loop row.entry (rule.directive_in (first_word row.entry.text)) turns body nested (config self.old)) result (config self.new)) }

@@ -8,7 +8,7 @@ ghost use Rattle.c25_expr.specs.View.{tree_of};
 ghost use Rattle.c25_macro.specs.Config.{config, GoesOn};
 ghost use Rattle.c25_macro.specs.SourceFrames.{other_branches};
 
-use crate::expansion_fault::{ExpansionFault, fault};
+use crate::expander_fault::{ExpanderFault, fault};
 use crate::state::ExpanderState;
 use crate::values::{is_zero, number};
 use c25_expr::symbols::Symbols;
@@ -47,7 +47,7 @@ impl ExpanderState<'_> {
         symbols: &Symbols,
         place: SourcePlace,
         condition: Expr,
-    ) -> Result<(), Failure<ExpansionFault>>
+    ) -> Result<(), Failure<ExpanderFault>>
         ensures { GoesOn (rule.begins_if symbols.now place (tree_of condition) (config self.old)) result (config self.new) }
     {
         let number = match number(symbols, condition) {
@@ -70,7 +70,7 @@ impl ExpanderState<'_> {
         &mut self,
         branch: Branch,
         phase: Phase,
-    ) -> Result<(), Failure<ExpansionFault>>
+    ) -> Result<(), Failure<ExpanderFault>>
         ensures { GoesOn (rule.enters branch (other_branches (config self.old).frame.branches) (config self.old) phase) result (config self.new) }
     {
         let branches = &mut self.top.frame.branches;
@@ -85,7 +85,7 @@ impl ExpanderState<'_> {
         place: SourcePlace,
         number: Result<i32, FaultKind>,
         branch: Branch,
-    ) -> Result<(), Failure<ExpansionFault>>
+    ) -> Result<(), Failure<ExpanderFault>>
         ensures { GoesOn (rule.with_number place number (λ number. rule.enters branch (other_branches (config self.old).frame.branches) (config self.old) (rule.phase_of number))) result (config self.new) }
     {
         match number {
@@ -100,7 +100,7 @@ impl ExpanderState<'_> {
         symbols: &Symbols,
         place: SourcePlace,
         condition: Expr,
-    ) -> Result<(), Failure<ExpansionFault>>
+    ) -> Result<(), Failure<ExpanderFault>>
         ensures { GoesOn (rule.elseif_by symbols.now place (tree_of condition) (config self.old).frame.branches (config self.old)) result (config self.new) }
     {
         // A fault of the condition is reported only where no condition has held so far, or where no `.if` is
@@ -120,7 +120,7 @@ impl ExpanderState<'_> {
     }
 
     /// `.else`
-    pub(crate) fn pass_else(&mut self, place: SourcePlace) -> Result<(), Failure<ExpansionFault>>
+    pub(crate) fn pass_else(&mut self, place: SourcePlace) -> Result<(), Failure<ExpanderFault>>
         ensures { GoesOn (rule.else_by place (config self.old).frame.branches (config self.old)) result (config self.new) }
     {
         let Some(branch) = self.top.frame.branches.innermost() else {
@@ -134,7 +134,7 @@ impl ExpanderState<'_> {
     }
 
     /// `.endif`
-    pub(crate) fn end_if(&mut self, place: SourcePlace) -> Result<(), Failure<ExpansionFault>>
+    pub(crate) fn end_if(&mut self, place: SourcePlace) -> Result<(), Failure<ExpanderFault>>
         ensures { GoesOn (rule.endif_by place (config self.old).frame.branches (config self.old)) result (config self.new) }
     {
         match self.top.frame.branches.pop() {

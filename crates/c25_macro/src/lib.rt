@@ -12,7 +12,7 @@ mod conditions;
 mod dictionary;
 mod directive;
 pub mod expander;
-mod expansion_fault;
+mod expander_fault;
 mod expansions;
 mod frames;
 mod line;

@@ -19,7 +19,7 @@ ghost use Rattle.c25_macro.specs.declared.state.Mode.TheVariants as modes;
 use crate::act::{ExpansionAct, Order};
 use crate::conditions::takes_lines;
 use crate::directive::directive_in;
-use crate::expansion_fault::{ExpansionFault, at_place, fault};
+use crate::expander_fault::{ExpanderFault, at_place, fault};
 use crate::frames::ExitTarget;
 use crate::line::Line;
 use crate::orders::{read_call, read_order};
@@ -44,7 +44,7 @@ impl<'a> ExpanderState<'a> {
         symbols: &Symbols,
         place: SourcePlace,
         act: ExpansionAct<'a>,
-    ) -> Result<(), Failure<ExpansionFault>>
+    ) -> Result<(), Failure<ExpanderFault>>
         requires expansions { (config self.old).names.count < 2 ^ 31 }
         requires reading { self.old.mode ≡ modes.Reading }
         ensures { GoesOn (rule.acts files.now symbols.now place (act_of act.entry) (config self.old)) result (config self.new) }
@@ -76,7 +76,7 @@ impl<'a> ExpanderState<'a> {
         symbols: &Symbols,
         place: SourcePlace,
         order: Order<'a>,
-    ) -> Result<LineResult<'a>, Failure<ExpansionFault>>
+    ) -> Result<LineResult<'a>, Failure<ExpanderFault>>
         requires expansions { (config self.old).names.count < 2 ^ 31 }
         requires reading { self.old.mode ≡ modes.Reading }
         ensures { Follows (rule.labelled files.now symbols.now place (order_of order.entry).label (order_of order.entry).act (config self.old)) result (config self.new) }
@@ -98,7 +98,7 @@ impl<'a> ExpanderState<'a> {
         symbols: &Symbols,
         place: SourcePlace,
         order: Result<Order<'a>, Failure<FaultKind>>,
-    ) -> Result<LineResult<'a>, Failure<ExpansionFault>>
+    ) -> Result<LineResult<'a>, Failure<ExpanderFault>>
         requires expansions { (config self.old).names.count < 2 ^ 31 }
         requires reading { self.old.mode ≡ modes.Reading }
         ensures { (told : Result acts.Order FaultKind) → Meets order_of told order.entry
@@ -116,7 +116,7 @@ impl<'a> ExpanderState<'a> {
         files: &'a Files,
         symbols: &Symbols,
         line: Line<'a>,
-    ) -> Result<LineResult<'a>, Failure<ExpansionFault>>
+    ) -> Result<LineResult<'a>, Failure<ExpanderFault>>
         requires expansions { (config self.old).names.count < 2 ^ 31 }
         requires reading { self.old.mode ≡ modes.Reading }
         ensures { Follows (rule.calls files.now symbols.now line.entry (rule.macro_of (first_word line.entry.text) (config self.old).names) (config self.old)) result (config self.new) }
@@ -137,7 +137,7 @@ impl<'a> ExpanderState<'a> {
         files: &'a Files,
         symbols: &Symbols,
         line: Line<'a>,
-    ) -> Result<LineResult<'a>, Failure<ExpansionFault>>
+    ) -> Result<LineResult<'a>, Failure<ExpanderFault>>
         requires expansions { (config self.old).names.count < 2 ^ 31 }
         requires reading { self.old.mode ≡ modes.Reading }
         ensures { Follows (rule.uses files.now symbols.now line.entry (rule.directive_in (first_word line.entry.text)) (config self.old)) result (config self.new) }
@@ -174,7 +174,7 @@ impl<'a> ExpanderState<'a> {
         symbols: &Symbols,
         row: Row<'a>,
         directive: Option<Directive>,
-    ) -> Result<LineResult<'a>, Failure<ExpansionFault>>
+    ) -> Result<LineResult<'a>, Failure<ExpanderFault>>
         requires expansions { (config self.old).names.count < 2 ^ 31 }
         requires reading { self.old.mode ≡ modes.Reading }
         ensures { Follows (rule.used files.now symbols.now row.entry directive (config self.old)) result (config self.new) }
@@ -194,7 +194,7 @@ impl<'a> ExpanderState<'a> {
         place: SourcePlace,
         directive: Directive,
         text: &str,
-    ) -> Result<LineResult<'a>, Failure<ExpansionFault>>
+    ) -> Result<LineResult<'a>, Failure<ExpanderFault>>
         requires expansions { (config self.old).names.count < 2 ^ 31 }
         requires reading { self.old.mode ≡ modes.Reading }
         ensures { Follows (rule.consumed files.now symbols.now place (acts.order_of directive text.now) (config self.old)) result (config self.new) }
@@ -211,7 +211,7 @@ impl<'a> ExpanderState<'a> {
         symbols: &Symbols,
         row: Row<'a>,
         directive: Directive,
-    ) -> Result<LineResult<'a>, Failure<ExpansionFault>>
+    ) -> Result<LineResult<'a>, Failure<ExpanderFault>>
         requires expansions { (config self.old).names.count < 2 ^ 31 }
         requires reading { self.old.mode ≡ modes.Reading }
         ensures { Follows (rule.resumes files.now symbols.now row.entry directive (config self.old)) result (config self.new) }
@@ -228,7 +228,7 @@ impl<'a> ExpanderState<'a> {
         &mut self,
         branch: Branch,
         nested: usize,
-    ) -> Result<LineResult<'a>, Failure<ExpansionFault>>
+    ) -> Result<LineResult<'a>, Failure<ExpanderFault>>
         ensures { Follows (rule.nests nested branch (other_branches (config self.old).frame.branches) (config self.old)) result (config self.new) }
     {
         let branches = &mut self.top.frame.branches;
@@ -243,7 +243,7 @@ impl<'a> ExpanderState<'a> {
         symbols: &Symbols,
         row: Row<'a>,
         branch: Branch,
-    ) -> Result<LineResult<'a>, Failure<ExpansionFault>>
+    ) -> Result<LineResult<'a>, Failure<ExpanderFault>>
         requires expansions { (config self.old).names.count < 2 ^ 31 }
         requires reading { self.old.mode ≡ modes.Reading }
         ensures { Follows (rule.reads_elseif files.now symbols.now row.entry branch (other_branches (config self.old).frame.branches) (config self.old)) result (config self.new) }
@@ -262,7 +262,7 @@ impl<'a> ExpanderState<'a> {
         symbols: &Symbols,
         row: Row<'a>,
         branch: Branch,
-    ) -> Result<LineResult<'a>, Failure<ExpansionFault>>
+    ) -> Result<LineResult<'a>, Failure<ExpanderFault>>
         requires expansions { (config self.old).names.count < 2 ^ 31 }
         requires reading { self.old.mode ≡ modes.Reading }
         ensures { Follows (rule.else_in branch.phase row.entry.place (λ _. rule.resumes files.now symbols.now row.entry Directive.Else (config self.old))) result (config self.new) }
@@ -283,7 +283,7 @@ impl<'a> ExpanderState<'a> {
         row: Row<'a>,
         directive: Option<Directive>,
         branch: Branch,
-    ) -> Result<LineResult<'a>, Failure<ExpansionFault>>
+    ) -> Result<LineResult<'a>, Failure<ExpanderFault>>
         requires expansions { (config self.old).names.count < 2 ^ 31 }
         requires reading { self.old.mode ≡ modes.Reading }
         ensures { Follows (rule.skips_outer files.now symbols.now row.entry directive branch (other_branches (config self.old).frame.branches) (config self.old)) result (config self.new) }
@@ -302,7 +302,7 @@ impl<'a> ExpanderState<'a> {
         &mut self,
         directive: Option<Directive>,
         branch: Branch,
-    ) -> Result<LineResult<'a>, Failure<ExpansionFault>>
+    ) -> Result<LineResult<'a>, Failure<ExpanderFault>>
         requires some { 0 < branch.nested }
         requires few { branch.nested < 2 ^ 31 }
         ensures { Follows (rule.skips_nested directive branch (other_branches (config self.old).frame.branches) (config self.old)) result (config self.new) }
@@ -323,7 +323,7 @@ impl<'a> ExpanderState<'a> {
         row: Row<'a>,
         directive: Option<Directive>,
         branch: Branch,
-    ) -> Result<LineResult<'a>, Failure<ExpansionFault>>
+    ) -> Result<LineResult<'a>, Failure<ExpanderFault>>
         requires expansions { (config self.old).names.count < 2 ^ 31 }
         requires reading { self.old.mode ≡ modes.Reading }
         requires few { branch.nested < 2 ^ 31 }
@@ -344,7 +344,7 @@ impl<'a> ExpanderState<'a> {
         row: Row<'a>,
         directive: Option<Directive>,
         branch: Branch,
-    ) -> Result<LineResult<'a>, Failure<ExpansionFault>>
+    ) -> Result<LineResult<'a>, Failure<ExpanderFault>>
         requires expansions { (config self.old).names.count < 2 ^ 31 }
         requires reading { self.old.mode ≡ modes.Reading }
         ensures { Follows (rule.takes files.now symbols.now row.entry directive branch (other_branches (config self.old).frame.branches) (config self.old)) result (config self.new) }
@@ -361,7 +361,7 @@ impl<'a> ExpanderState<'a> {
         files: &'a Files,
         symbols: &Symbols,
         row: Row<'a>,
-    ) -> Result<LineResult<'a>, Failure<ExpansionFault>>
+    ) -> Result<LineResult<'a>, Failure<ExpanderFault>>
         requires expansions { (config self.old).names.count < 2 ^ 31 }
         requires reading { self.old.mode ≡ modes.Reading }
         requires nested { nesting (config self.old).frame.branches < 2 ^ 31 }

@@ -10,7 +10,7 @@ ghost use Rattle.c25_macro.specs.Stages.{stage_of, IsRefused};
 
 use crate::answer::{ExpLine, ExpandFault};
 use crate::bounded_state::BoundedState;
-use crate::expansion_fault::ExpansionFault;
+use crate::expander_fault::ExpanderFault;
 use crate::line::Line;
 use crate::state::ExpanderState;
 use c25_expr::symbols::Symbols;
@@ -72,13 +72,13 @@ fn no_file(file: &str, line: usize) -> ExpandFault<'_>
 fn refuse<'a>(
     files: &'a Files,
     name: &'a str,
-    failure: Failure<ExpansionFault>,
+    failure: Failure<ExpanderFault>,
 ) -> (Stage<'a>, Answer<'a>)
     ensures { IsRefused files.now name.now failure result.0 result.1 }
 {
     match failure {
         Failure::NoMemory(error) => (Stage::NoMemory(error), Err(Failure::NoMemory(error))),
-        Failure::Fault(ExpansionFault::Faulty { place, kind }) => {
+        Failure::Fault(ExpanderFault::Faulty { place, kind }) => {
             let place = FileLine {
                 file: files.name(place.file),
                 line: place.line,
@@ -86,7 +86,7 @@ fn refuse<'a>(
             let fault = Placed { place, fault: kind };
             (Stage::Faulty(fault), Err(Failure::Fault(fault)))
         }
-        Failure::Fault(ExpansionFault::Missing { place, name }) => {
+        Failure::Fault(ExpanderFault::Missing { place, name }) => {
             let file = files.name(place.file);
             let line = place.line;
             (

@@ -12,7 +12,7 @@ ghost use Rattle.c25_macro.specs.declared.state.Mode.TheVariants as modes;
 
 use crate::act::ExpansionAct;
 use crate::dictionary::Dictionary;
-use crate::expansion_fault::ExpansionFault;
+use crate::expander_fault::ExpanderFault;
 use crate::frames::{Branches, ExitTarget, Kind, Source, SourceFrame, Stack};
 use crate::line::Line;
 use c25_files::Rows;
@@ -59,8 +59,8 @@ pub(crate) enum LineResult<'a> {
 
 /// The progress of a rewriting that gives no line.
 pub(crate) fn consumed<'a>(
-    done: Result<(), Failure<ExpansionFault>>,
-) -> Result<LineResult<'a>, Failure<ExpansionFault>>
+    done: Result<(), Failure<ExpanderFault>>,
+) -> Result<LineResult<'a>, Failure<ExpanderFault>>
     ensures { (r : exp.Rewriting) (new : exp.Config) → GoesOn r done new → Follows r result new }
 {
     match done {
@@ -127,7 +127,7 @@ impl<'a> ExpanderState<'a> {
         kind: Kind<'a>,
         last: SourcePlace,
         rows: Rows<'a>,
-    ) -> Result<(), Failure<ExpansionFault>>
+    ) -> Result<(), Failure<ExpanderFault>>
         requires reading { self.old.mode ≡ modes.Reading }
         ensures { GoesOn (exp.Goes (exp.source_opened (kind_of kind.entry) last rows.entry (config self.old))) result (config self.new) }
     {

@@ -13,7 +13,7 @@ ghost use Rattle.c25_macro.specs.Acts.{bytes_of_names};
 ghost use Rattle.c25_macro.specs.Config.{config, Follows, IsNextRow, Answers};
 ghost use Rattle.c25_macro.specs.declared.state.Mode.TheVariants as modes;
 
-use crate::expansion_fault::{ExpansionFault, fault};
+use crate::expander_fault::{ExpanderFault, fault};
 use crate::frames::Kind;
 use crate::line::Line;
 use crate::state::{ExpanderState, LineResult, Mode, consumed};
@@ -27,7 +27,7 @@ use std::mem;
 impl<'a> ExpanderState<'a> {
     /// The next line of the innermost file, expansion or turn, if it has one. It counts among the lines that
     /// may be read.
-    fn next_row(&mut self) -> Result<Option<Row<'a>>, Failure<ExpansionFault>>
+    fn next_row(&mut self) -> Result<Option<Row<'a>>, Failure<ExpanderFault>>
         ensures next { IsNextRow self.old result self.new }
         ensures frame { self.new.top.frame ≡ self.old.top.frame }
         ensures below { self.new.below ≡ self.old.below }
@@ -46,7 +46,7 @@ impl<'a> ExpanderState<'a> {
 
     /// Begins the next turn of a loop, or goes back to what stands after the file, expansion or turn that
     /// ends here.
-    fn end_source(&mut self) -> Result<LineResult<'a>, Failure<ExpansionFault>>
+    fn end_source(&mut self) -> Result<LineResult<'a>, Failure<ExpanderFault>>
         requires ended { self.old.top.lines.rest ≡ [] }
         requires reading { self.old.mode ≡ modes.Reading }
         ensures { (files : meaning.Files) (s : Table) → Follows (runs.front files s (config self.old).lines (config self.old)) result (config self.new) }
@@ -82,7 +82,7 @@ impl<'a> ExpanderState<'a> {
         &mut self,
         files: &'a Files,
         symbols: &Symbols,
-    ) -> Result<LineResult<'a>, Failure<ExpansionFault>>
+    ) -> Result<LineResult<'a>, Failure<ExpanderFault>>
         requires bounded { IsBounded (config self.old) }
         requires reading { self.old.mode ≡ modes.Reading }
         ensures { Follows (runs.front files.now symbols.now (config self.old).lines (config self.old)) result (config self.new) }
@@ -101,7 +101,7 @@ impl<'a> ExpanderState<'a> {
         name: String,
         parameters: Vec<String>,
         nested: usize,
-    ) -> Result<LineResult<'a>, Failure<ExpansionFault>>
+    ) -> Result<LineResult<'a>, Failure<ExpanderFault>>
         requires collected { nested < 2 ^ 31 }
         requires reading { self.old.mode ≡ modes.Reading }
         ensures { (files : meaning.Files) (s : Table) → Follows (runs.front files s (config self.old).lines (record (config self.old) { mode = exp.InMacro (string_bytes name) (bytes_of_names parameters.items) self.old.top.lines.passed nested })) result (config self.new) }
@@ -118,7 +118,7 @@ impl<'a> ExpanderState<'a> {
         &mut self,
         turns: usize,
         nested: usize,
-    ) -> Result<LineResult<'a>, Failure<ExpansionFault>>
+    ) -> Result<LineResult<'a>, Failure<ExpanderFault>>
         requires collected { nested < 2 ^ 31 }
         requires reading { self.old.mode ≡ modes.Reading }
         ensures { (files : meaning.Files) (s : Table) → Follows (runs.front files s (config self.old).lines (record (config self.old) { mode = exp.InLoop turns self.old.top.lines.passed nested })) result (config self.new) }
@@ -136,7 +136,7 @@ impl<'a> ExpanderState<'a> {
         &mut self,
         files: &'a Files,
         symbols: &Symbols,
-    ) -> Result<LineResult<'a>, Failure<ExpansionFault>>
+    ) -> Result<LineResult<'a>, Failure<ExpanderFault>>
         requires { IsBounded (config self.old) }
         ensures { Follows (runs.rewrite files.now symbols.now (config self.old)) result (config self.new) }
     {
@@ -157,7 +157,7 @@ impl<'a> ExpanderState<'a> {
         &mut self,
         files: &'a Files,
         symbols: &Symbols,
-    ) -> Result<Option<Line<'a>>, Failure<ExpansionFault>>
+    ) -> Result<Option<Line<'a>>, Failure<ExpanderFault>>
         requires { IsBounded (config self.old) }
         ensures answer { Answers (runs.first files.now symbols.now (config self.old)) result (config self.new) }
         ensures bounded { OnOk result (IsBounded (config self.new)) }

@@ -7,7 +7,7 @@ ghost use Rattle.c25_meaning_expansion.specs.Trail.{line_of, next_place};
 ghost use Rattle.c25_macro.specs.Config.{config, refused_by};
 ghost use Rattle.c25_macro.specs.Tracers.{Begins, IsToldAs, Shows, Steps, fault_in, trace_of};
 
-use crate::expansion_fault::ExpansionFault;
+use crate::expander_fault::ExpanderFault;
 use crate::stage::show;
 use crate::state::{ExpanderState, LineResult, Mode};
 use crate::tracer::{Step, StepFault, Tracer};
@@ -44,18 +44,18 @@ impl ExpanderState<'_> {
 }
 
 /// The fault that reports a refusal, with the name of the line's file.
-fn told(files: &Files, refusal: ExpansionFault) -> StepFault<'_>
+fn told(files: &Files, refusal: ExpanderFault) -> StepFault<'_>
     ensures { fault_by files.now (refused_by refusal) ≡ Some (fault_in result) }
 {
     match refusal {
-        ExpansionFault::Faulty { place, kind } => {
+        ExpanderFault::Faulty { place, kind } => {
             let place = FileLine {
                 file: files.name(place.file),
                 line: place.line,
             };
             StepFault::Faulty(Placed { place, fault: kind })
         }
-        ExpansionFault::Missing { place, name } => {
+        ExpanderFault::Missing { place, name } => {
             let file = files.name(place.file);
             let line = place.line;
             StepFault::Missing { file, line, name }
@@ -64,7 +64,7 @@ fn told(files: &Files, refusal: ExpansionFault) -> StepFault<'_>
 }
 
 /// The failure that reports a refusal, or that memory ran out, with the name of the line's file.
-fn told_failure(files: &Files, failure: Failure<ExpansionFault>) -> Failure<StepFault<'_>>
+fn told_failure(files: &Files, failure: Failure<ExpanderFault>) -> Failure<StepFault<'_>>
     ensures { IsToldAs files.now failure result }
 {
     match failure {

@@ -9,7 +9,7 @@ use c25_meaning_language::statement::FaultKind;
 
 /// Why no line is given.
 #[derive(Drop)]
-pub(crate) enum ExpansionFault {
+pub(crate) enum ExpanderFault {
     /// The line at this place has a fault.
     Faulty { place: SourcePlace, kind: FaultKind },
     /// The line at this place asks for the file with this name, which is not there.
@@ -17,14 +17,14 @@ pub(crate) enum ExpansionFault {
 }
 
 /// The refusal of the line at this place, for this fault.
-pub(crate) fn fault(kind: FaultKind, place: SourcePlace) -> Failure<ExpansionFault>
-    ensures { result ≡ Failure.Fault (ExpansionFault.Faulty place kind) }
+pub(crate) fn fault(kind: FaultKind, place: SourcePlace) -> Failure<ExpanderFault>
+    ensures { result ≡ Failure.Fault (ExpanderFault.Faulty place kind) }
 {
-    Failure::Fault(ExpansionFault::Faulty { place, kind })
+    Failure::Fault(ExpanderFault::Faulty { place, kind })
 }
 
 /// The refusal of the line at this place, for this failure.
-pub(crate) fn at_place(failure: Failure<FaultKind>, place: SourcePlace) -> Failure<ExpansionFault>
+pub(crate) fn at_place(failure: Failure<FaultKind>, place: SourcePlace) -> Failure<ExpanderFault>
     ensures { result ≡ at_place place failure }
 {
     match failure {
