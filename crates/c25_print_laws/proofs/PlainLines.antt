@@ -35,16 +35,16 @@ module _ (files : Files) (s : Table) where
   taken_plain row (b ∷ bs) c taken h = ap (λ t. if t then takes files s row None b bs c else skips files s row None b bs c) taken ∙ used_plain row c h
 
   -- a plain line is given
-  pub gives_plain : (row : Row) (rest : List LineOrEnd) (c : Config) → are_taken c.scope.branches ≡ true → 0 < c.left → IsPlain c.names row.text →
+  pub gives_plain : (row : Row) (rest : List LineOrEnd) (c : Config) → are_taken c.frame.branches ≡ true → 0 < c.left → IsPlain c.names row.text →
       rewrite files s (record c { lines = Read row ∷ rest; mode = Reading }) ≡ Gives row (record c { lines = rest; mode = Reading; left = c.left - 1 })
   unfolding rewrite
   gives_plain row rest c taken some h =
       let next : Config = record c { lines = rest; mode = Reading; left = c.left - 1 } in
-      ap (λ t. if t then Faults row.place fault.Lines else reads_by files s row (directive_in (first_word row.text)) next.scope.branches next) (not_none c.left some)
-      ∙ ap (λ d. reads_by files s row d next.scope.branches next) h.no_directive
-      ∙ taken_plain row next.scope.branches next taken h
+      ap (λ t. if t then Faults row.place fault.Lines else reads_by files s row (directive_in (first_word row.text)) next.frame.branches next) (not_none c.left some)
+      ∙ ap (λ d. reads_by files s row d next.frame.branches next) h.no_directive
+      ∙ taken_plain row next.frame.branches next taken h
 
-  pub first_plain : (row : Row) (rest : List LineOrEnd) (c : Config) → are_taken c.scope.branches ≡ true → 0 < c.left → IsPlain c.names row.text →
+  pub first_plain : (row : Row) (rest : List LineOrEnd) (c : Config) → are_taken c.frame.branches ≡ true → 0 < c.left → IsPlain c.names row.text →
       first files s (record c { lines = Read row ∷ rest; mode = Reading }) ≡ Gives row (record c { lines = rest; mode = Reading; left = c.left - 1 })
   first_plain row rest c taken some h =
       let old : Config = record c { lines = Read row ∷ rest; mode = Reading } in
@@ -81,7 +81,7 @@ module _ (files : Files) (s : Table) where
 -- ---- what a line that is read says of the configuration where it stands
 
 -- a plain line is given, where nothing else stands
-pub plain_line : (files : Files) (s : Table) (row : Row) (rest : List LineOrEnd) (c : Config) → c.mode ≡ Reading → c.lines ≡ Read row ∷ rest → are_taken c.scope.branches ≡ true → 0 < c.left → IsPlain c.names row.text →
+pub plain_line : (files : Files) (s : Table) (row : Row) (rest : List LineOrEnd) (c : Config) → c.mode ≡ Reading → c.lines ≡ Read row ∷ rest → are_taken c.frame.branches ≡ true → 0 < c.left → IsPlain c.names row.text →
     first files s c ≡ Gives row (record c { lines = rest; left = c.left - 1 })
 plain_line files s row rest c reading lines taken some h =
     let same : c ≡ record c { lines = Read row ∷ rest; mode = Reading } = ap (λ ls. record c { lines = ls }) lines ∙ ap (λ m. record c { lines = Read row ∷ rest; mode = m }) reading in
@@ -100,7 +100,7 @@ plain_source files s file text h l =
 module _ (files : Files) (s : Table) (c : Config) (b : Branch) (bs : List Branch) (skipped : takes_lines b.phase ≡ false) where
   -- these lines are still to come, so many `.if`s are nested, and so many lines may still be read
   abbrev pub standing : List LineOrEnd → ℕ → ℕ → Config
-  standing lines nested left = record c { lines = lines; mode = Reading; left = left; scope = record c.scope { branches = record b { nested = nested } ∷ bs } }
+  standing lines nested left = record c { lines = lines; mode = Reading; left = left; frame = record c.frame { branches = record b { nested = nested } ∷ bs } }
 
   skips_deep : (row : Row) (d : Option Directive) (n : ℕ) (old : Config) → skips files s row d (record b { nested = suc n }) bs old ≡ skips_nested d (record b { nested = suc n }) bs old
   unfolding skips
@@ -149,13 +149,13 @@ module _ (files : Files) (s : Table) (c : Config) (b : Branch) (bs : List Branch
 
 -- the lines of a false `.if` change nothing but the count of lines that may still be read
 pub lines_skipped : (files : Files) (s : Table) (rows : List Row) (rest : List LineOrEnd) (c : Config) (b : Branch) (bs : List Branch) → c.mode ≡ Reading → c.lines ≡ map Read rows ++ rest →
-    c.scope.branches ≡ b ∷ bs → takes_lines b.phase ≡ false → b.nested ≡ 0 → are_closed 0 rows ≡ true → length rows ≤ c.left →
+    c.frame.branches ≡ b ∷ bs → takes_lines b.phase ≡ false → b.nested ≡ 0 → are_closed 0 rows ≡ true → length rows ≤ c.left →
     Leads files s (length rows) c (record c { lines = rest; left = c.left - length rows })
 lines_skipped files s rows rest c b bs reading lines branches skipped outer closed l =
     let same : (items : List LineOrEnd) (left : ℕ) → record c { lines = items; left = left } ≡ standing files s c b bs skipped items 0 left = λ items left.
     ap (λ m. record c { lines = items; left = left; mode = m }) reading
-    ∙ ap (λ xs. record c { lines = items; left = left; mode = Reading; scope = record c.scope { branches = xs } }) branches
-    ∙ ap (λ n. record c { lines = items; left = left; mode = Reading; scope = record c.scope { branches = record b { nested = n } ∷ bs } }) outer in
+    ∙ ap (λ xs. record c { lines = items; left = left; mode = Reading; frame = record c.frame { branches = xs } }) branches
+    ∙ ap (λ n. record c { lines = items; left = left; mode = Reading; frame = record c.frame { branches = record b { nested = n } ∷ bs } }) outer in
     let here : c ≡ standing files s c b bs skipped (map Read rows ++ rest) 0 c.left = ap (λ ls. record c { lines = ls }) lines ∙ same (map Read rows ++ rest) c.left in
     subst (λ old. Leads files s (length rows) old (record c { lines = rest; left = c.left - length rows })) (sym here)
     (subst (Leads files s (length rows) (standing files s c b bs skipped (map Read rows ++ rest) 0 c.left)) (sym (same rest (c.left - length rows)))

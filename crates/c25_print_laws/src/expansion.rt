@@ -38,7 +38,7 @@ pub fn expansion_opens_at_most_32_blocks()
 /// still be read changes. So a source of such lines gives all of them and then ends.
 pub fn plain_lines_expand_to_themselves()
     ensures line { (files : Files) (s : Table) (row : Row) (rest : List LineOrEnd) (c : Config) → c.mode ≡ Reading → c.lines ≡ Read row ∷ rest
-        → are_taken c.scope.branches ≡ true → 0 < c.left → IsPlain c.names row.text
+        → are_taken c.frame.branches ≡ true → 0 < c.left → IsPlain c.names row.text
         → first files s c ≡ Gives row (record c { lines = rest; left = c.left - 1 }) }
     ensures source { (files : Files) (s : Table) (file : ℕ) (text : List ℕ) → ArePlain (rows_of file text) → length (rows_of file text) ≤ 200000
         → (c : Config) × Gave files (start file text) (rows_of file text) c × (first files s c ≡ Finishes c) }
@@ -48,6 +48,6 @@ pub fn plain_lines_expand_to_themselves()
 /// whatever the symbols are, only the number of lines that may still be read changes.
 pub fn lines_of_a_false_if_are_skipped()
     ensures { (files : Files) (s : Table) (rows : List Row) (rest : List LineOrEnd) (c : Config) (b : Branch) (bs : List Branch) → c.mode ≡ Reading
-        → c.lines ≡ map Read rows ++ rest → c.scope.branches ≡ b ∷ bs → takes_lines b.phase ≡ false → b.nested ≡ 0 → are_closed 0 rows ≡ true
+        → c.lines ≡ map Read rows ++ rest → c.frame.branches ≡ b ∷ bs → takes_lines b.phase ≡ false → b.nested ≡ 0 → are_closed 0 rows ≡ true
         → length rows ≤ c.left → Leads files s (length rows) c (record c { lines = rest; left = c.left - length rows }) }
 {}
