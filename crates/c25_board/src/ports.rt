@@ -80,7 +80,7 @@ impl ListSink {
         self.words.as_slice()
     }
 
-    /// The error for which the last output failed, if one has failed.
+    /// The error of the last output that was refused; None where none was.
     pub fn refused(&self) -> Option<NoMemory>
         ensures { IfNone result (self.now.failures ≡ 0) }
     {

@@ -43,7 +43,7 @@ impl Schedule {
     }
 }
 
-/// The event of a name: `int0`, `int1`, `int2`, `bio0` or `bio1`.
+/// The event of a name: `int0`, `int1`, `int2`, `bio0` or `bio1`, in upper or lower case.
 #[tactic(auto, unfolding(c25_meaning_processor::specs::Schedule::event_of))]
 fn event_of(word: &[u8]) -> Option<Event>
     ensures { result ≡ event_of word.now }

@@ -46,7 +46,8 @@ fn push_outcome(out: &mut String, outcome: Outcome, steps: u32) -> Result<(), No
 }
 
 /// The text of a run: for each output a line with its port in decimal and its word in four hexadecimal
-/// digits, and then `ran N` or `left N NAME`, N being the number of steps that were done.
+/// digits, and then `ran N`, `left N NAME` or, where a sink refused a word, `sink N`, N being the number of
+/// steps that were done.
 pub fn write_run(alloc: Global, chain: &Chain) -> Result<String, NoMemory>
     ensures { IfOk result (λ text. string_bytes text ≡ run_text chain.now) }
 {

@@ -68,7 +68,8 @@ fn failed(alloc: Global, failure: Failure<AsmFault<'_>>) -> Fault
 }
 
 /// Assembles the source of this name in `files`: its module and its listing. The faults are a wrong line (10
-/// to 13, 20 to 26, 31 to 36, 38, 50 to 56), and a copied file that is not there (30).
+/// to 13, 20 to 26, 31 to 36, 38, 50 to 56), and a file that is not there (30): a copied one, or at line 0
+/// the source.
 pub fn assemble_source<'a>(
     alloc: Global,
     files: &'a Files,

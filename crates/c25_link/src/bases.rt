@@ -15,8 +15,8 @@ use c25_place::{Place, body_size};
 use std::alloc::{AllocError, Global};
 use std::collections::HashMap;
 
-/// The page of a part, the address where its first word is loaded, and the one where it runs, if that is
-/// another.
+/// The page of a part, the address where its first word is loaded, and the one where it runs, if the command
+/// gives one (which may be the same).
 #[derive(Clone, Copy)]
 pub(crate) struct PartBase {
     pub page: u8,
@@ -127,14 +127,14 @@ impl PartBase {
         self.run.unwrap_or(self.base)
     }
 
-    /// Whether the part is loaded on page 0 and runs where it is loaded.
+    /// Whether the part is loaded on page 0 and its section has no run address.
     pub(crate) fn is_run_in_place(&self) -> bool
         ensures { result ≡ (self.now.page == 0 && not (is_some self.now.run)) }
     {
         self.page == 0 && self.run.is_none()
     }
 
-    /// Whether the part is loaded on page 0 and runs elsewhere.
+    /// Whether the part is loaded on page 0 and its section has a run address.
     pub(crate) fn is_copied(&self) -> bool
         ensures { result ≡ (self.now.page == 0 && is_some self.now.run) }
     {

@@ -81,15 +81,15 @@ impl Image {
         }
     }
 
-    /// The instructions on page 0 that run where they are loaded, by their addresses.
+    /// The instructions on page 0 of sections without a run address, by their addresses.
     pub fn marks(&self) -> &[Mark]
         ensures { result.now ≡ self.now.marks }
     {
         &self.marks
     }
 
-    /// The instructions on page 0 that run elsewhere than they are loaded, in block B0, by the addresses
-    /// where they run.
+    /// The instructions on page 0 of sections with a run address, in block B0, by the addresses where they
+    /// run.
     pub fn run_marks(&self) -> &[RunMark]
         ensures { result.now ≡ self.now.run_marks }
     {

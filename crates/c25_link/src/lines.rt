@@ -134,7 +134,7 @@ fn file_name(files: &[Vec<String>], number: usize, index: usize) -> &str
 }
 
 impl SourceLines {
-    /// The file and the line of the instruction at an address, where it has one.
+    /// The file and the line of the instruction that is loaded at an address, where it has one.
     #[tactic(auto, using(crate::proofs::Told::line_found, crate::proofs::Told::line_missing))]
     pub(crate) fn get(&self, address: u16) -> Option<(&str, u32)>
         requires { fit_from 0 (map (λ l. l.mark) (lines_view self.now)) ≡ true }

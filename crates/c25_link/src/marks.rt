@@ -1,4 +1,4 @@
-//! The marks of page 0: of instructions that run where they are loaded, and of those that run elsewhere.
+//! The marks of page 0: of instructions of sections without a run address, and of those with one.
 
 ghost use Rattle.std.specs.Prelude.{◌≡◌, ◌<◌, ◌^◌, ◌+◌, ◌++◌, true, IfOk, OnOk, unwrap_or};
 ghost use Rattle.c25_meaning_linking.specs.Linking.{HasMarks, HasRunMarks};
@@ -38,7 +38,7 @@ fn placed_run_mark(part: &PartBase, mark: &ModuleMark) -> RunMark
     }
 }
 
-/// Appends the marks of a module's instructions on page 0 that run where they are loaded.
+/// Appends the marks of a module's instructions on page 0 whose sections have no run address.
 fn push_marks(
     layout: &Layout<'_, '_>,
     number: usize,
@@ -79,7 +79,7 @@ impl PlacedItem for Mark {
     }
 }
 
-/// The instructions on page 0 that run where they are loaded, by their addresses.
+/// The instructions on page 0 of sections without a run address, by their addresses.
 pub(crate) fn program_marks(alloc: Global, layout: &Layout<'_, '_>) -> Result<Vec<Mark>, AllocError>
     requires { IsLaidOut layout.now }
     ensures { IfOk result (λ v. HasMarks layout.now.modules.now (places_in layout.now) v.items) }
@@ -87,7 +87,7 @@ pub(crate) fn program_marks(alloc: Global, layout: &Layout<'_, '_>) -> Result<Ve
     items_by_address(alloc, layout)
 }
 
-/// Appends the run marks of a module's instructions on page 0 that run elsewhere than they are loaded.
+/// Appends the run marks of a module's instructions on page 0 whose sections have a run address.
 fn push_run_marks(
     layout: &Layout<'_, '_>,
     number: usize,
@@ -128,7 +128,7 @@ impl PlacedItem for RunMark {
     }
 }
 
-/// The instructions on page 0 that run elsewhere than they are loaded, by the addresses where they run.
+/// The instructions on page 0 of sections with a run address, by the addresses where they run.
 pub(crate) fn program_run_marks(
     alloc: Global,
     layout: &Layout<'_, '_>,

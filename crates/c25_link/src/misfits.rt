@@ -48,7 +48,8 @@ pub struct Misfit<'a> {
     pub addend: i32,
     /// The value that does not fit.
     pub value: i64,
-    /// The line of the instruction that has the field's word, if the module has lines.
+    /// The line of the instruction that has the field's word. None where the word is data, and where the
+    /// module has no lines (version 1).
     pub line: Option<SourceLine<'a>>,
 }
 

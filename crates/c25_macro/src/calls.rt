@@ -32,10 +32,11 @@ impl<'a> Expander<'a> {
     /// The first failure ends the expansion: every further call answers the same, and takes no memory.
     ///
     /// Of several faults in one line the first of these is reported: 34 (it is the 200,001st that is read),
-    /// 38 (it is longer than 1,024 bytes, or takes more than 1,024 replacements), and where expansion
-    /// consumes it 10 to 13, 51, 52, 20, 21, then 22 to 25, then 30 to 33, 35, 36. The label of a consumed
-    /// line is given as a line of its own after the faults up to 21 and before the others, so that the caller
-    /// can define it first.
+    /// 32 (an `.elseif` after the `.else` of its `.if`, or a second `.else` in skipped lines), 38 (it is
+    /// longer than 1,024 bytes, or takes more than 1,024 replacements), and where expansion consumes it 10 to
+    /// 13, 51, 52, 20, 21, 35, then 22 to 25, then 30, 32, 33, 36. The label of a consumed line is given as a
+    /// line of its own after the faults up to 35 of this list and before the others, so that the caller can
+    /// define it first.
     pub fn next_line(
         &mut self,
         symbols: &Symbols,

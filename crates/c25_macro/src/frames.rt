@@ -113,7 +113,7 @@ impl Kind<'_> {
 #[derive(Drop)]
 pub(crate) struct SourceFrame<'a> {
     pub(crate) kind: Kind<'a>,
-    /// The place of its last line.
+    /// The place of its last line, or of the line that opened it where it has none.
     pub(crate) last: SourcePlace,
     /// The open `.if`s that began in it, the innermost first.
     pub(crate) branches: Branches,

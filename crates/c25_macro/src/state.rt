@@ -158,7 +158,7 @@ impl<'a> ExpanderState<'a> {
     }
 
     /// Makes the source current in which the innermost block of this kind was opened, and closes all that was
-    /// opened after it. False where no such block is open.
+    /// opened after it. False where no such block is open; then only the outermost source is left.
     #[tactic(auto, using(crate::proofs::Lists::after_closes))]
     pub(crate) fn leave(&mut self, block: ExitTarget) -> bool
         requires reading { self.old.mode ≡ modes.Reading }

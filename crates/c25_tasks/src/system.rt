@@ -7,8 +7,8 @@ use crate::program::run_program;
 use c25_disk::system::System;
 use c25_report::ending::Ended;
 
-/// Runs the program with the command line, the files and the standard streams of the system. Each `main`
-/// calls this function, and ends with the status of its answer.
+/// Runs the program with the command line, the files and the standard streams of the system. Each `main` of
+/// the program calls this function, and ends with the status of its answer.
 pub fn run_on(rt: &HostRuntime) -> Ended
     ensures { IsProgram (λ _. None) None (effect_of result.report (None, None) (None, None)) }
 {
