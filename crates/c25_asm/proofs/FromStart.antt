@@ -8,7 +8,7 @@ use Rattle.c25_macro.specs.declared.tracer.StepFault.{StepFault}
 use Rattle.c25_meaning_assembly.specs.Sections.{Progress, start}
 use Rattle.c25_meaning_expansion.specs.ExpansionRuns.{start_of}
 use Rattle.c25_meaning_expansion.specs.Files.{Files}
-use Rattle.c25_meaning_expansion.specs.declared.place.SourcePlace.{SourcePlace}
+use Rattle.c25_meaning_common.specs.declared.placed.FileLine.{FileLine}
 use Rattle.c25_meaning_language.specs.ExpansionFault.{Faulty}
 use Rattle.c25_phases.specs.View.{progress_of}
 use Rattle.c25_phases.specs.Wrong.{Wrong, first_wrong}
@@ -38,36 +38,36 @@ from_start files name t new p sought e h none ends =
 -- ---- its end
 
 -- a line is refused
-pub refused : (files : Files) (name : List ℕ) (sought : Option ℕ) (trail shown : List SourcePlace) (f : StepFault) → shown ≡ trail → Ends files name sought trail (end.Refused f)
+pub refused : (files : Files) (name : List ℕ) (sought : Option ℕ) (trail shown : List (FileLine ℕ)) (f : StepFault) → shown ≡ trail → Ends files name sought trail (end.Refused f)
     → IsTrail files name (fault_in f) shown
-refused files name sought trail shown f same (inl h) = subst (λ (t : List SourcePlace). IsTrail files name (fault_in f) t) (sym same) (inl h)
-refused files name sought trail shown f same (inr h) = subst (λ (t : List SourcePlace). IsTrail files name (fault_in f) t) (sym same) (inr (inl h))
+refused files name sought trail shown f same (inl h) = subst (λ (t : List (FileLine ℕ)). IsTrail files name (fault_in f) t) (sym same) (inl h)
+refused files name sought trail shown f same (inr h) = subst (λ (t : List (FileLine ℕ)). IsTrail files name (fault_in f) t) (sym same) (inr (inl h))
 
 -- all lines pass, and no item is wrong
-pub whole : (files : Files) (name : List ℕ) (sought : Option ℕ) (trail : List SourcePlace) (p : Box code.Progress Global) → Ends files name sought trail (end.Passed p)
+pub whole : (files : Files) (name : List ℕ) (sought : Option ℕ) (trail : List (FileLine ℕ)) (p : Box code.Progress Global) → Ends files name sought trail (end.Passed p)
     → None ≡ first_wrong (progress_of p.value) → IsWhole files name
 whole files name sought trail p h none = (progress_of p.value, h.0, sym none)
 
 -- all lines pass, and an item is wrong
-pub wrong : (files : Files) (name : List ℕ) (sought : Option ℕ) (trail : List SourcePlace) (p : Box code.Progress Global) (w : Wrong) → Ends files name sought trail (end.Passed p)
+pub wrong : (files : Files) (name : List ℕ) (sought : Option ℕ) (trail : List (FileLine ℕ)) (p : Box code.Progress Global) (w : Wrong) → Ends files name sought trail (end.Passed p)
     → Some w ≡ first_wrong (progress_of p.value) → HasWrongItem files name w
 wrong files name sought trail p w h is = record { made = progress_of p.value; passes = h.0; refused = sym is }
 
 -- ---- the lines once more, up to that item
 
 module _ (files : Files) (name : List ℕ) (w : Wrong) (has : HasWrongItem files name w) where
-  pub item : (trail shown : List SourcePlace) → shown ≡ trail → ComesWith files name w.number trail
+  pub item : (trail shown : List (FileLine ℕ)) → shown ≡ trail → ComesWith files name w.number trail
       → IsTrail files name (Faulty w.origin.file w.origin.line w.kind) shown
-  item trail shown same came = subst (λ (t : List SourcePlace). IsTrail files name (Faulty w.origin.file w.origin.line w.kind) t) (sym same)
+  item trail shown same came = subst (λ (t : List (FileLine ℕ)). IsTrail files name (Faulty w.origin.file w.origin.line w.kind) t) (sym same)
       (inr (inr (record { made = has.made; passes = has.passes; wrong = w; refused = has.refused; told = refl; line = came })))
 
   pub absent : start_of files name ≡ None → ⊥
   absent nothing = is_there files name has.passes.at has.made has.passes.trail has.passes.reaches nothing
 
-  pub not_refused : (trail : List SourcePlace) (f : StepFault) → Ends files name (Some w.number) trail (end.Refused f) → ⊥
+  pub not_refused : (trail : List (FileLine ℕ)) (f : StepFault) → Ends files name (Some w.number) trail (end.Refused f) → ⊥
   not_refused trail f h = none_refused files name has.made (fault_in f) trail has.passes h
 
-  pub not_passed : (trail : List SourcePlace) (p : Box code.Progress Global) → Ends files name (Some w.number) trail (end.Passed p) → ⊥
+  pub not_passed : (trail : List (FileLine ℕ)) (p : Box code.Progress Global) → Ends files name (Some w.number) trail (end.Passed p) → ⊥
   not_passed trail p h =
       let number = wrong_within has.made w has.refused in
       let same : has.made ≡ progress_of p.value = made_once files name has.made (progress_of p.value) has.passes h.0 in

@@ -10,7 +10,7 @@ use Rattle.c25_meaning_expansion.specs.ExpansionRuns as runs
 use Rattle.c25_meaning_expansion.specs.ExpansionRuns.{first, rewrite, start_of}
 use Rattle.c25_meaning_expansion.specs.Files.{Files, text_named}
 use Rattle.c25_meaning_expansion.specs.Rows.{file_number}
-use Rattle.c25_meaning_expansion.specs.declared.place.SourcePlace.{SourcePlace}
+use Rattle.c25_meaning_common.specs.declared.placed.FileLine.{FileLine}
 use Rattle.c25_meaning_expansion.proofs.ExpansionFalls.{falls_going, given_was_read}
 use Rattle.c25_meaning_expansion.proofs.ExpansionFirst.{comes_to_first, first_going}
 use Rattle.c25_meaning_language.specs.ExpansionFault.{ExpansionFault, Faulty}
@@ -156,7 +156,7 @@ behind_line files name d p q l (suc n) behind made few rest e =
     }
 
 -- the lines from here on make the rest, wherever rewritings and lines lead
-pub rest_of : (files : Files) (name : List ℕ) (c : Config) (p : Progress) (trail : List SourcePlace) → Reaches files name c p trail → Rest files name c p
+pub rest_of : (files : Files) (name : List ℕ) (c : Config) (p : Progress) (trail : List (FileLine ℕ)) → Reaches files name c p trail → Rest files name c p
 rest_of files name c p trail (begins e none empty) = at_start files name c p e none
 rest_of files name c p trail (goes reached e after) = over files name _ c p (rest_of files name _ p _ reached) e
 rest_of files name c p trail (passes l reached g e after) =
@@ -194,7 +194,7 @@ refused_in : (files : Files) (name : List ℕ) (f : ExpansionFault) → passed_f
 unfolding assembled
 refused_in files name f e = ap (λ (r : Result LinesSoFar ExpansionFault). r >>= λ a. completed a) e
 
-unexpanded : (files : Files) (name : List ℕ) (f : ExpansionFault) (trail : List SourcePlace) → IsUnexpanded files name f trail
+unexpanded : (files : Files) (name : List ℕ) (f : ExpansionFault) (trail : List (FileLine ℕ)) → IsUnexpanded files name f trail
     → passed_from files name (start_of files name) ≡ Err f
 unexpanded files name f trail h =
     let r = rest_of files name h.at h.made _ h.reaches in
@@ -202,7 +202,7 @@ unexpanded files name f trail h =
     subst (λ (x : Progress). fault_by files (rewrite files (table x) h.at) ≡ Some f) (sym r.made) h.refused in
     r.rest ∙ over_fault files r.behind r.count h.at f here
 
-wrong_line : (files : Files) (name : List ℕ) (f : ExpansionFault) (trail : List SourcePlace) → IsWrongLine files name f trail
+wrong_line : (files : Files) (name : List ℕ) (f : ExpansionFault) (trail : List (FileLine ℕ)) → IsWrongLine files name f trail
     → passed_from files name (start_of files name) ≡ Err f
 wrong_line files name f trail h =
     let at = line_at files name h.gives.at h.gives.next h.made h.line (rest_of files name h.gives.at h.made _ h.gives.reaches) h.gives.given in
@@ -225,7 +225,7 @@ made_of files name p h =
 incomplete : (a : LinesSoFar) (f : ExpansionFault) → finished a.progress ≡ Err f → completed a ≡ Err f
 incomplete a f e = ap (λ (r : Result Contents ExpansionFault). r >>= λ m. Ok (record { contents = m; entries = a.entries })) e
 
-wrong_item_told : (files : Files) (name : List ℕ) (f : ExpansionFault) (trail : List SourcePlace) → IsWrongItem files name f trail → assembled files name ≡ Err f
+wrong_item_told : (files : Files) (name : List ℕ) (f : ExpansionFault) (trail : List (FileLine ℕ)) → IsWrongItem files name f trail → assembled files name ≡ Err f
 unfolding assembled
 wrong_item_told files name f trail h =
     let made = made_of files name h.made h.passes in
@@ -234,7 +234,7 @@ wrong_item_told files name f trail h =
     ap (λ (r : Result LinesSoFar ExpansionFault). r >>= λ a. completed a) made.passes ∙ incomplete made.all f fails
 
 -- The source is refused with the fault of its trail.
-pub refused : (files : Files) (name : List ℕ) (f : ExpansionFault) (trail : List SourcePlace) → IsTrail files name f trail → assembled files name ≡ Err f
+pub refused : (files : Files) (name : List ℕ) (f : ExpansionFault) (trail : List (FileLine ℕ)) → IsTrail files name f trail → assembled files name ≡ Err f
 refused files name f trail (inl h) = refused_in files name f (unexpanded files name f trail h)
 refused files name f trail (inr (inl h)) = refused_in files name f (wrong_line files name f trail h)
 refused files name f trail (inr (inr h)) = wrong_item_told files name f trail h
@@ -242,7 +242,7 @@ refused files name f trail (inr (inr h)) = wrong_item_told files name f trail h
 -- ---- what comes again when the lines are passed once more
 
 -- where all lines pass, none is refused
-pub none_refused : (files : Files) (name : List ℕ) (p : Progress) (f : ExpansionFault) (trail : List SourcePlace) → PassesAll files name p
+pub none_refused : (files : Files) (name : List ℕ) (p : Progress) (f : ExpansionFault) (trail : List (FileLine ℕ)) → PassesAll files name p
     → IsUnexpanded files name f trail ⊎ IsWrongLine files name f trail → ⊥
 none_refused files name p f trail h (inl u) =
     let made = made_of files name p h in
@@ -284,7 +284,7 @@ pub wrong_within : (p : Progress) (w : Wrong) → first_wrong p ≡ Some w → w
 wrong_within p w e = omega (arith, within 0 (all_names p) p.sections p.items w e)
 
 -- where something is reached there is a source
-pub is_there : (files : Files) (name : List ℕ) (c : Config) (p : Progress) (trail : List SourcePlace) → Reaches files name c p trail → start_of files name ≡ None → ⊥
+pub is_there : (files : Files) (name : List ℕ) (c : Config) (p : Progress) (trail : List (FileLine ℕ)) → Reaches files name c p trail → start_of files name ≡ None → ⊥
 is_there files name c p trail (begins e none empty) nothing = absurd (cc)
 is_there files name c p trail (goes reached e after) nothing = is_there files name _ p _ reached nothing
 is_there files name c p trail (passes l reached g e after) nothing = is_there files name _ _ _ reached nothing

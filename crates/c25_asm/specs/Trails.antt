@@ -5,7 +5,7 @@ use Rattle.c25_meaning_expansion.specs.Expansion.{Config, Goes, Finishes}
 use Rattle.c25_meaning_expansion.specs.ExpansionAnswers.{ExpandedLine, given_by, fault_by}
 use Rattle.c25_meaning_expansion.specs.ExpansionRuns.{rewrite, start_of}
 use Rattle.c25_meaning_expansion.specs.Files.{Files}
-use Rattle.c25_meaning_expansion.specs.declared.place.SourcePlace.{SourcePlace}
+use Rattle.c25_meaning_common.specs.declared.placed.FileLine.{FileLine}
 use Rattle.c25_meaning_language.specs.ExpansionFault.{ExpansionFault, Faulty}
 use Rattle.c25_meaning_assembly.specs.ModuleOfSource.{read_and_pass}
 use Rattle.c25_meaning_expansion.specs.Trail.{trail_after}
@@ -13,46 +13,46 @@ use Rattle.c25_phases.specs.Wrong.{Wrong, first_wrong}
 
 -- rewritings from the first line of the module of a name on, and the lines that they give passed one after another, lead to this
 -- configuration, to what the lines have made, and to the lines that opened what is open, the innermost first
-pub data Reaches (files : Files) (name : List ℕ) : Config → Progress → List SourcePlace → Type 0 where
-  begins : {c : Config} {p : Progress} {trail : List SourcePlace} → start_of files name ≡ Some c → p ≡ start → trail ≡ [] → Reaches files name c p trail
-  goes : {c d : Config} {p : Progress} {trail after : List SourcePlace} → Reaches files name c p trail
+pub data Reaches (files : Files) (name : List ℕ) : Config → Progress → List (FileLine ℕ) → Type 0 where
+  begins : {c : Config} {p : Progress} {trail : List (FileLine ℕ)} → start_of files name ≡ Some c → p ≡ start → trail ≡ [] → Reaches files name c p trail
+  goes : {c d : Config} {p : Progress} {trail after : List (FileLine ℕ)} → Reaches files name c p trail
       → rewrite files (table p) c ≡ Goes d → after ≡ trail_after c d trail → Reaches files name d p after
-  passes : {c d : Config} {p q : Progress} {trail after : List SourcePlace} (line : ExpandedLine) → Reaches files name c p trail
+  passes : {c d : Config} {p q : Progress} {trail after : List (FileLine ℕ)} (line : ExpandedLine) → Reaches files name c p trail
       → given_by files (rewrite files (table p) c) ≡ Some (line, d) → read_and_pass line p ≡ Ok q → after ≡ trail_after c d trail → Reaches files name d q after
 
 -- all lines pass, and make this
 pub record PassesAll (files : Files) (name : List ℕ) (p : Progress) : Type 0 where
   pub at : Config
-  pub trail : List SourcePlace
+  pub trail : List (FileLine ℕ)
   pub reaches : Reaches files name at p trail
   pub last : Config
   pub ends : rewrite files (table p) at ≡ Finishes last
 
 -- a rewriting is refused
-pub record IsUnexpanded (files : Files) (name : List ℕ) (fault : ExpansionFault) (trail : List SourcePlace) : Type 0 where
+pub record IsUnexpanded (files : Files) (name : List ℕ) (fault : ExpansionFault) (trail : List (FileLine ℕ)) : Type 0 where
   pub at : Config
   pub made : Progress
   pub reaches : Reaches files name at made trail
   pub refused : fault_by files (rewrite files (table made) at) ≡ Some fault
 
 -- a line is given after the lines that have made this
-pub record Gives (files : Files) (name : List ℕ) (made : Progress) (line : ExpandedLine) (trail : List SourcePlace) : Type 0 where
+pub record Gives (files : Files) (name : List ℕ) (made : Progress) (line : ExpandedLine) (trail : List (FileLine ℕ)) : Type 0 where
   pub at : Config
-  pub before : List SourcePlace
+  pub before : List (FileLine ℕ)
   pub reaches : Reaches files name at made before
   pub next : Config
   pub given : given_by files (rewrite files (table made) at) ≡ Some (line, next)
   pub behind : trail ≡ trail_after at next before
 
 -- a line that is given is refused
-pub record IsWrongLine (files : Files) (name : List ℕ) (fault : ExpansionFault) (trail : List SourcePlace) : Type 0 where
+pub record IsWrongLine (files : Files) (name : List ℕ) (fault : ExpansionFault) (trail : List (FileLine ℕ)) : Type 0 where
   pub made : Progress
   pub line : ExpandedLine
   pub gives : Gives files name made line trail
   pub refused : read_and_pass line made ≡ Err fault
 
 -- the item of this number comes with a line
-pub record ComesWith (files : Files) (name : List ℕ) (number : ℕ) (trail : List SourcePlace) : Type 0 where
+pub record ComesWith (files : Files) (name : List ℕ) (number : ℕ) (trail : List (FileLine ℕ)) : Type 0 where
   pub made : Progress
   pub line : ExpandedLine
   pub gives : Gives files name made line trail
@@ -62,7 +62,7 @@ pub record ComesWith (files : Files) (name : List ℕ) (number : ℕ) (trail : L
   pub by_then : number < length after.items
 
 -- all lines pass, and the first item that is wrong came with this line
-pub record IsWrongItem (files : Files) (name : List ℕ) (fault : ExpansionFault) (trail : List SourcePlace) : Type 0 where
+pub record IsWrongItem (files : Files) (name : List ℕ) (fault : ExpansionFault) (trail : List (FileLine ℕ)) : Type 0 where
   pub made : Progress
   pub passes : PassesAll files name made
   pub wrong : Wrong
@@ -71,7 +71,7 @@ pub record IsWrongItem (files : Files) (name : List ℕ) (fault : ExpansionFault
   pub line : ComesWith files name wrong.number trail
 
 -- the source of a name is refused with this fault, and these lines opened what is open there, the innermost first
-abbrev pub IsTrail : Files → (name : List ℕ) → ExpansionFault → List SourcePlace → Type 0
+abbrev pub IsTrail : Files → (name : List ℕ) → ExpansionFault → List (FileLine ℕ) → Type 0
 IsTrail files name fault trail = IsUnexpanded files name fault trail ⊎ IsWrongLine files name fault trail ⊎ IsWrongItem files name fault trail
 
 -- the source of a name is assembled

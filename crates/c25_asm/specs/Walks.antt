@@ -5,7 +5,7 @@ use Rattle.c25_macro.specs.Tracers.{Moved, Trace, fault_in}
 use Rattle.c25_macro.specs.declared.answer.ExpLine.{ExpLine}
 use Rattle.c25_meaning_assembly.specs.Sections.{PendingItem, Progress, name_count}
 use Rattle.c25_meaning_expansion.specs.Files.{Files}
-use Rattle.c25_meaning_expansion.specs.declared.place.SourcePlace.{SourcePlace}
+use Rattle.c25_meaning_common.specs.declared.placed.FileLine.{FileLine}
 use Rattle.c25_meaning_assembly.specs.ModuleOfSource.{read_and_pass}
 use Rattle.c25_phases.specs.View.{progress_of}
 use Rattle.c25_asm.specs.Trails.{Reaches, PassesAll, IsUnexpanded, IsWrongLine, ComesWith}
@@ -32,12 +32,12 @@ Passes line p sought (turn.Ended end.Reached) = (q : Progress) × (read_and_pass
 Passes line p sought (turn.Ended (end.Refused f)) = read_and_pass (shown line) p ≡ Err (fault_in f)
 
 -- the sought item comes with a line, after these lines that opened what is open
-abbrev pub ComesSought : Files → (name : List ℕ) → (sought : Option ℕ) → List SourcePlace → Type 0
+abbrev pub ComesSought : Files → (name : List ℕ) → (sought : Option ℕ) → List (FileLine ℕ) → Type 0
 ComesSought files name None trail = ⊥
 ComesSought files name (Some number) trail = ComesWith files name number trail
 
 -- how a walk through the lines of the module of a name ends, with these lines that opened what is open
-abbrev pub Ends : Files → (name : List ℕ) → (sought : Option ℕ) → List SourcePlace → End → Type 0
+abbrev pub Ends : Files → (name : List ℕ) → (sought : Option ℕ) → List (FileLine ℕ) → End → Type 0
 Ends files name sought trail (end.Passed p) =
     PassesAll files name (progress_of p.value) × HasFewNames (progress_of p.value) × (has_come sought (progress_of p.value).items ≡ false)
 Ends files name sought trail end.Reached = ComesSought files name sought trail

@@ -12,8 +12,9 @@ use c25_listing::listing::Entry;
 use c25_macro::answer::ExpLine;
 use c25_meaning_common::failure::Failure;
 use c25_meaning_common::no_memory::NoMemory;
+use c25_meaning_common::placed::FileLine;
 use c25_phases::fault::AsmFault;
-use c25_phases::{Origin, Progress, at_origin, read_and_pass};
+use c25_phases::{Progress, at_origin, read_and_pass};
 use std::alloc::Global;
 
 /// The state before the first line.
@@ -53,7 +54,7 @@ pub(crate) fn pass_line<'a>(
     let LinesSoFar { progress, entries } = passed;
     let mut entries = entries;
     let ExpLine { file, line, text } = line;
-    let origin = Origin { file, line };
+    let origin = FileLine { file, line };
     let section = progress.current;
     let offset = progress.size_at(section);
     match read_and_pass(progress, origin, text.as_str()) {

@@ -13,7 +13,6 @@ use c25_macro::files::Files;
 use c25_macro::tracer::{StepFault, Tracer};
 use c25_meaning_common::no_memory::NoMemory;
 use c25_meaning_common::placed::{FileLine, Placed};
-use c25_meaning_expansion::place::SourcePlace;
 use c25_phases::{Progress, WrongItem, first_wrong};
 use std::alloc::Global;
 
@@ -22,7 +21,7 @@ use std::alloc::Global;
 pub struct Refused<'a> {
     pub fault: StepFault<'a>,
     /// The lines that opened the copied files, expansions and turns that are open, the innermost first.
-    pub trail: Vec<SourcePlace>,
+    pub trail: Vec<FileLine<usize>>,
 }
 
 /// Whether a source is assembled or refused.

@@ -11,7 +11,7 @@ use c25_macro::tracer::{Step, StepFault, Tracer};
 use c25_meaning_common::failure::Failure;
 use c25_meaning_common::no_memory::NoMemory;
 use c25_meaning_common::placed::{FileLine, Placed};
-use c25_phases::{Origin, Progress, read_and_pass};
+use c25_phases::{Progress, read_and_pass};
 
 /// How a walk through the lines of a source ends.
 #[derive(Drop)]
@@ -51,7 +51,7 @@ fn pass<'a>(
     ensures { IfOk result (Passes line.entry (progress_of progress.entry.value) sought) }
 {
     let ExpLine { file, line, text } = line;
-    let origin = Origin { file, line };
+    let origin = FileLine { file, line };
     match read_and_pass(progress, origin, text.as_str()) {
         Ok(progress) => {
             if has_come(&progress, sought) {

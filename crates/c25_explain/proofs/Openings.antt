@@ -8,37 +8,37 @@ use Rattle.c25_asm.specs.declared.tracing.Refused.{Refused}
 use Rattle.c25_macro.specs.Tracers.{fault_in}
 use Rattle.c25_meaning_common.specs.declared.failure.Failure.{Failure}
 use Rattle.c25_meaning_expansion.specs.Files.{Files}
-use Rattle.c25_meaning_expansion.specs.declared.place.SourcePlace.{SourcePlace}
+use Rattle.c25_meaning_common.specs.declared.placed.FileLine.{FileLine}
 use Rattle.c25_meaning_language.specs.ExpansionFault.{ExpansionFault}
 use Rattle.c25_options.specs.Task.{texts_of}
 use Rattle.c25_explain.specs.Trails.{IsFirstTrail, opening_text, openings_text}
 use Rattle.c25_explain.specs.declared.trails.NoTrail.{NoTrail}
 
-pub openings_more : (files : Files) (places : List SourcePlace) (i : ℕ) (d : SourcePlace) → i < length places
+pub openings_more : (files : Files) (places : List (FileLine ℕ)) (i : ℕ) (d : FileLine ℕ) → i < length places
     → openings_text files (drop i places) ≡ opening_text files (get_or places i d) ++ openings_text files (drop (i + 1) places)
 openings_more files places i d h = at_drop_more (openings_text files) places i d h
 
-pub openings_none : (files : Files) (places : List SourcePlace) (i : ℕ) → length places ≤ i → openings_text files (drop i places) ≡ []
+pub openings_none : (files : Files) (places : List (FileLine ℕ)) (i : ℕ) → length places ≤ i → openings_text files (drop i places) ≡ []
 openings_none files places i h = at_drop_all (openings_text files) places i h
 
 -- ---- sources in their order
 
 module _ (files : Files) (sources : List (Bor (List ℕ))) (i : ℕ) (d : Bor (List ℕ)) (fault : ExpansionFault) (within : i < length sources) where
-  onto : (trail : List SourcePlace) → IsFirstTrail files ((get_or sources i d).now ∷ texts_of (drop (i + 1) sources)) fault trail
+  onto : (trail : List (FileLine ℕ)) → IsFirstTrail files ((get_or sources i d).now ∷ texts_of (drop (i + 1) sources)) fault trail
       → IsFirstTrail files (texts_of (drop i sources)) fault trail
   onto trail h = subst (λ (l : List (Bor (List ℕ))). IsFirstTrail files (texts_of l) fault trail) (sym (drop_more sources i d within)) h
 
   -- one that is assembled
-  pub behind : (trail : List SourcePlace) → IsWhole files (get_or sources i d).now → IsFirstTrail files (texts_of (drop (i + 1) sources)) fault trail
+  pub behind : (trail : List (FileLine ℕ)) → IsWhole files (get_or sources i d).now → IsFirstTrail files (texts_of (drop (i + 1) sources)) fault trail
       → IsFirstTrail files (texts_of (drop i sources)) fault trail
   behind trail whole h = onto trail (inr (whole, h))
 
   -- one that is refused
-  pub refused_here : (refused : Refused) (result : Result (Vec SourcePlace Global) (Failure NoTrail)) → IsTrail files (get_or sources i d).now (fault_in refused.fault) refused.trail.items
+  pub refused_here : (refused : Refused) (result : Result (Vec (FileLine ℕ) Global) (Failure NoTrail)) → IsTrail files (get_or sources i d).now (fault_in refused.fault) refused.trail.items
       → IfOk result (λ t. (fault_in refused.fault ≡ fault) × (t.items ≡ refused.trail.items))
-      → ((trail : List SourcePlace) → IsFirstTrail files (texts_of (drop i sources)) fault trail → IsFirstTrail files (texts_of sources) fault trail)
+      → ((trail : List (FileLine ℕ)) → IsFirstTrail files (texts_of (drop i sources)) fault trail → IsFirstTrail files (texts_of sources) fault trail)
       → IfOk result (λ t. IsFirstTrail files (texts_of sources) fault t.items)
   refused_here refused (Ok t) traced (same, is) first =
-      first t.items (onto t.items (inl (subst (λ (trail : List SourcePlace). IsTrail files (get_or sources i d).now fault trail) (sym is)
+      first t.items (onto t.items (inl (subst (λ (trail : List (FileLine ℕ)). IsTrail files (get_or sources i d).now fault trail) (sym is)
       (subst (λ (f : ExpansionFault). IsTrail files (get_or sources i d).now f refused.trail.items) same traced))))
   refused_here refused (Err e) traced told first = tt

@@ -10,32 +10,32 @@ use Rattle.c25_disk.specs.Held.{Held, ReadsSources}
 use Rattle.c25_explain.specs.Note.{line_of}
 use Rattle.c25_meaning_common.specs.Faults.{placed_text}
 use Rattle.c25_meaning_expansion.specs.Files.{Files, file_name, text_named}
-use Rattle.c25_meaning_expansion.specs.declared.place.SourcePlace.{SourcePlace}
+use Rattle.c25_meaning_common.specs.declared.placed.FileLine.{FileLine}
 use Rattle.c25_meaning_language.specs.ExpansionFault.{ExpansionFault, Faulty}
 use Rattle.c25_explain.specs.declared.trails.NoTrail.{NoTrail}
 use Rattle.c25_explain.specs.declared.trails.NoTrail.TheVariants.{Missing, Other}
 
 -- the text of the line at a place
-abbrev pub text_at : Files → SourcePlace → List ℕ
+abbrev pub text_at : Files → FileLine ℕ → List ℕ
 text_at files place = unwrap_or (option_and_then (λ text. line_of text place.line) (text_named files (file_name files place.file))) []
 
 -- one line of the trail as it is shown: its file, its number and its text
-abbrev pub opening_text : Files → SourcePlace → List ℕ
+abbrev pub opening_text : Files → FileLine ℕ → List ℕ
 opening_text files place = codes "  from " ++ placed_text (file_name files place.file) place.line (text_at files place) ++ codes "\n"
 
 -- all lines of a trail as they are shown
-abbrev pub openings_text : Files → List SourcePlace → List ℕ
+abbrev pub openings_text : Files → List (FileLine ℕ) → List ℕ
 openings_text files [] = []
 openings_text files (place ∷ places) = opening_text files place ++ openings_text files places
 
 -- the first fault among the sources of these names is this one, and these lines opened what is open there
-abbrev pub IsFirstTrail : Files → (sources : List (List ℕ)) → ExpansionFault → List SourcePlace → Type 0
+abbrev pub IsFirstTrail : Files → (sources : List (List ℕ)) → ExpansionFault → List (FileLine ℕ) → Type 0
 IsFirstTrail files [] fault trail = ⊥
 IsFirstTrail files (name ∷ names) fault trail = IsTrail files name fault trail ⊎ IsWhole files name × IsFirstTrail files names fault trail
 
 -- a text shows the trail of this fault
 abbrev pub ShowsTrail : Files → (sources : List (List ℕ)) → ExpansionFault → List ℕ → Type 0
-ShowsTrail files sources fault text = (trail : List SourcePlace) × IsFirstTrail files sources fault trail × (text ≡ openings_text files trail)
+ShowsTrail files sources fault text = (trail : List (FileLine ℕ)) × IsFirstTrail files sources fault trail × (text ≡ openings_text files trail)
 
 -- a text shows the trail of this fault in sources on a disk, over their files and at most 256 others that
 -- they copy, or is empty

@@ -19,7 +19,7 @@ use c25_inputs::files::{missing_name, names_of, read_optional};
 use c25_inputs::objects::{modules_of, read_objects};
 use c25_inputs::sources::{Inputs, command_alone, inputs_of};
 use c25_inputs::work::work_over;
-use c25_link::{Misfit, SourceLine, first_misfit};
+use c25_link::{Misfit, first_misfit};
 use c25_macro::files::Files;
 use c25_meaning_common::no_memory::NoMemory;
 use c25_meaning_common::placed::FileLine;
@@ -43,14 +43,14 @@ struct Fields<'a> {
 /// A line of a file with a name of its own.
 fn owned_line(
     alloc: Global,
-    line: Option<SourceLine<'_>>,
+    line: Option<FileLine<&str>>,
 ) -> Result<Option<FileLine<String>>, NoMemory>
     ensures { IfOk result (λ owned. line_view owned ≡ option_map misfits.line_of line.entry) }
 {
     match line {
         Some(line) => Ok(Some(FileLine {
             file: String::from_str(alloc, line.file)?,
-            line: line.line as usize,
+            line: line.line,
         })),
         None => Ok(None),
     }

@@ -17,7 +17,6 @@ use c25_macro::tracer::StepFault;
 use c25_meaning_common::failure::Failure;
 use c25_meaning_common::no_memory::NoMemory;
 use c25_meaning_common::placed::{FileLine, Placed};
-use c25_meaning_expansion::place::SourcePlace;
 use c25_meaning_language::statement::FaultKind;
 use std::alloc::Global;
 
@@ -46,7 +45,7 @@ enum NoTrail {
 }
 
 /// The text of the line at a place; empty where there is no such line.
-fn text_at<'a>(files: &'a Files, place: SourcePlace) -> &'a str
+fn text_at<'a>(files: &'a Files, place: FileLine<usize>) -> &'a str
     ensures { result.now ≡ text_at files.now place }
 {
     let Some(text) = files.text(files.name(place.file)) else {
@@ -59,7 +58,7 @@ fn text_at<'a>(files: &'a Files, place: SourcePlace) -> &'a str
 }
 
 /// One line of the trail as it is shown.
-fn opening_text(alloc: Global, files: &Files, place: SourcePlace) -> Result<String, NoMemory>
+fn opening_text(alloc: Global, files: &Files, place: FileLine<usize>) -> Result<String, NoMemory>
     ensures { IfOk result (λ text. string_bytes text ≡ opening_text files.now place) }
 {
     let file = files.name(place.file);
@@ -70,7 +69,11 @@ fn opening_text(alloc: Global, files: &Files, place: SourcePlace) -> Result<Stri
 
 /// All lines of the trail as they are shown.
 #[tactic(auto, using(crate::proofs::Openings::openings_more, crate::proofs::Openings::openings_none))]
-fn openings_text(alloc: Global, files: &Files, trail: &[SourcePlace]) -> Result<String, NoMemory>
+fn openings_text(
+    alloc: Global,
+    files: &Files,
+    trail: &[FileLine<usize>],
+) -> Result<String, NoMemory>
     ensures { IfOk result (λ text. string_bytes text ≡ openings_text files.now trail.now) }
 {
     let mut text = String::new(alloc);
@@ -98,7 +101,7 @@ fn is_same(fault: &StepFault<'_>, refused: &FaultyLine<'_>) -> bool
 fn trail_of<'a>(
     source: Refused<'a>,
     refused: &FaultyLine<'_>,
-) -> Result<Vec<SourcePlace>, Failure<NoTrail>>
+) -> Result<Vec<FileLine<usize>>, Failure<NoTrail>>
     ensures { IfOk result (λ trail. (fault_in source.entry.fault ≡ Faulty refused.now.file.now refused.now.line refused.now.kind) × (trail.items ≡ source.entry.trail.items)) }
 {
     let Refused { fault, trail } = source;
@@ -117,7 +120,7 @@ fn trail_among(
     files: &Files,
     sources: &[&str],
     refused: &FaultyLine<'_>,
-) -> Result<Vec<SourcePlace>, Failure<NoTrail>>
+) -> Result<Vec<FileLine<usize>>, Failure<NoTrail>>
     ensures { IfOk result (λ trail. IsFirstTrail files.now (texts_of sources.now) (Faulty refused.now.file.now refused.now.line refused.now.kind) trail.items) }
 {
     for source in sources {

@@ -6,7 +6,7 @@ use Rattle.std.specs.Str.Lines.{lines, lines_of_parts, strip_carriage_return}
 use borrow.Author.Tests.{ne_eqb}
 use Rattle.std.proofs.lemmas.List.Splits.{slice_split_first, length-slice_split}
 use Rattle.c25_meaning_expansion.specs.Rows.{Row, rows_from, last_place}
-use Rattle.c25_meaning_expansion.specs.declared.place.SourcePlace.{SourcePlace}
+use Rattle.c25_meaning_common.specs.declared.placed.FileLine.{FileLine}
 
 -- ---- the lines of a text
 
@@ -53,14 +53,14 @@ take_rows file line [] = refl
 take_rows file line (x ∷ texts) = ap (λ rows. record { place = record { file = file; line = line }; text = x } ∷ rows) (take_rows file (line + 1) texts)
 
 -- one more line in front of some
-last_more : (place : SourcePlace) (r : Row) (rows : List Row) → 0 < length rows → last_place place (r ∷ rows) ≡ last_place place rows
+last_more : (place : FileLine ℕ) (r : Row) (rows : List Row) → 0 < length rows → last_place place (r ∷ rows) ≡ last_place place rows
 last_more place r [] h = absurd (omega arith)
 last_more place r (s ∷ rows) h =
     let e : suc (suc (length rows)) - 1 ≡ suc (suc (length rows) - 1) = omega arith in
     ap (λ n. elim (slice_get (r ∷ s ∷ rows) n) [ None ↦ place | Some row ↦ row.place ]) e
 
 -- the last of so many
-pub last_of_rows : (place : SourcePlace) (file line count : ℕ) (texts : List (List ℕ)) → count < length texts → last_place place (take (suc count) (rows_from file line texts)) ≡ record { file = file; line = line + count }
+pub last_of_rows : (place : FileLine ℕ) (file line count : ℕ) (texts : List (List ℕ)) → count < length texts → last_place place (take (suc count) (rows_from file line texts)) ≡ record { file = file; line = line + count }
 last_of_rows place file line count [] h = absurd (omega arith)
 last_of_rows place file line zero (x ∷ texts) h =
     let e : line ≡ line + 0 = omega arith in

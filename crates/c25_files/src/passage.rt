@@ -6,7 +6,7 @@ ghost use Rattle.c25_files.specs.Passages.{IsRange, rows_in};
 
 use crate::first::first_line;
 use crate::rows::{Row, Rows};
-use c25_meaning_expansion::place::SourcePlace;
+use c25_meaning_common::placed::FileLine;
 use std::marker::Model;
 
 /// Lines of a file that are read one after another. Those read since the mark are kept as a part of the text,
@@ -64,7 +64,7 @@ impl<'a> Passage<'a> {
         if self.count == 0 {
             return None;
         }
-        let place = SourcePlace {
+        let place = FileLine {
             file: self.file,
             line: self.line,
         };
@@ -77,7 +77,7 @@ impl<'a> Passage<'a> {
     }
 
     /// The place of the next line, if there is one.
-    pub fn next_place(&self) -> Option<SourcePlace>
+    pub fn next_place(&self) -> Option<FileLine<usize>>
         ensures { result ≡ option_map (λ row. row.place) (slice_get self.now.rest 0) }
     {
         if self.count == 0 {
@@ -85,7 +85,7 @@ impl<'a> Passage<'a> {
         }
         let file = self.file;
         let line = self.line;
-        Some(SourcePlace { file, line })
+        Some(FileLine { file, line })
     }
 
     /// Sets the mark before the next line.

@@ -6,13 +6,13 @@ ghost use Rattle.c25_meaning_expansion.specs.Rows.{is_empty, last_place, rows_of
 ghost use Rattle.c25_files.specs.Passages.{IsRange, rows_in};
 
 use crate::passage::Passage;
-use c25_meaning_expansion::place::SourcePlace;
+use c25_meaning_common::placed::FileLine;
 use std::marker::Model;
 
 /// A line of a file: its place, and its text without its end.
 #[derive(Drop)]
 pub struct Row<'a> {
-    place: SourcePlace,
+    place: FileLine<usize>,
     text: &'a str,
 }
 
@@ -25,14 +25,14 @@ impl<'a> Model for Row<'a> {
 }
 
 impl<'a> Row<'a> {
-    pub(crate) fn new(place: SourcePlace, text: &'a str) -> Row<'a>
+    pub(crate) fn new(place: FileLine<usize>, text: &'a str) -> Row<'a>
         ensures { result ≡ record { place = place; text = text.now } }
     {
         Row { place, text }
     }
 
     /// The place of the line.
-    pub fn place(&self) -> SourcePlace
+    pub fn place(&self) -> FileLine<usize>
         ensures { result ≡ self.now.place }
     {
         self.place
@@ -136,13 +136,13 @@ impl<'a> Rows<'a> {
     }
 
     /// The place of the last line, or `place` where there are no lines.
-    pub fn last_place(&self, place: SourcePlace) -> SourcePlace
+    pub fn last_place(&self, place: FileLine<usize>) -> FileLine<usize>
         ensures { result ≡ last_place place self.now }
     {
         if self.count == 0 {
             place
         } else {
-            SourcePlace {
+            FileLine {
                 file: self.file,
                 line: self.line + (self.count - 1),
             }

@@ -19,7 +19,8 @@ use Rattle.c25_meaning_linking.specs.Place.{Place}
 use Rattle.c25_meaning_linking.specs.declared.link_fault.LinkFault.{LinkFault}
 use Rattle.c25_place.specs.View.{refusal_of}
 use Rattle.c25_link.specs.declared.misfits.Misfit.{Misfit}
-use Rattle.c25_link.specs.declared.misfits.SourceLine.{SourceLine}
+use Rattle.c25_meaning_common.specs.declared.placed.FileLine.{FileLine}
+use denote.Ref.{Bor}
 
 -- ---- the line of the instruction
 
@@ -70,7 +71,7 @@ first_misfit modules places = option_map (misfit_of modules places) (find (spill
 -- ---- how the code has it
 
 -- a line of a file, as clauses see it
-abbrev pub line_of : SourceLine → List ℕ × ℕ
+abbrev pub line_of : FileLine (Bor (List ℕ)) → List ℕ × ℕ
 line_of l = (l.file.now, l.line)
 
 -- a misfit, as clauses see it

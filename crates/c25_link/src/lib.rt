@@ -19,4 +19,4 @@ mod values;
 pub use c25_map::read_map;
 pub use image::Image;
 pub use linking::link;
-pub use misfits::{Misfit, SourceLine, first_misfit};
+pub use misfits::{Misfit, first_misfit};

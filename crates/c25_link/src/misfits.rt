@@ -19,17 +19,11 @@ use crate::uses::{section_name, symbol_name};
 use crate::values::relocated_value;
 use c25_cmd::Command;
 use c25_linking_laws::linking::instructions_run_apart;
+use c25_meaning_common::placed::FileLine;
 use c25_meaning_objects::object::{LineMark, ModuleMark, Relocation, RelocationBase};
 use c25_module::{Module, Parts};
 use c25_place::{PlacingFailure, good_places};
 use std::alloc::Global;
-
-/// A line of a file. Lines count from 1.
-#[derive(Clone, Copy)]
-pub struct SourceLine<'a> {
-    pub file: &'a str,
-    pub line: u32,
-}
 
 /// A field that does not take its value.
 #[derive(Clone, Copy)]
@@ -50,7 +44,7 @@ pub struct Misfit<'a> {
     pub value: i64,
     /// The line of the instruction that has the field's word. None where the word is data, and where the
     /// module has no lines (version 1).
-    pub line: Option<SourceLine<'a>>,
+    pub line: Option<FileLine<&'a str>>,
 }
 
 /// Whether the word of a relocation belongs to the instruction of a mark.
@@ -63,21 +57,21 @@ fn has_word(relocation: &Relocation, mark: &ModuleMark) -> bool
 }
 
 /// A line of a file, by the line's record in its module.
-fn source_line<'a>(owner: &'a Parts, told: &LineMark) -> SourceLine<'a>
+fn source_line<'a>(owner: &'a Parts, told: &LineMark) -> FileLine<&'a str>
     ensures { line_of result ≡ line_in (contents owner.now) told.now }
 {
     let file = match owner.files.get(usize::from(told.file)) {
         Some(name) => name.as_str(),
         None => "",
     };
-    SourceLine {
+    FileLine {
         file,
-        line: told.line,
+        line: told.line as usize,
     }
 }
 
 /// The line of a number among a module's lines, if there is one.
-fn line_at(owner: &Parts, index: usize) -> Option<SourceLine<'_>>
+fn line_at(owner: &Parts, index: usize) -> Option<FileLine<&str>>
     ensures { option_map line_of result ≡ option_map (line_in (contents owner.now)) (slice_get (contents owner.now).lines index) }
 {
     match owner.lines.get(index) {
@@ -87,7 +81,7 @@ fn line_at(owner: &Parts, index: usize) -> Option<SourceLine<'_>>
 }
 
 /// The line of the instruction that has the word of a relocation, if there is one.
-fn instruction_line<'a>(owner: &'a Parts, relocation: &Relocation) -> Option<SourceLine<'a>>
+fn instruction_line<'a>(owner: &'a Parts, relocation: &Relocation) -> Option<FileLine<&'a str>>
     ensures { option_map line_of result ≡ instruction_line (contents owner.now) relocation.now }
 {
     for (index, mark) in owner.marks.iter().enumerate() {

@@ -4,7 +4,7 @@ use Rattle.std.proofs.lemmas.Bool.Decides.{nat_tests}
 use Rattle.std.proofs.lemmas.List.{drop_all, drop_at, length-drop, length-reverse, reverse-append, take-append-drop}
 use Rattle.c25_meaning_expansion.specs.Rows.{Row}
 use Rattle.c25_meaning_expansion.specs.Expansion.{Read}
-use Rattle.c25_meaning_expansion.specs.declared.place.SourcePlace.{SourcePlace}
+use Rattle.c25_meaning_common.specs.declared.placed.FileLine.{FileLine}
 use Rattle.c25_meaning_expansion.specs.Trail.{next_place}
 use Rattle.c25_macro.specs.SourceFrames.{after, frames}
 use Rattle.c25_macro.specs.declared.frames.Source.{Source}
@@ -18,13 +18,13 @@ pub length_scopes : (sources : List Source) → length (frames (reverse sources)
 length_scopes sources = scopes_length (reverse sources) ∙ length-reverse sources
 
 -- the next line of a source that has one
-pub found : (rows : List Row) (sources : List Source) (last place : SourcePlace) → Some place ≡ option_map (λ row. row.place) (slice_get rows 0)
+pub found : (rows : List Row) (sources : List Source) (last place : FileLine ℕ) → Some place ≡ option_map (λ row. row.place) (slice_get rows 0)
     → place ≡ next_place (map Read rows ++ after sources) last
 found [] sources last place e = absurd (cc)
 found (row ∷ rows) sources last place e = cc
 
 -- the next line of a source that has none
-pub missed : (rows : List Row) (sources : List Source) (last : SourcePlace) → None ≡ option_map (λ row. row.place) (slice_get rows 0)
+pub missed : (rows : List Row) (sources : List Source) (last : FileLine ℕ) → None ≡ option_map (λ row. row.place) (slice_get rows 0)
     → last ≡ next_place (map Read rows ++ after sources) last
 missed [] [] last e = refl
 missed [] (s ∷ ss) last e = refl

@@ -1,5 +1,6 @@
 -- Refusals: why no line is given, with the place of the line that is refused.
-use Rattle.c25_meaning_expansion.specs.declared.place.SourcePlace.{SourcePlace}
+use Rattle.std.specs.Prelude.{ℕ}
+use Rattle.c25_meaning_common.specs.declared.placed.FileLine.{FileLine}
 use Rattle.c25_meaning_common.specs.declared.failure.Failure.{Failure}
 use Rattle.c25_meaning_common.specs.declared.failure.Failure.TheVariants.{NoMemory, Fault}
 use Rattle.c25_meaning_language.specs.declared.statement.FaultKind.{FaultKind}
@@ -7,6 +8,6 @@ use Rattle.c25_macro.specs.declared.expander_fault.ExpanderFault.{ExpanderFault}
 use Rattle.c25_macro.specs.declared.expander_fault.ExpanderFault.TheVariants.{Faulty}
 
 -- the refusal of the line at this place
-abbrev pub at_place : SourcePlace → Failure FaultKind → Failure ExpanderFault
+abbrev pub at_place : FileLine ℕ → Failure FaultKind → Failure ExpanderFault
 at_place place (NoMemory n) = NoMemory n
 at_place place (Fault kind) = Fault (Faulty place kind)

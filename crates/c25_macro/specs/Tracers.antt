@@ -9,7 +9,7 @@ use Rattle.c25_meaning_expansion.specs.ExpansionAnswers.{expanded_line, given_by
 use Rattle.c25_meaning_expansion.specs.ExpansionBounds.{IsBounded}
 use Rattle.c25_meaning_expansion.specs.ExpansionRuns.{rewrite, start_of, weight}
 use Rattle.c25_meaning_expansion.specs.Files.{Files}
-use Rattle.c25_meaning_expansion.specs.declared.place.SourcePlace.{SourcePlace}
+use Rattle.c25_meaning_common.specs.declared.placed.FileLine.{FileLine}
 use Rattle.c25_meaning_language.specs.ExpansionFault as meant
 use Rattle.c25_meaning_language.specs.ExpansionFault.{ExpansionFault}
 use Rattle.c25_meaning_language.specs.Value.{Table}
@@ -30,7 +30,7 @@ use Rattle.c25_macro.specs.declared.tracer.Tracer.{Tracer}
 pub record Trace : Type 0 where
   pub files : Files
   pub at : Config
-  pub trail : List SourcePlace
+  pub trail : List (FileLine ℕ)
 
 -- the trace that a tracer stands for
 abbrev pub trace_of : Tracer → Trace

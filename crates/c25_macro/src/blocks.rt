@@ -24,7 +24,7 @@ use c25_files::Rows;
 use c25_files::files::Files;
 use c25_isa::mnemonic;
 use c25_meaning_common::failure::Failure;
-use c25_meaning_expansion::place::SourcePlace;
+use c25_meaning_common::placed::FileLine;
 use c25_meaning_language::statement::FaultKind;
 use c25_substitution::parameters::Arguments;
 
@@ -57,7 +57,7 @@ impl<'a> ExpanderState<'a> {
     #[tactic(auto, unfolding(c25_meaning_expansion::specs::ExpansionRules::begins_macro))]
     pub(crate) fn begin_macro(
         &mut self,
-        place: SourcePlace,
+        place: FileLine<usize>,
         name: String,
         parameters: Vec<String>,
     ) -> Result<(), Failure<ExpanderFault>>
@@ -79,7 +79,7 @@ impl<'a> ExpanderState<'a> {
     #[tactic(auto, unfolding(c25_meaning_expansion::specs::ExpansionRules::begins_expansion))]
     pub(crate) fn begin_expansion(
         &mut self,
-        place: SourcePlace,
+        place: FileLine<usize>,
         body: Rows<'a>,
         arguments: Arguments,
     ) -> Result<(), Failure<ExpanderFault>>
@@ -100,7 +100,7 @@ impl<'a> ExpanderState<'a> {
     pub(crate) fn leave_block(
         &mut self,
         block: ExitTarget,
-        place: SourcePlace,
+        place: FileLine<usize>,
     ) -> Result<(), Failure<ExpanderFault>>
         requires reading { self.old.mode ≡ modes.Reading }
         ensures { GoesOn (rule.leaves (test_of block) place (config self.old)) result (config self.new) }
@@ -113,7 +113,11 @@ impl<'a> ExpanderState<'a> {
     }
 
     /// Collects the lines that follow, as the body of a loop of so many turns.
-    fn collect(&mut self, place: SourcePlace, turns: usize) -> Result<(), Failure<ExpanderFault>>
+    fn collect(
+        &mut self,
+        place: FileLine<usize>,
+        turns: usize,
+    ) -> Result<(), Failure<ExpanderFault>>
         ensures { GoesOn (rule.collects place turns (config self.old)) result (config self.new) }
     {
         if self.is_full() {
@@ -129,7 +133,7 @@ impl<'a> ExpanderState<'a> {
     pub(crate) fn begin_loop(
         &mut self,
         symbols: &Symbols,
-        place: SourcePlace,
+        place: FileLine<usize>,
         count: Option<Expr>,
     ) -> Result<(), Failure<ExpanderFault>>
         ensures { GoesOn (rule.begins_loop symbols.now place (option_map tree_of count) (config self.old)) result (config self.new) }
@@ -144,7 +148,11 @@ impl<'a> ExpanderState<'a> {
     }
 
     /// `.break`, given whether its condition holds.
-    fn break_if(&mut self, holds: bool, place: SourcePlace) -> Result<(), Failure<ExpanderFault>>
+    fn break_if(
+        &mut self,
+        holds: bool,
+        place: FileLine<usize>,
+    ) -> Result<(), Failure<ExpanderFault>>
         requires reading { self.old.mode ≡ modes.Reading }
         ensures { GoesOn (rule.breaks_if holds place (config self.old)) result (config self.new) }
     {
@@ -163,7 +171,7 @@ impl<'a> ExpanderState<'a> {
     pub(crate) fn break_loop(
         &mut self,
         symbols: &Symbols,
-        place: SourcePlace,
+        place: FileLine<usize>,
         condition: Option<Expr>,
     ) -> Result<(), Failure<ExpanderFault>>
         requires reading { self.old.mode ≡ modes.Reading }
@@ -190,7 +198,7 @@ impl<'a> ExpanderState<'a> {
     pub(crate) fn evaluate(
         &mut self,
         symbols: &Symbols,
-        place: SourcePlace,
+        place: FileLine<usize>,
         expression: Expr,
         name: &str,
     ) -> Result<(), Failure<ExpanderFault>>
@@ -209,7 +217,7 @@ impl<'a> ExpanderState<'a> {
     pub(crate) fn copy(
         &mut self,
         files: &'a Files,
-        place: SourcePlace,
+        place: FileLine<usize>,
         name: String,
     ) -> Result<(), Failure<ExpanderFault>>
         requires reading { self.old.mode ≡ modes.Reading }
@@ -230,7 +238,7 @@ impl<'a> ExpanderState<'a> {
 
     /// `.end`
     #[tactic(auto, unfolding(c25_meaning_expansion::specs::ExpansionRules::ends_all))]
-    pub(crate) fn end_all(&mut self, place: SourcePlace) -> Result<(), Failure<ExpanderFault>>
+    pub(crate) fn end_all(&mut self, place: FileLine<usize>) -> Result<(), Failure<ExpanderFault>>
         requires reading { self.old.mode ≡ modes.Reading }
         ensures { GoesOn (rule.ends_all place (config self.old)) result (config self.new) }
     {

@@ -17,8 +17,8 @@ use crate::macros::Macro;
 use crate::state::{ExpanderState, Mode};
 use c25_files::{Row, Rows};
 use c25_meaning_common::failure::Failure;
+use c25_meaning_common::placed::FileLine;
 use c25_meaning_expansion::expansion::Directive;
-use c25_meaning_expansion::place::SourcePlace;
 
 impl<'a> ExpanderState<'a> {
     /// Takes one line while a macro is collected: a line of the body, or the `.endm` that ends it.
@@ -60,7 +60,7 @@ impl<'a> ExpanderState<'a> {
     /// Begins the turns of a loop whose lines were collected.
     fn begin_turns(
         &mut self,
-        place: SourcePlace,
+        place: FileLine<usize>,
         turns: usize,
         body: Rows<'a>,
     ) -> Result<(), Failure<ExpanderFault>>

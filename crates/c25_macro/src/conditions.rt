@@ -14,8 +14,8 @@ use crate::values::{is_zero, number};
 use c25_expr::symbols::Symbols;
 use c25_expr::tree::Expr;
 use c25_meaning_common::failure::Failure;
+use c25_meaning_common::placed::FileLine;
 use c25_meaning_expansion::expansion::{Branch, Phase};
-use c25_meaning_expansion::place::SourcePlace;
 use c25_meaning_language::statement::FaultKind;
 
 /// Whether an `.if` in this phase takes its lines.
@@ -45,7 +45,7 @@ impl ExpanderState<'_> {
     pub(crate) fn begin_if(
         &mut self,
         symbols: &Symbols,
-        place: SourcePlace,
+        place: FileLine<usize>,
         condition: Expr,
     ) -> Result<(), Failure<ExpanderFault>>
         ensures { GoesOn (rule.begins_if symbols.now place (tree_of condition) (config self.old)) result (config self.new) }
@@ -82,7 +82,7 @@ impl ExpanderState<'_> {
     /// `.elseif` where no condition has held so far.
     fn seek(
         &mut self,
-        place: SourcePlace,
+        place: FileLine<usize>,
         number: Result<i32, FaultKind>,
         branch: Branch,
     ) -> Result<(), Failure<ExpanderFault>>
@@ -98,7 +98,7 @@ impl ExpanderState<'_> {
     pub(crate) fn elseif(
         &mut self,
         symbols: &Symbols,
-        place: SourcePlace,
+        place: FileLine<usize>,
         condition: Expr,
     ) -> Result<(), Failure<ExpanderFault>>
         ensures { GoesOn (rule.elseif_by symbols.now place (tree_of condition) (config self.old).frame.branches (config self.old)) result (config self.new) }
@@ -120,7 +120,7 @@ impl ExpanderState<'_> {
     }
 
     /// `.else`
-    pub(crate) fn pass_else(&mut self, place: SourcePlace) -> Result<(), Failure<ExpanderFault>>
+    pub(crate) fn pass_else(&mut self, place: FileLine<usize>) -> Result<(), Failure<ExpanderFault>>
         ensures { GoesOn (rule.else_by place (config self.old).frame.branches (config self.old)) result (config self.new) }
     {
         let Some(branch) = self.top.frame.branches.innermost() else {
@@ -134,7 +134,7 @@ impl ExpanderState<'_> {
     }
 
     /// `.endif`
-    pub(crate) fn end_if(&mut self, place: SourcePlace) -> Result<(), Failure<ExpanderFault>>
+    pub(crate) fn end_if(&mut self, place: FileLine<usize>) -> Result<(), Failure<ExpanderFault>>
         ensures { GoesOn (rule.endif_by place (config self.old).frame.branches (config self.old)) result (config self.new) }
     {
         match self.top.frame.branches.pop() {

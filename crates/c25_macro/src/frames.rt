@@ -7,8 +7,8 @@ ghost use Rattle.c25_macro.specs.SourceFrames.{frames, kind_of, test_of, other_b
 
 use c25_files::{Passage, Rows};
 use c25_meaning_common::no_memory::NoMemory;
+use c25_meaning_common::placed::FileLine;
 use c25_meaning_expansion::expansion::Branch;
-use c25_meaning_expansion::place::SourcePlace;
 use std::alloc::Global;
 use std::marker::Model;
 
@@ -114,7 +114,7 @@ impl Kind<'_> {
 pub(crate) struct SourceFrame<'a> {
     pub(crate) kind: Kind<'a>,
     /// The place of its last line, or of the line that opened it where it has none.
-    pub(crate) last: SourcePlace,
+    pub(crate) last: FileLine<usize>,
     /// The open `.if`s that began in it, the innermost first.
     pub(crate) branches: Branches,
 }

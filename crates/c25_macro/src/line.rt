@@ -3,7 +3,7 @@
 ghost use Rattle.std.specs.Prelude.{◌≡◌};
 ghost use Rattle.std.specs.Cow.{cow_str_bytes};
 
-use c25_meaning_expansion::place::SourcePlace;
+use c25_meaning_common::placed::FileLine;
 use std::borrow::CowStr;
 use std::marker::Model;
 
@@ -11,7 +11,7 @@ use std::marker::Model;
 /// is borrowed from the file's text where nothing was replaced.
 #[derive(Drop)]
 pub(crate) struct Line<'a> {
-    place: SourcePlace,
+    place: FileLine<usize>,
     text: CowStr<'a>,
 }
 
@@ -25,13 +25,13 @@ impl<'a> Model for Line<'a> {
 }
 
 impl<'a> Line<'a> {
-    pub(crate) fn new(place: SourcePlace, text: CowStr<'a>) -> Line<'a>
+    pub(crate) fn new(place: FileLine<usize>, text: CowStr<'a>) -> Line<'a>
         ensures { result ≡ record { place = place; text = cow_str_bytes text.entry } }
     {
         Line { place, text }
     }
 
-    pub(crate) fn place(&self) -> SourcePlace
+    pub(crate) fn place(&self) -> FileLine<usize>
         ensures { result ≡ self.now.place }
     {
         self.place

@@ -28,8 +28,8 @@ use c25_expr::symbols::Symbols;
 use c25_files::Row;
 use c25_files::files::Files;
 use c25_meaning_common::failure::Failure;
+use c25_meaning_common::placed::FileLine;
 use c25_meaning_expansion::expansion::{Branch, Directive, Phase};
-use c25_meaning_expansion::place::SourcePlace;
 use c25_meaning_language::long_line::LongLine;
 use c25_meaning_language::statement::FaultKind;
 use c25_substitution::substitution::{substitute, substitute_before_comma, unsubstituted};
@@ -42,7 +42,7 @@ impl<'a> ExpanderState<'a> {
         &mut self,
         files: &'a Files,
         symbols: &Symbols,
-        place: SourcePlace,
+        place: FileLine<usize>,
         act: ExpansionAct<'a>,
     ) -> Result<(), Failure<ExpanderFault>>
         requires expansions { (config self.old).names.count < 2 ^ 31 }
@@ -74,7 +74,7 @@ impl<'a> ExpanderState<'a> {
         &mut self,
         files: &'a Files,
         symbols: &Symbols,
-        place: SourcePlace,
+        place: FileLine<usize>,
         order: Order<'a>,
     ) -> Result<LineResult<'a>, Failure<ExpanderFault>>
         requires expansions { (config self.old).names.count < 2 ^ 31 }
@@ -96,7 +96,7 @@ impl<'a> ExpanderState<'a> {
         &mut self,
         files: &'a Files,
         symbols: &Symbols,
-        place: SourcePlace,
+        place: FileLine<usize>,
         order: Result<Order<'a>, Failure<FaultKind>>,
     ) -> Result<LineResult<'a>, Failure<ExpanderFault>>
         requires expansions { (config self.old).names.count < 2 ^ 31 }
@@ -191,7 +191,7 @@ impl<'a> ExpanderState<'a> {
         &mut self,
         files: &'a Files,
         symbols: &Symbols,
-        place: SourcePlace,
+        place: FileLine<usize>,
         directive: Directive,
         text: &str,
     ) -> Result<LineResult<'a>, Failure<ExpanderFault>>

@@ -18,7 +18,6 @@ use c25_files::files::Files;
 use c25_meaning_common::failure::Failure;
 use c25_meaning_common::no_memory::NoMemory;
 use c25_meaning_common::placed::{FileLine, Placed};
-use c25_meaning_expansion::place::SourcePlace;
 use c25_meaning_language::statement::FaultKind;
 use std::alloc::Global;
 
@@ -50,7 +49,7 @@ type Answer<'a> = Result<Option<ExpLine<'a>>, Failure<ExpandFault<'a>>>;
 pub(crate) fn show<'a>(files: &'a Files, given: Line<'a>) -> ExpLine<'a>
     ensures { shown result ≡ expanded_line files.now given.entry }
 {
-    let SourcePlace { file, line } = given.place();
+    let FileLine { file, line } = given.place();
     ExpLine {
         file: files.name(file),
         line,

@@ -18,7 +18,7 @@ use crate::line::Line;
 use c25_files::Rows;
 use c25_files::text::Text;
 use c25_meaning_common::failure::Failure;
-use c25_meaning_expansion::place::SourcePlace;
+use c25_meaning_common::placed::FileLine;
 use std::alloc::Global;
 use std::mem;
 
@@ -30,7 +30,7 @@ pub(crate) enum Mode<'a> {
     Reading,
     /// The label of the line at this place was given, and what the line asks for is still to be done.
     Acting {
-        place: SourcePlace,
+        place: FileLine<usize>,
         act: ExpansionAct<'a>,
     },
     /// The next line is collected for the body of a macro, in which so many macros are nested.
@@ -95,7 +95,7 @@ impl<'a> ExpanderState<'a> {
         ensures { config result ≡ start file text.now }
     {
         let rows = text.rows(file);
-        let last = rows.last_place(SourcePlace { file, line: 0 });
+        let last = rows.last_place(FileLine { file, line: 0 });
         ExpanderState {
             alloc,
             top: Source {
@@ -125,7 +125,7 @@ impl<'a> ExpanderState<'a> {
     pub(crate) fn open(
         &mut self,
         kind: Kind<'a>,
-        last: SourcePlace,
+        last: FileLine<usize>,
         rows: Rows<'a>,
     ) -> Result<(), Failure<ExpanderFault>>
         requires reading { self.old.mode ≡ modes.Reading }

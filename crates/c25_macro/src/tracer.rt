@@ -3,7 +3,7 @@
 use crate::answer::{ExpLine, ExpandFault};
 use crate::state::ExpanderState;
 use c25_files::files::Files;
-use c25_meaning_expansion::place::SourcePlace;
+use c25_meaning_common::placed::FileLine;
 
 /// The expansion of a module, one rewriting after another, with the lines that opened the files, expansions
 /// and turns that are open.
@@ -12,7 +12,7 @@ pub struct Tracer<'a> {
     pub(crate) files: &'a Files,
     pub(crate) state: Box<ExpanderState<'a>>,
     /// The places of these lines, the outermost first.
-    pub(crate) trail: Vec<SourcePlace>,
+    pub(crate) trail: Vec<FileLine<usize>>,
 }
 
 /// What one rewriting gives.

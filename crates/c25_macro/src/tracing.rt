@@ -16,12 +16,11 @@ use c25_files::files::Files;
 use c25_meaning_common::failure::Failure;
 use c25_meaning_common::no_memory::NoMemory;
 use c25_meaning_common::placed::{FileLine, Placed};
-use c25_meaning_expansion::place::SourcePlace;
 use std::alloc::Global;
 
 impl ExpanderState<'_> {
     /// The place of the next line, or of the last one where the source ends.
-    fn next_place(&self) -> SourcePlace
+    fn next_place(&self) -> FileLine<usize>
         ensures { result ≡ next_place (config self.now).lines (config self.now).frame.last }
     {
         match self.top.lines.next_place() {
@@ -31,7 +30,7 @@ impl ExpanderState<'_> {
     }
 
     /// The place of the line that the next rewriting is about.
-    fn line(&self) -> SourcePlace
+    fn line(&self) -> FileLine<usize>
         ensures { result ≡ line_of (config self.now) }
     {
         match &self.mode {
@@ -87,8 +86,8 @@ fn shown<'a>(files: &'a Files, progress: LineResult<'a>) -> Step<'a>
 /// Brings the trail up to date after a rewriting of this line: `before` and `after` are how many files,
 /// expansions and turns were open outside the innermost one.
 fn follow(
-    trail: &mut Vec<SourcePlace>,
-    line: SourcePlace,
+    trail: &mut Vec<FileLine<usize>>,
+    line: FileLine<usize>,
     before: usize,
     after: usize,
 ) -> Result<(), NoMemory>
@@ -139,7 +138,7 @@ impl<'a> Tracer<'a> {
     }
 
     /// The places of the lines that opened what is open, the innermost first.
-    pub fn into_trail(self) -> Vec<SourcePlace>
+    pub fn into_trail(self) -> Vec<FileLine<usize>>
         ensures { result.items ≡ (trace_of self.entry).trail }
     {
         let mut trail = self.trail;

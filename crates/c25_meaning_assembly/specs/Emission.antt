@@ -6,7 +6,7 @@ use Rattle.c25_meaning_assembly.specs.Addresses.{OperandValues, operand_values, 
 use Rattle.c25_meaning_language.specs.ExpansionFault.{ExpansionFault, Faulty}
 use Rattle.c25_meaning_objects.specs.Module.{Contents, SectionBody, Uninitialised, Initialised, SectionData, SymbolData}
 use Rattle.c25_meaning_common.specs.Results.{◌>>=◌, fold_ok, told}
-use Rattle.c25_meaning_assembly.specs.Sections.{Definitions, Section, Content, Operands, Words, Zeros, Exported, Origin, PendingItem, Progress, changed, imports, is_in, once, place}
+use Rattle.c25_meaning_assembly.specs.Sections.{Definitions, Section, Content, Operands, Words, Zeros, Exported, PendingItem, Progress, changed, imports, is_in, once, place}
 use Rattle.c25_meaning_language.specs.Value.{Table, value_named, start_of_text}
 use Rattle.c25_meaning_assembly.specs.declared.assembly.Target.{Target}
 use Rattle.c25_meaning_objects.specs.declared.object.LineMark.{LineMark}
@@ -21,6 +21,7 @@ use Rattle.c25_meaning_language.specs.declared.statement.FaultKind.TheVariants a
 use Rattle.c25_meaning_language.specs.declared.value.Base.{Base}
 use Rattle.c25_meaning_language.specs.declared.value.Base.TheVariants as base
 use Rattle.c25_meaning_language.specs.declared.value.Value.{Value}
+use Rattle.c25_meaning_common.specs.declared.placed.FileLine.{FileLine}
 
 -- ---- all symbols
 
@@ -79,7 +80,7 @@ emit names section offset sections (Exported exported) =
     if list_all (is_here names) exported then Ok sections else Err fault.Undefined
 
 -- a result of a line, whose fault gets the line's file and number
-abbrev pub at_origin : {A : Type 0} → Origin → Result A FaultKind → Result A ExpansionFault
+abbrev pub at_origin : {A : Type 0} → FileLine (List ℕ) → Result A FaultKind → Result A ExpansionFault
 at_origin origin r = told (λ kind. Faulty origin.file origin.line kind) r
 
 -- the sections with what one more item adds, or the fault of its line
@@ -127,14 +128,14 @@ abbrev pub no_lines : Lines
 no_lines = record { files = []; lines = [] }
 
 -- the files and lines with those of one more mark; a file that is new gets the next number
-abbrev pub with_line : Lines → Origin → Lines
+abbrev pub with_line : Lines → FileLine (List ℕ) → Lines
 with_line l o = record {
   files = once l.files o.file;
   lines = l.lines ++ record { file = position_or_len (bytes_eq o.file) l.files; line = o.line } ∷ [];
 }
 
 -- the files and lines of marks that come from these lines
-abbrev pub lines_of : List Origin → Lines
+abbrev pub lines_of : List (FileLine (List ℕ)) → Lines
 lines_of origins = fold with_line no_lines origins
 
 -- the files and lines of the marks of all sections

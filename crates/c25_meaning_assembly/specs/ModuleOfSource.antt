@@ -11,7 +11,8 @@ use Rattle.c25_meaning_expansion.specs.Files.{Files}
 use Rattle.c25_meaning_assembly.specs.Listing.{Entry}
 use Rattle.c25_meaning_objects.specs.Module.{Contents}
 use Rattle.c25_meaning_common.specs.Results.{◌>>=◌}
-use Rattle.c25_meaning_assembly.specs.Sections.{Origin, Progress, start, table, size_at, pass}
+use Rattle.c25_meaning_assembly.specs.Sections.{Progress, start, table, size_at, pass}
+use Rattle.c25_meaning_common.specs.declared.placed.FileLine.{FileLine}
 
 -- what the lines so far have made, and their entries in the listing
 pub record LinesSoFar : Type 0 where
@@ -23,7 +24,7 @@ abbrev pub no_lines : LinesSoFar
 no_lines = record { progress = start; entries = [] }
 
 -- the file and number of an expanded line
-abbrev pub origin_of : ExpandedLine → Origin
+abbrev pub origin_of : ExpandedLine → FileLine (List ℕ)
 origin_of l = record { file = l.file; line = l.line }
 
 -- a line's entry in the listing: the words by which it made its section longer

@@ -20,15 +20,11 @@ use Rattle.c25_meaning_language.specs.declared.statement.FaultKind.{FaultKind}
 use Rattle.c25_meaning_language.specs.declared.statement.FaultKind.TheVariants as fault
 use Rattle.c25_meaning_language.specs.declared.value.Base.TheVariants as base
 use Rattle.c25_meaning_language.specs.declared.value.Value.{Value}
+use Rattle.c25_meaning_common.specs.declared.placed.FileLine.{FileLine}
 
 -- names with their values, in the order of definition
 abbrev pub Definitions : Type 0
 Definitions = List (List ℕ × Value)
-
--- a line of a file: the file's name and the line's number
-pub record Origin : Type 0 where
-  pub file : List ℕ
-  pub line : ℕ
 
 -- a section: the first phase gives it its size, its marks with the line of each, and its blocks; its words
 -- and relocations are added when all symbols are known
@@ -37,7 +33,7 @@ pub record Section : Type 0 where
   pub initialised : Bool
   pub size : ℕ
   pub marks : List ModuleMark
-  pub origins : List Origin
+  pub origins : List (FileLine (List ℕ))
   pub blocks : List Block
   pub words : List ℕ
   pub relocations : List Relocation
@@ -52,7 +48,7 @@ pub data Content : Type 0 where
 
 -- an item: its content, the line that it comes from, and where it begins
 pub record PendingItem : Type 0 where
-  pub origin : Origin
+  pub origin : FileLine (List ℕ)
   pub section : ℕ
   pub offset : ℕ
   pub content : Content
@@ -199,12 +195,12 @@ grow i n p =
 -- ---- what a line does
 
 -- one more item, at the end of the current section
-abbrev pub with_item : Origin → Content → Progress → Progress
+abbrev pub with_item : FileLine (List ℕ) → Content → Progress → Progress
 with_item origin content p =
     record p { items = p.items ++ record { origin = origin; section = p.current; offset = size_at p.sections p.current; content = content } ∷ [] }
 
 -- one more item of `n` words, by which the current section grows
-unfoldable pub lay : Origin → Content → ℕ → Progress → Result Progress FaultKind
+unfoldable pub lay : FileLine (List ℕ) → Content → ℕ → Progress → Result Progress FaultKind
 lay origin content n p = grow p.current n (with_item origin content p)
 
 -- whether a name is in this list
@@ -243,15 +239,15 @@ use_file name p =
     else Ok (record p { files = p.files ++ name ∷ [] })
 
 -- the line of an instruction is entered: its number must fit a record, and its file goes into the list
-unfoldable pub use_line : Origin → Progress → Result Progress FaultKind
+unfoldable pub use_line : FileLine (List ℕ) → Progress → Result Progress FaultKind
 use_line origin p = if is_line_number origin.line then use_file origin.file p else Err fault.TooLarge
 
 -- a section with one more mark and the line that it comes from
-abbrev pub with_mark : Origin → ModuleMark → Section → Section
+abbrev pub with_mark : FileLine (List ℕ) → ModuleMark → Section → Section
 with_mark origin m s = record s { marks = s.marks ++ m ∷ []; origins = s.origins ++ origin ∷ [] }
 
 -- an instruction of `n` words gets a mark where it begins; data get none
-abbrev pub mark : Origin → Target → ℕ → ℕ → ℕ → Progress → Result Progress FaultKind
+abbrev pub mark : FileLine (List ℕ) → Target → ℕ → ℕ → ℕ → Progress → Result Progress FaultKind
 mark origin (target.Instruction f) section offset n p =
     use_line origin p >>= λ q.
     Ok (record q { sections = changed (with_mark origin (record { section = section; offset = offset; size = n })) q.sections section })
@@ -330,13 +326,13 @@ equate name e p =
     else (valued (table p) e >>= λ v. define name v p)
 
 -- an instruction, `.word`, `.int`, `.byte`: an item, and a mark for an instruction
-abbrev pub put : Origin → Target → List Tree → Progress → Result Progress FaultKind
+abbrev pub put : FileLine (List ℕ) → Target → List Tree → Progress → Result Progress FaultKind
 put origin t trees p =
     lay origin (Operands t trees) (target_size t (length trees)) p >>= λ q.
     mark origin t p.current (size_at p.sections p.current) (target_size t (length trees)) q
 
 -- `.space`: a number of bits, rounded up to whole words of 0
-abbrev pub space : Origin → Tree → Progress → Result Progress FaultKind
+abbrev pub space : FileLine (List ℕ) → Tree → Progress → Result Progress FaultKind
 space origin e p = count_in (table p) e >>= λ n. lay origin (Zeros ((n + 15) / 16)) ((n + 15) / 16) p
 
 -- `.global`, `.ref`: names that all modules see, and that another module may define
@@ -346,7 +342,7 @@ declare names p =
     else Ok (record p { declared = all_once p.declared names; exported = all_once p.exported names })
 
 -- `.def`: names that all modules see, and that this module must define
-abbrev pub export : Origin → List (List ℕ) → Progress → Result Progress FaultKind
+abbrev pub export : FileLine (List ℕ) → List (List ℕ) → Progress → Result Progress FaultKind
 export origin names p =
     if list_any is_predefined names then Err fault.Defined
     else Ok (with_item origin (Exported names) (record p { exported = all_once p.exported names }))
@@ -360,7 +356,7 @@ unfoldable pub registers : Progress → Result Progress FaultKind
 registers p = if p.registers then Ok p else fold_ok define_pair (record p { registers = true }) register_names
 
 -- the result of what a line asks for
-abbrev pub act : Origin → AssemblyAct → Progress → Result Progress FaultKind
+abbrev pub act : FileLine (List ℕ) → AssemblyAct → Progress → Result Progress FaultKind
 act origin Nothing p = Ok p
 act origin (Enter section) p = enter section p
 act origin (Reserve section name room) p = reserve_count section name room p
@@ -389,5 +385,5 @@ few p = if nat_lt 65535 (name_count p.names p.declared) then Err fault.TooLarge 
 
 -- one more line; its faults in the order in which they are reported: 52, 20 and 21 that wait for the
 -- sections; 26; 22 to 25; 56; 54
-unfoldable pub pass : Origin → Statement → Progress → Result Progress FaultKind
+unfoldable pub pass : FileLine (List ℕ) → Statement → Progress → Result Progress FaultKind
 pass origin s p = allowed s.act p >>= λ _. label s.label p >>= λ q. act origin s.act q >>= λ r. few r >>= λ _. Ok r

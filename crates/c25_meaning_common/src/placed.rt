@@ -13,8 +13,8 @@ pub struct Placed<Place, Fault> {
     pub fault: Fault,
 }
 
-/// A line of a file: the file's name and the line's number, counted from 1; line 0 stands for the file
-/// itself.
+/// A line of a file. The file is given by its name, or by its number among the files of a source, counted
+/// from 0 in the order in which they were added. Lines count from 1; line 0 stands for the file itself.
 #[derive(Clone, Copy, PartialEq, Debug, Drop)]
 pub struct FileLine<Name> {
     pub file: Name,

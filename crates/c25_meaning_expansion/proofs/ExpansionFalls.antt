@@ -12,7 +12,7 @@ use Rattle.c25_meaning_expansion.specs.ExpansionRuns.{read_by, is_closed, back, 
 use Rattle.c25_meaning_expansion.specs.ExpansionBounds.{nested_of, pending, collecting, deepest, IsBounded}
 use Rattle.c25_meaning_expansion.proofs.ExpansionActs.{Comes, gives, goes, faults, misses, IsIdle, Acted, Never, acted, blocks_in, count_stays}
 use Rattle.c25_meaning_expansion.proofs.ExpansionLines.{Took, Takes, takes_read}
-use Rattle.c25_meaning_expansion.specs.declared.place.SourcePlace.{SourcePlace}
+use Rattle.c25_meaning_common.specs.declared.placed.FileLine.{FileLine}
 
 -- less is left to rewrite, and what was in bounds is
 pub record Falls (c d : Config) : Type 0 where
@@ -45,7 +45,7 @@ idle = record { nested = refl; nothing_waits = refl; no_loop = refl }
 
 -- ---- a line whose label was given
 
-falls_acted : (place : SourcePlace) (act : ExpansionAct) (c d : Config) → c.mode ≡ Acting place act → Acted (record c { mode = Reading }) d → Falls c d
+falls_acted : (place : FileLine ℕ) (act : ExpansionAct) (c d : Config) → c.mode ≡ Acting place act → Acted (record c { mode = Reading }) d → Falls c d
 falls_acted place act c d e h =
     let pends = ap pending e in
     let nested = ap nested_of e in
@@ -56,7 +56,7 @@ falls_acted place act c d e h =
       bounded = λ bounds. omega (arith, h, bounds);
     }
 
-after_acted : (place : SourcePlace) (act : ExpansionAct) (c : Config) (r : Rewriting) → c.mode ≡ Acting place act → Comes (Acted (record c { mode = Reading })) Never r → After c r
+after_acted : (place : FileLine ℕ) (act : ExpansionAct) (c : Config) (r : Rewriting) → c.mode ≡ Acting place act → Comes (Acted (record c { mode = Reading })) Never r → After c r
 after_acted place act c _ e (goes {d = d} h) = falls_acted place act c d e h
 after_acted place act c _ e (gives h) = absurd h
 after_acted place act c _ e faults = tt

@@ -10,7 +10,7 @@ use Rattle.c25_meaning_expansion.specs.ExpansionRules.{acts, labelled, consumed,
 use Rattle.c25_meaning_expansion.specs.ExpansionRuns.{read_by}
 use Rattle.c25_meaning_expansion.specs.ExpansionBounds.{nested_of, pending, collecting, nesting, skipping}
 use Rattle.c25_meaning_expansion.proofs.ExpansionActs.{Comes, gives, goes, faults, misses, comes_if, comes_elseif, comes_else, IsIdle, Acted, Never, acted, blocks_in}
-use Rattle.c25_meaning_expansion.specs.declared.place.SourcePlace.{SourcePlace}
+use Rattle.c25_meaning_common.specs.declared.placed.FileLine.{FileLine}
 use Rattle.c25_meaning_expansion.specs.declared.expansion.Branch.{Branch}
 use Rattle.c25_meaning_language.specs.declared.long_line.LongLine.{LongLine}
 use Rattle.c25_meaning_expansion.specs.declared.expansion.Directive.{Directive}
@@ -39,11 +39,11 @@ takes_acted m c _ misses = misses
 -- ---- lines that are used
 
 module _ (files : Files) (s : Table) (m : Mode) where
-  takes_labelled : (place : SourcePlace) (label : Option (List ℕ)) (act : ExpansionAct) (c : Config) → IsIdle c.mode → Takes m c (labelled files s place label act c)
+  takes_labelled : (place : FileLine ℕ) (label : Option (List ℕ)) (act : ExpansionAct) (c : Config) → IsIdle c.mode → Takes m c (labelled files s place label act c)
   takes_labelled place None act c h = takes_acted m c (acts files s place act c) (acted files s place act c h)
   takes_labelled place (Some name) act c h = gives (omega arith)
 
-  takes_consumed : (place : SourcePlace) (order : Result Order FaultKind) (c : Config) → IsIdle c.mode → Takes m c (consumed files s place order c)
+  takes_consumed : (place : FileLine ℕ) (order : Result Order FaultKind) (c : Config) → IsIdle c.mode → Takes m c (consumed files s place order c)
   takes_consumed place (Err kind) c h = faults
   takes_consumed place (Ok order) c h = takes_labelled place order.label order.act c h
 
@@ -55,7 +55,7 @@ module _ (files : Files) (s : Table) (m : Mode) where
   takes_uses row (Some d) c h = takes_consumed row.place (order_of d row.text) c h
   takes_uses row None c h = takes_calls row (macro_of (first_word row.text) c.names) c h
 
-  takes_unless_long : (place : SourcePlace) (text : Result (List ℕ) LongLine) (next : List ℕ → Rewriting) (c : Config) → ((t : List ℕ) → Takes m c (next t)) → Takes m c (unless_long place text next)
+  takes_unless_long : (place : FileLine ℕ) (text : Result (List ℕ) LongLine) (next : List ℕ → Rewriting) (c : Config) → ((t : List ℕ) → Takes m c (next t)) → Takes m c (unless_long place text next)
   takes_unless_long place (Err e) next c h = faults
   takes_unless_long place (Ok text) next c h = h text
 

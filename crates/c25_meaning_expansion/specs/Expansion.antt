@@ -9,7 +9,7 @@ use Rattle.c25_meaning_expansion.specs.Acts.{ExpansionAct, Macro}
 use Rattle.c25_meaning_expansion.specs.Rows.{Row}
 use Rattle.c25_meaning_language.specs.Fragments.{visible}
 use Rattle.c25_meaning_language.specs.Texts.{Named, SubstitutionTexts, with_name}
-use Rattle.c25_meaning_expansion.specs.declared.place.SourcePlace.{SourcePlace}
+use Rattle.c25_meaning_common.specs.declared.placed.FileLine.{FileLine}
 use Rattle.c25_meaning_expansion.specs.declared.expansion.Branch.{Branch}
 use Rattle.c25_meaning_language.specs.declared.statement.FaultKind.{FaultKind}
 
@@ -29,7 +29,7 @@ pub data Kind : Type 0 where
 -- the innermost first
 pub record SourceFrame : Type 0 where
   pub kind : Kind
-  pub last : SourcePlace
+  pub last : FileLine ℕ
   pub branches : List Branch
 
 -- an open expansion: its number, and its parameters with the texts that they stand for
@@ -41,7 +41,7 @@ pub record Expansion : Type 0 where
 -- goes into the body of a macro or a loop, in which `nested` blocks of that kind are open
 pub data Mode : Type 0 where
   Reading : Mode
-  Acting : (place : SourcePlace) (act : ExpansionAct) → Mode
+  Acting : (place : FileLine ℕ) (act : ExpansionAct) → Mode
   InMacro : (name : List ℕ) (parameters : List (List ℕ)) (body : List Row) (nested : ℕ) → Mode
   InLoop : (turns : ℕ) (body : List Row) (nested : ℕ) → Mode
 
@@ -72,11 +72,11 @@ pub data Rewriting : Type 0 where
   Gives : (row : Row) (rest : Config) → Rewriting
   Goes : (rest : Config) → Rewriting
   Finishes : (rest : Config) → Rewriting
-  Faults : (place : SourcePlace) (kind : FaultKind) → Rewriting
-  Misses : (place : SourcePlace) (name : List ℕ) → Rewriting
+  Faults : (place : FileLine ℕ) (kind : FaultKind) → Rewriting
+  Misses : (place : FileLine ℕ) (name : List ℕ) → Rewriting
 
 -- a fault if the test holds, else what follows
-abbrev pub unless : Bool → FaultKind → SourcePlace → Rewriting → Rewriting
+abbrev pub unless : Bool → FaultKind → FileLine ℕ → Rewriting → Rewriting
 unless test kind place next = if test then Faults place kind else next
 
 -- ---- open blocks
@@ -90,7 +90,7 @@ abbrev pub is_full : Config → Bool
 is_full c = nat_le 32 (depth c)
 
 -- a file, expansion or turn with these lines is opened: they come next, and then an end
-abbrev pub source_opened : Kind → SourcePlace → List Row → Config → Config
+abbrev pub source_opened : Kind → FileLine ℕ → List Row → Config → Config
 source_opened kind last rows c =
     record c { lines = map Read rows ++ Close ∷ c.lines; frame = record { kind = kind; last = last; branches = [] }; outer = c.frame ∷ c.outer }
 

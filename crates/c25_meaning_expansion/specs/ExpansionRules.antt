@@ -38,7 +38,7 @@ use Rattle.c25_meaning_language.specs.Texts.{SubstitutionTexts, with_name}
 use Rattle.c25_meaning_expansion.specs.Acts.{ExpansionAct, If, ElseIf, Else, EndIf, Define, Stray, Exit, Loop, Break, Assign, Evaluate, Copy, End, Call, Macro, Order, directive_of, order_of, call_of}
 use Rattle.c25_meaning_expansion.specs.Expansion.{Kind, Copied, Expanded, Turn, Reading, Acting, InMacro, InLoop, Dictionary, Config, Rewriting, Gives, Goes, Faults, Misses, unless, is_full, source_opened, with_branches, left_through, is_expansion, is_turn, stands_in, macro_named, seen, number_of, assigned, called}
 use Rattle.c25_meaning_language.specs.declared.value.Value.{Value}
-use Rattle.c25_meaning_expansion.specs.declared.place.SourcePlace.{SourcePlace}
+use Rattle.c25_meaning_common.specs.declared.placed.FileLine.{FileLine}
 use Rattle.c25_meaning_expansion.specs.declared.expansion.Branch.{Branch}
 use Rattle.c25_meaning_expansion.specs.declared.expansion.Phase.{Phase}
 use Rattle.c25_meaning_expansion.specs.declared.expansion.Phase.TheVariants.{Seeking, Taking, Passing, ElseTaking, ElsePassing}
@@ -55,12 +55,12 @@ abbrev pub absolute_number : Result Value FaultKind → Result ℤ FaultKind
 absolute_number value = value >>= λ v. number_by v.base v.offset
 
 -- what follows with a number, or its fault at this place
-abbrev pub with_number : SourcePlace → Result ℤ FaultKind → (ℤ → Rewriting) → Rewriting
+abbrev pub with_number : FileLine ℕ → Result ℤ FaultKind → (ℤ → Rewriting) → Rewriting
 with_number place (Ok number) next = next number
 with_number place (Err kind) next = Faults place kind
 
 -- what follows with the number of an expression under the symbols defined so far, or one of 22 to 25
-abbrev pub needed : Table → SourcePlace → Tree → (ℤ → Rewriting) → Rewriting
+abbrev pub needed : Table → FileLine ℕ → Tree → (ℤ → Rewriting) → Rewriting
 needed s place e next = with_number place (absolute_number (valued s e)) next
 
 -- ---- conditional lines: `.elseif` and `.else` by the phase of the `.if` that they go on with
@@ -81,7 +81,7 @@ takes_lines ElseTaking = true
 takes_lines ElsePassing = false
 
 -- `.elseif` by the phase; `sought` is what follows where a true condition is still sought
-abbrev pub elseif_in : Phase → SourcePlace → (Phase → Rewriting) → Rewriting → Rewriting
+abbrev pub elseif_in : Phase → FileLine ℕ → (Phase → Rewriting) → Rewriting → Rewriting
 elseif_in Seeking place next sought = sought
 elseif_in Taking place next sought = next Passing
 elseif_in Passing place next sought = next Passing
@@ -89,7 +89,7 @@ elseif_in ElseTaking place next sought = Faults place fault.StrayEnd
 elseif_in ElsePassing place next sought = Faults place fault.StrayEnd
 
 -- `.else` by the phase
-abbrev pub else_in : Phase → SourcePlace → (Phase → Rewriting) → Rewriting
+abbrev pub else_in : Phase → FileLine ℕ → (Phase → Rewriting) → Rewriting
 else_in Seeking place next = next ElseTaking
 else_in Taking place next = next ElsePassing
 else_in Passing place next = next ElsePassing
@@ -101,7 +101,7 @@ abbrev pub phase_of : ℤ → Phase
 phase_of number = if is_zero number then Seeking else Taking
 
 -- `.if`: one more is open
-unfoldable pub begins_if : Table → SourcePlace → Tree → Config → Rewriting
+unfoldable pub begins_if : Table → FileLine ℕ → Tree → Config → Rewriting
 begins_if s place e c = needed s place e (λ number.
     unless (is_full c) fault.Depth place (Goes (with_branches (record { phase = phase_of number; nested = 0 } ∷ c.frame.branches) c)))
 
@@ -110,36 +110,36 @@ abbrev pub enters : Branch → List Branch → Config → Phase → Rewriting
 enters b bs c phase = Goes (with_branches (record b { phase = phase } ∷ bs) c)
 
 -- `.elseif`, which must stand in an open `.if`
-abbrev pub elseif_by : Table → SourcePlace → Tree → List Branch → Config → Rewriting
+abbrev pub elseif_by : Table → FileLine ℕ → Tree → List Branch → Config → Rewriting
 elseif_by s place e [] c = needed s place e (λ number. Faults place fault.StrayEnd)
 elseif_by s place e (b ∷ bs) c = elseif_in b.phase place (enters b bs c) (needed s place e (λ number. enters b bs c (phase_of number)))
 
 -- `.else`, which must stand in an open `.if`
-abbrev pub else_by : SourcePlace → List Branch → Config → Rewriting
+abbrev pub else_by : FileLine ℕ → List Branch → Config → Rewriting
 else_by place [] c = Faults place fault.StrayEnd
 else_by place (b ∷ bs) c = else_in b.phase place (enters b bs c)
 
 -- `.endif`, which ends the innermost `.if`
-abbrev pub endif_by : SourcePlace → List Branch → Config → Rewriting
+abbrev pub endif_by : FileLine ℕ → List Branch → Config → Rewriting
 endif_by place [] c = Faults place fault.StrayEnd
 endif_by place (b ∷ bs) c = Goes (with_branches bs c)
 
 -- ---- macros and loops
 
 -- `.macro`: its name must not be that of a macro or of a mnemonic; the next lines are collected
-unfoldable pub begins_macro : SourcePlace → List ℕ → List (List ℕ) → Config → Rewriting
+unfoldable pub begins_macro : FileLine ℕ → List ℕ → List (List ℕ) → Config → Rewriting
 begins_macro place name parameters c =
     unless (is_some (macro_named c.names name) || is_some (spelling_of name)) fault.Redefined place
     (Goes (record c { mode = InMacro name parameters [] 0 }))
 
 -- the call of a macro: its body comes next
-unfoldable pub begins_expansion : SourcePlace → List Row → SubstitutionTexts → Config → Rewriting
+unfoldable pub begins_expansion : FileLine ℕ → List Row → SubstitutionTexts → Config → Rewriting
 begins_expansion place body arguments c =
     unless (is_full c) fault.Depth place (Goes (record (source_opened Expanded (last_place place body) body c) { names = called arguments c.names }))
 
 -- the innermost file, expansion or turn that passes the test is left: its lines are dropped; where none is
 -- open that passes, StrayEnd
-abbrev pub leaves : (Kind → Bool) → SourcePlace → Config → Rewriting
+abbrev pub leaves : (Kind → Bool) → FileLine ℕ → Config → Rewriting
 leaves test place c = elim (left_through test c.lines c.frame c.outer c.names c) [ None ↦ Faults place fault.StrayEnd | Some rest ↦ Goes rest ]
 
 -- how many turns a count asks for: none if it is negative
@@ -148,46 +148,46 @@ turns_of (pos n) = n
 turns_of (negsuc n) = 0
 
 -- a loop of so many turns begins: the next lines are collected
-abbrev pub collects : SourcePlace → ℕ → Config → Rewriting
+abbrev pub collects : FileLine ℕ → ℕ → Config → Rewriting
 collects place turns c = unless (is_full c) fault.Depth place (Goes (record c { mode = InLoop turns [] 0 }))
 
 -- `.loop`: without a count it makes 1,024 turns
-unfoldable pub begins_loop : Table → SourcePlace → Option Tree → Config → Rewriting
+unfoldable pub begins_loop : Table → FileLine ℕ → Option Tree → Config → Rewriting
 begins_loop s place None c = collects place 1024 c
 begins_loop s place (Some e) c = needed s place e (λ number. collects place (turns_of number) c)
 
 -- `.break`, which must stand in a loop, and leaves it if the condition is true
-abbrev pub breaks_if : Bool → SourcePlace → Config → Rewriting
+abbrev pub breaks_if : Bool → FileLine ℕ → Config → Rewriting
 breaks_if true_so place c =
     unless (not (stands_in is_turn c)) fault.StrayEnd place (if true_so then leaves is_turn place c else Goes c)
 
 -- `.break`: without a condition it leaves the loop
-unfoldable pub breaks : Table → SourcePlace → Option Tree → Config → Rewriting
+unfoldable pub breaks : Table → FileLine ℕ → Option Tree → Config → Rewriting
 breaks s place None c = breaks_if true place c
 breaks s place (Some e) c = needed s place e (λ number. breaks_if (not (is_zero number)) place c)
 
 -- ---- texts and files
 
 -- `.eval`: the name stands for the number in decimal
-unfoldable pub evaluates : Table → SourcePlace → Tree → List ℕ → Config → Rewriting
+unfoldable pub evaluates : Table → FileLine ℕ → Tree → List ℕ → Config → Rewriting
 evaluates s place e name c = needed s place e (λ number. Goes (record c { names = assigned name (signed_decimal number) c.names }))
 
 -- `.copy` by the text of the file, if there is such a file: its lines come next
-abbrev pub copies_by : Option (List ℕ) → ℕ → SourcePlace → List ℕ → Config → Rewriting
+abbrev pub copies_by : Option (List ℕ) → ℕ → FileLine ℕ → List ℕ → Config → Rewriting
 copies_by None file place name c = Misses place name
 copies_by (Some text) file place name c =
     unless (is_full c) fault.Depth place (Goes (source_opened Copied (last_place place (rows_of file text)) (rows_of file text) c))
 
 -- `.copy` and `.include`
-unfoldable pub copies : Files → SourcePlace → List ℕ → Config → Rewriting
+unfoldable pub copies : Files → FileLine ℕ → List ℕ → Config → Rewriting
 copies files place name c = copies_by (text_named files name) (file_number files name) place name c
 
 -- `.end`: no lines are left and all blocks are closed
-unfoldable pub ends_all : SourcePlace → Config → Rewriting
+unfoldable pub ends_all : FileLine ℕ → Config → Rewriting
 ends_all place c = Goes (record c { lines = []; frame = record { kind = Copied; last = place; branches = [] }; outer = []; names = record c.names { expansions = [] } })
 
 -- the result of what a line asks for
-unfoldable pub acts : Files → Table → SourcePlace → ExpansionAct → Config → Rewriting
+unfoldable pub acts : Files → Table → FileLine ℕ → ExpansionAct → Config → Rewriting
 acts files s place (If e) c = begins_if s place e c
 acts files s place (ElseIf e) c = elseif_by s place e c.frame.branches c
 acts files s place Else c = else_by place c.frame.branches c
@@ -206,12 +206,12 @@ acts files s place (Call body arguments) c = begins_expansion place body argumen
 -- ---- lines that are used: neither skipped nor collected
 
 -- a line's label is given as a line of its own, and what the line asks for is done after that
-abbrev pub labelled : Files → Table → SourcePlace → Option (List ℕ) → ExpansionAct → Config → Rewriting
+abbrev pub labelled : Files → Table → FileLine ℕ → Option (List ℕ) → ExpansionAct → Config → Rewriting
 labelled files s place None act c = acts files s place act c
 labelled files s place (Some name) act c = Gives (record { place = place; text = name }) (record c { mode = Acting place act })
 
 -- a line that asks something of expansion, or its fault
-abbrev pub consumed : Files → Table → SourcePlace → Result Order FaultKind → Config → Rewriting
+abbrev pub consumed : Files → Table → FileLine ℕ → Result Order FaultKind → Config → Rewriting
 consumed files s place (Err kind) c = Faults place kind
 consumed files s place (Ok order) c = labelled files s place order.label order.act c
 
@@ -241,7 +241,7 @@ substituted_as (Some directive.Evaluate) names text = substituted_before_comma (
 substituted_as _ names text = substituted (seen names) (number_of names.expansions) text
 
 -- what follows with a substituted line, or LongLine
-abbrev pub unless_long : SourcePlace → Result (List ℕ) LongLine → (List ℕ → Rewriting) → Rewriting
+abbrev pub unless_long : FileLine ℕ → Result (List ℕ) LongLine → (List ℕ → Rewriting) → Rewriting
 unless_long place (Err e) next = Faults place fault.LongLine
 unless_long place (Ok text) next = next text
 
@@ -309,7 +309,7 @@ in_macro row (Some directive.EndMacro) name parameters body nested c =
 in_macro row _ name parameters body nested c = Goes (record c { mode = InMacro name parameters (body ++ row ∷ []) nested })
 
 -- the first turn of a loop whose lines were collected, if it makes any
-abbrev pub turns_begin : SourcePlace → ℕ → List Row → Config → Rewriting
+abbrev pub turns_begin : FileLine ℕ → ℕ → List Row → Config → Rewriting
 turns_begin place turns body c = if turns == 0 then Goes c else Goes (source_opened (Turn body (turns - 1)) (last_place place body) body c)
 
 -- a line of a loop's body: `.endloop` begins the turns, unless a loop in the body is open; any other line is

@@ -4,11 +4,11 @@ use Rattle.std.specs.List.{position_or_len}
 use Rattle.std.specs.Str.{bytes_eq}
 use Rattle.std.specs.Str.Lines.{lines}
 use Rattle.c25_meaning_expansion.specs.Files.{Files}
-use Rattle.c25_meaning_expansion.specs.declared.place.SourcePlace.{SourcePlace}
+use Rattle.c25_meaning_common.specs.declared.placed.FileLine.{FileLine}
 
 -- a line of a file: its place, and its text without the end of the line
 pub record Row : Type 0 where
-  pub place : SourcePlace
+  pub place : FileLine ℕ
   pub text : List ℕ
 
 -- lines of a file, the first of which has the number `line`
@@ -26,7 +26,7 @@ is_empty [] = true
 is_empty (x ∷ xs) = false
 
 -- the place of the last of some lines, or this place if there are none
-abbrev pub last_place : SourcePlace → List Row → SourcePlace
+abbrev pub last_place : FileLine ℕ → List Row → FileLine ℕ
 last_place place rows = elim (slice_get rows (length rows - 1)) [ None ↦ place | Some row ↦ row.place ]
 
 -- the number of the file of this name, counted from 0 in the order in which files were added

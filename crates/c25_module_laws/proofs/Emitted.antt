@@ -6,12 +6,13 @@ use Rattle.std.proofs.lemmas.Bool.{eq-eqb, ne_eqb}
 use Rattle.c25_meaning_assembly.specs.Addresses.{OperandValues, operand_values, words_of, relocations_of}
 use Rattle.c25_meaning_assembly.specs.Emission.{extended, emit, emitted, emit_all, at_origin, is_here, table_at, with_operand_values}
 use Rattle.c25_meaning_common.specs.Results.{◌>>=◌, fold_ok}
-use Rattle.c25_meaning_assembly.specs.Sections.{Definitions, Section, Content, Operands, Words, Zeros, Exported, Origin, PendingItem, changed, changed_by}
+use Rattle.c25_meaning_assembly.specs.Sections.{Definitions, Section, Content, Operands, Words, Zeros, Exported, PendingItem, changed, changed_by}
 use Rattle.c25_meaning_objects.specs.declared.object.Relocation.{Relocation}
 use Rattle.c25_meaning_language.specs.declared.statement.FaultKind.{FaultKind}
 use Rattle.c25_meaning_language.specs.declared.statement.FaultKind.TheVariants as fault
 use Rattle.c25_module_laws.proofs.Kept.{changed_later}
 use Rattle.c25_module_laws.proofs.ResultSteps.{bound, permitted}
+use Rattle.c25_meaning_common.specs.declared.placed.FileLine.{FileLine}
 
 -- words and relocations, and where they begin
 pub record Made : Type 0 where
@@ -118,7 +119,7 @@ filled_more k (suc i) (s ∷ ss) m ms e =
 
 -- ---- all items
 
-told_ok : {A : Type 0} (origin : Origin) (r : Result A FaultKind) (x : A) → at_origin origin r ≡ Ok x → r ≡ Ok x
+told_ok : {A : Type 0} (origin : FileLine (List ℕ)) (r : Result A FaultKind) (x : A) → at_origin origin r ≡ Ok x → r ≡ Ok x
 told_ok origin (Ok y) x e = let q : y ≡ x = cc in ap Ok q
 told_ok origin (Err f) x e = absurd (cc)
 

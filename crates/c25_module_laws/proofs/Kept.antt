@@ -5,7 +5,7 @@ use Rattle.std.specs.Str.{bytes_eq}
 use Rattle.std.proofs.lemmas.List.{append-nil, append_assoc}
 use Rattle.std.proofs.lemmas.Bool.{and_from, and_parts, eq-eqb, ne_eqb}
 use Rattle.c25_meaning_objects.specs.Module.{each_fits, is_section_name}
-use Rattle.c25_meaning_assembly.specs.Sections.{Definitions, Section, Content, Operands, Words, Zeros, Exported, Origin, PendingItem, Progress, changed, changed_by, is_file_name, is_in, is_line_number, are_distinct}
+use Rattle.c25_meaning_assembly.specs.Sections.{Definitions, Section, Content, Operands, Words, Zeros, Exported, PendingItem, Progress, changed, changed_by, is_file_name, is_in, is_line_number, are_distinct}
 use Rattle.c25_meaning_language.specs.Statement.{form_row}
 use Rattle.c25_meaning_instructions.specs.Table.{size}
 use Rattle.c25_meaning_assembly.specs.declared.assembly.Target.TheVariants as target
@@ -17,6 +17,7 @@ pub use Rattle.c25_meaning_assembly.specs.ItemPlaces.{part, total, words_in}
 use Rattle.c25_module_laws.proofs.Counted.{IsCount}
 use Rattle.c25_module_laws.proofs.Spoken.{IsSymbol, AreWords}
 use Rattle.c25_module_laws.proofs.Valued.{IsGoodValue}
+use Rattle.c25_meaning_common.specs.declared.placed.FileLine.{FileLine}
 
 -- ---- the names and kinds of sections
 
@@ -127,7 +128,7 @@ pub record AreItems (sections : List Section) (items marked : List PendingItem) 
   pub good : AllByRecursion (λ i. IsGoodContent i.content) items
 
 -- the line of an instruction: a record has room for its number, and its file is one of these
-pub record IsOrigin (files : List (List ℕ)) (o : Origin) : Type 0 where
+pub record IsOrigin (files : List (List ℕ)) (o : FileLine (List ℕ)) : Type 0 where
   pub numbered : is_line_number o.line ≡ true
   pub known : is_in files o.file ≡ true
 

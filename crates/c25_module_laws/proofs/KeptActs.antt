@@ -7,7 +7,7 @@ use Rattle.std.proofs.lemmas.List.{map-append, length-append, length-map}
 use Rattle.std.proofs.lemmas.Bool.{and_from, and_parts, ltb-true, ltb-false, leb-true, leb-false, cond_both, le-ltb, lt-ltb, not_from_false, not-true}
 use Rattle.c25_meaning_objects.specs.Module.{each_fits}
 use Rattle.c25_meaning_assembly.specs.Sections as meaning
-use Rattle.c25_meaning_assembly.specs.Sections.{Definitions, Section, Content, Operands, Words, Zeros, Exported, Origin, PendingItem, Progress, changed, longer, with_mark, is_in, are_distinct, once, all_once, stands, define, label, here, table, place_in, same_kind, of_kind, section_opened, grow, lay, loaded_here, with_item, size_at, size_by, empty_section, is_called, count_in, reserve, register_names, value_of_number, define_pair}
+use Rattle.c25_meaning_assembly.specs.Sections.{Definitions, Section, Content, Operands, Words, Zeros, Exported, PendingItem, Progress, changed, longer, with_mark, is_in, are_distinct, once, all_once, stands, define, label, here, table, place_in, same_kind, of_kind, section_opened, grow, lay, loaded_here, with_item, size_at, size_by, empty_section, is_called, count_in, reserve, register_names, value_of_number, define_pair}
 use Rattle.c25_meaning_language.specs.Statement.{valued}
 use Rattle.c25_meaning_language.specs.Tree.{Tree}
 use Rattle.c25_meaning_language.specs.Value.{named_by, predefined, defined, upper}

@@ -5,12 +5,13 @@ use Rattle.std.specs.Str.{bytes_eq}
 use Rattle.std.proofs.lemmas.Bool.{false≢true, leb-false, leb-true, or_left, or_right}
 use Rattle.std.proofs.lemmas.List.{length-append}
 use Rattle.std.proofs.lemmas.Slice.Eq.{bytes_eq-Decides}
-use Rattle.c25_meaning_assembly.specs.Sections.{Section, Origin, Progress, block_allowed, changed, empty_section, is_file_name, is_in, is_line_number, longer, size_at, size_by, use_file, use_line, with_block, with_mark}
+use Rattle.c25_meaning_assembly.specs.Sections.{Section, Progress, block_allowed, changed, empty_section, is_file_name, is_in, is_line_number, longer, size_at, size_by, use_file, use_line, with_block, with_mark}
 use Rattle.c25_meaning_objects.specs.declared.object.Block.{Block}
 use Rattle.c25_meaning_objects.specs.declared.object.ModuleMark.{ModuleMark}
 use Rattle.c25_meaning_language.specs.declared.statement.FaultKind.TheVariants as fault
 use Rattle.c25_meaning_assembly.proofs.Distinct.{distinct_push, neither}
 use Rattle.c25_module_laws.proofs.Kept.{AreBlocks, AreFiles, AreTold, IsOrigin, IsTold, changed_twice, each_changed, get_push, pushed, weaker}
+use Rattle.c25_meaning_common.specs.declared.placed.FileLine.{FileLine}
 
 -- ---- names after others
 
@@ -91,7 +92,7 @@ block_size n u e = on (leb 1 n) refl (leb n 128) refl e
 -- ---- lines of instructions
 
 -- the line of an instruction, whose file is among these now
-pub record IsUsed (origin : Origin) (p q : Progress) : Type 0 where
+pub record IsUsed (origin : FileLine (List ℕ)) (p q : Progress) : Type 0 where
   pub same : q ≡ record p { files = q.files }
   pub told : AreTold q.files p.sections
   pub known : IsOrigin q.files origin
@@ -103,7 +104,7 @@ files_push files name new room is h = record {
   few = let size = length-append files (name ∷ []) in omega (arith, size, room);
 }
 
-origin_push : (files : List (List ℕ)) (name : List ℕ) (o : Origin) → IsOrigin files o → IsOrigin (files ++ name ∷ []) o
+origin_push : (files : List (List ℕ)) (name : List ℕ) (o : FileLine (List ℕ)) → IsOrigin files o → IsOrigin (files ++ name ∷ []) o
 origin_push files name o h = record { numbered = h.numbered; known = in_push files name o.file h.known }
 
 -- a file more
@@ -115,7 +116,7 @@ told_file files name sections more h = record {
       record { count = t.count; origins = weaker (IsOrigin files) (IsOrigin (files ++ name ∷ [])) (origin_push files name) s.origins t.origins; blocks = t.blocks; loaded = t.loaded };
 }
 
-file_used : (origin : Origin) (p q : Progress) → is_line_number origin.line ≡ true → AreTold p.files p.sections → use_file origin.file p ≡ Ok q → IsUsed origin p q
+file_used : (origin : FileLine (List ℕ)) (p q : Progress) → is_line_number origin.line ≡ true → AreTold p.files p.sections → use_file origin.file p ≡ Ok q → IsUsed origin p q
 file_used origin p q numbered told e = on (is_in p.files origin.file) refl e
   where
     made : Progress
@@ -143,7 +144,7 @@ file_used origin p q numbered told e = on (is_in p.files origin.file) refl e
         subst (IsUsed origin p) same (record { same = refl; told = told; known = record { numbered = numbered; known = is } })
     on false is e = new (leb 65535 (length p.files) || not (is_file_name origin.file)) refl is e
 
-pub line_used : (origin : Origin) (p q : Progress) → AreTold p.files p.sections → use_line origin p ≡ Ok q → IsUsed origin p q
+pub line_used : (origin : FileLine (List ℕ)) (p q : Progress) → AreTold p.files p.sections → use_line origin p ≡ Ok q → IsUsed origin p q
 unfolding use_line
 line_used origin p q told e = on (is_line_number origin.line) refl e
   where
@@ -152,7 +153,7 @@ line_used origin p q told e = on (is_line_number origin.line) refl e
     on false is e = absurd (cc)
 
 -- a mark more, with its line
-pub told_mark : (files : List (List ℕ)) (origin : Origin) (m : ModuleMark) (sections : List Section) (i : ℕ) → IsOrigin files origin → AreTold files sections → AreTold files (changed (with_mark origin m) sections i)
+pub told_mark : (files : List (List ℕ)) (origin : FileLine (List ℕ)) (m : ModuleMark) (sections : List Section) (i : ℕ) → IsOrigin files origin → AreTold files sections → AreTold files (changed (with_mark origin m) sections i)
 told_mark files origin m sections i is h = record {
   used = h.used;
   each = each_changed (IsTold files) (IsTold files) (with_mark origin m) sections i h.each

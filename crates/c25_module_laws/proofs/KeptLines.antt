@@ -15,7 +15,7 @@ use Rattle.c25_meaning_objects.specs.Module.{each_fits}
 use Rattle.c25_meaning_assembly.specs.ModuleOfSource.{LinesSoFar, no_lines, entry_of, origin_of, pass_line, passed, passed_by, passed_from, read_and_pass}
 use Rattle.c25_meaning_common.specs.Results.{◌>>=◌, fold_ok}
 use Rattle.c25_meaning_assembly.specs.Sections as meaning
-use Rattle.c25_meaning_assembly.specs.Sections.{Definitions, Section, Content, Operands, Words, Zeros, Exported, Origin, PendingItem, Progress, changed, longer, with_block, with_mark, use_line, block, block_allowed, flag_in, is_in, are_distinct, once, all_once, stands, define, label, here, loaded_here, table, place_in, same_kind, of_kind, section_opened, grow, lay, with_item, size_at, size_by, is_called, count_in, reserve, reserve_room, register_names, define_pair, name_count, few, pass, allowed, act}
+use Rattle.c25_meaning_assembly.specs.Sections.{Definitions, Section, Content, Operands, Words, Zeros, Exported, PendingItem, Progress, changed, longer, with_block, with_mark, use_line, block, block_allowed, flag_in, is_in, are_distinct, once, all_once, stands, define, label, here, loaded_here, table, place_in, same_kind, of_kind, section_opened, grow, lay, with_item, size_at, size_by, is_called, count_in, reserve, reserve_room, register_names, define_pair, name_count, few, pass, allowed, act}
 use Rattle.c25_meaning_language.specs.Statement.{valued, form_row}
 use Rattle.c25_meaning_instructions.specs.Table.{size}
 use Rattle.c25_meaning_language.specs.Tree.{Tree}
@@ -38,6 +38,7 @@ use Rattle.c25_module_laws.proofs.KeptFiles.{block_size, in_last, in_push, line_
 use Rattle.c25_module_laws.proofs.ResultSteps.{bound, permitted, refused, unless}
 use Rattle.c25_module_laws.proofs.Valued.{IsGoodValue, natural_fits}
 use Rattle.c25_module_laws.proofs.Spoken.{IsGood, IsGoodAct, IsSection, IsSymbol, read_good}
+use Rattle.c25_meaning_common.specs.declared.placed.FileLine.{FileLine}
 
 -- ---- sections that change, but for their names and kinds
 
@@ -140,7 +141,7 @@ offset_is p kept =
     omega (arith, a, b)
 
 -- an item at the current place
-abbrev laid_item : Origin → Content → Progress → PendingItem
+abbrev laid_item : FileLine (List ℕ) → Content → Progress → PendingItem
 laid_item origin content p = record { origin = origin; section = p.current; offset = size_at p.sections p.current; content = content }
 
 -- one item more, whose mark is still to come
@@ -149,7 +150,7 @@ record IsLaid (item : PendingItem) (p q : Progress) : Type 0 where
   items : q.items ≡ p.items ++ item ∷ []
   current : q.current ≡ p.current
 
-lay_kept : (origin : Origin) (content : Content) (n : ℕ) (p q : Progress) → words_in content ≡ n → IsGoodContent content → AllKept p → lay origin content n p ≡ Ok q → IsLaid (laid_item origin content p) p q
+lay_kept : (origin : FileLine (List ℕ)) (content : Content) (n : ℕ) (p q : Progress) → words_in content ≡ n → IsGoodContent content → AllKept p → lay origin content n p ≡ Ok q → IsLaid (laid_item origin content p) p q
 unfolding lay grow
 lay_kept origin content n p q count good kept e =
     let c = p.current in
@@ -213,7 +214,7 @@ unmarked item p q none h =
     remarked p.items q.items q (λ k. sym (ap (marks_in k) h.items ∙ marks_same k p.items item none)) h.kept
 
 -- an instruction's mark, and its line in one of these files
-marked : (origin : Origin) (f : Form) (trees : List Tree) (files : List (List ℕ)) (p q : Progress) → AreTold files q.sections → IsOrigin files origin
+marked : (origin : FileLine (List ℕ)) (f : Form) (trees : List Tree) (files : List (List ℕ)) (p q : Progress) → AreTold files q.sections → IsOrigin files origin
     → IsLaid (laid_item origin (Operands (target.Instruction f) trees) p) p q
     → AllKept (record q { files = files; sections = changed (with_mark origin (record { section = p.current; offset = size_at p.sections p.current; size = size (form_row f) })) q.sections p.current })
 marked origin f trees files p q told known h =
@@ -248,7 +249,7 @@ marked origin f trees files p q told known h =
       told = told_mark files origin m q.sections c known told;
     }
 
-put_marked : (origin : Origin) (t : Target) (trees : List Tree) (p q r : Progress) → IsLaid (laid_item origin (Operands t trees) p) p q
+put_marked : (origin : FileLine (List ℕ)) (t : Target) (trees : List Tree) (p q r : Progress) → IsLaid (laid_item origin (Operands t trees) p) p q
     → meaning.mark origin t p.current (size_at p.sections p.current) (target_size t (length trees)) q ≡ Ok r → AllKept r
 put_marked origin (target.Instruction f) trees p q r h e =
     let c = p.current in
@@ -260,14 +261,14 @@ put_marked origin (target.Instruction f) trees p q r h e =
     subst AllKept (ap with_marks (sym u.same) ∙ same) (marked origin f trees (a.0).files p q u.told u.known h)
 put_marked origin (target.Data w) trees p q r h e = let same : q ≡ r = cc in subst AllKept same (unmarked (laid_item origin (Operands (target.Data w) trees) p) p q refl h)
 
-put_kept : (origin : Origin) (t : Target) (trees : List Tree) (p q : Progress) → IsCount t (length trees) → AllKept p → meaning.put origin t trees p ≡ Ok q → AllKept q
+put_kept : (origin : FileLine (List ℕ)) (t : Target) (trees : List Tree) (p q : Progress) → IsCount t (length trees) → AllKept p → meaning.put origin t trees p ≡ Ok q → AllKept q
 put_kept origin t trees p q few kept e =
     let n = target_size t (length trees) in
     let a = bound (lay origin (Operands t trees) n p) (λ r. meaning.mark origin t p.current (size_at p.sections p.current) n r) q e in
     put_marked origin t trees p a.0 q (lay_kept origin (Operands t trees) n p a.0 refl few kept a.1) a.2
 
 -- content without a mark
-lay_bare : (origin : Origin) (content : Content) (n : ℕ) (p q : Progress) → words_in content ≡ n → IsGoodContent content → mark_by (laid_item origin content p) content ≡ [] → AllKept p → lay origin content n p ≡ Ok q → AllKept q
+lay_bare : (origin : FileLine (List ℕ)) (content : Content) (n : ℕ) (p q : Progress) → words_in content ≡ n → IsGoodContent content → mark_by (laid_item origin content p) content ≡ [] → AllKept p → lay origin content n p ≡ Ok q → AllKept q
 lay_bare origin content n p q count good none kept e = unmarked (laid_item origin content p) p q none (lay_kept origin content n p q count good kept e)
 
 -- ---- names that are declared
@@ -320,7 +321,7 @@ declare_kept names p q symbols kept e =
       told = kept.told;
     })
 
-export_kept : (origin : Origin) (names : List (List ℕ)) (p q : Progress) → AllKept p → meaning.export origin names p ≡ Ok q → AllKept q
+export_kept : (origin : FileLine (List ℕ)) (names : List (List ℕ)) (p q : Progress) → AllKept p → meaning.export origin names p ≡ Ok q → AllKept q
 export_kept origin names p q kept e =
     let c = p.current in
     let item : PendingItem = record { origin = origin; section = c; offset = size_at p.sections c; content = Exported names } in
@@ -431,7 +432,7 @@ kind_fits (line.Export names) p u e = tt
 kind_fits (line.Label name) p u e = tt
 kind_fits line.Registers p u e = tt
 
-act_kept : (origin : Origin) (a : AssemblyAct) (p q : Progress) → IsGoodAct a → KindFits a p.sections → AllKept p → act origin a p ≡ Ok q → AllKept q
+act_kept : (origin : FileLine (List ℕ)) (a : AssemblyAct) (p q : Progress) → IsGoodAct a → KindFits a p.sections → AllKept p → act origin a p ≡ Ok q → AllKept q
 act_kept origin line.Nothing p q good kind kept e = let same : p ≡ q = cc in subst AllKept same kept
 act_kept origin (line.Enter section) p q good kind kept e = enter_kept section p q good kind kept e
 act_kept origin (line.Reserve section name room) p q good kind kept e =
@@ -462,7 +463,7 @@ pub record IsMade (p : Progress) : Type 0 where
   pub kept : AllKept p
   pub few : name_count p.names p.declared ≤ 65535
 
-pass_kept : (origin : Origin) (s : Statement) (p q : Progress) → IsGood s → AllKept p → pass origin s p ≡ Ok q → IsMade q
+pass_kept : (origin : FileLine (List ℕ)) (s : Statement) (p q : Progress) → IsGood s → AllKept p → pass origin s p ≡ Ok q → IsMade q
 unfolding pass
 pass_kept origin s p q good kept e =
     let a = bound (allowed s.act p) (λ _. label s.label p >>= λ x. act origin s.act x >>= λ r. few r >>= λ _. Ok r) q e in
@@ -478,7 +479,7 @@ pass_kept origin s p q good kept e =
       few = ltb-false 65535 (name_count (c.0).names (c.0).declared) count.0;
     })
 
-untold : {A : Type 0} (origin : Origin) (r : Result A FaultKind) (x : A) → at_origin origin r ≡ Ok x → r ≡ Ok x
+untold : {A : Type 0} (origin : FileLine (List ℕ)) (r : Result A FaultKind) (x : A) → at_origin origin r ≡ Ok x → r ≡ Ok x
 untold origin (Ok y) x e = let q : y ≡ x = cc in ap Ok q
 untold origin (Err f) x e = absurd (cc)
 

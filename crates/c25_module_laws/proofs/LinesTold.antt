@@ -9,12 +9,13 @@ use Rattle.std.proofs.lemmas.List.Sums.{fold_push, prefix_len-le-length}
 use Rattle.std.proofs.lemmas.Map.Made.{length-le_from_is_member}
 use Rattle.std.proofs.lemmas.Slice.Eq.{bytes_eq-Decides}
 use Rattle.c25_meaning_assembly.specs.Emission.{Lines, lines_of, no_lines, with_line}
-use Rattle.c25_meaning_assembly.specs.Sections.{Origin, are_distinct, is_file_name, is_in, once}
+use Rattle.c25_meaning_assembly.specs.Sections.{are_distinct, is_file_name, is_in, once}
 use Rattle.c25_meaning_objects.specs.Module.{each_fits, file_fits, has_file, line_fits, used, used_with}
 use Rattle.c25_meaning_objects.specs.declared.object.LineMark.{LineMark}
 use Rattle.c25_meaning_objects.specs.declared.object.ModuleMark.{ModuleMark}
 use Rattle.c25_meaning_assembly.proofs.Distinct.{both, distinct_push, turned}
 use Rattle.c25_module_laws.proofs.Kept.{AreFiles, IsOrigin, grown, pushed, weaker}
+use Rattle.c25_meaning_common.specs.declared.placed.FileLine.{FileLine}
 
 -- ---- names among others
 
@@ -123,7 +124,7 @@ record AreUsed (files : List (List ℕ)) (l : Lines) : Type 0 where
 used_push : (xs : List LineMark) (x : LineMark) → used (xs ++ x ∷ []) ≡ used_with (used xs) x
 used_push xs x = fold_push used_with 0 xs x
 
-line_more : (files : List (List ℕ)) (l : Lines) (o : Origin) → AreFiles files → IsOrigin files o → AreUsed files l → AreUsed files (with_line l o)
+line_more : (files : List (List ℕ)) (l : Lines) (o : FileLine (List ℕ)) → AreFiles files → IsOrigin files o → AreUsed files l → AreUsed files (with_line l o)
 line_more files l o are is h =
     record {
       known = on_known (is_in l.files o.file);
@@ -155,25 +156,25 @@ line_more files l o are is h =
 
 -- ---- all lines
 
-files_more : (os : List Origin) (l : Lines) → length l.files ≤ length (fold with_line l os).files
+files_more : (os : List (FileLine (List ℕ))) (l : Lines) → length l.files ≤ length (fold with_line l os).files
 files_more [] l = omega arith
 files_more (o ∷ os) l =
     let a = (is_next l.files o.file).more in
     let b = files_more os (with_line l o) in
     omega (arith, a, b)
 
-all_used : (files : List (List ℕ)) (os : List Origin) (l : Lines) → AreFiles files → AllByRecursion (IsOrigin files) os → AreUsed files l → AreUsed files (fold with_line l os)
+all_used : (files : List (List ℕ)) (os : List (FileLine (List ℕ))) (l : Lines) → AreFiles files → AllByRecursion (IsOrigin files) os → AreUsed files l → AreUsed files (fold with_line l os)
 all_used files [] l are is h = h
 all_used files (o ∷ os) l are is h = all_used files os (with_line l o) are is.1 (line_more files l o are is.0 h)
 
-all_counted : (os : List Origin) (l : Lines) → length (fold with_line l os).lines ≡ length l.lines + length os
+all_counted : (os : List (FileLine (List ℕ))) (l : Lines) → length (fold with_line l os).lines ≡ length l.lines + length os
 all_counted [] l = omega arith
 all_counted (o ∷ os) l =
     let one = length-append l.lines (record { file = position_or_len (bytes_eq o.file) l.files; line = o.line } ∷ []) in
     let rest = all_counted os (with_line l o) in
     omega (arith, one, rest)
 
-all_fit : (files : List (List ℕ)) (marks : List ModuleMark) (os : List Origin) (l : Lines) → AreFiles files → AllByRecursion (IsOrigin files) os → AreUsed files l → length l.lines + length os ≤ length marks
+all_fit : (files : List (List ℕ)) (marks : List ModuleMark) (os : List (FileLine (List ℕ))) (l : Lines) → AreFiles files → AllByRecursion (IsOrigin files) os → AreUsed files l → length l.lines + length os ≤ length marks
     → each_fits (line_fits marks (fold with_line l os).files) [] l.lines ≡ true → each_fits (line_fits marks (fold with_line l os).files) [] (fold with_line l os).lines ≡ true
 all_fit files marks [] l are is h room fit = fit
 all_fit files marks (o ∷ os) l are is h room fit =
@@ -202,7 +203,7 @@ pub record AreLinesOf (marks : List ModuleMark) (l : Lines) : Type 0 where
   pub sized : AllByRecursion (λ x. (x.file < 2 ^ 16) × (x.line < 2 ^ 32)) l.lines
 
 -- each mark having a line
-pub lines_told : (files : List (List ℕ)) (marks : List ModuleMark) (os : List Origin) → AreFiles files → AllByRecursion (IsOrigin files) os → length os ≡ length marks → AreLinesOf marks (lines_of os)
+pub lines_told : (files : List (List ℕ)) (marks : List ModuleMark) (os : List (FileLine (List ℕ))) → AreFiles files → AllByRecursion (IsOrigin files) os → length os ≡ length marks → AreLinesOf marks (lines_of os)
 lines_told files marks os are is size =
     let none : AreUsed files no_lines = record { known = tt; distinct = refl; fit = refl; used_is = refl; sized = tt } in
     let h = all_used files os no_lines are is none in

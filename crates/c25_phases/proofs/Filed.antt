@@ -1,6 +1,6 @@
 -- The files and lines of marks, one after another.
 use denote.Ref.{Bor}
-use Rattle.std.proofs.Common.{◌≡◌, ℕ, zero, suc, ◌+◌, ◌≤◌, ◌<◌, Bool, true, false, cond, ◌||◌, List, [], ◌∷◌, ◌++◌, length, map, drop, Some, get_or, subst, refl, sym, ap, ◌∙◌, arith}
+use Rattle.std.proofs.Common.{◌≡◌, ℕ, zero, suc, ◌+◌, ◌≤◌, ◌<◌, Bool, true, false, cond, ◌||◌, List, [], ◌∷◌, ◌++◌, length, map, drop, take, Some, get_or, subst, refl, sym, ap, ◌∙◌, arith}
 use Rattle.std.specs.List.{AllByRecursion, IsDistinct, fold, flat_map, list_any, position_or_len, slice_get}
 use Rattle.std.specs.Str.{bytes_eq}
 use Rattle.std.proofs.lemmas.List.{drop_more, length-append, map-append}
@@ -8,13 +8,14 @@ use Rattle.std.proofs.lemmas.List.Recursion.{is_position_or_len}
 use Rattle.std.proofs.lemmas.List.Sums.{fold-append}
 use Rattle.c25_meaning_assembly.proofs.Distinct.{turned}
 use Rattle.c25_meaning_assembly.specs.Emission.{Lines, lines_in, module_with, section_of, symbol_of, with_line}
-use Rattle.c25_meaning_assembly.specs.Sections.{Definitions, Origin, Section, is_in, once}
+use Rattle.c25_meaning_assembly.specs.Sections.{Definitions, Section, is_in, once}
 use Rattle.c25_meaning_objects.specs.Module.{Contents}
 use Rattle.c25_meaning_objects.specs.declared.object.Version.TheVariants.{Two}
 use Rattle.c25_phases.proofs.Declared.{same_text}
 use Rattle.c25_phases.specs.Lined.{IsAt}
-use Rattle.c25_phases.specs.Origins.{source_line, source_lines}
-use Rattle.c25_phases.specs.declared.item.SourceLine.{SourceLine}
+use Rattle.c25_phases.specs.Runs.{lines_of, origins_in}
+use Rattle.c25_phases.specs.declared.source_lines.FileRun.{FileRun}
+use Rattle.c25_meaning_common.specs.declared.placed.FileLine.{FileLine}
 
 -- ---- names that are borrowed
 
@@ -99,15 +100,15 @@ once_grows files name = by (is_in files name)
     by true = omega arith
     by false = let n = length-append files (name ∷ []) in omega (arith, n)
 
-pub files_grow : (l : Lines) (os : List Origin) → length l.files ≤ length (fold with_line l os).files
+pub files_grow : (l : Lines) (os : List (FileLine (List ℕ))) → length l.files ≤ length (fold with_line l os).files
 files_grow l [] = omega arith
 files_grow l (o ∷ os) = let a = once_grows l.files o.file in let b = files_grow (with_line l o) os in omega (arith, a, b)
 
 -- a part of what is few is few
-pub few_first : (l : Lines) (o : Origin) (os : List Origin) (n : ℕ) → length (fold with_line l (o ∷ os)).files ≤ n → length (with_line l o).files ≤ n
+pub few_first : (l : Lines) (o : FileLine (List ℕ)) (os : List (FileLine (List ℕ))) (n : ℕ) → length (fold with_line l (o ∷ os)).files ≤ n → length (with_line l o).files ≤ n
 few_first l o os n few = let a = files_grow (with_line l o) os in omega (arith, a, few)
 
-pub few_part : (l : Lines) (os more : List Origin) (n : ℕ) → length (fold with_line l (os ++ more)).files ≤ n → length (fold with_line l os).files ≤ n
+pub few_part : (l : Lines) (os more : List (FileLine (List ℕ))) (n : ℕ) → length (fold with_line l (os ++ more)).files ≤ n → length (fold with_line l os).files ≤ n
 few_part l os more n few =
     let same = ap (λ (x : Lines). length x.files) (fold-append with_line l os more) in
     let a = files_grow (fold with_line l os) more in
@@ -115,12 +116,21 @@ few_part l os more n few =
 
 -- ---- in the course of a loop
 
-pub few_next : (lines : List SourceLine) (i : ℕ) (d : SourceLine) (l all : Lines) (n : ℕ) → i < length lines → fold with_line l (source_lines (drop i lines)) ≡ all → length all.files ≤ n
-    → length (with_line l (source_line (get_or lines i d))).files ≤ n
-few_next lines i d l all n lt is few =
-    let x = get_or lines i d in
-    let same : fold with_line l (source_line x ∷ source_lines (drop (i + 1) lines)) ≡ all = sym (ap (λ (ls : List SourceLine). fold with_line l (source_lines ls)) (drop_more lines i d lt)) ∙ is in
-    few_first l (source_line x) (source_lines (drop (i + 1) lines)) n (subst (λ (y : Lines). length y.files ≤ n) (sym same) few)
+pub few_next : (file numbers : List ℕ) (i d : ℕ) (l all : Lines) (n : ℕ) → i < length numbers → fold with_line l (lines_of file (drop i numbers)) ≡ all → length all.files ≤ n
+    → length (with_line l (record { file = file; line = get_or numbers i d })).files ≤ n
+few_next file numbers i d l all n lt is few =
+    let x : FileLine (List ℕ) = record { file = file; line = get_or numbers i d } in
+    let same : fold with_line l (x ∷ lines_of file (drop (i + 1) numbers)) ≡ all = sym (ap (λ (ns : List ℕ). fold with_line l (lines_of file ns)) (drop_more numbers i d lt)) ∙ is in
+    few_first l x (lines_of file (drop (i + 1) numbers)) n (subst (λ (y : Lines). length y.files ≤ n) (sym same) few)
+
+pub few_run : (runs : List FileRun) (i : ℕ) (d : FileRun) (file numbers first : List ℕ) (l all : Lines) (n : ℕ) → i < length runs → first ≡ take (get_or runs i d).count numbers
+    → fold with_line l (origins_in (drop i runs) file numbers) ≡ all → length all.files ≤ n → length (fold with_line l (lines_of (get_or runs i d).file.now first)).files ≤ n
+few_run runs i d file numbers first l all n lt front is few =
+    let r = get_or runs i d in
+    let more = origins_in (drop (i + 1) runs) file (drop r.count numbers) in
+    let same : fold with_line l (lines_of r.file.now first ++ more) ≡ all =
+    ap (λ ns. fold with_line l (lines_of r.file.now ns ++ more)) front ∙ ap (λ rs. fold with_line l (origins_in rs file numbers)) (sym (drop_more runs i d lt)) ∙ is in
+    few_part l (lines_of r.file.now first) more n (subst (λ (y : Lines). length y.files ≤ n) (sym same) few)
 
 pub few_section : (sections : List Section) (i : ℕ) (d : Section) (l all : Lines) (n : ℕ) → i < length sections → fold with_line l (flat_map (λ s. s.origins) (drop i sections)) ≡ all → length all.files ≤ n
     → length (fold with_line l (get_or sections i d).origins).files ≤ n

@@ -1,13 +1,14 @@
 -- A line is passed in two parts.
-use Rattle.std.proofs.Common.{◌≡◌, Result, Ok, Err, refl}
+use Rattle.std.proofs.Common.{ℕ, List, ◌≡◌, Result, Ok, Err, refl}
 use Rattle.c25_meaning_assembly.specs.AssemblyLine.{Statement}
-use Rattle.c25_meaning_assembly.specs.Sections.{Origin, Progress, allowed, label, pass}
+use Rattle.c25_meaning_assembly.specs.Sections.{Progress, allowed, label, pass}
 use Rattle.c25_meaning_common.specs.Results.{◌>>=◌}
 use Rattle.c25_meaning_language.specs.declared.statement.FaultKind.{FaultKind}
 use Rattle.c25_phases.specs.Steps.{begun, carried_out}
+use Rattle.c25_meaning_common.specs.declared.placed.FileLine.{FileLine}
 
 -- a line is passed by what comes before its act, then by its act
-pub in_two : (origin : Origin) (s : Statement) (p : Progress) → pass origin s p ≡ (begun s.label s.act p >>= λ q. carried_out origin s.act q)
+pub in_two : (origin : FileLine (List ℕ)) (s : Statement) (p : Progress) → pass origin s p ≡ (begun s.label s.act p >>= λ q. carried_out origin s.act q)
 unfolding pass
 in_two origin s p = on (allowed s.act p)
   where

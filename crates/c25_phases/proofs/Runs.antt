@@ -1,11 +1,14 @@
 -- Lines of runs, one after another.
 use Rattle.std.proofs.Common.{◌≡◌, ℕ, ◌+◌, ◌≤◌, ◌<◌, List, [], ◌∷◌, ◌++◌, length, take, drop, get_or, sym, ap, ◌∙◌, arith, append_assoc, length-drop}
+use Rattle.std.specs.List.{fold}
 use Rattle.std.proofs.lemmas.List.{append-nil, drop-append-le, drop_all, drop_more, map-append, take-append-le, take_all}
-use Rattle.c25_meaning_assembly.specs.Sections.{Origin}
+use Rattle.std.proofs.lemmas.List.Sums.{fold-append}
+use Rattle.c25_meaning_assembly.specs.Emission.{Lines, with_line}
 use Rattle.c25_phases.specs.Runs.{lines_of, origins_in, total}
 use Rattle.c25_phases.specs.declared.source_lines.FileRun.{FileRun}
+use Rattle.c25_meaning_common.specs.declared.placed.FileLine.{FileLine}
 
-abbrev at : List ℕ → ℕ → Origin
+abbrev at : List ℕ → ℕ → FileLine (List ℕ)
 at file n = record { file = file; line = n }
 
 -- one line more of the last file
@@ -35,16 +38,16 @@ pub total_more : (runs : List FileRun) (r : FileRun) → total (runs ++ r ∷ []
 total_more [] r = omega arith
 total_more (x ∷ runs) r = omega (arith, total_more runs r)
 
--- one run more, of the first of the numbers that are left
-pub run_more : (runs : List FileRun) (i : ℕ) (d : FileRun) (file numbers first rest : List ℕ) (before after all : List Origin) → i < length runs
-    → first ≡ take (get_or runs i d).count numbers → rest ≡ drop (get_or runs i d).count numbers → after ≡ before ++ lines_of (get_or runs i d).file.now first
-    → before ++ origins_in (drop i runs) file numbers ≡ all → after ++ origins_in (drop (i + 1) runs) file rest ≡ all
+-- the files and lines with one run more, of the first of the numbers that are left
+pub run_more : (runs : List FileRun) (i : ℕ) (d : FileRun) (file numbers first rest : List ℕ) (before after all : Lines) → i < length runs
+    → first ≡ take (get_or runs i d).count numbers → rest ≡ drop (get_or runs i d).count numbers → after ≡ fold with_line before (lines_of (get_or runs i d).file.now first)
+    → fold with_line before (origins_in (drop i runs) file numbers) ≡ all → fold with_line after (origins_in (drop (i + 1) runs) file rest) ≡ all
 run_more runs i d file numbers first rest before after all lt front left is told =
     let r = get_or runs i d in
-    ap (λ l. l ++ origins_in (drop (i + 1) runs) file rest) (is ∙ ap (λ ns. before ++ lines_of r.file.now ns) front)
-    ∙ ap (λ ns. (before ++ lines_of r.file.now (take r.count numbers)) ++ origins_in (drop (i + 1) runs) file ns) left
-    ∙ append_assoc before (lines_of r.file.now (take r.count numbers)) (origins_in (drop (i + 1) runs) file (drop r.count numbers))
-    ∙ ap (λ rs. before ++ origins_in rs file numbers) (sym (drop_more runs i d lt))
+    ap (λ l. fold with_line l (origins_in (drop (i + 1) runs) file rest)) (is ∙ ap (λ ns. fold with_line before (lines_of r.file.now ns)) front)
+    ∙ ap (λ ns. fold with_line (fold with_line before (lines_of r.file.now (take r.count numbers))) (origins_in (drop (i + 1) runs) file ns)) left
+    ∙ sym (fold-append with_line before (lines_of r.file.now (take r.count numbers)) (origins_in (drop (i + 1) runs) file (drop r.count numbers)))
+    ∙ ap (λ rs. fold with_line before (origins_in rs file numbers)) (sym (drop_more runs i d lt))
     ∙ told
 
 -- the numbers that are left are enough for the runs that are

@@ -3,14 +3,15 @@ use Rattle.std.proofs.Common.{◌≡◌, ℕ, zero, suc, Bool, true, false, cond
 use Rattle.std.specs.List.{flat_map, list_all, slice_get}
 use Rattle.c25_meaning_assembly.specs.Addresses.{OperandValues, operand_values}
 use Rattle.c25_meaning_assembly.specs.Emission.{at_origin, emit, emit_all, emitted, extended, is_here, lines_in, lines_of, table_at, with_operand_values}
-use Rattle.c25_meaning_assembly.specs.Sections.{Content, Definitions, Exported, PendingItem, Operands, Origin, Section, Words, Zeros, changed, changed_by}
+use Rattle.c25_meaning_assembly.specs.Sections.{Content, Definitions, Exported, PendingItem, Operands, Section, Words, Zeros, changed, changed_by}
 use Rattle.c25_meaning_common.specs.Results.{◌>>=◌, fold_ok}
 use Rattle.c25_meaning_language.specs.declared.statement.FaultKind.{FaultKind}
 use Rattle.c25_meaning_language.specs.declared.statement.FaultKind.TheVariants as fault
 use Rattle.c25_meaning_objects.specs.declared.object.Relocation.{Relocation}
+use Rattle.c25_meaning_common.specs.declared.placed.FileLine.{FileLine}
 
 -- the lines of the marks of sections
-lines : List Section → List Origin
+lines : List Section → List (FileLine (List ℕ))
 lines ss = flat_map (λ s. s.origins) ss
 
 set_keeps : (ss : List Section) (i : ℕ) (words : List ℕ) (rs : List Relocation) (s : Section) → slice_get ss i ≡ Some s → lines (set ss i (extended words rs s)) ≡ lines ss

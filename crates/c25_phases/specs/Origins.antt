@@ -1,17 +1,8 @@
 -- The lines that the assembler's types stand for.
-use Rattle.std.specs.Prelude.{List, map}
-use Rattle.c25_meaning_assembly.specs.Sections as sections
-use Rattle.c25_phases.specs.declared.item.Origin.{Origin}
-use Rattle.c25_phases.specs.declared.item.SourceLine.{SourceLine}
+use denote.Ref.{Bor}
+use Rattle.std.specs.Prelude.{ℕ, List}
+use Rattle.c25_meaning_common.specs.declared.placed.FileLine.{FileLine}
 
--- a line
-abbrev pub origin_of : Origin → sections.Origin
+-- a line of a file, by the bytes of the file's name
+abbrev pub origin_of : FileLine (Bor (List ℕ)) → FileLine (List ℕ)
 origin_of o = record { file = o.file.now; line = o.line }
-
--- the line of an instruction
-abbrev pub source_line : SourceLine → sections.Origin
-source_line l = record { file = l.file.now; line = l.line }
-
--- the lines of instructions
-abbrev pub source_lines : List SourceLine → List sections.Origin
-source_lines lines = map source_line lines

@@ -1,15 +1,16 @@
 -- The first item that is wrong.
 use Rattle.std.specs.Prelude.{ℕ, ◌+◌, List, [], ◌∷◌, Option, Some, None, Ok, Err}
 use Rattle.c25_meaning_assembly.specs.Emission.{all_names, emit}
-use Rattle.c25_meaning_assembly.specs.Sections.{Definitions, Section, Origin, PendingItem, Progress}
+use Rattle.c25_meaning_assembly.specs.Sections.{Definitions, Section, PendingItem, Progress}
 use Rattle.c25_meaning_language.specs.declared.statement.FaultKind.{FaultKind}
 use Rattle.c25_phases.specs.Origins.{origin_of}
 use Rattle.c25_phases.specs.declared.wrong.WrongItem.{WrongItem}
+use Rattle.c25_meaning_common.specs.declared.placed.FileLine.{FileLine}
 
 -- an item that is wrong: its number among all, its line, and its fault
 pub record Wrong : Type 0 where
   pub number : ℕ
-  pub origin : Origin
+  pub origin : FileLine (List ℕ)
   pub kind : FaultKind
 
 -- the first of these items that is wrong, if there is one; this many items come before them

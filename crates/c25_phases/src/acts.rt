@@ -15,7 +15,7 @@ ghost use Rattle.c25_phases.specs.Steps.{begun, carried_out};
 ghost use Rattle.c25_phases.specs.View.{progress_of};
 
 use crate::counts::block_allowed;
-use crate::item::{Content, Origin, PendingItem};
+use crate::item::{Content, PendingItem};
 use crate::names::copied;
 use crate::progress::Progress;
 use crate::targets::target_size;
@@ -24,6 +24,7 @@ use c25_expr::tree::Expr;
 use c25_meaning_assembly::assembly::Target;
 use c25_meaning_common::failure::Failure;
 use c25_meaning_common::no_memory::NoMemory;
+use c25_meaning_common::placed::FileLine;
 use c25_meaning_language::statement::FaultKind;
 use c25_meaning_language::value::{Base, Value};
 use c25_statements::statement::{AssemblyAct, Exprs, Room, Statement};
@@ -174,7 +175,7 @@ impl<'a> Progress<'a> {
     /// Adds a mark where an instruction begins; data have no marks.
     fn mark_target(
         &mut self,
-        origin: Origin<'a>,
+        origin: FileLine<&'a str>,
         target: Target,
         laid: LaidWords,
     ) -> Result<(), Failure<FaultKind>>
@@ -193,7 +194,7 @@ impl<'a> Progress<'a> {
     /// An instruction, `.word`, `.int`, `.byte`
     fn put(
         &mut self,
-        origin: Origin<'a>,
+        origin: FileLine<&'a str>,
         target: Target,
         operands: Exprs,
     ) -> Result<(), Failure<FaultKind>>
@@ -212,7 +213,7 @@ impl<'a> Progress<'a> {
     }
 
     /// `.space`
-    fn space(&mut self, origin: Origin<'a>, bits: &Expr) -> Result<(), Failure<FaultKind>>
+    fn space(&mut self, origin: FileLine<&'a str>, bits: &Expr) -> Result<(), Failure<FaultKind>>
         ensures { Meets (λ _. progress_of self.new) (meaning.space (origin_of origin.entry) (tree_of bits.now) (progress_of self.old)) result }
     {
         match self.count_in(bits) {
@@ -261,7 +262,11 @@ impl<'a> Progress<'a> {
     }
 
     /// `.def`
-    fn export(&mut self, origin: Origin<'a>, names: &[&str]) -> Result<(), Failure<FaultKind>>
+    fn export(
+        &mut self,
+        origin: FileLine<&'a str>,
+        names: &[&str],
+    ) -> Result<(), Failure<FaultKind>>
         ensures { Meets (λ _. progress_of self.new) (meaning.export (origin_of origin.entry) (texts_of names.now) (progress_of self.old)) result }
     {
         if any_predefined(names) {
@@ -315,7 +320,11 @@ impl<'a> Progress<'a> {
     }
 
     /// Does what a line says.
-    fn act(&mut self, origin: Origin<'a>, act: AssemblyAct<'_>) -> Result<(), Failure<FaultKind>>
+    fn act(
+        &mut self,
+        origin: FileLine<&'a str>,
+        act: AssemblyAct<'_>,
+    ) -> Result<(), Failure<FaultKind>>
         ensures { Meets (λ _. progress_of self.new) (meaning.act (origin_of origin.entry) (act_of act.entry) (progress_of self.old)) result }
     {
         match act {
@@ -357,7 +366,7 @@ impl<'a> Progress<'a> {
     /// A line's act, after which there must not be too many names.
     fn carry_out(
         &mut self,
-        origin: Origin<'a>,
+        origin: FileLine<&'a str>,
         act: AssemblyAct<'_>,
     ) -> Result<(), Failure<FaultKind>>
         ensures told { Meets (λ _. progress_of self.new) (carried_out (origin_of origin.entry) (act_of act.entry) (progress_of self.old)) result }
@@ -371,7 +380,7 @@ impl<'a> Progress<'a> {
     #[tactic(auto, unfolding(c25_meaning_assembly::specs::Sections::pass), using(crate::proofs::Passed::in_two))]
     pub(crate) fn pass(
         &mut self,
-        origin: Origin<'a>,
+        origin: FileLine<&'a str>,
         statement: Statement<'_>,
     ) -> Result<(), Failure<FaultKind>>
         ensures told { Meets (λ _. progress_of self.new) (meaning.pass (origin_of origin.entry) (statement_of statement.entry) (progress_of self.old)) result }

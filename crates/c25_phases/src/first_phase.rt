@@ -8,12 +8,12 @@ ghost use Rattle.c25_meaning_assembly.specs.Sections as meaning;
 ghost use Rattle.c25_meaning_language.specs.Statement.{valued};
 ghost use Rattle.c25_expr.specs.View.{tree_of};
 ghost use Rattle.c25_phases.specs.Sizes.{IsBlockSize, content_size};
-ghost use Rattle.c25_phases.specs.Origins.{origin_of, source_line};
+ghost use Rattle.c25_phases.specs.Origins.{origin_of};
 ghost use Rattle.c25_phases.specs.Steps.{marked, waited};
 ghost use Rattle.c25_phases.specs.View.{content_of, item_of, progress_of, symbols_of};
 
 use crate::counts::{count_of, flag_of, is_file_name, is_line_number};
-use crate::item::{Content, Origin, PendingItem, SourceLine};
+use crate::item::{Content, PendingItem};
 use crate::names::DistinctNames;
 use crate::operand_values::valued;
 use crate::progress::Progress;
@@ -23,6 +23,7 @@ use c25_expr::symbols::{Defined, Symbols};
 use c25_expr::tree::Expr;
 use c25_meaning_common::failure::Failure;
 use c25_meaning_common::no_memory::NoMemory;
+use c25_meaning_common::placed::FileLine;
 use c25_meaning_language::statement::FaultKind;
 use c25_meaning_language::value::{Base, Value};
 use c25_meaning_objects::object::{Block, ModuleMark};
@@ -212,7 +213,7 @@ impl<'a> Progress<'a> {
     #[tactic(auto, unfolding(c25_meaning_assembly::specs::Sections::lay, c25_meaning_assembly::specs::Sections::grow))]
     pub(crate) fn lay(
         &mut self,
-        origin: Origin<'a>,
+        origin: FileLine<&'a str>,
         content: Content,
         words: usize,
     ) -> Result<(), Failure<FaultKind>>
@@ -261,40 +262,37 @@ impl<'a> Progress<'a> {
         Ok(())
     }
 
-    /// The line of an instruction, as the records of a module have it.
+    /// The number of an instruction's line, as the records of a module have it. The line's file is counted.
     #[tactic(auto, unfolding(c25_meaning_assembly::specs::Sections::use_line))]
-    fn use_line(&mut self, origin: Origin<'a>) -> Result<SourceLine<'a>, Failure<FaultKind>>
+    fn use_line(&mut self, origin: FileLine<&'a str>) -> Result<u32, Failure<FaultKind>>
         ensures told { Meets (λ _. progress_of self.new) (meaning.use_line (origin_of origin.entry) (progress_of self.old)) result }
-        ensures line { IfOk result (λ l. source_line l ≡ origin_of origin.entry) }
+        ensures line { IfOk result (λ number. number ≡ origin.line) }
     {
         if !is_line_number(origin.line) {
             return Err(Failure::Fault(FaultKind::TooLarge));
         }
         self.use_file(origin.file)?;
-        Ok(SourceLine {
-            file: origin.file,
-            line: origin.line as u32,
-        })
+        Ok(origin.line as u32)
     }
 
     /// Adds a mark where an instruction begins, with its size in words.
     pub(crate) fn mark(
         &mut self,
-        origin: Origin<'a>,
+        origin: FileLine<&'a str>,
         section: u16,
         offset: u16,
         words: u8,
     ) -> Result<(), Failure<FaultKind>>
         ensures { Meets (λ _. progress_of self.new) (marked (origin_of origin.entry) (record { section = section; offset = offset; size = words }) (progress_of self.old)) result }
     {
-        let line = self.use_line(origin)?;
+        let number = self.use_line(origin)?;
         let mark = ModuleMark {
             section,
             offset,
             size: words,
         };
         self.sections
-            .mark(section, line, mark)
+            .mark(mark, origin.file, number)
             .map_err(Failure::NoMemory)
     }
 

@@ -6,24 +6,6 @@ ghost use Rattle.c25_phases.specs.Sizes.{content_size};
 use c25_meaning_assembly::assembly::Target;
 use c25_statements::statement::Exprs;
 
-/// A line of a file.
-#[derive(Clone, Copy)]
-pub struct Origin<'a> {
-    /// The file's name.
-    pub file: &'a str,
-    /// The line's number in the file.
-    pub line: usize,
-}
-
-/// The line of an instruction, as the records of a module have it.
-#[derive(Clone, Copy)]
-pub(crate) struct SourceLine<'a> {
-    /// The file's name.
-    pub(crate) file: &'a str,
-    /// The line's number in the file.
-    pub(crate) line: u32,
-}
-
 /// The content of an item.
 #[derive(Drop)]
 pub(crate) enum Content {
@@ -40,7 +22,7 @@ pub(crate) enum Content {
 /// An item: its content, its line, and the place where it begins.
 #[derive(Drop)]
 pub(crate) struct PendingItem<'a> {
-    pub(crate) origin: Origin<'a>,
+    pub(crate) origin: FileLine<&'a str>,
     pub(crate) section: u16,
     pub(crate) offset: u32,
     pub(crate) content: Content,

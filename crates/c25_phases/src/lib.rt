@@ -30,7 +30,6 @@ mod source_lines;
 mod targets;
 mod wrong;
 
-pub use item::Origin;
 pub use line_reader::read_and_pass;
 pub use making::finish;
 pub use progress::Progress;

@@ -7,9 +7,9 @@ ghost use Rattle.c25_phases.specs.Origins.{origin_of};
 ghost use Rattle.c25_phases.specs.Steps.{text_passed};
 ghost use Rattle.c25_phases.specs.View.{progress_of};
 
-use crate::item::Origin;
 use crate::progress::Progress;
 use c25_meaning_common::failure::Failure;
+use c25_meaning_common::placed::FileLine;
 use c25_meaning_language::statement::FaultKind;
 use c25_statements::read_statement;
 
@@ -17,7 +17,7 @@ use c25_statements::read_statement;
 /// drops what the lines before have made. The state is boxed, since it is handed on from line to line.
 pub fn read_and_pass<'a>(
     progress: Box<Progress<'a>>,
-    origin: Origin<'a>,
+    origin: FileLine<&'a str>,
     text: &str,
 ) -> Result<Box<Progress<'a>>, Failure<FaultKind>>
     ensures told { Meets (λ p. progress_of p.value) (text_passed (origin_of origin.entry) text.now (progress_of progress.entry.value)) result }

@@ -6,10 +6,11 @@ ghost use Rattle.std.specs.Str.{bytes_eq};
 ghost use Rattle.c25_meaning_assembly.specs.Sections.{once};
 ghost use Rattle.c25_meaning_assembly.specs.Emission.{no_lines, with_line};
 ghost use Rattle.c25_phases.specs.Lined.{IsAt, IsLined};
-ghost use Rattle.c25_phases.specs.Origins.{source_line, source_lines};
+ghost use Rattle.c25_phases.specs.Runs.{lines_of};
+ghost use Rattle.c25_phases.specs.SourceLines.{origins_of};
 
-use crate::item::SourceLine;
 use crate::names::copied;
+use crate::source_lines::SourceLines;
 use c25_meaning_common::no_memory::NoMemory;
 use c25_meaning_objects::object::LineMark;
 use indexmap::IndexSet;
@@ -75,27 +76,41 @@ impl<'a> Lines<'a> {
     }
 
     /// Adds the line of one mark more.
-    fn add(&mut self, line: &SourceLine<'a>) -> Result<(), NoMemory>
-        requires { length (with_line self.old (source_line line.now)).files ≤ 65535 }
-        ensures { OnOk result (self.new ≡ with_line self.old (source_line line.now)) }
+    fn add(&mut self, file: &'a str, line: u32) -> Result<(), NoMemory>
+        requires { length (with_line self.old (record { file = file.now; line = line })).files ≤ 65535 }
+        ensures { OnOk result (self.new ≡ with_line self.old (record { file = file.entry.now; line = line })) }
     {
-        let number = self.number_of(line.file)?;
+        let number = self.number_of(file)?;
         let mark = LineMark {
             file: number as u16,
-            line: line.line,
+            line,
         };
         self.lines.push(mark).map_err(NoMemory::from)
     }
 
-    /// Adds the lines of the marks of a section.
-    pub(crate) fn add_all(&mut self, lines: &[SourceLine<'a>]) -> Result<(), NoMemory>
-        requires { length (fold with_line self.old (source_lines lines.now)).files ≤ 65535 }
-        ensures { OnOk result (self.new ≡ fold with_line self.old (source_lines lines.now)) }
+    /// Adds lines of one file, by their numbers.
+    fn add_run(&mut self, file: &'a str, numbers: &[u32]) -> Result<(), NoMemory>
+        requires { length (fold with_line self.old (lines_of file.now numbers.now)).files ≤ 65535 }
+        ensures { OnOk result (self.new ≡ fold with_line self.old (lines_of file.entry.now numbers.now)) }
     {
-        for line in lines {
-            self.add(line)?;
+        for number in numbers {
+            self.add(file, *number)?;
         }
         Ok(())
+    }
+
+    /// Adds the lines of the marks of a section.
+    pub(crate) fn add_all(&mut self, lines: &SourceLines<'a>) -> Result<(), NoMemory>
+        requires { length (fold with_line self.old (origins_of lines.now)).files ≤ 65535 }
+        ensures { OnOk result (self.new ≡ fold with_line self.old (origins_of lines.now)) }
+    {
+        let mut rest = lines.numbers.as_slice();
+        for run in &lines.runs {
+            let (numbers, after) = rest.split_at(run.count);
+            self.add_run(run.file, numbers)?;
+            rest = after;
+        }
+        self.add_run(lines.file, rest)
     }
 
     /// The names of the files, and the lines with the numbers of their files, for the module.

@@ -4,23 +4,24 @@ ghost use Rattle.std.specs.Prelude.{◌≡◌};
 ghost use Rattle.c25_phases.specs.Refusals.{at_origin};
 
 use crate::fault::AsmFault;
-use crate::item::Origin;
 use c25_meaning_common::failure::Failure;
 use c25_meaning_common::placed::{FileLine, Placed};
 use c25_meaning_language::statement::FaultKind;
 
 /// The failure of a line as the failure of its source: a fault gets the line's place.
-pub fn at_origin<'a>(origin: Origin<'a>, failure: Failure<FaultKind>) -> Failure<AsmFault<'a>>
+pub fn at_origin<'a>(
+    origin: FileLine<&'a str>,
+    failure: Failure<FaultKind>,
+) -> Failure<AsmFault<'a>>
     ensures { result ≡ at_origin origin.entry failure }
 {
     match failure {
         Failure::NoMemory(error) => Failure::NoMemory(error),
         Failure::Fault(fault) => {
-            let place = FileLine {
-                file: origin.file,
-                line: origin.line,
-            };
-            Failure::Fault(AsmFault::Line(Placed { place, fault }))
+            Failure::Fault(AsmFault::Line(Placed {
+                place: origin,
+                fault,
+            }))
         }
     }
 }

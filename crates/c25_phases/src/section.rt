@@ -3,10 +3,9 @@
 ghost use Rattle.std.specs.Prelude.{◌≡◌, ◌≤◌, ◌+◌, OnOk, IfOk};
 ghost use Rattle.c25_meaning_assembly.specs.Emission.{extended, section_of};
 ghost use Rattle.c25_meaning_assembly.specs.Sections.{empty_section, is_called, longer, with_block, with_mark};
-ghost use Rattle.c25_phases.specs.Origins.{source_line, source_lines};
+ghost use Rattle.c25_phases.specs.SourceLines.{origins_of};
 ghost use Rattle.c25_module.specs.View.{section_data};
 
-use crate::item::SourceLine;
 use crate::source_lines::SourceLines;
 use c25_meaning_common::no_memory::NoMemory;
 use c25_meaning_objects::object::{Block, ModuleMark, Relocation};
@@ -85,10 +84,10 @@ impl<'a> Section<'a> {
     }
 
     /// The line of each mark.
-    pub(crate) fn lines(&self, alloc: Global) -> Result<Vec<SourceLine<'a>>, NoMemory>
-        ensures { IfOk result (λ lines. source_lines lines.items ≡ self.now.origins) }
+    pub(crate) fn lines(&self) -> &SourceLines<'a>
+        ensures { origins_of result.now ≡ self.now.origins }
     {
-        self.lines.to_vec(alloc)
+        &self.lines
     }
 
     pub(crate) fn blocks(&self) -> &[Block]
@@ -111,12 +110,17 @@ impl<'a> Section<'a> {
         self.size += words;
     }
 
-    /// Adds a mark and its line.
-    pub(crate) fn mark(&mut self, line: SourceLine<'a>, mark: ModuleMark) -> Result<(), NoMemory>
-        ensures { OnOk result (self.new ≡ with_mark (source_line line.entry) mark self.old) }
+    /// Adds a mark and its line, which is given by the file's name and the line's number.
+    pub(crate) fn mark(
+        &mut self,
+        mark: ModuleMark,
+        file: &'a str,
+        line: u32,
+    ) -> Result<(), NoMemory>
+        ensures { OnOk result (self.new ≡ with_mark (record { file = file.entry.now; line = line }) mark self.old) }
     {
         self.marks.push(mark)?;
-        self.lines.push(line)
+        self.lines.push(file, line)
     }
 
     /// Adds a block.

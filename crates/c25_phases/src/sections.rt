@@ -6,9 +6,7 @@ ghost use Rattle.std.specs.Option.{option_copied};
 ghost use Rattle.c25_meaning_assembly.specs.Emission.{extended, lines_in, section_of, with_line};
 ghost use Rattle.c25_meaning_assembly.specs.Sections.{changed, is_called, longer, same_kind, size_at, with_block, with_mark};
 ghost use Rattle.c25_module.specs.View.{sections_data};
-ghost use Rattle.c25_phases.specs.Origins.{source_line};
 
-use crate::item::SourceLine;
 use crate::lines::Lines;
 use crate::section::Section;
 use c25_meaning_common::no_memory::NoMemory;
@@ -106,17 +104,18 @@ impl<'a> Sections<'a> {
         }
     }
 
-    /// Adds a mark and its line to the section that has a number.
+    /// Adds a mark and its line, which is given by the file's name and the line's number, to the mark's
+    /// section.
     pub(crate) fn mark(
         &mut self,
-        number: u16,
-        line: SourceLine<'a>,
         mark: ModuleMark,
+        file: &'a str,
+        line: u32,
     ) -> Result<(), NoMemory>
-        ensures { OnOk result (self.new ≡ changed (with_mark (source_line line.entry) mark) self.old number) }
+        ensures { OnOk result (self.new ≡ changed (with_mark (record { file = file.entry.now; line = line }) mark) self.old mark.section) }
     {
-        match self.sections.get_mut(number as usize) {
-            Some(section) => section.mark(line, mark),
+        match self.sections.get_mut(mark.section as usize) {
+            Some(section) => section.mark(mark, file, line),
             None => Ok(()),
         }
     }
@@ -175,8 +174,7 @@ impl<'a> Sections<'a> {
         ensures { OnOk result (lines.new ≡ fold with_line lines.old (flat_map (λ s. s.origins) self.now)) }
     {
         for section in &self.sections {
-            let these = section.lines(self.alloc)?;
-            lines.add_all(these.as_slice())?;
+            lines.add_all(section.lines())?;
         }
         Ok(())
     }

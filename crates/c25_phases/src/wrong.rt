@@ -8,7 +8,7 @@ ghost use Rattle.c25_phases.specs.View.{item_of, progress_of};
 ghost use Rattle.c25_phases.specs.Wrong.{first_wrong, wrong_from, wrong_of};
 
 use crate::emission::{emit, import_all};
-use crate::item::{Origin, PendingItem};
+use crate::item::PendingItem;
 use crate::operand_values::OperandValues;
 use crate::progress::Progress;
 use crate::second_phase::SecondPhase;
@@ -16,6 +16,7 @@ use crate::sections::Sections;
 use c25_expr::symbols::Symbols;
 use c25_meaning_common::failure::Failure;
 use c25_meaning_common::no_memory::NoMemory;
+use c25_meaning_common::placed::FileLine;
 use c25_meaning_language::statement::FaultKind;
 use std::alloc::Global;
 use std::mem;
@@ -25,7 +26,7 @@ use std::mem;
 pub struct WrongItem<'a> {
     /// How many items there are before it.
     pub number: usize,
-    pub origin: Origin<'a>,
+    pub origin: FileLine<&'a str>,
     pub kind: FaultKind,
 }
 

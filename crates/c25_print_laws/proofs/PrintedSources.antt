@@ -20,7 +20,7 @@ use Rattle.c25_meaning_objects.specs.declared.object.ModuleMark.{ModuleMark}
 use Rattle.c25_meaning_assembly.specs.AssemblyLine.{Put}
 use Rattle.c25_meaning_assembly.specs.Emission.{finished, module_with}
 use Rattle.c25_meaning_assembly.specs.OperandFields.{target_size}
-use Rattle.c25_meaning_assembly.specs.Sections.{PendingItem, Origin, Progress, is_file_name, is_line_number, pass, table}
+use Rattle.c25_meaning_assembly.specs.Sections.{PendingItem, Progress, is_file_name, is_line_number, pass, table}
 use Rattle.c25_meaning_assembly.specs.ModuleOfSource.{Assembled, LinesSoFar, assembled, completed, entry_of, no_lines, origin_of, pass_line, passed, passed_by, passed_from}
 use Rattle.c25_print_laws.specs.ExpansionLaws.{IsPlain}
 use Rattle.c25_print_laws.proofs.PlainLines.{behind_lines, finishes_empty, first_plain}
@@ -31,6 +31,7 @@ use Rattle.c25_print_laws.proofs.Families.{read_back}
 use Rattle.c25_print_laws.proofs.Lines.{IsQuiet}
 use Rattle.c25_print_laws.proofs.SourceLines.{AreQuiet, line_of, never_mark, source_lines}
 use Rattle.c25_print_laws.proofs.SourcePassed.{Emits, IsUsed, emits_more, filled, item_at, leads, size_words, standing, text_section}
+use Rattle.c25_meaning_common.specs.declared.placed.FileLine.{FileLine}
 
 -- ---- the name of a source's file
 
@@ -94,7 +95,7 @@ module _ (files : Files) (number : ℕ) (text : List ℕ) (good : is_file_name (
   -- what lines have made that have these words
   record Made (a : LinesSoFar) (ws : List ℕ) : Type 0 where
     pub marks : List ModuleMark
-    pub origins : List Origin
+    pub origins : List (FileLine (List ℕ))
     pub items : List PendingItem
     pub names : List (List ℕ)
     pub used : IsUsed (file_name files number) names
@@ -173,7 +174,7 @@ from_start files name ps h quiet =
     ∙ ap (λ ls. Some (behind_lines files (table (no_lines).progress) (file_number files name) (source_of ps) (rows_from (file_number files name) 1 ls) 200000)) (source_lines ps quiet)
 
 -- the module of what lines have made
-completed_as : (a : LinesSoFar) (n : ℕ) (marks : List ModuleMark) (origins : List Origin) (items : List PendingItem) (names : List (List ℕ)) (ws : List ℕ) → a.progress ≡ standing n marks origins items names → Emits items ws
+completed_as : (a : LinesSoFar) (n : ℕ) (marks : List ModuleMark) (origins : List (FileLine (List ℕ))) (items : List PendingItem) (names : List (List ℕ)) (ws : List ℕ) → a.progress ≡ standing n marks origins items names → Emits items ws
     → completed a ≡ Ok (record { contents = module_with (filled (text_section n marks origins) ws ∷ []) [] []; entries = a.entries })
 unfolding finished
 completed_as a n marks origins items names ws is emits =

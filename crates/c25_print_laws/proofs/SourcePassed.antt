@@ -14,13 +14,14 @@ use Rattle.c25_meaning_assembly.specs.Addresses.{ends_first, in_order, words_of}
 use Rattle.c25_meaning_assembly.specs.AssemblyLine.{Put}
 use Rattle.c25_meaning_assembly.specs.Emission.{emitted, emit_all, table_at}
 use Rattle.c25_meaning_assembly.specs.OperandFields.{target_size}
-use Rattle.c25_meaning_assembly.specs.Sections.{PendingItem, Operands, Origin, Progress, Section, is_file_name, is_line_number, lay, grow, pass, use_line}
+use Rattle.c25_meaning_assembly.specs.Sections.{PendingItem, Operands, Progress, Section, is_file_name, is_line_number, lay, grow, pass, use_line}
 use Rattle.c25_meaning_assembly.specs.declared.assembly.Address.{Address}
 use Rattle.c25_meaning_assembly.specs.declared.assembly.DataWidth.{DataWidth}
 use Rattle.c25_meaning_assembly.specs.declared.assembly.Target.{Target}
 use Rattle.c25_meaning_assembly.specs.declared.assembly.Target.TheVariants.{Data, Instruction}
 use Rattle.c25_meaning_objects.specs.declared.object.ModuleMark.{ModuleMark}
 use Rattle.c25_print_laws.specs.Saying.{HasNumbers}
+use Rattle.c25_meaning_common.specs.declared.placed.FileLine.{FileLine}
 
 -- ---- sizes
 
@@ -30,14 +31,14 @@ size_words _ = refl
 
 -- ---- what such lines have made: instructions in one section
 
-abbrev pub text_section : ℕ → List ModuleMark → List Origin → Section
+abbrev pub text_section : ℕ → List ModuleMark → List (FileLine (List ℕ)) → Section
 text_section n marks origins = record { name = 46 ∷ 116 ∷ 101 ∷ 120 ∷ 116 ∷ []; initialised = true; size = n; marks = marks; origins = origins; blocks = []; words = []; relocations = [] }
 
-abbrev pub standing : ℕ → List ModuleMark → List Origin → List PendingItem → List (List ℕ) → Progress
+abbrev pub standing : ℕ → List ModuleMark → List (FileLine (List ℕ)) → List PendingItem → List (List ℕ) → Progress
 standing n marks origins items files = record { sections = text_section n marks origins ∷ []; current = 0; names = []; declared = []; exported = []; registers = false; items = items; files = files }
 
 -- an item more
-abbrev pub item_at : Origin → ℕ → Target → List Tree → PendingItem
+abbrev pub item_at : FileLine (List ℕ) → ℕ → Target → List Tree → PendingItem
 item_at origin n t es = record { origin = origin; section = 0; offset = n; content = Operands t es }
 
 fits : (n k : ℕ) → n + k ≤ 65536 → nat_lt 65536 (n + k) ≡ false
@@ -51,14 +52,14 @@ abbrev pub IsUsed : List ℕ → List (List ℕ) → Type 0
 IsUsed name names = (names ≡ []) ⊎ (names ≡ name ∷ [])
 
 -- a line leads on to such a state
-pub record Leads (origin : Origin) (t : Target) (es : List Tree) (n : ℕ) (items : List PendingItem) (p : Progress) : Type 0 where
+pub record Leads (origin : FileLine (List ℕ)) (t : Target) (es : List Tree) (n : ℕ) (items : List PendingItem) (p : Progress) : Type 0 where
   pub marks : List ModuleMark
-  pub origins : List Origin
+  pub origins : List (FileLine (List ℕ))
   pub names : List (List ℕ)
   pub used : IsUsed origin.file names
   pub passes : pass origin (record { label = None; act = Put t es }) p ≡ Ok (standing (n + target_size t (length es)) marks origins (items ++ item_at origin n t es ∷ []) names)
 
-module _ (origin : Origin) (es : List Tree) (n : ℕ) (marks : List ModuleMark) (origins : List Origin) (items : List PendingItem) (numbered : is_line_number origin.line ≡ true) (named : is_file_name origin.file ≡ true) where
+module _ (origin : FileLine (List ℕ)) (es : List Tree) (n : ℕ) (marks : List ModuleMark) (origins : List (FileLine (List ℕ))) (items : List PendingItem) (numbered : is_line_number origin.line ≡ true) (named : is_file_name origin.file ≡ true) where
   abbrev mark_at : Form → ModuleMark
   mark_at f = record { section = 0; offset = n; size = size (form_row f) }
 
@@ -120,11 +121,11 @@ no_order t = of (ends_first t) where
   of true = refl
   of false = refl
 
-one_emitted : (origin : Origin) (n : ℕ) (t : Target) (es : List Tree) (ns ws : List ℕ) (s : Section) → HasNumbers t es ns
+one_emitted : (origin : FileLine (List ℕ)) (n : ℕ) (t : Target) (es : List Tree) (ns ws : List ℕ) (s : Section) → HasNumbers t es ns
     → emitted [] (filled s ws ∷ []) (item_at origin n t es) ≡ Ok (filled s (ws ++ words_of t ns) ∷ [])
 one_emitted origin n t es ns ws s h = rw (h (table_at [] 0 n), no_order t) refl
 
-pub emits_more : (origin : Origin) (n : ℕ) (t : Target) (es : List Tree) (ns ws : List ℕ) (items : List PendingItem) → HasNumbers t es ns → Emits items ws
+pub emits_more : (origin : FileLine (List ℕ)) (n : ℕ) (t : Target) (es : List Tree) (ns ws : List ℕ) (items : List PendingItem) → HasNumbers t es ns → Emits items ws
     → Emits (items ++ item_at origin n t es ∷ []) (ws ++ words_of t ns)
 emits_more origin n t es ns ws items h before s =
     fold_more (emitted []) (filled s [] ∷ []) items (item_at origin n t es) (filled s ws ∷ []) (Ok (filled s (ws ++ words_of t ns) ∷ [])) (before s) (one_emitted origin n t es ns ws s h)

@@ -1,10 +1,10 @@
-use Rattle.std.proofs.Common.{List, drop}
-use Rattle.c25_meaning_expansion.specs.declared.place.SourcePlace.{SourcePlace}
+use Rattle.std.proofs.Common.{ℕ, List, drop}
+use Rattle.c25_meaning_common.specs.declared.placed.FileLine.{FileLine}
 use Rattle.c25_meaning_language.specs.ExpansionFault.{Faulty}
 use Rattle.c25_options.specs.Task.{texts_of}
 use Rattle.c25_explain.specs.Trails.{IsFirstTrail}
 use Rattle.c25_explain.proofs.trails.trail_among.Given as goal
 
 abbrev pub invariant-loop-source : goal.invariant-loop-source
-invariant-loop-source l = (trail : List SourcePlace) → IsFirstTrail l.files (texts_of (drop l.source-index l.sources)) (Faulty l.refused.file.now l.refused.line l.refused.kind) trail
+invariant-loop-source l = (trail : List (FileLine ℕ)) → IsFirstTrail l.files (texts_of (drop l.source-index l.sources)) (Faulty l.refused.file.now l.refused.line l.refused.kind) trail
     → IsFirstTrail l.files (texts_of l.sources) (Faulty l.refused.file.now l.refused.line l.refused.kind) trail

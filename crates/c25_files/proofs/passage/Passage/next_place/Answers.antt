@@ -1,7 +1,6 @@
-use Rattle.std.proofs.Common.{◌≡◌, ℕ, zero, suc, ◌<◌, ◌≤◌, List, [], ◌∷◌, length, take, refl, ap, sym, ◌∙◌, arith, Option, Some, option_map, slice_get}
+use Rattle.std.proofs.Common.{◌≡◌, ℕ, zero, suc, ◌<◌, ◌≤◌, List, [], ◌∷◌, length, take, refl, ap, sym, ◌∙◌, arith, Some, option_map, slice_get}
 use Rattle.std.specs.Str.Lines.{lines}
 use Rattle.c25_meaning_expansion.specs.Rows.{rows_from}
-use Rattle.c25_meaning_expansion.specs.declared.place.SourcePlace.{SourcePlace}
 use Rattle.c25_files.proofs.passage.Passage.next_place.Goals as goal
 
 next : (file line count : ℕ) (texts : List (List ℕ)) → 0 < count → count ≤ length texts

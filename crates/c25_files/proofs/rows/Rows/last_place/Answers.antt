@@ -1,11 +1,11 @@
 use Rattle.std.proofs.Common.{◌≡◌, ℕ, zero, suc, ◌+◌, ◌-◌, ◌<◌, ◌≤◌, List, length, take, sym, ap, ◌∙◌, arith}
 use Rattle.std.specs.Str.Lines.{lines}
 use Rattle.c25_meaning_expansion.specs.Rows.{rows_from, last_place}
-use Rattle.c25_meaning_expansion.specs.declared.place.SourcePlace.{SourcePlace}
+use Rattle.c25_meaning_common.specs.declared.placed.FileLine.{FileLine}
 use Rattle.c25_files.proofs.Lines.{last_of_rows}
 use Rattle.c25_files.proofs.rows.Rows.last_place.Goals as goal
 
-last : (place : SourcePlace) (file line count : ℕ) (texts : List (List ℕ)) → 0 < count → count ≤ length texts → last_place place (take count (rows_from file line texts)) ≡ record { file = file; line = line + (count - 1) }
+last : (place : FileLine ℕ) (file line count : ℕ) (texts : List (List ℕ)) → 0 < count → count ≤ length texts → last_place place (take count (rows_from file line texts)) ≡ record { file = file; line = line + (count - 1) }
 last place file line zero texts some h = absurd (omega arith)
 last place file line (suc count) texts some h =
     let e : suc count - 1 ≡ count = omega arith in
