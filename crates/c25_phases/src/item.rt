@@ -4,6 +4,7 @@ ghost use Rattle.std.specs.Prelude.{◌≤◌, ◌+◌};
 ghost use Rattle.c25_phases.specs.Sizes.{content_size};
 
 use c25_meaning_assembly::assembly::Target;
+use c25_meaning_common::placed::FileLine;
 use c25_statements::statement::Exprs;
 
 /// The content of an item.
