@@ -134,7 +134,8 @@ pub enum JumpName {
     B,
 }
 
-/// The instructions without a data word.
+/// All other instructions: one word, without an operand, with a number of one or two bits, or, for `NORM`,
+/// with a change of the current auxiliary register.
 #[derive(Clone, Copy, PartialEq, Debug)]
 pub enum PlainName {
     Eint,
