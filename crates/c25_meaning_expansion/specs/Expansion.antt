@@ -119,13 +119,13 @@ left_through test lines frame (f ∷ fs) names c =
     then Some (record c { lines = after_close lines; frame = f; outer = fs; names = without_ended frame.kind names })
     else left_through test (after_close lines) f fs (without_ended frame.kind names) c
 
--- whether it is an expansion
+-- whether this kind is an expansion
 abbrev pub is_expansion : Kind → Bool
 is_expansion Expanded = true
 is_expansion Copied = false
 is_expansion (Turn body more) = false
 
--- whether it is a turn of a loop
+-- whether this kind is a turn of a loop
 abbrev pub is_turn : Kind → Bool
 is_turn (Turn body more) = true
 is_turn Expanded = false
