@@ -1,5 +1,6 @@
 //! Substitution: names of a line replaced by their texts, the arguments of macro calls, and a law of lines in
-//! which nothing is replaced (SPRU018, "Macro Language").
+//! which nothing is replaced (SPRU018, "Macro Language"). Functions that take memory return `NoMemory` (9)
+//! where it runs out.
 #![tactic(auto)]
 
 pub mod arguments;

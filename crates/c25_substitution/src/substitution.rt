@@ -103,8 +103,8 @@ fn write_change<'a>(
     write(names, number, aside, quoting, rest, out)
 }
 
-/// The text of which this is the first change, with its names replaced; room is taken for so many bytes at
-/// once.
+/// The text of which this is the first change, with its names replaced, in memory that is taken at once for
+/// `room` bytes.
 fn rewrite<'a>(
     alloc: Global,
     names: &Visible<'a>,

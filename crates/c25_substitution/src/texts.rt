@@ -47,7 +47,7 @@ impl SubstitutionTexts {
         self.entries.is_empty()
     }
 
-    /// The text that a name stands for. Where there are no names, no hash is taken.
+    /// The text that a name stands for, if it stands for one. Where there are no names, no hash is taken.
     pub fn get(&self, name: &str) -> Option<&str>
         ensures { option_map (λ s. s.now) result ≡ lookup (bytes_eq name.now) self.now }
     {
