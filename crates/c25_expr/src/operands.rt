@@ -62,7 +62,7 @@ fn is_zero(token: &Token<'_>) -> bool
     }
 }
 
-/// Whether a token is the name `BR0`.
+/// Whether a token is the name `BR0`, its letters in either case.
 fn is_br0(token: &Token<'_>) -> bool
     ensures { result ≡ is_br0 token.now.kind token.now.text.now }
 {
