@@ -15,7 +15,7 @@ pub record KnowsRoom (room : Room) (places : List Place) : Type 0 where
   pub program : KnowsTaken room.program.items 0 places
   pub store : KnowsTaken room.store.items 1 places
 
--- the words that are marked are those that sections at these places run at
+-- the words that are marked are those at which sections with a run address at these places run
 pub record KnowsRuns (runs : RunWords) (places : List Place) : Type 0 where
   pub sized : length runs.taken.items ≡ 65536
   pub words : (word : ℕ) → word < 65536 → slice_index_or runs.taken.items word false ≡ is_run_at places word
