@@ -1,4 +1,4 @@
--- The symbols that modules define, local ones too, by their names (own).
+-- The symbols that modules define, local ones too, by their names (this project's own).
 use Rattle.std.specs.Prelude.{ℕ, Bool, List, [], ◌∷◌, map, filter, unwrap_or, codes, if◌then◌else◌}
 use Rattle.std.specs.Cmp.Lexicographic.{slice_cmp}
 use Rattle.std.specs.List.{slice_get}
