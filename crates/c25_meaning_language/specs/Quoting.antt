@@ -5,7 +5,7 @@ use Rattle.std.specs.Prelude.{ℕ, ◌+◌, Bool, true, false, ◌||◌, ◌==�
 use Rattle.c25_meaning_language.specs.declared.quoting.Quoting.{Quoting}
 use Rattle.c25_meaning_language.specs.declared.quoting.Quoting.TheVariants.{Outside, Within, Throughout, Comment}
 
--- where the byte after this one stands: 34 and 39 are the quotes, 59 is `;`
+-- where the byte after `b` stands, if `b` stands here: 34 and 39 are the quotes, 59 is `;`
 abbrev pub behind : ℕ → Quoting → Quoting
 behind b Outside = if b == 34 || b == 39 then Within b else (if b == 59 then Comment else Outside)
 behind b (Within quote) = if b == quote then Outside else Within quote
