@@ -59,7 +59,7 @@ pub record Dictionary : Type 0 where
 pub record Config : Type 0 where
   pub lines : List LineOrEnd
   pub frame : SourceFrame
-  -- the files, expansions and turns round that one, the innermost first
+  -- the files, expansions and turns round that of `frame`, the innermost first
   pub outer : List SourceFrame
   pub mode : Mode
   pub names : Dictionary

@@ -5,6 +5,6 @@
 pub struct SourcePlace {
     /// The number of the file, counted from 0 in the order in which files were added.
     pub file: usize,
-    /// The number of the line in that file, counted from 1.
+    /// The number of the line in that file, counted from 1; 0 stands for a file without lines.
     pub line: usize,
 }
