@@ -1,6 +1,5 @@
 //! Substitution: names of a line replaced by their texts, the arguments of macro calls, and a law of lines in
-//! which nothing is replaced (SPRU018, "Macro Language"). Functions that take memory return `NoMemory` (9)
-//! where it runs out.
+//! which nothing is replaced (SPRU018, "Macro Language").
 #![tactic(auto)]
 
 pub mod arguments;

@@ -101,7 +101,7 @@ fn folded(alloc: Global, text: &str) -> Result<String, NoMemory>
 }
 
 /// The text that a string token stands for: without the quotes at its ends, and with each two quotes in a row
-/// within it as one.
+/// within it as one. `NoMemory` (9) where memory runs out.
 pub fn string_text(alloc: Global, token: &str) -> Result<String, NoMemory>
     ensures { IfOk result (λ out. string_bytes out ≡ string_text token.now) }
 {

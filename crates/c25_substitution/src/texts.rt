@@ -60,7 +60,8 @@ impl SubstitutionTexts {
         }
     }
 
-    /// Sets the text that a name stands for from now on. A new name comes last.
+    /// Sets the text that a name stands for from now on. A new name comes last. `NoMemory` (9) where memory
+    /// runs out.
     pub fn put(&mut self, name: &str, text: String) -> Result<(), NoMemory>
         ensures ok { OnOk result (self.new ≡ with_name self.old name.now (string_bytes text)) }
         ensures err { OnErr result (self.new ≡ self.old) }
