@@ -24,7 +24,8 @@ use c25_text::tokens::Token;
 use std::alloc::Global;
 
 /// The expression that tokens form (SPRU018, "Expressions"): `BadExpression` (20) where they form none,
-/// `TooDeep` (21) where its parentheses and unary operators nest more than 64 deep.
+/// `TooDeep` (21) where its parentheses and unary operators nest more than 64 deep. `NoMemory` (9) where
+/// memory runs out.
 pub fn tree_in(alloc: Global, tokens: &[Token<'_>]) -> Result<Expr, Failure<FaultKind>>
     ensures { Meets tree_of (told expression_fault (tree_in (map mark_of (pieces_of tokens.now)))) result }
 {
@@ -36,7 +37,7 @@ pub fn tree_in(alloc: Global, tokens: &[Token<'_>]) -> Result<Expr, Failure<Faul
 }
 
 /// The expression that an operand is: `OperandForm` (52) where the operand is an indirect form or a string,
-/// else `BadExpression` (20) or `TooDeep` (21) as for `tree_in`.
+/// else `BadExpression` (20) or `TooDeep` (21) as for `tree_in`. `NoMemory` (9) where memory runs out.
 pub fn expression_in(alloc: Global, operand: &[Token<'_>]) -> Result<Expr, Failure<FaultKind>>
     ensures { Meets tree_of (expression_in (pieces_of operand.now)) result }
 {
@@ -85,7 +86,7 @@ pub fn is_string(operand: &[Token<'_>]) -> bool
 }
 
 /// The text of an operand that is one string, without its quotes, and with each two quotes within it as one;
-/// `OperandForm` (52) where the operand is something else.
+/// `OperandForm` (52) where the operand is something else. `NoMemory` (9) where memory runs out.
 pub fn string_in(alloc: Global, operand: &[Token<'_>]) -> Result<String, Failure<FaultKind>>
     ensures { Meets string_bytes (string_in (pieces_of operand.now)) result }
 {

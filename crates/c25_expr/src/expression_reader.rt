@@ -19,7 +19,8 @@ const MOST_NESTED: usize = 64;
 
 /// The expression that tokens form (SPRU018, "Expressions"); it owns its names and borrows nothing.
 /// `BadExpression` (20) where the tokens form none, however deep they nest; `TooDeep` (21) where the
-/// parentheses and unary operators of their expression nest more than 64 deep.
+/// parentheses and unary operators of their expression nest more than 64 deep. `NoMemory` (9) where memory
+/// runs out.
 pub fn read_expr(alloc: Global, tokens: &[Token<'_>]) -> Result<Expr, Failure<ExpressionFault>>
     ensures ok { IfOk result (λ e. IsTreeOf (marks_of tokens.now) (tree_of e)
         × (depth (tree_of e) ≤ 64)) }

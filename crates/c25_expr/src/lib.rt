@@ -1,5 +1,5 @@
 //! Expressions: reading them from tokens, the symbols of a module, values; and the operands of a line and of
-//! directives. Functions that take memory return `NoMemory` (9) where it runs out.
+//! directives.
 #![tactic(auto)]
 
 mod builder;
