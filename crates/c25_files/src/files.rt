@@ -77,7 +77,7 @@ impl Model for Files {
 }
 
 impl Files {
-    /// No files. It takes no memory.
+    /// No files; no memory is taken.
     pub fn new(alloc: Global) -> Files
         ensures { result ≡ [] }
     {
