@@ -1,5 +1,5 @@
 //! Statements: what one line of a module says after expansion, and which operands and fields each instruction
-//! has. Functions that take memory return `NoMemory` (9) where it runs out.
+//! has.
 #![tactic(auto)]
 
 mod directives;

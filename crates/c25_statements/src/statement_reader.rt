@@ -121,7 +121,8 @@ fn statement_by(
 /// What a line says, or the first fault that its text alone shows: a missing or wrong label or a wrong token
 /// (10 to 13), a first word that is neither a mnemonic nor a directive (50), too few or too many operands
 /// (51), an operand of another form than is asked for (52), one that is no expression (20), one that nests
-/// too deep (21). A fault 20 or 21 of `.bss` or `.usect` is kept in the statement.
+/// too deep (21). A fault 20 or 21 of `.bss` or `.usect` is kept in the statement. `NoMemory` (9) where
+/// memory runs out.
 pub fn read_statement(alloc: Global, text: &str) -> Result<Statement<'_>, Failure<FaultKind>>
     ensures { Meets statement_of (says.read_statement text.now) result }
 {
