@@ -33,7 +33,7 @@ pub record MapData : Type 0 where
   pub symbols : List NamedValue
   pub entry : Option NamedValue
 
--- ---- their text
+-- ---- the text of maps
 
 -- a line of the map, which ends in LF
 abbrev pub map_line : List ℕ → List ℕ

@@ -108,7 +108,7 @@ pub record Covers (base size word : ℕ) : Type 0 where
   pub from : base ≤ word
   pub upto : word < base + size
 
--- the module of this number is this one, and its section of this index is this one
+-- the module of this number is `owner`, and its section of this index is `section`
 pub record IsPart (modules : List Contents) (number index : ℕ) (owner : Contents) (section : SectionData) : Type 0 where
   pub owner_is : slice_get modules number ≡ Some owner
   pub section_is : slice_get owner.sections index ≡ Some section
