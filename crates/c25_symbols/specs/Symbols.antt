@@ -48,7 +48,7 @@ module_symbols modules sources places number m = map (listed modules sources pla
 abbrev pub all_symbols : List Contents → List (List ℕ) → List Place → List Listed
 all_symbols modules sources places = by_modules (module_symbols modules sources places) 0 modules
 
--- ---- their order
+-- ---- the order of symbols
 
 -- an item put into a list, after the items that have to be before it
 abbrev pub inserted : {A : Type 0} → (A → A → Bool) → A → List A → List A
