@@ -110,8 +110,8 @@ without_ended Expanded names = record names { expansions = drop 1 names.expansio
 without_ended Copied names = names
 without_ended (Turn body more) names = names
 
--- the configuration after the innermost file, expansion or turn that passes the test, with all that is open
--- inside it, has been left and its lines dropped, if one passes
+-- the configuration once the innermost file, expansion or turn that passes the test is left, with all that is
+-- open inside it: the lines of all these are dropped; nothing where none passes
 abbrev pub left_through : (Kind → Bool) → List LineOrEnd → SourceFrame → List SourceFrame → Dictionary → Config → Option Config
 left_through test lines frame [] names c = None
 left_through test lines frame (f ∷ fs) names c =
