@@ -36,7 +36,8 @@ pub record IsFirstFree (taken fits : List Bool) (start end size base : ℕ) : Ty
   pub is_open : IsOpen taken fits base size
   pub least : (other : ℕ) → start ≤ other → IsOpen taken fits other size → base ≤ other
 
--- the longest run of free words before a word, from a start on, has so many; before the word no run of a size ends that fits
+-- the longest run of free words that ends before `word`, from `start` on, has `run` words; no `size` free
+-- words that fit lie before `word`
 pub record IsRunBefore (taken fits : List Bool) (start size word run : ℕ) : Type 0 where
   pub from : start + run ≤ word
   pub free : (other : ℕ) → word ≤ other + run → other < word → slice_index_or taken other false ≡ false
