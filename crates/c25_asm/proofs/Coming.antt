@@ -34,7 +34,7 @@ by_start files name file (Some text) = (200001, omega arith, refl)
 pub begins : (listed : Bool) (files : Files) (name : List ℕ) → Comes listed files name (begun_at (start_of files name)) no_lines (passed_from files name (start_of files name))
 begins listed files name = record { behind = no_lines; alike = like_itself listed no_lines; still = by_start files name (file_number files name) (text_named files name) }
 
--- the same of lines whose progress is the same
+-- what all lines make, after other lines with the same progress
 pub moved : (listed : Bool) (files : Files) (name : List ℕ) (stage : Stage) (p q : Progress) (entries : List Entry) (meant : Result LinesSoFar ExpansionFault) → q ≡ p
     → Comes listed files name stage (record { progress = p; entries = entries }) meant → Comes listed files name stage (record { progress = q; entries = entries }) meant
 moved listed files name stage p q entries meant same coming =

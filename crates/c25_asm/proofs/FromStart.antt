@@ -35,7 +35,7 @@ pub from_start : (files : Files) (name : List ℕ) (t new : Trace) (p : Progress
 from_start files name t new p sought e h none ends =
     subst (λ (f : Files). Ends f name sought new.trail e) h.2 (ends name (begins (ap (λ (f : Files). start_of f name) h.2 ∙ h.0) none h.1))
 
--- ---- its end
+-- ---- the end of a walk
 
 -- a line is refused
 pub refused : (files : Files) (name : List ℕ) (sought : Option ℕ) (trail shown : List (FileLine ℕ)) (f : StepFault) → shown ≡ trail → Ends files name sought trail (end.Refused f)

@@ -22,7 +22,7 @@ abbrev pub Passes : (listed : Bool) → Result source.LinesSoFar ExpansionFault 
 Passes listed meant (Ok p) = (a : source.LinesSoFar) × (meant ≡ Ok a) × AreAlike listed a (passed_of p)
 Passes listed meant (Err e) = FailsBy fault_of meant e
 
--- a module with entries is this one, and the entries are its own where a listing is wanted
+-- two modules with entries are the same, and so are their entries where a listing is wanted
 abbrev pub IsListed : (listed : Bool) → source.Assembled → source.Assembled → Type 0
 IsListed true a b = a ≡ b
 IsListed false a b = a.contents ≡ b.contents

@@ -14,7 +14,7 @@ use Rattle.c25_asm.specs.declared.walk.End.TheVariants as end
 use Rattle.c25_asm.specs.declared.walk.Turn.{Turn}
 use Rattle.c25_asm.specs.declared.walk.Turn.TheVariants as turn
 
--- at most 65,535 names
+-- the lines so far have at most 65,535 names
 abbrev pub HasFewNames : Progress → Type 0
 HasFewNames p = name_count p.names p.declared ≤ 65535
 
@@ -47,7 +47,7 @@ Ends files name sought trail (end.Refused f) = IsUnexpanded files name (fault_in
 abbrev pub EndsWalk : Trace → Progress → (sought : Option ℕ) → Trace → End → Type 0
 EndsWalk old made sought new end = (name : List ℕ) → Reaches old.files name old.at made old.trail → Ends old.files name sought new.trail end
 
--- a walk goes on from there to here
+-- a walk goes on from one trace to another, and `next` is what the lines have made by then
 pub record LeadsOn (old : Trace) (made : Progress) (sought : Option ℕ) (new : Trace) (next : Progress) : Type 0 where
   pub moved : Moved old new
   pub few : HasFewNames next

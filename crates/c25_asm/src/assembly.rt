@@ -116,8 +116,12 @@ fn assemble_lines<'a>(
 
 /// The module of the source of a name, and its listing (SPRU018, the assembler).
 ///
-/// The first fault of the first phase is reported. One line's faults come in this order: 34, 38, 10 to 13,
-/// 50, 51, 52, 20, 21, 26, those of values that are needed at once 22 to 25, then 30 to 33, 35, 36, 56, 54.
+/// The first fault of the first phase is reported; where there is no source of this name, that is 30 at line
+/// 0. One line's faults come in this order: 34, 38, 10 to 13, 50, 51, 52, 20, 21, 26, those of values that
+/// are needed at once 22 to 25, then 30 to 33, 35, 36, 56, 54. But 32 comes before 38 for an `.elseif` after
+/// the `.else` of its `.if`, and for a second `.else` in lines that are skipped; and a label before a
+/// directive of expansion or a call of a macro is a line of its own, with its 26 and 54.
+///
 /// If the first phase finds no fault, the second one reports the first operand of an instruction, of `.word`,
 /// `.int`, `.byte` or `.def`, that has no value when all names are known (22 to 25), is an address where none
 /// is allowed (55), or is out of the range of its field (53).

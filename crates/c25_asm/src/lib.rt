@@ -3,10 +3,10 @@
 //! Each expanded line goes through the first phase, which knows the symbols of the lines before it, and has
 //! an entry in the listing, where one is wanted. The second phase comes after the last line.
 //!
-//! `tracing` finds which calls of macros, copies and loops led to the line where a source is refused: it
-//! assembles the source once more, one rewriting after another, and keeps the lines that opened what is open.
-//! An item that the second phase refuses came with a line of the first phase, which is found by the item's
-//! number.
+//! `tracing` finds which calls of macros, copies and loops led to the line where a source is refused: it goes
+//! through the source again, one rewriting after another, and keeps the lines that opened what is open. Where
+//! the second phase refuses an item, it goes through the source a second time, up to the line with which that
+//! item came, which is found by the item's number.
 #![tactic(auto)]
 
 mod assembly;

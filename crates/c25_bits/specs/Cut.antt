@@ -7,8 +7,8 @@ abbrev pub cut : ℤ → ℕ → ℕ
 cut (pos n) width = n % 2 ^ width
 cut (negsuc n) width = 2 ^ width - 1 - n % 2 ^ width
 
--- the lowest `width` bits of a number, read with a sign in two's complement: from - 2 ^ (width - 1) to 2 ^
--- (width - 1) - 1
+-- the lowest `width` bits of a number, at least one, read with a sign in two's complement: from - 2 ^ (width
+-- - 1) to 2 ^ (width - 1) - 1
 abbrev pub signed : ℕ → ℕ → ℤ
 signed n width = if nat_lt (n % 2 ^ width) (2 ^ (width - 1)) then pos (n % 2 ^ width) else negsuc (2 ^ width - 1 - n % 2 ^ width)
 

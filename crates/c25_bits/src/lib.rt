@@ -32,7 +32,8 @@ impl<const AT: u32, const WIDTH: u32> Field<AT, WIDTH> {
         Self::replaced(u32::from(word), u32::from(value)) as u16
     }
 
-    /// What `put` gives, as 32 bits: there no shift is as wide as the number that is shifted.
+    /// The word that `put` gives, computed in 32 bits: a shift by AT + WIDTH may be one by 16 bits, which 16
+    /// bits do not allow.
     fn replaced(word: u32, value: u32) -> u32
         requires inside { AT + WIDTH ≤ 16 }
         requires word_below { word < 2 ^ 16 }

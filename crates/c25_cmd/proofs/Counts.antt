@@ -24,11 +24,11 @@ use Rattle.c25_cmd.proofs.Steps.{bound, after, chosen, wider}
 abbrev Takes : {A : Type 0} → ℕ → Reading A → Type 0
 Takes n r = IfOk r (λ x. length x.1 < n)
 
--- no more tokens stand after it
+-- no more tokens stand after what is read than before it
 abbrev Leaves : {A : Type 0} → ℕ → Reading A → Type 0
 Leaves n r = IfOk r (λ x. length x.1 ≤ n)
 
--- the same of readings that give the tokens after them alone
+-- fewer tokens stand after a reading that gives the tokens after it alone, and no more of them
 abbrev TakesRest : ℕ → Result (List Token) (Placed ℕ CommandFault) → Type 0
 TakesRest n r = IfOk r (λ ts. length ts < n)
 

@@ -18,7 +18,7 @@ pub chosen : {A E : Type 0} (P : A → Type 0) (b : Bool) (r s : Result A E) →
 chosen P true r s h k = h
 chosen P false r s h k = k
 
--- what is known of it may be said weaker
+-- what is known of what a reading gives may be weakened
 pub wider : {A E : Type 0} (P Q : A → Type 0) (r : Result A E) → ((x : A) → P x → Q x) → IfOk r P → IfOk r Q
 wider P Q (Ok x) more h = more x h
 wider P Q (Err e) more h = tt

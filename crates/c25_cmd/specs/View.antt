@@ -15,7 +15,7 @@ use Rattle.c25_cmd.specs.declared.command.Command.{Command}
 abbrev pub token_of : Token → lexed.Token
 token_of t = record { kind = t.kind; place = t.place; text = string_bytes t.text }
 
--- tokens
+-- tokens, as the definitions have them
 abbrev pub tokens_of : List Token → List lexed.Token
 tokens_of = map token_of
 
@@ -27,7 +27,7 @@ numeral_of n = record { base = n.base; digits = n.digits.now }
 abbrev pub range_of : MemoryRange → meant.RangeData
 range_of r = record { page = r.page; name = string_bytes r.name; origin = r.origin; size = r.length }
 
--- ranges
+-- the ranges of MEMORY, as the definitions have them
 abbrev pub ranges_of : List MemoryRange → List meant.RangeData
 ranges_of = map range_of
 
@@ -41,11 +41,11 @@ target_of (target.At n) = meant.At n
 abbrev pub placing_of : Placing → meant.PlacingData
 placing_of p = record { name = string_bytes p.name; target = target_of p.target; page = p.page; run = p.run }
 
--- sections
+-- the sections of SECTIONS, as the definitions have them
 abbrev pub placings_of : List Placing → List meant.PlacingData
 placings_of = map placing_of
 
--- a command
+-- a command, as the definitions have it
 abbrev pub command_data : Command → meant.CommandData
 command_data c = record {
   entry = option_map (λ s. string_bytes s) c.entry;

@@ -31,8 +31,8 @@ pub struct Placing {
     pub target: Target,
     /// The page, 0 or 1, where one is named.
     pub page: Option<u8>,
-    /// The address where the sections run, where one is given: they are loaded at another. A number above
-    /// 4,294,967,295 is 4,294,967,295 here, as in [`Target::At`].
+    /// The address where the sections run, where `run =` gives one. A number above 4,294,967,295 is
+    /// 4,294,967,295 here, as in [`Target::At`].
     pub run: Option<u32>,
 }
 

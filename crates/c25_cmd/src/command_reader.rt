@@ -53,10 +53,11 @@ fn line_at(text: &str, place: usize) -> usize
 /// read in either case, and are not names. A word that begins with a digit is a number: decimal
 /// without a leading 0, or hexadecimal with `0x` before it or `h` after it, of at most 19 digits.
 ///
-/// The fault is the first one from the front: `Twice` at the second `-e`, `MEMORY`, `SECTIONS` or
-/// name; after a range's length `RangeSize` and then `RangeOverlap`, both at that number; `Syntax` at
+/// The fault is the first one from the front: `Twice` (63) at the second `-e`, `MEMORY` or `SECTIONS`,
+/// and at the name of a range that its page has already or of a section that is listed already; after a
+/// range's length `RangeSize` (62) and then `RangeOverlap` (61), both at that number; `Syntax` (60) at
 /// the first word or sign that cannot stand where it is, or at the last line where the text ends too
-/// soon.
+/// soon. `NoMemory` (9) where memory runs out.
 pub fn read_command(
     alloc: Global,
     text: &str,

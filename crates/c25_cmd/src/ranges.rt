@@ -1,5 +1,5 @@
-//! The ranges so far, with what finds a name or a word that comes twice in a time that does not grow with
-//! their number: a set of the names, and for each word of both pages whether it is in a range.
+//! The ranges so far, with what finds a name or a word that comes twice without a look at each of them: a set
+//! of the names, and for each word of both pages whether it is in a range.
 
 ghost use Rattle.std.specs.Prelude.{◌≡◌, ◌+◌, ◌*◌, ◌<◌, ◌≤◌, [], ◌∷◌, ◌++◌, true, not, IfOk};
 ghost use Rattle.std.specs.List.{list_any};

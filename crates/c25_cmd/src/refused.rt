@@ -29,7 +29,8 @@ pub enum RefusedAt<'a> {
     End,
 }
 
-/// The column after a byte.
+/// The column of the byte after one at `column`: 1 after a line end, `column` after a further byte of a UTF-8
+/// character, else one more.
 fn column_behind(column: usize, byte: u8) -> usize
     requires { column < 2 ^ 64 - 1 }
     ensures value { result ≡ column_behind column byte }
@@ -94,7 +95,8 @@ fn standing_of(
 }
 
 /// What a text has at the place where its command is refused, in the line that
-/// [`read_command`](crate::read_command) reports. It is `None` where the text is a command.
+/// [`read_command`](crate::read_command) reports. `None` where the text is a command; `NoMemory` where memory
+/// runs out.
 pub fn refused_at(alloc: Global, text: &str) -> Result<Option<RefusedAt<'_>>, NoMemory>
     ensures { IfOk result (λ standing. option_map standing_data standing ≡ refused_at text.now) }
 {

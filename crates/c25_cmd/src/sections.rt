@@ -132,8 +132,8 @@ fn placing_at<'a>(
     Ok((placing, tokens))
 }
 
-/// The sections that have been read, and their names, by which one that comes twice is found in a time that
-/// does not grow with their number.
+/// The sections that have been read, and the set of their names, which finds one that comes twice without a
+/// look at each of them.
 #[derive(Drop)]
 struct Sections<'a> {
     list: Vec<Placing>,

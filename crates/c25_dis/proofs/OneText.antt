@@ -94,7 +94,7 @@ one_module_text m t u p q = each_one (IsSectionAt m) (λ k. one_section m k (sli
 
 -- ---- one text of words
 
--- an instruction of one word is none of two
+-- the words of an instruction of two words begin with no instruction of one
 one_size : (word second : ℕ) (i j : Insn) → IsCode word None i → IsCode word (Some second) j → ⊥
 one_size word second i j p q =
     let same : i ≡ j = one_reading word second i j (reads word second None i tt p) (reads word second (Some second) j refl q) in

@@ -40,18 +40,18 @@ stable_at xs ys stable place =
 
 -- ---- two searches
 
--- those below a place are so many, and those up to it
+-- whether an item stands below a place, and whether it stands below the place or at it
 abbrev pub IsBelow : ℕ → IndexEntry → Bool
 IsBelow place x = nat_lt x.place place
 
 abbrev pub IsUpTo : ℕ → IndexEntry → Bool
 IsUpTo place x = nat_le x.place place
 
--- where they end
+-- the items that pass a test are those before a number
 abbrev pub Ends : (IndexEntry → Bool) → List IndexEntry → ℕ → Type 0
 Ends p xs i = IsPartitionPoint (λ y. p y ≡ true) (λ y. p y ≡ false) xs i
 
--- those below a place end before those up to it do
+-- the items below a place end before those up to the place do
 pub in_order : (place : ℕ) (xs : List IndexEntry) (i j : ℕ) → i ≤ length xs → j ≤ length xs → Ends (IsBelow place) xs i → Ends (IsUpTo place) xs j → i ≤ j
 in_order place xs i j within within_2 below up =
     elim (cases_lt j i) [

@@ -19,7 +19,7 @@ one_more Is n before text last next is e h =
     let texts : AreTexts Is (suc n) (h.0 ++ last) = (h.0, last, h.1, is, refl) in
     (h.0 ++ last, subst (λ (j : ℕ). AreTexts Is j (h.0 ++ last)) k texts, e ∙ ap (λ (t : List ℕ). t ++ last) h.2 ∙ append_assoc before h.0 last)
 
--- the same of a text that begins with them
+-- one number more, where a text is that of the first n numbers alone
 pub texts_more : (Is : ℕ → List ℕ → Type 0) (n : ℕ) (text last next : List ℕ) → Is n last → next ≡ text ++ last → AreTexts Is n text → AreTexts Is (n + 1) next
 texts_more Is n text last next is e h =
     let k : suc n ≡ n + 1 = omega arith in

@@ -1,4 +1,4 @@
--- The lines of a disassembly: an address, its words, and what they are (own).
+-- The lines of a disassembly: an address, its words, and what they are (this project's own).
 use Rattle.std.specs.Prelude.{◌≡◌, ℕ, List, [], ◌∷◌, ◌++◌, Option, Some, None, option_to_list, codes}
 use Rattle.c25_meaning_common.specs.Digits.{four_digits}
 use Rattle.c25_meaning_instructions.specs.Show.{long_text, show}

@@ -1,4 +1,5 @@
--- The text of a module: for each section a heading, and for each of its places the labels and the line of the word there (own).
+-- The text of a module: for each section a heading, and for each of its places the labels and the line of the
+-- word there (this project's own).
 use Rattle.std.specs.Prelude.{◌≡◌, ℕ, zero, suc, ℤ, pos, negsuc, ◌+◌, Bool, true, false, ◌==◌, ◌&&◌, List, [], ◌++◌, length, filter, find, codes, if◌then◌else◌, Option, Some, None}
 use Rattle.std.specs.Fmt.{decimal, signed_decimal}
 use Rattle.std.specs.List.{flat_map, slice_get}
@@ -49,7 +50,7 @@ section_name m number = elim (slice_get m.sections number) [ None ↦ [] | Some 
 abbrev pub symbol_name : Contents → ℕ → List ℕ
 symbol_name m number = elim (slice_get m.symbols number) [ None ↦ [] | Some y ↦ y.name ]
 
--- the name of what an addend is added to
+-- the name of what an addend is added to, after `load of` for the address where a section is loaded
 abbrev pub base_text : Contents → RelocationBase → List ℕ
 base_text m (base.Section number) = section_name m number
 base_text m (base.Loaded number) = codes "load of " ++ section_name m number

@@ -1,4 +1,5 @@
--- The text of words by their addresses, with no marks: each is read where the line before ended (own).
+-- The text of words by their addresses, with no marks: each is read where the line before ended (this
+-- project's own).
 use Rattle.std.specs.Prelude.{◌≡◌, ℕ, zero, suc, ◌+◌, ◌-◌, ◌==◌, Bool, true, false, nat_lt, if◌then◌else◌, List, [], ◌∷◌, ◌++◌, length, codes, Option, Some, None, option_to_list}
 use Rattle.std.specs.FinMap as map
 use Rattle.std.specs.Ordering.{nat_cmp}

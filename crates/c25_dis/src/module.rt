@@ -14,9 +14,10 @@ use std::alloc::Global;
 /// mark says that an instruction starts, that line has its address in the section, its one or two words, and
 /// the instruction as the assembler reads it; else, and where the words are not an instruction's, it has them
 /// as data: `.word 05541h`. After that, and after `  ; `, it has what linking fills into each word: a name,
-/// and an addend with its sign if it is not 0. Addresses and words are hexadecimal.
+/// and an addend with its sign if it is not 0. Addresses and words are hexadecimal. Symbols with a value
+/// outside their section, absolute and external ones have no line.
 ///
-/// It fails only where memory runs out.
+/// `NoMemory` where memory runs out.
 pub fn disassemble_module(alloc: Global, object: &Module) -> Result<String, NoMemory>
     ensures { IfOk result (λ text. IsModuleText object.now (string_bytes text)) }
 {

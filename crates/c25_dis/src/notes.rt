@@ -29,7 +29,7 @@ fn push_symbol_name(text: &mut String, parts: &Parts, number: u16) -> Result<(),
     }
 }
 
-/// Appends the name of what an addend is added to.
+/// Appends the name of what an addend is added to, after `load of` for the address where a section is loaded.
 fn push_base(text: &mut String, parts: &Parts, base: RelocationBase) -> Result<(), NoMemory>
     ensures { OnOk result (string_bytes text.new ≡ string_bytes text.old ++ base_text (contents parts.now) base) }
 {

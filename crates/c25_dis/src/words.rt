@@ -151,10 +151,10 @@ fn push_address_text(
 /// The text of words from an address on, read in the order of their addresses. Where a word, or a word and
 /// the next one, are an instruction's, it is a line of the address, those words and the instruction as the
 /// assembler reads it, and the reading goes on after it; else a line of the address and the word as data,
-/// `.word 05541h`. An empty line stands between two lines where no word is between their addresses. Addresses
-/// and words are hexadecimal.
+/// `.word 05541h`. An empty line stands before a line that does not begin right after the words of the line
+/// before it. Addresses and words are hexadecimal.
 ///
-/// It fails only where memory runs out.
+/// `NoMemory` where memory runs out.
 pub fn disassemble_words(alloc: Global, words: &WordMap, from: u16) -> Result<String, NoMemory>
     ensures { IfOk result (λ text. IsWordsText words.now from (string_bytes text)) }
 {

@@ -35,19 +35,19 @@ IsReady (Open ∷ fs) n = Unit {0}
 IsReady (Pending op ∷ fs) n = ⊥
 IsReady (After l op ∷ fs) n = n < level_of op
 
--- each tree in it is grouped
+-- each tree in the frames is grouped
 abbrev pub AreGrouped : List Frame → Type 0
 AreGrouped [] = Unit {0}
 AreGrouped (Open ∷ fs) = AreGrouped fs
 AreGrouped (Pending op ∷ fs) = AreGrouped fs
 AreGrouped (After l op ∷ fs) = IsGrouped l × (level l ≤ level_of op) × IsReady fs (level_of op) × AreGrouped fs
 
--- so is the operand, which the operators before it may take
+-- the operand after the frames is grouped, and the operators before it may take it
 abbrev pub OperandGrouped : List Frame → Option Tree → Type 0
 OperandGrouped fs None = Unit {0}
 OperandGrouped fs (Some e) = IsGrouped e × (level e ≡ 0) × IsReady fs 0
 
--- all of it is grouped
+-- each tree of a state is grouped
 abbrev pub IsSound : ParserState → Type 0
 IsSound s = AreGrouped s.frames × OperandGrouped s.frames s.current
 

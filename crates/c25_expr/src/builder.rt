@@ -45,7 +45,7 @@ pub(crate) struct Builder {
 impl Builder {
     ghost use Rattle.c25_expr.specs.View.{state_of, behind, trees_of, items_of};
 
-    /// An expression before its first token, with room for so many items.
+    /// An expression before its first token, with room for `room` items.
     pub(crate) fn new(alloc: Global, room: usize) -> Result<Self, NoMemory>
         ensures { IfOk result (λ b. state_of b ≡ start) }
     {

@@ -23,8 +23,9 @@ use c25_substitution::strings::string_text;
 use c25_text::tokens::Token;
 use std::alloc::Global;
 
-/// The expression that tokens are (SPRU018, "Expressions"): `BadExpression` (20) where they are none,
-/// `TooDeep` (21) where it nests too deep.
+/// The expression that tokens form (SPRU018, "Expressions"): `BadExpression` (20) where they form none,
+/// `TooDeep` (21) where its parentheses and unary operators nest more than 64 deep. `NoMemory` (9) where
+/// memory runs out.
 pub fn tree_in(alloc: Global, tokens: &[Token<'_>]) -> Result<Expr, Failure<FaultKind>>
     ensures { Meets tree_of (told expression_fault (tree_in (map mark_of (pieces_of tokens.now)))) result }
 {
@@ -35,7 +36,8 @@ pub fn tree_in(alloc: Global, tokens: &[Token<'_>]) -> Result<Expr, Failure<Faul
     }
 }
 
-/// An operand that is an expression; 52 where it is written as something else.
+/// The expression that an operand is: `OperandForm` (52) where the operand is an indirect form or a string,
+/// else `BadExpression` (20) or `TooDeep` (21) as for `tree_in`. `NoMemory` (9) where memory runs out.
 pub fn expression_in(alloc: Global, operand: &[Token<'_>]) -> Result<Expr, Failure<FaultKind>>
     ensures { Meets tree_of (expression_in (pieces_of operand.now)) result }
 {
@@ -54,7 +56,7 @@ fn is_name(kind: TokenKind) -> bool
     }
 }
 
-/// An operand that is one name; 52 where it is not.
+/// The text of an operand that is one name; `OperandForm` (52) where it is something else.
 pub fn name_in<'a>(operand: &[Token<'a>]) -> Result<&'a str, FaultKind>
     ensures { text_of result ≡ name_in (pieces_of operand.now) }
 {
@@ -83,7 +85,8 @@ pub fn is_string(operand: &[Token<'_>]) -> bool
     }
 }
 
-/// The text of an operand that is one string, without its quotes; 52 where it is something else.
+/// The text of an operand that is one string, without its quotes, and with each two quotes within it as one;
+/// `OperandForm` (52) where the operand is something else. `NoMemory` (9) where memory runs out.
 pub fn string_in(alloc: Global, operand: &[Token<'_>]) -> Result<String, Failure<FaultKind>>
     ensures { Meets string_bytes (string_in (pieces_of operand.now)) result }
 {

@@ -17,8 +17,10 @@ use std::alloc::Global;
 /// How deep parentheses and unary operators may nest.
 const MOST_NESTED: usize = 64;
 
-/// The expression that tokens are: all operands of a line, or what stands between two of its commas. It owns
-/// its names and borrows nothing. Tokens that are no expression are `BadExpression` however deep they nest.
+/// The expression that tokens form (SPRU018, "Expressions"); it owns its names and borrows nothing.
+/// `BadExpression` (20) where the tokens form none, however deep they nest; `TooDeep` (21) where the
+/// parentheses and unary operators of their expression nest more than 64 deep. `NoMemory` (9) where memory
+/// runs out.
 pub fn read_expr(alloc: Global, tokens: &[Token<'_>]) -> Result<Expr, Failure<ExpressionFault>>
     ensures ok { IfOk result (λ e. IsTreeOf (marks_of tokens.now) (tree_of e)
         × (depth (tree_of e) ≤ 64)) }

@@ -13,7 +13,8 @@ use c25_text::line::Line;
 use c25_text::tokens::Token;
 use std::alloc::Global;
 
-/// The tokens of a line's operands, in order, up to its comment. They borrow the line.
+/// The tokens of a line's operands, in order, up to its comment. They borrow the line. `NoMemory` (9) where
+/// memory runs out.
 pub fn tokens_of<'a>(alloc: Global, line: &Line<'a>) -> Result<Vec<Token<'a>>, NoMemory>
     ensures { IfOk result (λ v. pieces_of v.items ≡ (parts_of line.now).pieces) }
 {
@@ -30,7 +31,7 @@ fn is_comma(kind: TokenKind) -> bool
 }
 
 /// What stands between the commas of a line's tokens. Where there are no tokens there is no operand; else an
-/// empty operand counts.
+/// empty operand counts. `NoMemory` (9) where memory runs out.
 pub fn operands_of<'a, 'b>(
     alloc: Global,
     tokens: &'b [Token<'a>],
@@ -62,7 +63,7 @@ fn is_zero(token: &Token<'_>) -> bool
     }
 }
 
-/// Whether a token is the name `BR0`.
+/// Whether a token is the name `BR0`, its letters in either case.
 fn is_br0(token: &Token<'_>) -> bool
     ensures { result ≡ is_br0 token.now.kind token.now.text.now }
 {

@@ -7,7 +7,7 @@ ghost use Rattle.c25_meaning_language.specs.Value.{in_range, shift_count, number
 use c25_meaning_language::expression::{BinaryOperator, UnaryOperator};
 use c25_meaning_language::value::{Base, Value, ValueFault};
 
-/// A number, if it fits in 32 bits with its sign.
+/// A number, if it fits in 32 bits with its sign; else `ValueRange` (25).
 fn in_range(number: i64) -> Result<i32, ValueFault>
     ensures { result ≡ in_range number }
 {
@@ -98,7 +98,8 @@ fn truth(holds: bool) -> i32
     if holds { 1 } else { 0 }
 }
 
-/// What a binary operator makes of two numbers.
+/// What a binary operator makes of two numbers; `DivideByZero` (24) for a division by 0, `ValueRange` (25)
+/// where the result does not fit in 32 bits with its sign or a shift count is not 0 to 31.
 fn number_of(operator: BinaryOperator, x: i32, y: i32) -> Result<i32, ValueFault>
     ensures { result ≡ number_of operator x y }
 {
@@ -122,7 +123,7 @@ fn number_of(operator: BinaryOperator, x: i32, y: i32) -> Result<i32, ValueFault
     }
 }
 
-/// The base of a result, if the operator may have operands of these bases.
+/// The base of a result, or `NotAbsolute` (23) where the operator may not have operands of these bases.
 fn base_of(operator: BinaryOperator, x: Base, y: Base) -> Result<Base, ValueFault>
     ensures { result ≡ base_of operator x y }
 {

@@ -7,7 +7,7 @@ use crate::tree::{PostfixItem, Steps};
 use std::slice;
 
 impl Steps {
-    /// Keeps items, in order; where there is one, it takes no memory of its own.
+    /// Keeps items in order; one item alone is kept without a `Vec`.
     pub(crate) fn of(items: Vec<PostfixItem>) -> Steps
         ensures { steps_of result ≡ items.items }
     {

@@ -63,7 +63,7 @@ impl Symbols {
     }
 
     /// What a name stands for: an AR or PA name, in upper or lower case, for its number, another name for the
-    /// value that it was defined as.
+    /// value that it was defined as. None where the name was not defined.
     pub fn get(&self, name: &str) -> Option<Value>
         ensures { result ≡ value_named self.now name.now }
     {
@@ -83,7 +83,8 @@ impl Symbols {
         self.entries.len()
     }
 
-    /// The name and the value of the symbol with this number, from 0 in order of definition.
+    /// The name and the value of the symbol with this number, from 0 in order of definition; None where there
+    /// is no such symbol.
     pub fn entry(&self, number: usize) -> Option<(&str, Value)>
         ensures { option_map (λ e. (e.0.now, e.1)) result ≡ slice_get self.now.entries number }
     {

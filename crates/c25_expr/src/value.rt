@@ -17,12 +17,16 @@ use c25_meaning_language::value::{Value, ValueFault};
 /// How many operands wait at most while an expression is valued.
 const DEEPEST: usize = 521;
 
-/// An expression of at most so many items is valued with less room. Most have one or three, and filling the
+/// An expression of at most `FEW` items is valued with less room. Most have one or three, and filling the
 /// room costs time.
 const FEW: usize = 8;
 
-/// The value of an expression under symbols: the left operand is valued before the right one, and both before
-/// the operator; bases are looked at before numbers. It takes no memory.
+/// The value of an expression under symbols, or its first fault: that of the left operand, of the right one,
+/// then of the operator, for which bases are looked at before numbers.
+///
+/// `Undefined` (22) where a name stands for nothing; `NotAbsolute` (23) where an operator may not have
+/// operands of these bases; `DivideByZero` (24); `ValueRange` (25) for a constant or a result that does not
+/// fit in 32 bits with its sign, and for a shift count that is not 0 to 31. No memory is taken.
 pub fn value(expr: &Expr, symbols: &Symbols) -> Result<Value, ValueFault>
     ensures { result ≡ value_of (value_named symbols.now) symbols.now.here (tree_of expr.now) }
 {
@@ -106,7 +110,7 @@ fn put_onto<const ROOM: usize>(
     Ok(())
 }
 
-/// Takes away the last operand that waits.
+/// Removes the last operand that waits, and returns it.
 fn last_of<const ROOM: usize>(waiting: &mut ArrayVec<Value, ROOM>) -> Value
     requires { 0 < array_vec_len waiting.old }
     ensures value { reverse waiting.old.items ≡ result ∷ reverse waiting.new.items }

@@ -77,7 +77,7 @@ impl Model for Files {
 }
 
 impl Files {
-    /// No files. It takes no memory.
+    /// No files; no memory is taken.
     pub fn new(alloc: Global) -> Files
         ensures { result ≡ [] }
     {
@@ -143,8 +143,8 @@ impl Files {
         Ok(())
     }
 
-    /// Adds a text under a new name. `FileTwice` (37) where there is a text under this name. After a refusal
-    /// the files are as before.
+    /// Adds a text under a new name. `FileTwice` (37) where there is a text under this name, `NoMemory` (9)
+    /// where memory runs out; the files are then as before.
     pub fn add(&mut self, name: &str, text: &str) -> Result<(), Failure<FileTwice>>
         ensures twice { IsErrOf result (Failure.Fault (record {})) ↔ IsSome (text_named self.old name.now) }
         ensures ok { OnOk result (self.new ≡ self.old ++ (name.now, text.now) ∷ []) }
@@ -159,9 +159,10 @@ impl Files {
     }
 
     /// Adds all that a reader has left, under a new name: the text that `add` would add, however the reads
-    /// cut it. A name that is there is refused before anything is read (37). The text is refused (8) where a
-    /// read fails, where it is not UTF-8, where 33,554,432 reads bring no end, and where it has more than
-    /// 16,777,216 bytes. After a refusal the files are as before.
+    /// cut it. `FileTwice` (37) where there is a text under this name: nothing is read then. `CannotRead` (8)
+    /// where a read fails, where 33,554,432 reads bring no end, where there are more than 16,777,216 bytes,
+    /// and where they are not UTF-8; `NoMemory` (9) where memory runs out. After any of these the files are
+    /// as before.
     pub fn add_from<R: Read>(&mut self, name: &str, reader: &mut R) -> Result<(), Failure<AddFault>>
         ensures twice { IsErrOf result (Failure.Fault fault.FileTwice) ↔ IsSome (text_named self.old name.now) }
         ensures unread { IsErrOf result (Failure.Fault fault.FileTwice) → reader.new ≡ reader.old }

@@ -55,7 +55,7 @@ impl<'a> Passage<'a> {
         }
     }
 
-    /// Takes the next line.
+    /// Takes the next line, if there is one.
     pub fn next(&mut self) -> Option<Row<'a>>
         ensures taken { self.old.rest ≡ option_to_list result ++ self.new.rest }
         ensures passed { self.new.passed ≡ self.old.passed ++ option_to_list result }
@@ -97,7 +97,7 @@ impl<'a> Passage<'a> {
         self.passed = 0;
     }
 
-    /// The lines read since the mark, without the last one.
+    /// The lines read since the mark, without the last one; no lines where none was read.
     pub fn body(&self) -> Rows<'a>
         ensures { (body : List Row) → (last : Row) → self.now.passed ≡ body ++ last ∷ [] → result ≡ body }
     {

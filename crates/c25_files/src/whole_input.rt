@@ -29,8 +29,9 @@ impl CannotRead {
     }
 }
 
-/// All bytes that a reader has left, however its reads cut them. They are refused (8) where a read fails,
-/// where 33,554,432 reads bring no end, and where there are more than 16,777,216 of them.
+/// All bytes that a reader has left, however its reads cut them. `CannotRead` (8) where a read fails, where
+/// 33,554,432 reads bring no end, and where there are more than 16,777,216 bytes; `NoMemory` (9) where memory
+/// runs out.
 pub fn read_bytes<R: Read>(alloc: Global, reader: &mut R) -> Result<Vec<u8>, Failure<CannotRead>>
     ensures ok { IfOk result (λ bytes. IsAllOf (R.remaining reader.old) bytes.items) }
     ensures end { OnOk result (IsAtEnd (R.remaining reader.new)) }
@@ -52,8 +53,8 @@ pub fn read_bytes<R: Read>(alloc: Global, reader: &mut R) -> Result<Vec<u8>, Fai
     Err(Failure::Fault(CannotRead))
 }
 
-/// All that a reader has left, as a text. It is refused (8) where the bytes cannot be read, and where they
-/// are not UTF-8.
+/// All that a reader has left, as a text. `CannotRead` (8) where `read_bytes` says so, and where the bytes
+/// are not UTF-8; `NoMemory` (9) where memory runs out.
 pub fn read_text<R: Read>(alloc: Global, reader: &mut R) -> Result<String, Failure<CannotRead>>
     ensures ok { IfOk result (λ text. IsAllOf (R.remaining reader.old) (string_bytes text)) }
     ensures end { OnOk result (IsAtEnd (R.remaining reader.new)) }

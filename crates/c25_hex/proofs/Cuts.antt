@@ -132,7 +132,7 @@ behind_line s t line p (c ∷ r) rest goes further same left =
     ap (λ (text : List ℕ). lines text) (same ∙ ap (λ (d : ℕ). line ++ d ∷ r) ends) ∙ line_first line r (line_prints line goes.2)
     ∙ ap (λ (ls : List (List ℕ)). line ∷ ls) (further r later some)
 
--- its lines are those of the whole text
+-- the lines of the text without its last LF are those of the whole text
 pub lines_without_last : (s t : HexState) (all : List (List ℕ)) (p : List ℕ) → Goes s all t → p ++ 10 ∷ [] ≡ text_of all → text_of all ≢ [] → lines p ≡ all
 lines_without_last s t [] p goes joined some = absurd (some refl)
 lines_without_last s t (line ∷ rest) p goes joined some =

@@ -70,15 +70,17 @@ fn bytes_given(alloc: Global, text: &str) -> Result<Reader, Failure<Placed<usize
     Ok(reader)
 }
 
-/// The words that an Intel hex text spells.
+/// The words that an Intel hex text spells (Intel Hexadecimal Object File Format Specification, revision A);
+/// a byte's address is twice its word's, and the high byte of a word comes first.
 ///
 /// A line is `:` and pairs of digits in either case. Lines end in LF or CRLF, the last one may lack its end,
 /// and lines of blanks and tabs are skipped.
 ///
-/// The fault is the first one and its line. For one line that is, in this order: `AfterEnd`, `BadStart`,
-/// `BadDigit`, `BadCount` (of the digits), `BadSum`, `BadKind`, `BadCount` (of the record type),
-/// `AddressRange`, `Twice`; at the end line `OddWord`; and `NoEnd` at the last line, or at line 0 of a text
-/// without lines. It fails with `NoMemory` too.
+/// The fault is the first one and its line. For one line that is, in this order: `AfterEnd` (88), `BadStart`
+/// (80), `BadDigit` (81), `BadCount` (82) where the digits are odd in number or the bytes are not as many as
+/// the line's count says, `BadSum` (83), `BadKind` (84), `BadCount` (82) where the record type calls for
+/// another count, `AddressRange` (89), `Twice` (86); at the end line `OddWord` (85); and `NoEnd` (87) at the
+/// last line, or at line 0 of a text without lines. `NoMemory` (9) where memory runs out.
 pub fn read_hex(alloc: Global, text: &str) -> Result<WordMap, Failure<Placed<usize, HexFault>>>
     ensures found { IfOk result (λ words. spec.SpellsWords text.now words) }
     ensures refused { IfErr result (λ e. Fails (spec.bytes_given text.now) e) }

@@ -10,9 +10,9 @@ use c25_meaning_common::no_memory::NoMemory;
 use c25_meaning_image::word_map::WordMap;
 use std::alloc::Global;
 
-/// The Intel hex text of words: lines of at most eight words, ascending, the line of the base before the
-/// first word at 8000h or above, and the end line; each ends in LF, and digits are upper case. It fails only
-/// where memory runs out.
+/// The Intel hex text of words (Intel Hexadecimal Object File Format Specification, revision A): lines of at
+/// most eight words, ascending, the line of the base before the first word at 8000h or above, and the end
+/// line. Each line ends in LF, and digits are upper case. `NoMemory` where memory runs out.
 pub fn write_hex(alloc: Global, words: &WordMap) -> Result<String, NoMemory>
     ensures written { IfOk result (λ text. string_bytes text ≡ written words.now) }
     ensures spelled { IfOk result (λ text. SpellsWords (string_bytes text) words.now) }

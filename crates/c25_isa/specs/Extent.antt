@@ -5,14 +5,16 @@ use Rattle.c25_meaning_instructions.specs.declared.mnemonic.ShortName.TheVariant
 use Rattle.c25_meaning_instructions.specs.declared.mnemonic.PlainName.{PlainName}
 use Rattle.c25_meaning_instructions.specs.declared.mnemonic.PlainName.TheVariants as plain
 
--- the first words of a row with a short number: 256 for a number of 8 bits, 8 times as many with a register
+-- how many first words a row with a short number has: 2 ^ 8, 2 ^ 9 (LDPK) or 2 ^ 13 (MPYK) numbers, and in
+-- LARK 2 ^ 8 for each of eight registers
 abbrev pub extent : ShortName → ℕ
 extent short.Lark = 2048
 extent short.Ldpk = 512
 extent short.Mpyk = 8192
 extent _ = 256
 
--- the first words of a row without a data word; NORM's changes are 16 apart, up to 7
+-- how many first words a plain row has, from its base on up to its last one; NORM's changes are 16 apart, up
+-- to 7
 abbrev pub plain_extent : PlainName → ℕ
 plain_extent plain.Spm = 4
 plain_extent plain.Fort = 2

@@ -14,8 +14,7 @@ use c25_meaning_instructions::mnemonic::{
     ShortName, Spelling,
 };
 
-/// The digit that the letter at an index of a text gives its number: the letter's code plus one, or
-/// 0 after the text's end.
+/// The letter at an index of a text as a digit: its code plus one, or 0 after the end of the text.
 macro_rules! digit {
     ($text:literal $index:literal) => {
         if $index < $text.len() { $text[$index] as u64 + 1 } else { 0 }

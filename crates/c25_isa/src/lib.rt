@@ -79,8 +79,9 @@ pub fn encode(insn: &Insn) -> Code
 
 /// The instruction at a word, whose next word is `second`; an instruction of one word leaves `second` free.
 ///
-/// `None` where no row of the table has the words: the reserved change of an auxiliary register, low bits
-/// without a next register, and words of no opcode. No memory is taken.
+/// `None` where no row of the table has the words: as with the reserved change of an auxiliary register, the
+/// number of a next register without the bit that announces it, a direct operand in a jump, a register above
+/// 7 in `LRLK`, and a word that is no opcode. No memory is taken.
 pub fn decode(first: u16, second: u16) -> Option<Insn>
     ensures found { IfSome result (Reads first second) }
     ensures all { (insn : Insn) → Reads first second insn → result ≡ Some insn }

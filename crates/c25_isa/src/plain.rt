@@ -1,5 +1,5 @@
-//! Instructions without a memory operand: one word, some with a number or a change of the auxiliary
-//! register in it.
+//! Instructions of one word without a memory operand or a short number, some with a number of one or two bits
+//! or a change of the auxiliary register.
 
 ghost use Rattle.std.specs.Prelude.{◌≡◌, ℕ, ◌+◌, ◌++◌, ◌≤◌, ◌<◌, ◌^◌, IfSome, IfNone, OnOk, string_bytes};
 ghost use Rattle.c25_isa.specs.Extent.{plain_extent};
@@ -95,7 +95,8 @@ fn name_at(first: u16) -> Option<PlainName>
     plain_rows!(name_at first)
 }
 
-/// The operand of a row whose first word is a number above the row's base.
+/// The operand of an instruction whose first word is `number` above its row's base; `None` where no
+/// instruction has that word, as for a `NORM` with other low bits or the reserved change.
 fn operand_of(name: PlainName, number: u16) -> Option<PlainOperand>
     requires { number < plain_extent name }
     ensures found { IfSome result

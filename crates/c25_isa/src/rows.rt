@@ -3,8 +3,8 @@
 //! `mem_rows!(words_of name)`.
 //!
 //! A list begins with the family's enum and the number of words that its instructions have. A row is a name,
-//! its text, and the high byte of its first word, or the first and the last such byte. The families with long
-//! numbers and without a data word have the whole first word in place of its high byte.
+//! its text, and the high byte of its first word, or the first and the last such byte. The families of
+//! `long.rt` and `plain.rt` have the whole first word in place of its high byte.
 
 /// A name's first word where every operand is 0.
 macro_rules! base_of {

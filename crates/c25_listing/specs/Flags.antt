@@ -14,7 +14,7 @@ abbrev pub flag_in : Option (List Bool) → ℕ → Bool
 flag_in None offset = false
 flag_in (Some flags) offset = flag_by (slice_get flags offset)
 
--- the flag at an offset of a section
+-- the flag at an offset of a section, by the section's number; false where there is none
 abbrev pub flag_at : List (List Bool) → ℕ → ℕ → Bool
 flag_at all section offset = flag_in (slice_get all section) offset
 

@@ -12,19 +12,19 @@ pub struct Entry<'a> {
     pub line: usize,
     /// The line's text, without its end; borrowed from the file's text where nothing was replaced in it.
     pub text: CowStr<'a>,
-    /// The number of the section that the line's words are in.
+    /// The number of the section in which the line stands.
     pub section: u16,
-    /// The offset of the first of the line's words in the section.
+    /// The offset at which the line's words begin in that section.
     pub offset: u32,
-    /// How many words the line made.
+    /// How many words the line added to that section; 0 for words that it reserved in another one.
     pub count: u32,
     ghost within: { offset + count ≤ 65536 },
 }
 
-/// A module, and the lines that made it, each with the place of its words.
+/// A module, and the expanded lines that made it, each with the place of its words.
 #[derive(Drop)]
 pub struct Listing<'a> {
     pub module: Module,
-    /// One entry for each line.
+    /// One entry for each expanded line, in order.
     pub entries: Vec<Entry<'a>>,
 }

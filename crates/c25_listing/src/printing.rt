@@ -33,7 +33,7 @@ pub(crate) fn with_flags(alloc: Global, parts: &Parts) -> Result<Marked<'_>, NoM
     Ok(Marked { parts, flags })
 }
 
-/// The word at an offset of a section.
+/// The word at an offset of a section, or 0 where there is none.
 fn word_at(parts: &Parts, section: u16, offset: u32) -> u16
     ensures { result ≡ slice_index (words_at (contents parts.now).sections section) offset }
 {
@@ -88,7 +88,7 @@ impl<'m> Marked<'m> {
         self.flags.at(section, offset as usize)
     }
 
-    /// Appends an offset and the word there.
+    /// Appends an offset, the word there, and `'` where the word has a relocation, else a blank.
     #[tactic(auto, using(crate::proofs::Columns::low_digits))]
     fn push_column(&self, line: &mut String, section: u16, offset: u32) -> Result<(), AllocError>
         ensures { OnOk result (string_bytes line.new ≡ string_bytes line.old ++ listing.word_column (contents self.now.parts.now) section offset) }

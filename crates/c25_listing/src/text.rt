@@ -11,9 +11,10 @@ use c25_meaning_common::no_memory::NoMemory;
 use std::alloc::Global;
 
 impl Listing<'_> {
-    /// The printed listing. Each expanded line has its number, the offset of its first word, the word, `'`
-    /// where the word has a relocation, and the line's text; each further word has a line with its offset and
-    /// the word.
+    /// The printed listing. Each expanded line has its number, then the offset of its first word and that
+    /// word, both in hexadecimal, with `'` where the word has a relocation, and its text. A line that made no
+    /// word has its number and its text alone; each further word has a printed line with its offset, the
+    /// word, and its `'`.
     ///
     /// `NoMemory` where memory runs out.
     pub fn text(&self, alloc: Global) -> Result<String, NoMemory>

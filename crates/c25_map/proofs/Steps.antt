@@ -3,17 +3,17 @@ use Rattle.std.proofs.Common.{◌≡◌, Bool, true, false, Option, Some, None, 
 use Rattle.std.specs.Option.{ok_or}
 use Rattle.c25_meaning_common.specs.Results.{◌>>=◌}
 
--- its test held
+-- the test of a reading that answered held
 pub tested : {A E : Type 0} (b : Bool) (r : Result A E) (e : E) (v : A) → (if b then r else Err e) ≡ Ok v → (b ≡ true) × (r ≡ Ok v)
 tested true r e v h = (refl, h)
 tested false r e v h = absurd cc
 
--- its test did not hold
+-- the test of a reading that answered did not hold
 pub untested : {A E : Type 0} (b : Bool) (r : Result A E) (e : E) (v : A) → (if b then Err e else r) ≡ Ok v → (b ≡ false) × (r ≡ Ok v)
 untested true r e v h = absurd cc
 untested false r e v h = (refl, h)
 
--- its first step answered
+-- the first step of a reading that answered has answered
 pub stepped : {A B E : Type 0} (r : Result A E) (f : A → Result B E) (v : B) → (r >>= f) ≡ Ok v → (x : A) × (r ≡ Ok x) × (f x ≡ Ok v)
 stepped (Ok x) f v h = (x, refl, h)
 stepped (Err e) f v h = absurd cc

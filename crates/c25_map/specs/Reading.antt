@@ -42,19 +42,19 @@ page_of digits = if bytes_eq digits (codes "0") then Ok 0 else (if bytes_eq digi
 
 -- ---- what a line says
 
--- a part
+-- the part that the fields of a line say
 unfoldable pub part_of : List ℕ → List ℕ → List ℕ → Result PartData MapFault
 part_of number base size =
     if is_number number then (address_of base >>= λ b. size_of size >>= λ s. Ok (record { number = number; base = b; size = s }))
     else Err BadMap
 
--- a section, without its parts
+-- the section that the fields of a line say, without its parts
 unfoldable pub place_of : List ℕ → List ℕ → List ℕ → List ℕ → Result Place MapFault
 place_of page base size name =
     if is_section_name name then (page_of page >>= λ p. word_of base >>= λ b. size_of size >>= λ s. Ok (record { name = name; page = p; base = b; size = s; run = None }))
     else Err BadMap
 
--- a value and its name
+-- the value and the name that the fields of a line say
 unfoldable pub value_of : List ℕ → List ℕ → Result NamedValue MapFault
 value_of value name =
     if is_symbol_name name then (long_of value >>= λ v. Ok (record { name = name; value = v }))

@@ -21,7 +21,7 @@ pub struct OutputSection {
     pub base: u32,
     /// How many words the section has.
     pub size: u32,
-    /// The address where the section's first word runs, if that is not where it is loaded.
+    /// The section's run address, where `run =` gives one.
     pub run: Option<u32>,
     /// The parts of the section, by modules.
     pub parts: Vec<Part>,

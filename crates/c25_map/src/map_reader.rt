@@ -77,9 +77,10 @@ fn map_of(alloc: Global, text: &str) -> Result<Map, Failure<MapFault>>
 
 /// The map whose text this is, as [`write_map`](crate::write_map) gives it; no two maps have one text.
 ///
-/// The fault is `BadMap` for each text that is not a map's: with a line out of place or of another form, with
-/// short numbers or lower-case digits, with CR LF for LF, without its last line or its last LF. No sums are
-/// checked: sections and parts may overlap, and names may come twice. It fails with `NoMemory` too.
+/// The fault is `BadMap` (77) for each text that is not a map's: with a line out of place or of another form,
+/// with short numbers or lower-case digits, with CR LF for LF, without its last line or its last LF. No sums
+/// are checked: sections and parts may overlap, and names may come twice. `NoMemory` (9) where memory runs
+/// out.
 pub fn read_map(alloc: Global, text: &str) -> Result<Map, Failure<MapFault>>
     ensures found { IfOk result (λ m. IsMapOf text.now (map_data m)) }
     ensures refused { IfErr result (λ e. IsRefused text.now e) }

@@ -51,7 +51,7 @@ fn push_place(out: &mut String, section: &OutputSection) -> Result<(), NoMemory>
     push_name(out, &section.name)
 }
 
-/// Appends the line of the address where a section runs, if that is not where it is loaded.
+/// Appends the line of a section's run address, if it has one.
 fn push_run(out: &mut String, run: Option<u32>) -> Result<(), NoMemory>
     requires { IfSome run (λ run. run < 65536) }
     ensures { OnOk result (string_bytes out.new ≡ string_bytes out.old ++ run_lines run) }
@@ -124,6 +124,7 @@ fn push_sections(out: &mut String, sections: &[OutputSection]) -> Result<(), NoM
 }
 
 /// Appends the lines of symbols, in their order: `SYMBOL`, the value in eight hexadecimal digits, the name.
+/// `NoMemory` where memory runs out.
 pub fn push_symbols(out: &mut String, symbols: &[GlobalSymbol]) -> Result<(), NoMemory>
     ensures { OnOk result (string_bytes out.new ≡ string_bytes out.old ++ flat_map symbol_text (map symbol_data symbols.now)) }
 {
@@ -143,11 +144,11 @@ fn push_entry_lines(out: &mut String, entry: &Option<GlobalSymbol>) -> Result<()
     }
 }
 
-/// The text of a map whose sections lie within their pages: a line for each section, after it one with the
-/// address where it runs, if that is not where it is loaded, and one for each of its parts, a line for each
-/// global symbol, one for the entry if there is one, between a first line `C25 MAP 1` and a last line `END`.
-/// Addresses and values are hexadecimal in upper case, sizes decimal in five digits. It fails only where
-/// memory runs out.
+/// The text of a map whose sections lie within their pages. Between a first line `C25 MAP 1` and a last line
+/// `END` it has for each section a line, one for its run address if it has one, and one for each of its
+/// parts; then a line for each global symbol, and one for the entry if there is one. Addresses and values are
+/// hexadecimal in upper case; sizes are the last five decimal digits, which are all of a size below 100,000.
+/// `NoMemory` where memory runs out.
 pub fn write_map(alloc: Global, map: &Map) -> Result<String, NoMemory>
     requires { All HasDigits (map_data map.now).sections }
     ensures { IfOk result (λ text. string_bytes text ≡ map_text (map_data map.now)) }

@@ -32,8 +32,8 @@ pub data AssemblyAct : Type 0 where
   Nothing : AssemblyAct
   -- `.text`, `.data`, `.sect`
   Enter : (section : List ℕ) → AssemblyAct
-  -- `.bss`, `.usect`; a fault of the count or the flag is kept here, since a section of the other kind is
-  -- reported before it
+  -- `.bss`, `.usect`; a fault 20 or 21 of the count or the flag is kept here, since a section of the other
+  -- kind (52) is reported before it
   Reserve : (section name : List ℕ) (room : Result Room FaultKind) → AssemblyAct
   -- `.set`, `.equ`
   Equate : (name : List ℕ) (value : Tree) → AssemblyAct
@@ -105,12 +105,12 @@ abbrev pub without : AssemblyAct → List (List Piece) → Result AssemblyAct Fa
 without act [] = Ok act
 without act (o ∷ os) = Err fault.OperandCount
 
--- there is at least one operand
+-- nothing, where there is at least one operand; else OperandCount (51)
 abbrev pub some : List (List Piece) → Result (Unit {0}) FaultKind
 some [] = Err fault.OperandCount
 some (o ∷ os) = Ok tt
 
--- all operands are written as expressions
+-- nothing, where all operands are written as expressions; else OperandForm (52)
 abbrev pub all_expressions : List (List Piece) → Result (Unit {0}) FaultKind
 all_expressions [] = Ok tt
 all_expressions (o ∷ os) = if is_expression (written_of o) then all_expressions os else Err fault.OperandForm
@@ -127,7 +127,7 @@ some_names operands = some operands >>= λ _. names_in operands
 abbrev pub stands_behind : Piece → Piece → Bool
 stands_behind p q = q.start == p.start + length p.text
 
--- the text of the tokens after this one, with nothing between any two
+-- the text of the tokens after this one, if nothing stands between any two; else OperandForm (52)
 abbrev pub joined_behind : Piece → List Piece → Result (List ℕ) FaultKind
 joined_behind p [] = Ok []
 joined_behind p (q ∷ qs) =
@@ -151,15 +151,16 @@ as_section name = if is_section_name name then Ok name else Err fault.OperandFor
 abbrev pub section_in : List Piece → Result (List ℕ) FaultKind
 section_in operand = said_in operand >>= λ name. as_section name
 
--- the tree of an operand that is written as an expression, or its fault, which is kept for later
+-- the tree of an operand that is written as an expression, or its fault 20 or 21, which is kept for later; an
+-- operand of another form is OperandForm (52) at once
 abbrev pub later_in : List Piece → Result (Result Tree FaultKind) FaultKind
 later_in operand = if is_expression (written_of operand) then Ok (expression_in operand) else Err fault.OperandForm
 
--- a reservation of a count without a flag
+-- a reservation of a count without a flag, or the fault 20 or 21 of the count
 abbrev pub alone : Result Tree FaultKind → Result Room FaultKind
 alone count = count >>= λ e. Ok (record { count = e; flag = None })
 
--- a reservation of a count and a flag: 20 of either is reported before 21
+-- a reservation of a count and a flag, or the fault of one of them: 20 of either is reported before 21
 abbrev pub flagged : Result Tree FaultKind → Result Tree FaultKind → Result Room FaultKind
 flagged (Ok e) (Ok f) = Ok (record { count = e; flag = Some f })
 flagged (Ok e) (Err k) = Err k

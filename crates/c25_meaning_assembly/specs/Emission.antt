@@ -57,7 +57,7 @@ abbrev pub is_here_by : Option Value → Bool
 is_here_by None = false
 is_here_by (Some v) = is_inside v.base
 
--- whether a name is defined in this module
+-- whether a name is defined in this module, or predefined
 abbrev pub is_here : Definitions → List ℕ → Bool
 is_here names name = is_here_by (value_named (record { entries = names; here = start_of_text }) name)
 
@@ -70,7 +70,8 @@ abbrev pub with_operand_values : Target → ℕ → ℕ → List Section → Ope
 with_operand_values t section offset sections s =
     changed (extended (words_of t s.numbers) (relocations_of t section offset s.addresses)) sections section
 
--- the sections with what one item adds; names of `.def` add nothing and must be defined here
+-- the sections with what one item adds; names of `.def` add nothing, and must be defined here, else Undefined
+-- (22)
 abbrev pub emit : Definitions → ℕ → ℕ → List Section → Content → Result (List Section) FaultKind
 emit names section offset sections (Operands t trees) =
     operand_values t (table_at names section offset) trees >>= λ s. Ok (with_operand_values t section offset sections s)

@@ -41,7 +41,7 @@ abbrev pub is_relocated : Contents → ℕ → ℕ → Bool
 is_relocated m section offset =
     nat_lt offset (length (words_at m.sections section)) && list_any (is_at section offset) m.relocations
 
--- the sign after a word: `'` if it is relocated
+-- the sign after a word: `'` if it is relocated, else a blank
 abbrev pub sign : Bool → List ℕ
 sign true = codes "'"
 sign false = codes " "

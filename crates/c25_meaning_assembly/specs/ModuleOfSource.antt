@@ -52,7 +52,7 @@ passed_by (Some f) given go_on a = Err f
 passed_by None None go_on a = Ok a
 passed_by None (Some (l, c)) go_on a = pass_line l a >>= λ b. go_on c b
 
--- the lines that expansion gives from a configuration on, at most `n`
+-- what the lines have made that expansion gives from a configuration on, at most `n` of them
 unfoldable pub passed : Files → ℕ → Config → LinesSoFar → Result LinesSoFar ExpansionFault
 passed files zero c a = Ok a
 passed files (suc n) c a =

@@ -25,7 +25,8 @@ field_of (target.Data w) k = data_field w
 abbrev pub FitsTarget : Target → List ℕ → Type 0
 FitsTarget t ns = (k : ℕ) → Holds (field_of t k) (slice_index ns k)
 
--- the index of the word, among those of its line, that has this field of the expression with index `k`
+-- the index, among the words of its line, of the word with this field of the expression with index `k`, for
+-- the fields that an address may fill
 abbrev pub word_of : Field → ℕ → ℕ
 word_of field.Low7 k = 0
 word_of field.Page9 k = 0

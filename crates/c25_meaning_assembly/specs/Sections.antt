@@ -123,12 +123,12 @@ label (Some name) p = define name (here p) p
 
 -- ---- counts that are needed now
 
--- the number, if it is not negative
+-- the number, if it is not negative; else ValueRange (25)
 abbrev pub count_by : ℤ → Result ℕ FaultKind
 count_by (pos n) = Ok n
 count_by (negsuc n) = Err fault.ValueRange
 
--- the count that a value gives: absolute and not negative
+-- the count that a value gives, which must be absolute (23) and not negative (25)
 abbrev pub count_of : Value → Result ℕ FaultKind
 count_of v = number_by v.base v.offset >>= λ z. count_by z
 
@@ -136,11 +136,11 @@ count_of v = number_by v.base v.offset >>= λ z. count_by z
 unfoldable pub count_in : Table → Tree → Result ℕ FaultKind
 count_in t e = valued t e >>= λ v. count_of v
 
--- whether a flag is set: its value is absolute and not 0
+-- whether a flag is set: its value, which must be absolute (23), is not 0
 abbrev pub flag_of : Value → Result Bool FaultKind
 flag_of v = number_by v.base v.offset >>= λ z. Ok (not (int_eq z (pos 0)))
 
--- whether the flag that an expression gives is set; a flag that is not written is not
+-- whether the flag that an expression gives is set; false where no flag is written
 abbrev pub flag_in : Table → Option Tree → Result Bool FaultKind
 flag_in t None = Ok false
 flag_in t (Some e) = valued t e >>= λ v. flag_of v
@@ -157,7 +157,8 @@ same_kind initialised None = true
 same_kind true (Some s) = s.initialised
 same_kind false (Some s) = not s.initialised
 
--- a section of this name, if there is one, is of this kind, initialised or not
+-- nothing, where a section of this name, if there is one, is of this kind, initialised or not; else
+-- OperandForm (52)
 abbrev pub of_kind : List ℕ → Bool → Progress → Result (Unit {0}) FaultKind
 of_kind name initialised p =
     if same_kind initialised (find (is_called name) p.sections) then Ok tt else Err fault.OperandForm
@@ -265,7 +266,7 @@ block true section offset n p =
     record p { sections = changed (with_block (record { section = section; offset = offset; size = n })) p.sections section }
 block false section offset n p = p
 
--- a block has 1 to 128 words, else BadBlock
+-- nothing, where a block has 1 to 128 words or the flag is not set; else BadBlock (56)
 abbrev pub block_allowed : Bool → ℕ → Result (Unit {0}) FaultKind
 block_allowed flag n = if flag && not (nat_le 1 n && nat_le n 128) then Err fault.BadBlock else Ok tt
 
@@ -379,7 +380,7 @@ imports names declared = filter (λ name. not (stands names name)) declared
 abbrev pub name_count : Definitions → List (List ℕ) → ℕ
 name_count names declared = length names + length (imports names declared)
 
--- a module has at most 65,535 names
+-- nothing, where a module has at most 65,535 names; else TooLarge (54)
 abbrev pub few : Progress → Result (Unit {0}) FaultKind
 few p = if nat_lt 65535 (name_count p.names p.declared) then Err fault.TooLarge else Ok tt
 

@@ -32,7 +32,7 @@ value_in base word = fold (λ v b. v * base + digit b) 0 word
 unfoldable pub decimal_of : ℕ → List ℕ → Option ℕ
 decimal_of most word = if are_digits 10 word && nat_le (value_in 10 word) most then Some (value_in 10 word) else None
 
--- the value of a hexadecimal number of `least` to four digits
+-- the value of a hexadecimal number that has one to four digits, and no fewer than `least`
 unfoldable pub hexadecimal_of : ℕ → List ℕ → Option ℕ
 hexadecimal_of least word = if are_digits 16 word && nat_le least (length word) && nat_le (length word) 4 then Some (value_in 16 word) else None
 

@@ -12,7 +12,7 @@ use thiserror::Error;
 #[derive(PartialEq, Debug, Drop, Error)]
 #[error_bound(F: fmt::Display)]
 pub enum Failure<F> {
-    /// The allocator refused to give more memory (9).
+    /// The allocator refused to give more memory (fault 9).
     #[error(transparent)]
     NoMemory(NoMemory),
     /// The call's input is faulty.

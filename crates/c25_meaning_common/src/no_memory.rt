@@ -3,10 +3,10 @@
 use std::alloc::{AllocError, AllocFailed};
 use thiserror::Error;
 
-/// Out of memory: the allocator refused to give more (9). Every call of the workspace that allocates may fail
-/// so. A value of this type is made from std's own errors and from nothing else, so it shows that std
-/// reported one. std also reports one with ample memory left, where a call asks for more than there can be,
-/// or where a `Display` that is written into a `String` fails.
+/// Out of memory: the allocator refused to give more (fault 9). Every call of the workspace that allocates
+/// may fail so. A value of this type is made from std's own errors and from nothing else, so it shows that
+/// std reported one. std also reports one with ample memory left, where a call asks for more than there can
+/// be, or where a `Display` that is written into a `String` fails.
 #[derive(Clone, Copy, PartialEq, Debug, Error)]
 #[error("{}", self.name())]
 pub struct NoMemory {

@@ -59,7 +59,7 @@ pub record Dictionary : Type 0 where
 pub record Config : Type 0 where
   pub lines : List LineOrEnd
   pub frame : SourceFrame
-  -- the files, expansions and turns round that one, the innermost first
+  -- the files, expansions and turns round that of `frame`, the innermost first
   pub outer : List SourceFrame
   pub mode : Mode
   pub names : Dictionary
@@ -110,8 +110,8 @@ without_ended Expanded names = record names { expansions = drop 1 names.expansio
 without_ended Copied names = names
 without_ended (Turn body more) names = names
 
--- the configuration after the innermost file, expansion or turn that passes the test, with all that is open
--- inside it, has been left and its lines dropped, if one passes
+-- the configuration once the innermost file, expansion or turn that passes the test is left, with all that is
+-- open inside it: the lines of all these are dropped; nothing where none passes
 abbrev pub left_through : (Kind → Bool) → List LineOrEnd → SourceFrame → List SourceFrame → Dictionary → Config → Option Config
 left_through test lines frame [] names c = None
 left_through test lines frame (f ∷ fs) names c =
@@ -119,13 +119,13 @@ left_through test lines frame (f ∷ fs) names c =
     then Some (record c { lines = after_close lines; frame = f; outer = fs; names = without_ended frame.kind names })
     else left_through test (after_close lines) f fs (without_ended frame.kind names) c
 
--- whether it is an expansion
+-- whether this kind is an expansion
 abbrev pub is_expansion : Kind → Bool
 is_expansion Expanded = true
 is_expansion Copied = false
 is_expansion (Turn body more) = false
 
--- whether it is a turn of a loop
+-- whether this kind is a turn of a loop
 abbrev pub is_turn : Kind → Bool
 is_turn (Turn body more) = true
 is_turn Expanded = false

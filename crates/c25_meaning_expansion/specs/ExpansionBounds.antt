@@ -44,12 +44,14 @@ abbrev pub nesting : List Branch → ℕ
 nesting [] = 0
 nesting (b ∷ bs) = max b.nested (nesting bs)
 
--- the largest such number in these files, expansions and turns
+-- the largest number of `.if`s that are open inside the skipped lines of one `.if`, in these files,
+-- expansions and turns
 abbrev pub deepest : List SourceFrame → ℕ
 deepest [] = 0
 deepest (f ∷ fs) = max (nesting f.branches) (deepest fs)
 
--- the largest such number in all files, expansions and turns that are open
+-- the largest number of `.if`s that are open inside the skipped lines of one `.if`, in all files, expansions
+-- and turns that are open
 abbrev pub skipping : Config → ℕ
 skipping c = deepest (c.frame ∷ c.outer)
 

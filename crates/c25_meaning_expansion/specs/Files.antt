@@ -11,6 +11,6 @@ Files = List (List ℕ × List ℕ)
 abbrev pub text_named : Files → List ℕ → Option (List ℕ)
 text_named files name = lookup (bytes_eq name) files
 
--- the name of the file of this number, counted from 0
+-- the name of the file of this number, counted from 0; empty where there is no such file
 abbrev pub file_name : Files → ℕ → List ℕ
 file_name files number = elim (slice_get files number) [ None ↦ [] | Some file ↦ file.0 ]

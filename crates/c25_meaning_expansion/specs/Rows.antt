@@ -29,6 +29,7 @@ is_empty (x ∷ xs) = false
 abbrev pub last_place : FileLine ℕ → List Row → FileLine ℕ
 last_place place rows = elim (slice_get rows (length rows - 1)) [ None ↦ place | Some row ↦ row.place ]
 
--- the number of the file of this name, counted from 0 in the order in which files were added
+-- the number of the file of this name, counted from 0 in the order in which files were added; the number of
+-- files where there is no such file
 abbrev pub file_number : Files → List ℕ → ℕ
 file_number files name = position_or_len (λ file. bytes_eq name file.0) files

@@ -12,7 +12,7 @@ use Rattle.c25_meaning_instructions.proofs.Keys.{found_by, one_by}
 pub operand_byte_below : (addr : Addr) → AddrInRange addr → operand_byte addr < 256
 operand_byte_below addr h = grind (arith, common_steps)
 
--- the same of an indirect one
+-- the byte of an indirect operand in range is below 256
 pub indirect_byte_below : (c : Change) (next : Option ℕ) → NextInRange next → indirect_byte c next < 256
 indirect_byte_below c next h = operand_byte_below (Indirect c next) h
 

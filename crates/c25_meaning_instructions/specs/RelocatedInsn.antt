@@ -23,7 +23,8 @@ HasField Word16 (insn.LongMem name word addr) = word ≡ 0
 HasField Word16 (insn.Jump name word change next) = word ≡ 0
 HasField _ _ = ⊥
 
--- an instruction with a number in its field of this kind; one without such a field stays as it is
+-- an instruction with a number in its field of this kind; used only where the instruction has the field
+-- (`HasField`)
 abbrev pub with_field : RelocationKind → ℕ → Insn → Insn
 with_field Low7 n (insn.Mem name addr) = insn.Mem name (Direct n)
 with_field Low7 n (insn.Shifted name addr shift) = insn.Shifted name (Direct n) shift

@@ -34,12 +34,12 @@ abbrev pub place_text : Addr → List ℕ
 place_text (Direct low) = codes "0" ++ two_digits low ++ codes "h"
 place_text (Indirect change next) = change_text change
 
--- the text of a next register, after a comma; none where no next register is given
+-- the text of a next register, after a comma; empty where no next register is given
 abbrev pub next_text : Option ℕ → List ℕ
 next_text None = []
 next_text (Some next) = codes ",AR" ++ decimal next
 
--- the next register of an operand in memory; a direct operand has none
+-- the text of the next register of an operand in memory; empty for a direct operand
 abbrev pub tail_text : Addr → List ℕ
 tail_text (Direct low) = []
 tail_text (Indirect change next) = next_text next

@@ -70,7 +70,7 @@ abbrev pub jump_names : List JumpName
 jump_names = jump.Bc ∷ jump.Bnc ∷ jump.Bv ∷ jump.Bgz ∷ jump.Blez ∷ jump.Blz ∷ jump.Bgez ∷ jump.Bnz ∷ jump.Bz ∷
     jump.Bnv ∷ jump.Bbz ∷ jump.Bbnz ∷ jump.Bioz ∷ jump.Banz ∷ jump.Call ∷ jump.B ∷ []
 
--- the instructions with neither a data word nor a second word
+-- the instructions of one word that have neither a data word nor a number of 8 bits or more
 abbrev pub plain_names : List PlainName
 plain_names = plain.Eint ∷ plain.Dint ∷ plain.Rovm ∷ plain.Sovm ∷ plain.Cnfd ∷ plain.Cnfp ∷ plain.Rsxm ∷
     plain.Ssxm ∷ plain.Rxf ∷ plain.Sxf ∷ plain.Pac ∷ plain.Apac ∷ plain.Spac ∷ plain.Sfl ∷ plain.Sfr ∷

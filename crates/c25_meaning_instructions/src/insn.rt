@@ -33,7 +33,7 @@ pub enum Addr {
     Indirect(Change, Option<u16>),
 }
 
-/// The operand of an instruction without a data word.
+/// The operand of an instruction of the family `Plain`.
 #[derive(Clone, Copy)]
 pub enum PlainOperand {
     Nothing,
@@ -67,7 +67,7 @@ pub enum Insn {
     LongMem(LongMemName, u16, Addr),
     /// An address, and a change of the current auxiliary register with the next one: `B 00300h,*`.
     Jump(JumpName, u16, Change, Option<u16>),
-    /// No data word: `RET`, `SPM 3`, `NORM *+`.
+    /// One word, without a data word or a short number: `RET`, `SPM 3`, `NORM *+`.
     Plain(PlainName, PlainOperand),
 }
 

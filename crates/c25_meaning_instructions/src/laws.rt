@@ -14,8 +14,9 @@ pub fn words_have_one_reading()
     ensures { (first second : ℕ) (i j : Insn) → Reads first second i → Reads first second j → i ≡ j }
 {}
 
-/// The number that linking puts into a field fits the field, whatever value it is of. After it was put there
-/// it is read there, all other bits stay, and where the field was 0 the number was added to the word.
+/// The number that linking makes of any value for a field fits the field. Once it has been put there it is
+/// read back, and all other bits are as they were; where the field was 0, putting the number is adding it to
+/// the word.
 pub fn fields_keep_their_number()
     ensures fits { (kind : RelocationKind) (value : ℤ) → field_number kind value < field_values kind }
     ensures read { (kind : RelocationKind) (number word : ℕ) → number < field_values kind → read_field kind (filled kind number word) ≡ number }

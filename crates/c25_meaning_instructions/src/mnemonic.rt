@@ -134,7 +134,9 @@ pub enum JumpName {
     B,
 }
 
-/// The instructions without a data word.
+/// The instructions of one word that have neither a data word nor a number of 8 bits or more: most have no
+/// operand, `SPM`, `FORT` and `CMPR` a number of one or two bits, `NORM` a change of the current auxiliary
+/// register.
 #[derive(Clone, Copy, PartialEq, Debug)]
 pub enum PlainName {
     Eint,

@@ -33,7 +33,7 @@ abbrev pub is_expression : Written → Bool
 is_expression written.Expression = true
 is_expression _ = false
 
--- there are from low to high operands
+-- nothing, where there are from low to high operands; else OperandCount (51)
 abbrev pub counted : ℕ → ℕ → List Written → Result (Unit {0}) FaultKind
 counted low high ws = if nat_lt (length ws) low || nat_lt high (length ws) then Err fault.OperandCount else Ok tt
 
@@ -54,7 +54,7 @@ addr_written (Some written.Expression) = Ok addr.Direct
 addr_written (Some (written.Indirect change)) = Ok (addr.Indirect change)
 addr_written _ = Err fault.OperandForm
 
--- the form, if the other operands fit it
+-- the form, if the other operands fit it; else OperandForm (52)
 abbrev pub formed : {A : Type 0} → Bool → A → Result A FaultKind
 formed true x = Ok x
 formed false x = Err fault.OperandForm
@@ -65,7 +65,7 @@ unfoldable pub memory : ℕ → ℕ → ℕ → List Written → Result AddrForm
 memory at low high ws =
     counted low (high + more_behind (slice_get ws at)) ws >>= λ _. addr_written (slice_get ws at) >>= λ a. formed (others at ws) a
 
--- there are from low to high operands, all of them expressions
+-- nothing, where there are from low to high operands, all of them expressions; else 51, then 52
 unfoldable pub expressions : ℕ → ℕ → List Written → Result (Unit {0}) FaultKind
 expressions low high ws = counted low high ws >>= λ _. formed (list_all is_expression ws) tt
 

@@ -5,7 +5,7 @@ use Rattle.std.specs.Prelude.{ℕ, ◌+◌, Bool, true, false, ◌||◌, ◌==�
 use Rattle.c25_meaning_language.specs.declared.quoting.Quoting.{Quoting}
 use Rattle.c25_meaning_language.specs.declared.quoting.Quoting.TheVariants.{Outside, Within, Throughout, Comment}
 
--- where the byte after this one stands: 34 and 39 are the quotes, 59 is `;`
+-- where the byte after `b` stands, if `b` stands here: 34 and 39 are the quotes, 59 is `;`
 abbrev pub behind : ℕ → Quoting → Quoting
 behind b Outside = if b == 34 || b == 39 then Within b else (if b == 59 then Comment else Outside)
 behind b (Within quote) = if b == quote then Outside else Within quote
@@ -22,7 +22,8 @@ unfoldable pub outer_len : ℕ → Quoting → List ℕ → ℕ
 outer_len sought quoting [] = 0
 outer_len sought quoting (b ∷ rest) = if is_outer sought b quoting then 0 else 1 + outer_len sought (behind b quoting) rest
 
--- a place further on, if there is one; else this place, 0, if it is one
+-- the place of the last one sought in a text: a place further on, if there is one, or else 0, if the byte at
+-- the front is one
 abbrev pub or_before : Option ℕ → Bool → Option ℕ
 or_before (Some n) here = Some n
 or_before None true = Some 0

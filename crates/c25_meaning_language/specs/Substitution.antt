@@ -21,7 +21,7 @@ pub record Draft : Type 0 where
 abbrev pub as_is : List ℕ → Draft
 as_is text = record { text = text; replacements = 0 }
 
--- the first with the second after it
+-- the first draft with the second after it
 abbrev pub joined : Draft → Draft → Draft
 joined a b = record { text = a.text ++ b.text; replacements = a.replacements + b.replacements }
 

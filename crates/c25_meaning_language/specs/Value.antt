@@ -58,7 +58,8 @@ number_of binary.ExclusiveOr x y = Ok (int_bit_xor w32 x y)
 number_of binary.Or x y = Ok (int_bit_or w32 x y)
 
 -- the base of a result: absolute where both values are; an address where a number is added to an address or
--- taken from one; absolute for the difference of two addresses of one section
+-- taken from one; absolute for the difference of two addresses of one section, both where it runs or both
+-- where it is loaded
 abbrev pub base_of : BinaryOperator → Base → Base → Result Base ValueFault
 base_of op Absolute Absolute = Ok Absolute
 base_of binary.Add b Absolute = Ok b

@@ -10,9 +10,9 @@ pub enum LineFault {
     BadLabel,
     /// A run of letters and digits that begins with a digit is not a constant (11).
     BadConstant,
-    /// A quote is not closed, or single quotes do not hold exactly one character (12).
+    /// A quote is not closed, or single quotes do not hold exactly one character of 20h to 7Eh or a tab (12).
     OpenQuote,
-    /// A character that is part of no token (13).
+    /// A character that is part of no token, or that may not stand in a mnemonic field or a string (13).
     StrayText,
 }
 

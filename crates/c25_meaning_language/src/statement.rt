@@ -62,9 +62,10 @@ pub enum FaultKind {
     BadLabel,
     /// A constant with a digit that its base does not have (11).
     BadConstant,
-    /// A quote that is not closed, or single quotes that do not hold exactly one character (12).
+    /// A quote that is not closed, or single quotes that do not hold exactly one character of 20h to 7Eh or a
+    /// tab (12).
     OpenQuote,
-    /// A character that is part of no token (13).
+    /// A character that is part of no token, or that may not stand in a mnemonic field or a string (13).
     StrayText,
     /// An operand that is not an expression (20).
     BadExpression,
@@ -84,12 +85,12 @@ pub enum FaultKind {
     NoFile,
     /// A block that is not closed in the file or body where it began (31).
     OpenBlock,
-    /// A directive that ends, goes on with or leaves a block that is not open, or that goes on after `.else`
-    /// (32).
+    /// A directive that ends, goes on with or leaves a block that is not open; or an `.elseif` or `.else`
+    /// after the `.else` of its `.if` (32).
     StrayEnd,
     /// A 33rd open expansion, copied file, loop or `.if` (33).
     Depth,
-    /// A 200,001st line (34).
+    /// A 200,001st line that is read (34).
     Lines,
     /// A macro of more than 32 parameters (35).
     TooManyParameters,

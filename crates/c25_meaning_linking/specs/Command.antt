@@ -15,8 +15,8 @@ pub data TargetData : Type 0 where
   InRange : List ℕ → TargetData
   At : ℕ → TargetData
 
--- what SECTIONS says of one section; a page only where it names one, and a run address only where the section
--- runs elsewhere than it is loaded
+-- what SECTIONS says of one section; a page only where `PAGE` names one, and a run address only where `run =`
+-- gives one
 pub record PlacingData : Type 0 where
   pub name : List ℕ
   pub target : TargetData
@@ -52,7 +52,7 @@ pub record AreApart (r s : RangeData) : Type 0 where
 abbrev pub AreOthers : PlacingData → PlacingData → Type 0
 AreOthers p q = ¬ (p.name ≡ q.name)
 
--- this holds of each item of a list with each later item
+-- a relation holds of each item of a list with each later item
 abbrev pub Pairwise : {A : Type 0} → (A → A → Type 0) → List A → Type 0
 Pairwise holds [] = Unit {0}
 Pairwise holds (x ∷ xs) = All (holds x) xs × Pairwise holds xs

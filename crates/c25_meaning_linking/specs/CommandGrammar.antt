@@ -75,7 +75,7 @@ unfoldable pub wanted : Want → List Token → Reading Token
 wanted w [] = Err (fault_at Syntax [])
 wanted w (t ∷ ts) = if passes w t.kind then Ok (t, ts) else Err (fault_at Syntax (t ∷ ts))
 
--- the tokens after this one, which may be left out
+-- the tokens without the first one, if that is what is wanted; else all of them
 abbrev pub past : Want → List Token → List Token
 past w ts = if begins w ts then drop 1 ts else ts
 

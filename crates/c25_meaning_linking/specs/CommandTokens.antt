@@ -131,6 +131,6 @@ scan zero at (b ∷ rest) = before (lexeme (b ∷ rest)) at (b ∷ rest) (scan (
 abbrev pub tokens : List ℕ → List Token
 tokens text = scan 0 0 text
 
--- the line of a place, counted from 1; the end of the text is on its last line
+-- the line of a place, counted from 1; the end of the text is on its last line, which is 0 in an empty text
 abbrev pub line_at : List ℕ → ℕ → ℕ
 line_at text place = min (count_by (λ b. b == 10) (take place text) + 1) (length (lines text))

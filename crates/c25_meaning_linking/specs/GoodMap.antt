@@ -15,7 +15,7 @@ use Rattle.c25_meaning_common.specs.declared.placed.Placed.{Placed}
 -- ---- the sections to be placed, in the order of placement
 
 -- a section that is to be placed: its size, whether it is initialised, what SECTIONS says of its place, its
--- blocks, and the address where it runs, if it runs elsewhere than it is loaded
+-- blocks, and its run address, if SECTIONS gives one
 pub record Request : Type 0 where
   pub name : List ℕ
   pub size : ℕ
@@ -100,8 +100,8 @@ placings_for c = unwrap_or c.sections []
 abbrev pub is_named_on : List ℕ → ℕ → RangeData → Bool
 is_named_on name page r = r.page == page && bytes_eq name r.name
 
--- the page of a section where SECTIONS names none: that of the range of the target; 0 for an address; else 0
--- if it is initialised and 1 if not
+-- the page of a section where SECTIONS names none: for the name of a range, 0 if a range of page 0 has that
+-- name, else 1; for an address 0; without a target 0 if the section is initialised and 1 if not
 abbrev pub default_page : List RangeData → TargetData → Bool → ℕ
 default_page ranges Anywhere initialised = if initialised then 0 else 1
 default_page ranges (InRange name) initialised = if list_any (is_named_on name 0) ranges then 0 else 1
@@ -111,7 +111,7 @@ default_page ranges (At address) initialised = 0
 abbrev pub page_for : List RangeData → Request → ℕ
 page_for ranges r = unwrap_or r.page (default_page ranges r.target r.initialised)
 
--- whether a range is one for this target: the named one, or else any on the page
+-- whether a range is one for this target: the one of the target's name on the page, or else any on the page
 abbrev pub is_usable : TargetData → ℕ → RangeData → Bool
 is_usable (InRange name) page r = is_named_on name page r
 is_usable _ page r = r.page == page
@@ -208,20 +208,20 @@ IsBaseOf ranges places r answer = IsBase r.target (page_for ranges r) r.size r.b
 
 -- ---- where a section runs
 
--- whether this section runs elsewhere than it is loaded, and this word is one where it runs
+-- whether a section has a run address, and this word is one where it runs
 abbrev pub runs_at : ℕ → Place → Bool
 runs_at word p = option_map_or (λ run. nat_le run word && nat_lt word (run + p.size)) p.run false
 
--- whether one of these sections runs elsewhere than it is loaded, and this word is one where it runs
+-- whether one of these sections has a run address, and this word is one where it runs
 abbrev pub is_run_at : List Place → ℕ → Bool
 is_run_at places word = list_any (runs_at word) places
 
--- none of these sections runs at one of `size` words from `run` on
+-- none of these sections has a run address and runs at one of `size` words from `run` on
 abbrev pub IsRunFree : ℕ → ℕ → List Place → Type 0
 IsRunFree run size places = (word : ℕ) → Covers run size word → is_run_at places word ≡ false
 
 -- a section may run at an address: it is initialised, is loaded on page 0, and runs at words of block B0,
--- seen at FF00h to FFFFh, at which no section placed before it runs
+-- seen at FF00h to FFFFh, at which no section with a run address that was placed before it runs
 pub record RunsAt (ranges : List RangeData) (places : List Place) (r : Request) (run : ℕ) : Type 0 where
   pub from : 0xFF00 ≤ run
   pub below : run ≤ 0xFFFF

@@ -33,7 +33,7 @@ pub record MapData : Type 0 where
   pub symbols : List NamedValue
   pub entry : Option NamedValue
 
--- ---- their text
+-- ---- the text of maps
 
 -- a line of the map, which ends in LF
 abbrev pub map_line : List ℕ → List ℕ
@@ -43,11 +43,11 @@ map_line text = text ++ 10 ∷ []
 abbrev pub address_text : ℕ → List ℕ
 address_text address = if address == 65536 then codes "10000" else four_digits address
 
--- the last decimal digit of a number
+-- the character of the last decimal digit of a number
 abbrev pub decimal_digit : ℕ → ℕ
 decimal_digit n = 48 + n % 10
 
--- a number in five decimal digits
+-- the last five decimal digits of a number: all of one below 100,000
 abbrev pub five_digits : ℕ → List ℕ
 five_digits n = decimal_digit (n / 10000) ∷ decimal_digit (n / 1000) ∷ decimal_digit (n / 100) ∷ decimal_digit (n / 10) ∷ decimal_digit n ∷ []
 
@@ -63,7 +63,7 @@ part_text p = map_line (codes "PART " ++ p.number ++ codes " " ++ address_text p
 unfoldable pub place_text : Place → List ℕ
 place_text p = map_line (codes "SECTION " ++ decimal p.page ++ codes " " ++ four_digits p.base ++ codes " " ++ five_digits p.size ++ codes " " ++ p.name)
 
--- the line of the address where a section runs, if it runs elsewhere than it is loaded
+-- the line of a section's run address, if it has one
 abbrev pub run_lines : Option ℕ → List ℕ
 run_lines None = []
 run_lines (Some run) = map_line (codes "RUN " ++ four_digits run)

@@ -7,8 +7,8 @@ use Rattle.std.specs.Str.{bytes_eq}
 use Rattle.c25_meaning_objects.specs.Module.{SectionData, Contents, body_size, has_words}
 use Rattle.c25_meaning_objects.specs.declared.object.Block.{Block}
 
--- a section of the program: its page, the address of its first word, how many words it has, and where it
--- runs, if it runs elsewhere than it is loaded
+-- a section of the program: its page, the address of its first word, how many words it has, and its run
+-- address, if SECTIONS gives one
 pub record Place : Type 0 where
   pub name : List ℕ
   pub page : ℕ
@@ -16,7 +16,7 @@ pub record Place : Type 0 where
   pub size : ℕ
   pub run : Option ℕ
 
--- the address where the first word of a section runs
+-- the address where the first word of a section runs: its run address, or else where it is loaded
 abbrev pub run_base : Place → ℕ
 run_base p = unwrap_or p.run p.base
 
@@ -78,19 +78,19 @@ blocks_of name modules = by_modules (part_blocks modules name) 0 modules
 abbrev pub place_named : List ℕ → List Place → Option Place
 place_named name places = find (λ p. bytes_eq name p.name) places
 
--- the address where a section is loaded
+-- the address where a section is loaded; 0 where there is no such section
 abbrev pub base_of : List ℕ → List Place → ℕ
 base_of name places = option_map_or (λ p. p.base) (place_named name places) 0
 
--- the address where a section runs
+-- the address where a section runs; 0 where there is no such section
 abbrev pub run_base_of : List ℕ → List Place → ℕ
 run_base_of name places = option_map_or run_base (place_named name places) 0
 
--- whether a section runs where the command file says, and not where it is loaded
+-- whether a section has a run address; it is then taken to run elsewhere than it is loaded
 abbrev pub runs_elsewhere : List ℕ → List Place → Bool
 runs_elsewhere name places = option_map_or (λ p. is_some p.run) (place_named name places) false
 
--- the page of a section
+-- the page of a section; 0 where there is no such section
 abbrev pub page_of : List ℕ → List Place → ℕ
 page_of name places = option_map_or (λ p. p.page) (place_named name places) 0
 
@@ -108,7 +108,7 @@ pub record Covers (base size word : ℕ) : Type 0 where
   pub from : base ≤ word
   pub upto : word < base + size
 
--- the module of this number is this one, and its section of this index is this one
+-- the module of this number is `owner`, and its section of this index is `section`
 pub record IsPart (modules : List Contents) (number index : ℕ) (owner : Contents) (section : SectionData) : Type 0 where
   pub owner_is : slice_get modules number ≡ Some owner
   pub section_is : slice_get owner.sections index ≡ Some section

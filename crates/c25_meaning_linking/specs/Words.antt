@@ -20,11 +20,11 @@ use Rattle.c25_meaning_objects.specs.declared.object.Relocation.{Relocation}
 
 -- ---- names
 
--- the name of a module's section, by its number
+-- the name of a module's section, by its number; empty where there is no such section
 abbrev pub section_name : Contents → ℕ → List ℕ
 section_name m index = option_map_or (λ s. s.name) (slice_get m.sections index) []
 
--- the name of a module's symbol, by its number
+-- the name of a module's symbol, by its number; empty where there is no such symbol
 abbrev pub symbol_name : Contents → ℕ → List ℕ
 symbol_name m index = option_map_or (λ y. y.name) (slice_get m.symbols index) []
 
@@ -40,7 +40,7 @@ section_base modules places number m index = option_map_or (λ s. part_base modu
 abbrev pub section_run : List Contents → List Place → ℕ → Contents → ℕ → ℕ
 section_run modules places number m index = option_map_or (λ s. part_run modules places number s.name) (slice_get m.sections index) 0
 
--- whether a module's section runs elsewhere than it is loaded, by the section's number
+-- whether a module's section has a run address, by the section's number
 abbrev pub section_runs_elsewhere : List Place → Contents → ℕ → Bool
 section_runs_elsewhere places m index = option_map_or (λ s. runs_elsewhere s.name places) (slice_get m.sections index) false
 
@@ -82,7 +82,7 @@ abbrev pub definition_of : List ℕ → List Definition → Option Definition
 definition_of name ds = find (λ d. bytes_eq name d.symbol.name) ds
 
 -- the value of a symbol of a module: a number, or an offset plus the address where its section's part runs or
--- is loaded
+-- is loaded; 0 for an external symbol
 abbrev pub kind_value : List Contents → List Place → ℕ → Contents → SymbolKind → ℤ → ℤ
 kind_value modules places number m kind.Absolute z = z
 kind_value modules places number m (kind.InSection index) z = pos (section_run modules places number m index) +ℤ z
@@ -151,11 +151,11 @@ placed_mark modules places number m mark = record { address = section_base modul
 abbrev pub is_on_program : List Place → Contents → ModuleMark → Bool
 is_on_program places m mark = section_page places m mark.section == 0
 
--- whether an instruction is loaded on page 0 and runs elsewhere
+-- whether an instruction is loaded on page 0, in a section with a run address
 abbrev pub is_copied : List Place → Contents → ModuleMark → Bool
 is_copied places m mark = is_on_program places m mark && section_runs_elsewhere places m mark.section
 
--- whether an instruction is loaded on page 0 and runs there
+-- whether an instruction is loaded on page 0, in a section without a run address, and so runs there
 abbrev pub is_run_in_place : List Place → Contents → ModuleMark → Bool
 is_run_in_place places m mark = is_on_program places m mark && not (section_runs_elsewhere places m mark.section)
 
@@ -171,7 +171,7 @@ placed_run_mark modules places number m mark = record {
   size = mark.size;
 }
 
--- the run marks of a module's instructions on page 0
+-- the run marks of a module's instructions on page 0 that run elsewhere than they are loaded
 abbrev pub module_run_marks : List Contents → List Place → ℕ → Contents → List RunMark
 module_run_marks modules places number m = map (placed_run_mark modules places number m) (filter (is_copied places m) m.marks)
 
@@ -191,7 +191,7 @@ pub record LineData : Type 0 where
   pub file : List ℕ
   pub line : ℕ
 
--- the name of a module's file, by its number
+-- the name of a module's file, by its number; empty where there is no such file
 abbrev pub file_name : Contents → ℕ → List ℕ
 file_name m index = unwrap_or (slice_get m.files index) []
 

@@ -173,7 +173,7 @@ is_external (Some y) = is_external_kind y.kind where
   is_external_kind (Loaded number) = false
   is_external_kind External = true
 
--- whether it is version 2
+-- whether a version is version 2
 abbrev pub is_two : Version → Bool
 is_two One = false
 is_two Two = true
@@ -219,7 +219,8 @@ used_with count l = if nat_lt l.file count then count else l.file + 1
 abbrev pub used : List LineMark → ℕ
 used lines = fold used_with 0 lines
 
--- whether a line may follow these: there is a mark for it, and its file has been used or is the next one
+-- whether a line may follow these: there is a mark for it, its file has been used or is the next one, and its
+-- number is at least 1
 abbrev pub line_fits : List ModuleMark → List (List ℕ) → List LineMark → LineMark → Bool
 line_fits marks files before l =
     nat_lt (length before) (length marks) && nat_lt l.file (length files) && nat_le l.file (used before) && nat_le 1 l.line

@@ -77,7 +77,7 @@ base_code (base.Section number) = 0
 base_code (base.External number) = 1
 base_code (base.Loaded number) = 2
 
--- the number of the section or symbol that a base is
+-- the number of the section or symbol that a base counts from
 abbrev pub base_index : RelocationBase → ℕ
 base_index (base.Section number) = number
 base_index (base.External number) = number

@@ -91,9 +91,10 @@ pub enum ObjectFault {
     BadVersion,
     /// The bytes end before the last record does (42).
     Short,
-    /// A record's tag is unknown, or may not follow the records before it (43).
+    /// A record's tag is unknown in this version, or less than that of a record before it (43).
     BadTag,
-    /// A record's payload does not have the form of its tag, or does not fit the records before it (44).
+    /// A record's payload does not have the form of its tag, or the record may not follow those before it
+    /// (44).
     BadField,
     /// Bytes follow the last record (45).
     Trailing,

@@ -79,12 +79,12 @@ opened : {A : Type 0} (fits : List A → A → Bool) (xs : List A) (i : ℕ) (d 
 opened {A} fits xs i d b lt here =
     at_drop_more (λ (r : List A). each_fits fits (take i xs) r) xs i d lt ∙ ap (λ (t : Bool). t && each_fits fits (take i xs ++ get_or xs i d ∷ []) (drop (i + 1) xs)) here
 
--- it fits
+-- the item at a place fits
 pub fits_more : {A : Type 0} (fits : List A → A → Bool) (xs : List A) (i : ℕ) (d : A) → i < length xs → each_fits fits (take i xs) (drop i xs) ≡ each_fits fits [] xs → fits (take i xs) (get_or xs i d) ≡ true
     → each_fits fits (take (i + 1) xs) (drop (i + 1) xs) ≡ each_fits fits [] xs
 fits_more {A} fits xs i d lt so here = ap (λ (before : List A). each_fits fits before (drop (i + 1) xs)) (take_more xs i d lt) ∙ sym (opened fits xs i d true lt here) ∙ so
 
--- or does not
+-- the item at a place does not fit
 pub fits_not : {A : Type 0} (fits : List A → A → Bool) (xs : List A) (i : ℕ) (d : A) → i < length xs → each_fits fits (take i xs) (drop i xs) ≡ each_fits fits [] xs → fits (take i xs) (get_or xs i d) ≡ false
     → false ≡ each_fits fits [] xs
 fits_not fits xs i d lt so here = sym (opened fits xs i d false lt here) ∙ so

@@ -13,19 +13,19 @@ abbrev pub body_data : Body → SectionBody
 body_data (body.Uninitialised size) = Uninitialised size
 body_data (body.Initialised words) = Initialised words.items
 
--- a section
+-- a section, as the definitions have it
 abbrev pub section_data : Section → SectionData
 section_data s = record { name = string_bytes s.name; body = body_data s.body }
 
--- a symbol
+-- a symbol, as the definitions have it
 abbrev pub symbol_data : Symbol → SymbolData
 symbol_data y = record { kind = y.kind; scope = y.scope; value = y.value; name = string_bytes y.name }
 
--- sections, one after the other
+-- sections, as the definitions have them
 abbrev pub sections_data : List Section → List SectionData
 sections_data sections = map section_data sections
 
--- symbols, one after the other
+-- symbols, as the definitions have them
 abbrev pub symbols_data : List Symbol → List SymbolData
 symbols_data symbols = map symbol_data symbols
 

@@ -141,15 +141,16 @@ fn blocks_fit(sections: &[Section], blocks: &[Block]) -> bool
 /// Whether the lists are those of a module, so that its records can be written. The first section is an
 /// initialised `.text`; there are at most 255 sections of at most 65,536 words, and at most 65,535 symbols;
 /// names have the form of a section's or a symbol's name, and none stands twice among sections or among
-/// symbols; marks and relocations ascend, lie inside initialised sections and do not overlap; numbers of
-/// sections and symbols are those of one; relocated fields are 0.
+/// symbols; an external symbol is global and has the value 0; marks and relocations ascend, lie inside
+/// initialised sections and do not overlap; each number of a section or symbol is that of one in the lists,
+/// and a relocation's symbol is external; relocated fields are 0.
 ///
 /// In version 2 each mark has a line of 1 or more, no file's name stands twice, and each file is used, in the
 /// order of files; blocks of 1 to 128 words ascend, lie inside uninitialised sections and do not overlap.
 /// Version 1 has none of these lists, and nothing that counts from where a section is loaded.
 ///
-/// It takes no memory, and time near linear in the size of the lists, but for the names of files, each of
-/// which is compared with those before it.
+/// The heap is not used. The time is near linear in the size of the lists, but for the names of files, each
+/// of which is compared with those before it.
 pub fn spells(parts: &Parts) -> bool
     ensures { result ≡ spec.is_module (contents parts.now) }
 {

@@ -13,7 +13,8 @@ const MOST_BLOCK_WORDS: u32 = 128;
 /// The most bytes of the name of a file with instructions.
 const LONGEST_FILE_NAME: usize = 65_535;
 
-/// The count that a value stands for.
+/// The count that a value stands for; `NotAbsolute` (23) where the value is an address, `ValueRange` (25)
+/// where it is negative.
 pub(crate) fn count_of(value: Value) -> Result<u32, FaultKind>
     ensures { result ≡ meaning.count_of value }
 {
@@ -29,7 +30,7 @@ pub(crate) fn count_of(value: Value) -> Result<u32, FaultKind>
     }
 }
 
-/// Whether a flag is set, by its value.
+/// Whether a flag is set: its value is not 0; `NotAbsolute` (23) where the value is an address.
 pub(crate) fn flag_of(value: Value) -> Result<bool, FaultKind>
     ensures { result ≡ meaning.flag_of value }
 {
@@ -39,7 +40,7 @@ pub(crate) fn flag_of(value: Value) -> Result<bool, FaultKind>
     }
 }
 
-/// Checks that a block has 1 to 128 words; else `BadBlock` (56).
+/// Checks, where the flag is set, that there are 1 to 128 words; else `BadBlock` (56).
 pub(crate) fn block_allowed(flag: bool, words: u32) -> Result<(), FaultKind>
     ensures told { result ≡ meaning.block_allowed flag words }
     ensures size { IfOk result (λ _. IsBlockSize flag words) }
@@ -58,7 +59,7 @@ pub(crate) fn is_file_name(name: &str) -> bool
     name.len() <= LONGEST_FILE_NAME
 }
 
-/// Whether a line's number is small enough for the records of a module.
+/// Whether the records of a module can hold a line's number: 1 to 4,294,967,295.
 pub(crate) fn is_line_number(line: usize) -> bool
     ensures told { result ≡ meaning.is_line_number line }
     ensures small { result ≡ true → line < 2 ^ 32 }

@@ -173,7 +173,8 @@ fn zeros(alloc: Global, count: usize) -> Result<Vec<u16>, NoMemory>
     vec![in alloc; 0; count].map_err(NoMemory::from)
 }
 
-/// Appends an item's words and relocations to its section, or reports the first fault of its operands.
+/// Appends an item's words and relocations to its section, or reports the first fault of its operands, or
+/// `Undefined` (22) where a name of `.def` is not defined in the module.
 pub(crate) fn emit(
     alloc: Global,
     symbols: &mut Symbols,
@@ -210,7 +211,7 @@ pub(crate) fn emit(
     }
 }
 
-/// Appends the words and relocations of all items, line by line.
+/// Appends the words and relocations of all items, line by line, or reports the first fault with its line.
 pub(crate) fn emit_all<'a>(
     alloc: Global,
     symbols: &mut Symbols,

@@ -53,7 +53,7 @@ pub(crate) fn place(section: u16, offset: u32) -> Value
 }
 
 impl<'a> Progress<'a> {
-    /// The state before the first line: an empty section `.text`.
+    /// The state before the first line: an empty section `.text`. `NoMemory` where memory runs out.
     pub fn new(alloc: Global) -> Result<Progress<'a>, NoMemory>
         ensures { IfOk result (λ p. progress_of p ≡ meaning.start) }
     {
@@ -122,7 +122,7 @@ impl<'a> Progress<'a> {
         &self.symbols
     }
 
-    /// Defines a name, or reports that it is defined already.
+    /// Defines a name, or reports that it is defined already (26).
     #[tactic(auto, using(crate::proofs::Declared::define_counts), unfolding(c25_meaning_assembly::specs::Sections::define))]
     pub(crate) fn define(&mut self, name: &str, value: Value) -> Result<(), Failure<FaultKind>>
         ensures { Meets (λ _. progress_of self.new) (meaning.define name.now value (progress_of self.old)) result }
@@ -143,7 +143,7 @@ impl<'a> Progress<'a> {
         }
     }
 
-    /// The value of an expression whose names have to be known by now.
+    /// The value of an expression whose names have to be known by now, or its fault (22 to 25).
     pub(crate) fn valued(&mut self, expr: &Expr) -> Result<Value, FaultKind>
         ensures value { result ≡ valued (meaning.table (progress_of self.old)) (tree_of expr.now) }
         ensures same { progress_of self.new ≡ progress_of self.old }
@@ -152,7 +152,7 @@ impl<'a> Progress<'a> {
         valued(&self.symbols, expr)
     }
 
-    /// The count that an expression stands for, whose names have to be known by now.
+    /// The count that an expression stands for, whose names have to be known by now; else 22 to 25.
     #[tactic(auto, unfolding(c25_meaning_assembly::specs::Sections::count_in))]
     pub(crate) fn count_in(&mut self, expr: &Expr) -> Result<u32, FaultKind>
         ensures value { result ≡ meaning.count_in (meaning.table (progress_of self.old)) (tree_of expr.now) }
@@ -164,7 +164,8 @@ impl<'a> Progress<'a> {
         }
     }
 
-    /// Whether a flag is set, whose names have to be known by now; it is not where none is given.
+    /// Whether a flag is set, whose names have to be known by now, else 22 to 25; false where no flag is
+    /// given.
     pub(crate) fn flag_in(&mut self, flag: &Option<Expr>) -> Result<bool, FaultKind>
         ensures value { result ≡ meaning.flag_in (meaning.table (progress_of self.old)) (option_map tree_of flag.now) }
         ensures same { progress_of self.new ≡ progress_of self.old }
@@ -178,7 +179,8 @@ impl<'a> Progress<'a> {
         }
     }
 
-    /// The number of the section of a name; a new section comes last.
+    /// The number of the section of a name; a new section comes last, and is `TooLarge` (54) where there are
+    /// 255 already.
     #[tactic(auto, unfolding(c25_meaning_assembly::specs::Sections::section_opened))]
     pub(crate) fn open(&mut self, name: &str, initialised: bool) -> Result<u16, Failure<FaultKind>>
         ensures { Meets (λ i. (i, progress_of self.new)) (meaning.section_opened name.now initialised (progress_of self.old)) result }
@@ -195,7 +197,7 @@ impl<'a> Progress<'a> {
         Ok(number as u16)
     }
 
-    /// Lengthens a section by a number of words.
+    /// Lengthens a section by a number of words; `TooLarge` (54) where it would have more than 65,536.
     #[tactic(auto, unfolding(c25_meaning_assembly::specs::Sections::grow))]
     pub(crate) fn grow(&mut self, section: u16, words: usize) -> Result<(), Failure<FaultKind>>
         ensures told { Meets (λ _. progress_of self.new) (meaning.grow section words (progress_of self.old)) result }
@@ -242,7 +244,8 @@ impl<'a> Progress<'a> {
         Ok(())
     }
 
-    /// Counts a file among those that hold instructions.
+    /// Counts a file among those that hold instructions; `TooLarge` (54) where there are 65,535 others, or
+    /// its name has more than 65,535 bytes.
     fn use_file(&mut self, name: &str) -> Result<(), Failure<FaultKind>>
         ensures { Meets (λ _. progress_of self.new) (meaning.use_file name.now (progress_of self.old)) result }
     {
@@ -262,7 +265,8 @@ impl<'a> Progress<'a> {
         Ok(())
     }
 
-    /// The number of an instruction's line, as the records of a module have it. The line's file is counted.
+    /// The number of an instruction's line, whose file is counted among those that hold instructions;
+    /// `TooLarge` (54) where the records of a module cannot hold the number or the file.
     #[tactic(auto, unfolding(c25_meaning_assembly::specs::Sections::use_line))]
     fn use_line(&mut self, origin: FileLine<&'a str>) -> Result<u32, Failure<FaultKind>>
         ensures told { Meets (λ _. progress_of self.new) (meaning.use_line (origin_of origin.entry) (progress_of self.old)) result }
@@ -296,7 +300,7 @@ impl<'a> Progress<'a> {
             .map_err(Failure::NoMemory)
     }
 
-    /// Adds a block: words that have to lie in one page.
+    /// Adds a block, words that have to lie in one page, where the flag is set.
     pub(crate) fn block(
         &mut self,
         flag: bool,
@@ -319,7 +323,7 @@ impl<'a> Progress<'a> {
         self.sections.block(section, block)
     }
 
-    /// Checks that there are at most 65,535 names.
+    /// Checks that there are at most 65,535 names; else `TooLarge` (54).
     pub(crate) fn few(&self) -> Result<(), FaultKind>
         ensures told { result ≡ meaning.few (progress_of self.now) }
         ensures few { IfOk result (λ _. meaning.name_count (progress_of self.now).names (progress_of self.now).declared ≤ 65535) }

@@ -4,9 +4,9 @@
 //! The second one goes over the operands when all names are known, and gives words and relocations. A module
 //! is of version 2: it says each instruction's file and line.
 //!
-//! Both phases: `line_reader`, `item`, `targets`, `sheet`, `names`, `section`, `source_lines`, `file_runs`,
-//! `sections`, `fault`, `refusal`. The first: `progress`, `first_phase`, `acts`, `counts`. The second:
-//! `laid`, `emission`, `lines`, `making`, which ends it, and `wrong`.
+//! Both phases: `line_reader`, `item`, `targets`, `operand_values`, `names`, `section`, `source_lines`,
+//! `file_runs`, `sections`, `fault`, `refusal`. The first: `progress`, `first_phase`, `acts`, `counts`. The
+//! second: `second_phase`, `emission`, `lines`, `making`, which ends it, and `wrong`.
 #![tactic(auto)]
 
 mod acts;

@@ -13,8 +13,10 @@ use c25_meaning_common::placed::FileLine;
 use c25_meaning_language::statement::FaultKind;
 use c25_statements::read_statement;
 
-/// The first phase of one line: its text is read, and what it says is done. A fault ends the source, so it
-/// drops what the lines before have made. The state is boxed, since it is handed on from line to line.
+/// The first phase of one line: its text is read, and what it says is done. The fault is the first of the
+/// text (10 to 13, 50 to 52, 20, 21), or else of what the line does: 52, 20 and 21 of a section, 26, 22 to
+/// 25, 56, 54; `NoMemory` where memory runs out. A fault ends the source, so it drops what the lines before
+/// have made. The state is boxed, since it is handed on from line to line.
 pub fn read_and_pass<'a>(
     progress: Box<Progress<'a>>,
     origin: FileLine<&'a str>,

@@ -142,7 +142,9 @@ impl<'a> SecondPhase<'a> {
     }
 }
 
-/// The lists of the module that the lines have made, or the first fault of their operands.
+/// The lists of the module that the lines have made, or the first fault of the second phase: an operand
+/// without a value, or a name of `.def` that is not defined here (22 to 25), a value out of its field's range
+/// (53), an address that its field does not take (55). `NoMemory` where memory runs out.
 #[tactic(auto, unfolding(c25_meaning_assembly::specs::Emission::finished))]
 pub fn finish(progress: Progress<'_>) -> Result<Parts, Failure<AsmFault<'_>>>
     requires names { name_count (progress_of progress).names (progress_of progress).declared ≤ 65535 }

@@ -40,7 +40,7 @@ impl Model for OperandValues {
     ghost view = { λ s. record { numbers = s.numbers.items; addresses = s.addresses.items } };
 }
 
-/// The value of an expression.
+/// The value of an expression, or its fault (22 to 25).
 pub(crate) fn valued(symbols: &Symbols, expr: &Expr) -> Result<Value, FaultKind>
     ensures { result ≡ valued symbols.now (tree_of expr.now) }
 {
@@ -85,7 +85,7 @@ impl OperandValues {
         self.numbers.push(number).map_err(NoMemory::from)
     }
 
-    /// Adds an address, or reports that its field takes none.
+    /// Adds an address, or reports that its field takes none (55).
     fn put_address(
         &mut self,
         kind: Option<RelocationKind>,
@@ -108,7 +108,7 @@ impl OperandValues {
         Ok(())
     }
 
-    /// Adds a value: a number that fits its field, or an address that its field takes.
+    /// Adds a value: a number that fits its field, else 53, or an address that its field takes, else 55.
     fn put(&mut self, field: Field, value: Value) -> Result<(), Failure<FaultKind>>
         ensures { Meets (λ _. self.new) (with_value value.base field value.offset self.old) result }
     {

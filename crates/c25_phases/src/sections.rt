@@ -83,7 +83,7 @@ impl<'a> Sections<'a> {
         }
     }
 
-    /// The size in words of the section that has a number.
+    /// The size in words of the section that has a number; 0 where there is no such section.
     pub(crate) fn size_at(&self, number: u16) -> u32
         ensures value { result ≡ size_at self.now number }
         ensures bound { result ≤ 65536 }

@@ -22,7 +22,8 @@ pub(crate) fn field_of(target: Target, index: usize) -> Field
     }
 }
 
-/// The index, in its line's words, of the word that the field of the operand at an index is in.
+/// The index, in its line's words, of the word that the field of the operand at an index is in, for a field
+/// that may hold an address.
 pub(crate) fn word_of(field: Field, index: usize) -> usize
     ensures { result ≡ word_of field index }
 {

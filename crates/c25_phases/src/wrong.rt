@@ -24,7 +24,7 @@ use std::mem;
 /// An item that the second phase refuses.
 #[derive(Clone, Copy)]
 pub struct WrongItem<'a> {
-    /// How many items there are before it.
+    /// How many items there are before this one.
     pub number: usize,
     pub origin: FileLine<&'a str>,
     pub kind: FaultKind,
@@ -76,7 +76,8 @@ impl<'a> SecondPhase<'a> {
     }
 }
 
-/// The first item of the lines that the second phase refuses, if there is one.
+/// The first item of the lines that the second phase refuses, if there is one; `NoMemory` where memory runs
+/// out.
 pub fn first_wrong(progress: Progress<'_>) -> Result<Option<WrongItem<'_>>, NoMemory>
     requires { name_count (progress_of progress).names (progress_of progress).declared ≤ 65535 }
     ensures { IfOk result (λ wrong. option_map wrong_of wrong ≡ first_wrong (progress_of progress.entry)) }

@@ -15,7 +15,7 @@ use Rattle.c25_place.specs.declared.outputs.Output.{Output}
 use Rattle.c25_place.proofs.Sized.{or_false}
 use Rattle.c25_meaning_linking.proofs.PlaceNames.{same_name}
 
--- ---- what a section comes to makes its request
+-- ---- the sum of a section makes its request
 
 chosen : (b : Bool) (x o : Output) → cond b (Some x) None ≡ Some o → (b ≡ true) × (x ≡ o)
 chosen true x o e = (refl, cc)

@@ -45,7 +45,7 @@ sizes_bounded modules placings sections rs small are few is = λ k d lt.
     let count : length (sections_view sections) ≡ length sections = length-map sections (λ (b : Bor Section). section_data b.now) in
     omega (arith, size, same, bound, count, few)
 
--- what sections come to, and one section more
+-- the sums of sections, with one section more
 pub sum_bounded : (sections : List (Bor Section)) (i : ℕ) (name : List ℕ) (before : Output) (n : ℕ) → AreSmall sections → length sections < 18446744073709551616 → before ≡ unwrap_or (output_of name (sections_view (take i sections))) nothing → n ≤ 65536
     → before.size + n < 340282366920938463463374607431768211456
 sum_bounded sections i name before n small few is le =

@@ -1,4 +1,4 @@
--- What is told of a section that has no range to stand in is so.
+-- A range that is reported as missing for a section is indeed missing.
 use Rattle.std.proofs.Common.{◌≡◌, ℕ, Bool, true, false, ◌||◌, cond, List, [], ◌∷◌, Option, Some, None, filter, refl, ap, ◌∙◌}
 use Rattle.std.specs.List.{list_any}
 use Rattle.std.specs.Prelude.{◌==◌, unwrap_or}
@@ -17,7 +17,7 @@ none_passes {A = A} test (x ∷ xs) e = by_first (test x) e (none_passes test xs
 told_so : (there : Bool) (what : MissingData) → there ≡ false → unless there what ≡ Some what
 told_so there what e = ap (λ b. unless b what) e
 
--- the same of a section by its parts
+-- `IsSoOf` of a section, by the section's parts
 abbrev IsSo : List RangeData → TargetData → Option ℕ → (initialised : Bool) → MissingData → Type 0
 IsSo ranges target page initialised (Named name at) = (target ≡ InRange name) × (page ≡ at) × (has_named ranges name at ≡ false)
 IsSo ranges target page initialised (OnPage at) = (unwrap_or page (default_page ranges target initialised) ≡ at) × (has_page ranges at ≡ false)

@@ -44,7 +44,7 @@ pub base_of_is : (ranges usable : List RangeData) (places : List Place) (r : Req
 base_of_is ranges usable places r page answer is are base =
     subst (λ n. IsBase r.target n r.size r.blocks (filter (is_usable r.target n) ranges) places answer) is (subst (λ rs. IsBase r.target page r.size r.blocks rs places answer) are base)
 
--- it can stand, and not run where the command says
+-- a section that can be loaded and cannot run where the command says
 pub bad_run : (ranges : List RangeData) (places : List Place) (r : Request) (base : ℕ) → IsBaseOf ranges places r (Ok base) → ¬ Runs ranges places r → IsUnfit ranges places r BadRun
 bad_run ranges places r base stands not_there = inr (base, stands, not_there, refl)
 

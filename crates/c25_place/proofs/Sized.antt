@@ -1,4 +1,4 @@
--- What sections come to, by their names.
+-- The sums of sections, by their names.
 use Rattle.std.proofs.Common.{◌≡◌, ℕ, ◌+◌, ◌≤◌, ◌*◌, Bool, true, false, ◌&&◌, ◌||◌, cond, List, [], ◌∷◌, ◌++◌, length, get_or, Some, None, unwrap_or, refl, sym, ap, ◌∙◌, arith}
 use Rattle.std.specs.List.{list_any, All}
 use Rattle.std.specs.Str.{bytes_eq}
@@ -19,7 +19,7 @@ turned a b = by_tests (bytes_eq a b) (bytes_eq b a) refl refl where
   by_tests false true e f = let g : bytes_eq a b ≡ true = ap (λ x. bytes_eq x b) (sym (same_name b a f)) ∙ is_same b in absurd cc
   by_tests false false e f = e ∙ sym f
 
--- no sections come to nothing
+-- the sum of no sections
 abbrev pub nothing : Output
 nothing = record { size = 0; initialised = false }
 

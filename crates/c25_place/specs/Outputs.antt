@@ -14,7 +14,7 @@ use Rattle.c25_place.specs.declared.outputs.Outputs.{Outputs}
 abbrev pub size_of_sections : List ℕ → List SectionData → ℕ
 size_of_sections name sections = sum_by (size_for name) sections
 
--- whether a section of that name is initialised
+-- whether a section of a name is initialised
 abbrev pub any_words : List ℕ → List SectionData → Bool
 any_words name sections = list_any (λ s. is_section_named name s && has_words s.body) sections
 

@@ -15,7 +15,7 @@ pub record KnowsRoom (room : Room) (places : List Place) : Type 0 where
   pub program : KnowsTaken room.program.items 0 places
   pub store : KnowsTaken room.store.items 1 places
 
--- the words that are marked are those that sections at these places run at
+-- the words that are marked are those at which sections with a run address at these places run
 pub record KnowsRuns (runs : RunWords) (places : List Place) : Type 0 where
   pub sized : length runs.taken.items ≡ 65536
   pub words : (word : ℕ) → word < 65536 → slice_index_or runs.taken.items word false ≡ is_run_at places word
@@ -36,7 +36,8 @@ pub record IsFirstFree (taken fits : List Bool) (start end size base : ℕ) : Ty
   pub is_open : IsOpen taken fits base size
   pub least : (other : ℕ) → start ≤ other → IsOpen taken fits other size → base ≤ other
 
--- the longest run of free words before a word, from a start on, has so many; before the word no run of a size ends that fits
+-- the longest run of free words that ends before `word`, from `start` on, has `run` words; no `size` free
+-- words that fit lie before `word`
 pub record IsRunBefore (taken fits : List Bool) (start size word run : ℕ) : Type 0 where
   pub from : start + run ≤ word
   pub free : (other : ℕ) → word ≤ other + run → other < word → slice_index_or taken other false ≡ false

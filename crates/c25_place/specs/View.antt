@@ -28,15 +28,15 @@ refusal_of f = record { place = string_bytes f.place; fault = f.fault }
 abbrev pub named : {V S : Type 0} → HashMap (Bor (List ℕ)) V S → List ℕ → Option V
 named m name = get_by (λ k. bytes_eq name k.now) m
 
--- sections
+-- borrowed sections, as the definitions have them
 abbrev pub sections_view : List (Bor Section) → List SectionData
 sections_view sections = map (λ s. section_data s.now) sections
 
--- a range
+-- a range, as the definitions have it
 abbrev pub range_view : PageRange → RangeData
 range_view r = record { page = r.page; name = r.name.now; origin = r.origin; size = r.size }
 
--- ranges
+-- ranges, as the definitions have them
 abbrev pub ranges_view : List PageRange → List RangeData
 ranges_view ranges = map range_view ranges
 
@@ -62,10 +62,10 @@ request_view modules r = record {
 abbrev pub requests_view : List Contents → List Request → List good.Request
 requests_view modules requests = map (request_view modules) requests
 
--- a place
+-- a place, as the definitions have it
 abbrev pub place_view : Place → place.Place
 place_view p = record { name = p.name.now; page = p.page; base = p.base; size = p.size; run = p.run }
 
--- places
+-- places, as the definitions have them
 abbrev pub places_view : List Place → List place.Place
 places_view places = map place_view places

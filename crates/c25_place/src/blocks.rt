@@ -19,7 +19,7 @@ pub(crate) const PAGE: usize = 128;
 /// The addresses where a section may begin, for the sake of its blocks.
 #[derive(Clone, Copy)]
 pub(crate) struct Paging {
-    /// How many words the section's parts have so far, but for whole pages.
+    /// A number that differs from how many words the section's parts have so far by whole pages of 128.
     words: usize,
     /// For each place in a page, whether each block so far lies in one page where the section begins
     /// at such a place.

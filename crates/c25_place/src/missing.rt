@@ -156,8 +156,9 @@ fn missing_placing<'a>(
 }
 
 /// The range that a command lacks for the section of a name, where [`good_places`](crate::good_places)
-/// refuses the section with `NoRange`. Where the section might be placed on either page, both have no range.
-/// It is `None` where the command lacks no range.
+/// refuses the section with `NoRange` (72). For a section that neither a target nor a page ties to one page,
+/// that is any range of the page without ranges, or any range at all where neither page has one. `None` where
+/// the command lacks no range; `NoMemory` where memory runs out.
 pub fn missing_range<'a>(
     alloc: Global,
     command: &'a Command,

@@ -29,10 +29,10 @@ use std::alloc::{AllocError, Global};
 pub struct Place<'a> {
     pub name: &'a str,
     pub page: u8,
-    /// The address where its first word is loaded.
+    /// The address where the section's first word is loaded.
     pub base: u32,
     pub size: u32,
-    /// The address where its first word runs, if that is another.
+    /// The section's run address, if `run =` gives one.
     pub run: Option<u32>,
 }
 
@@ -63,7 +63,8 @@ fn least_fit(range: &PageRange<'_>, size: u32, taken: &[bool], fits: &[bool]) ->
     }
 }
 
-/// The least such address, in the first range that has one.
+/// The least address from which on so many words are free and which the section's blocks allow, in the first
+/// range that has one.
 fn first_fit(ranges: &[PageRange<'_>], size: u32, taken: &[bool], fits: &[bool]) -> Option<u32>
     requires sized { length taken.now ≡ 65536 }
     requires paged { length fits.now ≡ 128 }
@@ -114,7 +115,7 @@ fn may_stand(address: u32, size: u128, ranges: &[PageRange<'_>], fits: &[bool]) 
     fits[address as usize % PAGE] && any_inside(address, size, ranges)
 }
 
-/// Where a section with an address stands, or the fault that it cannot.
+/// Where a section with an address stands, or why it cannot: `DoesNotFit` (73), else `Overlap` (74).
 fn base_at(
     address: u32,
     size: u128,
@@ -139,8 +140,8 @@ fn base_at(
     Ok(address)
 }
 
-/// Where a section without an address stands, or the fault that it cannot. An empty one stands at the origin
-/// of the first range.
+/// Where a section without an address stands, or `DoesNotFit` (73). An empty one stands at the origin of the
+/// first range.
 fn base_in(
     size: u128,
     first: &PageRange<'_>,
@@ -168,7 +169,7 @@ fn base_in(
     }
 }
 
-/// Where a section stands, or the fault that it cannot.
+/// Where a section stands, or why it cannot; `NoRange` (72) where there is no range for it.
 fn base_of(
     wanted: Wanted<'_>,
     size: u128,
@@ -224,7 +225,8 @@ impl<'a> PlacedSections<'a> {
         }
     }
 
-    /// Where a section stands after those before it, or the fault that it cannot be placed.
+    /// Where a section stands after those before it, or why it cannot be placed: 72, 73 or 74, else `BadRun`
+    /// (78).
     fn base_for(
         &self,
         ranges: &CommandRanges<'_>,

@@ -27,7 +27,10 @@ pub(crate) fn placings_of(command: &Command) -> &[Placing]
 }
 
 /// Where the sections of the program stand, in the order of placement, or the fault of the first that cannot
-/// be placed: `NoRange`, `DoesNotFit`, `Overlap` or `BadRun`, with its name.
+/// be placed, with its name: `NoRange` (72) where no range of the command may have it; `DoesNotFit` (73)
+/// where there is no room for it, or at its address it is not inside one range or a block of it not inside
+/// one page of 128 words; `Overlap` (74) where at its address it shares a word with a section placed before;
+/// `BadRun` (78) where it cannot run at its run address. `NoMemory` where memory runs out.
 #[tactic(auto, using(crate::proofs::Commanded::pages_are))]
 pub fn good_places<'a>(
     alloc: Global,

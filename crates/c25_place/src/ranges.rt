@@ -155,8 +155,9 @@ impl<'a> CommandRanges<'a> {
         }
     }
 
-    /// The page of a section for which the command names none: that of its range, page 0 for an address, and
-    /// without a target page 0 where it is initialised and page 1 where it is not.
+    /// The page of a section for which the command names none: where it asks for a range, page 0 if that has
+    /// a range of the name, else page 1; page 0 for an address; and without a target page 0 where it is
+    /// initialised and page 1 where it is not.
     #[tactic(auto, using(crate::proofs::Ranged::has_range))]
     fn default_page(&self, wanted: Wanted<'_>, initialised: bool) -> u8
         ensures page { (all : List RangeData) → KnowsRanges self.now all → result ≡ default_page all (wanted_view wanted.entry) initialised }
@@ -175,7 +176,7 @@ impl<'a> CommandRanges<'a> {
         }
     }
 
-    /// The page of a section: the named one, or the default.
+    /// The page of a section: the one that the command names, or the default.
     pub(crate) fn page_for(&self, request: &Request<'_>) -> u8
         requires { IfSome request.now.page (λ page. page ≤ 1) }
         ensures page { (all : List RangeData) (modules : List Contents) → KnowsRanges self.now all → result ≡ page_for all (request_view modules request.now) }

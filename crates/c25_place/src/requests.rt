@@ -34,7 +34,7 @@ pub(crate) struct Request<'a> {
     pub initialised: bool,
     pub wanted: Wanted<'a>,
     pub page: Option<u8>,
-    /// The address where the section runs, if that is not where it is loaded.
+    /// The section's run address, if the command gives one.
     pub run: Option<u32>,
 }
 

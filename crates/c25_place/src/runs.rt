@@ -1,4 +1,4 @@
-//! The addresses of sections that run elsewhere than they are loaded.
+//! The words at which sections with a run address run.
 
 ghost use Rattle.std.specs.Prelude.{◌≡◌, ◌≤◌, ◌+◌, ◌++◌, ◌∷◌, [], List, true, false, length, IfOk, IfSome};
 ghost use Rattle.c25_meaning_linking.specs.GoodMap.{IsRunFree};
@@ -12,7 +12,7 @@ use std::alloc::{AllocError, Global};
 /// The address of the first word of block B0, where it is seen in program memory; B0 ends with the page.
 const B0_START: u32 = 0xFF00;
 
-/// For each word of page 0 whether a section runs at it that is loaded elsewhere.
+/// For each word of page 0 whether a section with a run address runs at it.
 #[derive(Drop)]
 pub(crate) struct RunWords {
     taken: Vec<bool>,
@@ -38,7 +38,8 @@ impl RunWords {
         })
     }
 
-    /// Whether `size` words from an address on lie in block B0 and no section runs at them yet.
+    /// Whether `size` words from an address on lie in block B0 and no section with a run address runs at them
+    /// yet.
     pub(crate) fn are_open(&self, run: u32, size: u32) -> bool
         requires sized { length self.now.taken.items ≡ 65536 }
         requires size { size ≤ 65536 }
@@ -50,7 +51,7 @@ impl RunWords {
         are_in_b0(run, size) && !any_taken(&self.taken, run as usize, run as usize + size as usize)
     }
 
-    /// Takes the words that a section runs at, if it runs elsewhere than it is loaded.
+    /// Takes the words that a section runs at, if it has a run address.
     #[tactic(auto, using(crate::proofs::Elsewhere::runs_more, crate::proofs::Elsewhere::runs_same))]
     pub(crate) fn take(&mut self, run: Option<u32>, size: u32)
         requires sized { length self.old.taken.items ≡ 65536 }

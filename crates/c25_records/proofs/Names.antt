@@ -24,7 +24,7 @@ HasNames-push text old new ys key y has updates is q =
     list_any-append (λ (x : SymbolData). bytes_eq x.name (text q)) ys (y ∷ []) in
     updates.0 q ∙ rw (here, has q) (joined (bytes_eq y.name (text q)) (has_symbol ys (text q))) ∙ sym pushed
 
--- the same of names of files
+-- a set that has names of files has those of one more, once its name is put in
 pub HasFiles-push : {K S : Type 0} (text : K → List ℕ) (old new : HashSet K S) (fs : List (List ℕ)) (key : K) → HasFiles text old fs
     → Updates (λ a b. bytes_eq (text a) (text b)) old new key true → HasFiles text new (fs ++ text key ∷ [])
 HasFiles-push text old new fs key has updates q =

@@ -15,7 +15,7 @@ next_put {A} f xs i d start out all lt was is =
     behind start (flat_map f (take i xs)) (flat_map f (take (i + 1) xs)) out all (f (get_or xs i d)) was is
     (ap (λ (ys : List A). flat_map f ys) (take_more xs i d lt) ∙ one_more f (take i xs) (get_or xs i d))
 
--- the same of items that are seen as others
+-- what is put after what was put, of items that are seen through a view
 pub next_seen : {A B : Type 0} (view : A → B) (f : B → List ℕ) (xs : List A) (i : ℕ) (x : A) (start out all : List ℕ) → i < length xs → x ≡ get_or xs i x
     → out ≡ start ++ flat_map f (map view (take i xs)) → all ≡ out ++ f (view x) → all ≡ start ++ flat_map f (map view (take (i + 1) xs))
 next_seen {A} {B} view f xs i x start out all lt here was is =

@@ -341,12 +341,13 @@ fn made(alloc: Global, bytes: &[u8]) -> Result<Module, Failure<ObjectFault>>
 
 /// The module whose spelling the bytes are, or their first fault, from the front.
 ///
-/// Before the records the fault is `BadMagic` where the bytes do not begin with `C25O`, and `BadVersion`
-/// where the version is missing or neither 1 nor 2. Of a record it is first `Short` where the record is cut
-/// off, then `BadTag` where its tag is unknown or out of order, then `BadField` where its payload does not
-/// have the form of its tag or may not follow the records before it. Bytes after the last record are
-/// `Trailing`. It fails with `NoMemory` too, and takes time near linear in the number of bytes, unless names
-/// were chosen to have one hash.
+/// Before the records the fault is `BadMagic` (40) where the bytes do not begin with `C25O`, and `BadVersion`
+/// (41) where the version is missing or neither 1 nor 2. Of a record it is first `Short` (42) where the
+/// record is cut off, or the last record is missing, then `BadTag` (43) where its tag is unknown or out of
+/// order, then `BadField` (44) where its payload does not have the form of its tag or may not follow the
+/// records before it. Bytes after the last record are `Trailing` (45). `NoMemory` (9) where memory runs out.
+///
+/// The time is near linear in the number of bytes, unless names were chosen to have one hash.
 pub fn read_module(alloc: Global, bytes: &[u8]) -> Result<Module, Failure<ObjectFault>>
     // Bytes that are read are the spelling of the module.
     ensures found { IfOk result (λ m. bytes.now ≡ spelling m) }

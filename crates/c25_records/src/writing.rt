@@ -332,7 +332,7 @@ fn put_module(out: &mut Vec<u8>, object: &Module) -> Result<(), NoMemory>
     put_head(out, LAST_TAG, 0)
 }
 
-/// The bytes of a module: its one spelling. It fails only where memory runs out.
+/// The bytes of a module: its one spelling. `NoMemory` where memory runs out.
 pub fn write_module(alloc: Global, object: &Module) -> Result<Vec<u8>, NoMemory>
     ensures { IfOk result (λ v. v.items ≡ bytes.spelling object.now) }
 {

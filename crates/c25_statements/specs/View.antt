@@ -17,11 +17,11 @@ use Rattle.c25_statements.specs.declared.statement.Statement.{Statement}
 use Rattle.c25_statements.specs.Exprs.{exprs_in}
 use Rattle.c25_statements.specs.declared.trees.Trees.{Trees}
 
--- texts
+-- the bytes of borrowed texts
 abbrev pub texts_of : List (Bor (List ℕ)) → List (List ℕ)
 texts_of ts = map (λ t. t.now) ts
 
--- expressions
+-- the trees of expressions
 abbrev pub trees_of : List Expr → List Tree
 trees_of es = map tree_of es
 
@@ -38,7 +38,7 @@ abbrev pub count_tree : Result Expr FaultKind → Result Tree FaultKind
 count_tree (Ok e) = Ok (tree_of e)
 count_tree (Err f) = Err f
 
--- a count and a flag
+-- the count and the flag of a reservation
 abbrev pub room_of : Room → says.Room
 room_of r = record { count = tree_of r.count; flag = option_map tree_of r.flag }
 

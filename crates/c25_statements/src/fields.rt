@@ -77,7 +77,7 @@ fn field_of_long(name: LongName, index: usize) -> Field
     }
 }
 
-/// The field of the constant of an instruction without a memory operand.
+/// The field of the number of `SPM`, `FORT` or `CMPR`; the other instructions of this family have no number.
 fn plain_field(name: PlainName) -> Field
     ensures { result ≡ plain_field name }
 {

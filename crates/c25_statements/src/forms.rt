@@ -86,7 +86,8 @@ fn long_of(name: LongName, numbers: &[u16]) -> Insn
     }
 }
 
-/// The operand of an instruction without a memory operand.
+/// The operand of an instruction of the family `Plain`: the change of `NORM`, the number of `SPM`, `FORT` or
+/// `CMPR`, nothing for the others.
 fn plain_of(name: PlainName, change: Change, numbers: &[u16]) -> PlainOperand
     ensures { result ≡ plain_of name change numbers.now }
 {

@@ -88,7 +88,8 @@ fn all_expressions(operands: &[&[Token<'_>]]) -> Result<(), FaultKind>
     Ok(())
 }
 
-/// The expressions of operands, of which there is at least one.
+/// The expressions of operands, of which there is at least one; else 51, then 52 where one is written as
+/// something else, then 20 or 21.
 pub(crate) fn expressions_in(
     alloc: Global,
     operands: &[&[Token<'_>]],
@@ -104,7 +105,7 @@ pub(crate) fn expressions_in(
     }
 }
 
-/// The names that operands are.
+/// The names that operands are; `OperandForm` (52) where one is not a name.
 fn names_in<'a>(
     alloc: Global,
     operands: &[&[Token<'a>]],
@@ -121,7 +122,7 @@ fn names_in<'a>(
     Ok(names)
 }
 
-/// The names that operands are, of which there is at least one.
+/// The names that operands are, of which there is at least one; else 51, then 52 where one is not a name.
 pub(crate) fn some_names<'a>(
     alloc: Global,
     operands: &[&[Token<'a>]],

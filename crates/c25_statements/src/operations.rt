@@ -69,8 +69,8 @@ fn form_in(
 }
 
 /// The instruction of a spelling and its operands, or its first fault: too few or too many operands (51), an
-/// operand of another form than the instruction takes (52), one that is no expression (20), one that is
-/// nested too deep (21).
+/// operand of another form than the instruction takes (52), one that is no expression (20), one that nests
+/// too deep (21). `NoMemory` (9) where memory runs out.
 #[tactic(auto, unfolding(c25_meaning_assembly::specs::StatementLine::operation_of))]
 pub fn operation_of(
     alloc: Global,

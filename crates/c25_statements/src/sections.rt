@@ -21,7 +21,7 @@ fn stands_behind(before: &Token<'_>, token: &Token<'_>) -> bool
     token.start >= before.start && token.start - before.start == before.text.len()
 }
 
-/// The text of an operand's tokens, where there is no blank between them.
+/// The text of an operand's tokens; `OperandForm` (52) where there is no token, or a blank between two.
 fn joined(alloc: Global, operand: &[Token<'_>]) -> Result<String, Failure<FaultKind>>
     ensures { Meets string_bytes (says.joined (pieces_of operand.now)) result }
 {
@@ -51,7 +51,7 @@ fn said_in(alloc: Global, operand: &[Token<'_>]) -> Result<String, Failure<Fault
     }
 }
 
-/// The section that an operand names.
+/// The section that an operand names; `OperandForm` (52) where the operand is no section's name.
 pub(crate) fn section_in(alloc: Global, operand: &[Token<'_>]) -> Result<String, Failure<FaultKind>>
     ensures { Meets string_bytes (says.section_in (pieces_of operand.now)) result }
 {

@@ -112,7 +112,8 @@ fn expressions(low: usize, high: usize, operands: &[Written]) -> Result<(), Faul
     }
 }
 
-/// How an indirect operand changes the auxiliary register, or the default where the operand is missing.
+/// How an indirect operand changes the auxiliary register, or the default where the operand is missing;
+/// `OperandForm` (52) for another operand.
 fn change_written(default: Change, operand: Option<Written>) -> Result<Change, FaultKind>
     ensures { result ≡ forms.change_written default operand }
 {
@@ -158,8 +159,8 @@ fn norm(operands: &[Written]) -> Result<Change, FaultKind>
     change_written(Change::Increment, operands.first().copied())
 }
 
-/// The operands of an instruction without a memory operand: an indirect form for `NORM`, one expression for
-/// `SPM`, `FORT` and `CMPR`, no operand for the others.
+/// How an instruction of the family `Plain` changes the auxiliary register: `NORM` by its operand, the others
+/// not at all. `SPM`, `FORT` and `CMPR` must have one expression, the others no operand; else 51, then 52.
 fn plain_change(name: PlainName, operands: &[Written]) -> Result<Change, FaultKind>
     ensures { result ≡ forms.plain_change name operands.now }
 {
@@ -213,7 +214,9 @@ fn row_form(mnemonic: Mnemonic, operands: &[Written]) -> Result<Form, FaultKind>
     }
 }
 
-/// The form of an instruction, by its spelling and what its operands are written as.
+/// The form of an instruction, by its spelling and what its operands are written as: `OperandCount` (51)
+/// where there are too few or too many operands, then `OperandForm` (52) where one has another form than the
+/// instruction takes.
 pub fn form_of(spelling: Spelling, operands: &[Written]) -> Result<Form, FaultKind>
     ensures { result ≡ forms.form_of spelling operands.now }
 {

@@ -32,10 +32,11 @@ pub struct Room {
 pub enum AssemblyAct<'a> {
     /// Nothing: the line has no first word, or a directive without effect.
     Nothing,
-    /// The lines after it go on in an initialised section.
+    /// The lines after this one go on in an initialised section.
     Enter(String),
     /// Words are reserved in an uninitialised section, and the name stands for the first of them. A fault of
-    /// the operands' expressions is reported after that of a section of the other kind.
+    /// the operands' expressions (20, 21) is kept here, since that of a section of the other kind (52) is
+    /// reported before it.
     Reserve {
         section: String,
         name: &'a str,

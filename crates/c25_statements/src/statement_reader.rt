@@ -80,7 +80,8 @@ fn names_label(directive: Option<Directive>) -> bool
     }
 }
 
-/// The parts of a line.
+/// The parts of a line. `BadLabel` (10) where the directive needs a label and the line begins with a blank;
+/// else the first fault of the line's text (10 to 13).
 fn parts_for(directive: Option<Directive>, text: &str) -> Result<Line<'_>, Failure<FaultKind>>
     ensures { Meets parts_of (says.parts_for directive text.now) result }
 {
@@ -117,9 +118,11 @@ fn statement_by(
     }
 }
 
-/// What a line says, or the first fault that its text alone shows: a wrong token (10 to 13), a first word
-/// that is neither a mnemonic nor a directive (50), too few or too many operands (51), an operand of another
-/// form than is asked for (52), one that is no expression (20), one that is nested too deep (21).
+/// What a line says, or the first fault that its text alone shows: a missing or wrong label or a wrong token
+/// (10 to 13), a first word that is neither a mnemonic nor a directive (50), too few or too many operands
+/// (51), an operand of another form than is asked for (52), one that is no expression (20), one that nests
+/// too deep (21). A fault 20 or 21 of `.bss` or `.usect` is kept in the statement. `NoMemory` (9) where
+/// memory runs out.
 pub fn read_statement(alloc: Global, text: &str) -> Result<Statement<'_>, Failure<FaultKind>>
     ensures { Meets statement_of (says.read_statement text.now) result }
 {

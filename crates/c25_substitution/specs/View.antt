@@ -58,7 +58,7 @@ abbrev pub Writes : {A : Type 0} → Draft → Draft → Result A (Failure LongL
 Writes old more (Ok x) new = (new ≡ joined old more) × IsWithin new
 Writes old more (Err e) new = Refuses (joined old more) e
 
--- all of it was written, or it would be too much
+-- all of a text was written, or there would be too much
 abbrev pub IsAll : Draft → Result Output (Failure LongLine) → Type 0
 IsAll all (Ok out) = (written_so_far out ≡ all) × IsWithin all
 IsAll all (Err e) = Refuses all e

@@ -55,7 +55,8 @@ fn bind(
 }
 
 /// The arguments of a line that calls a macro with these parameters; the names in the line are replaced
-/// already.
+/// already. A missing argument is empty, and the last parameter gets all that is left of the operands.
+/// `NoMemory` (9) where memory runs out.
 pub fn arguments(alloc: Global, parameters: &[String], line: &str) -> Result<Arguments, NoMemory>
     ensures { IfOk result (λ found. found ≡ arguments (map (λ p. string_bytes p) parameters.now) line.now) }
 {
@@ -71,7 +72,8 @@ pub fn arguments(alloc: Global, parameters: &[String], line: &str) -> Result<Arg
     Ok(found)
 }
 
-/// The text that a line `.asg text,name` assigns.
+/// The text that a line `.asg text,name` assigns: its operands up to the last comma; all of them where there
+/// is no comma. `NoMemory` (9) where memory runs out.
 pub fn assigned_text(alloc: Global, line: &str) -> Result<String, NoMemory>
     ensures { IfOk result (λ out. string_bytes out ≡ assigned_text line.now) }
 {

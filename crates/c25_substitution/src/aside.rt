@@ -60,7 +60,7 @@ impl<'a> Aside<'a> {
         }
     }
 
-    /// Sets the innermost name aside no more.
+    /// Removes the innermost name, if there is one.
     pub(crate) fn pop(&mut self)
         ensures { (names : List (List ℕ)) → (last : List ℕ) → self.old ≡ names ++ last ∷ [] → self.new ≡ names }
     {

@@ -28,7 +28,7 @@ pub(crate) enum Fragment<'a> {
     Replaced(&'a str, &'a str, Quoting),
 }
 
-/// The text that a name stands for; None where the name is set aside.
+/// The text that a name stands for; None where it stands for none or is set aside.
 fn text_of<'a>(names: &Visible<'a>, aside: &Aside<'_>, name: &str) -> Option<&'a str>
     ensures { option_map (λ s. s.now) result ≡ without aside.now (names_of names.now) name.now }
 {

@@ -6,7 +6,7 @@ ghost use Rattle.c25_meaning_language.specs.Substitution.{substituted, unsubstit
 ghost use Rattle.c25_substitution.specs.PlainTexts.{StandsForNothing, HasNoMark};
 
 /// In any expansion, a line without `?` is kept as it is where no name that begins in it stands for a text;
-/// it is a fault only if the line is too long.
+/// it is `LongLine` where it has more than 1,024 bytes.
 pub fn texts_without_names_are_kept()
     ensures { (names : Replacements) (number : ℕ) (line : List ℕ) → StandsForNothing names line → HasNoMark line
         → substituted names number line ≡ unsubstituted line }

@@ -33,7 +33,7 @@ impl Output {
         })
     }
 
-    /// Writes a text as it is.
+    /// Writes a text as it is; `LongLine` (38) where the whole would have more than 1,024 bytes.
     pub(crate) fn push(&mut self, text: &str) -> Result<(), Failure<LongLine>>
         requires { IsWithin (written_so_far self.old) }
         ensures { Writes (written_so_far self.old) (as_is text.now) result (written_so_far self.new) }
@@ -54,7 +54,7 @@ impl Output {
         self.push(suffix.as_str())
     }
 
-    /// Counts a replacement.
+    /// Counts a replacement; `LongLine` (38) where it is the 1,025th.
     pub(crate) fn count(&mut self) -> Result<(), Failure<LongLine>>
         requires { IsWithin (written_so_far self.old) }
         ensures { Writes (written_so_far self.old) (record { text = []; replacements = 1 }) result (written_so_far self.new) }

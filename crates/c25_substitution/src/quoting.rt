@@ -7,7 +7,7 @@ ghost use Rattle.c25_meaning_language.specs.declared.quoting.Quoting.TheVariants
 
 use c25_meaning_language::quoting::Quoting;
 
-/// The quoting of the byte after this one, which has this quoting.
+/// The quoting of the byte after `b`, where `b` has the quoting `quoting`.
 pub(crate) fn behind(b: u8, quoting: Quoting) -> Quoting
     ensures { result ≡ behind b quoting }
 {

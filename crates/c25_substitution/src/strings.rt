@@ -100,7 +100,8 @@ fn folded(alloc: Global, text: &str) -> Result<String, NoMemory>
     Ok(out)
 }
 
-/// The text that a string token stands for: without its quotes, two quotes within it as one.
+/// The text that a string token stands for: without the quotes at its ends, and with each two quotes in a row
+/// within it as one. `NoMemory` (9) where memory runs out.
 pub fn string_text(alloc: Global, token: &str) -> Result<String, NoMemory>
     ensures { IfOk result (λ out. string_bytes out ≡ string_text token.now) }
 {

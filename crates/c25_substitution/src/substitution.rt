@@ -103,8 +103,8 @@ fn write_change<'a>(
     write(names, number, aside, quoting, rest, out)
 }
 
-/// The text of which this is the first change, with its names replaced; room is taken for so many bytes at
-/// once.
+/// The text of which this is the first change, with its names replaced, in memory that is taken at once for
+/// `room` bytes.
 fn rewrite<'a>(
     alloc: Global,
     names: &Visible<'a>,
@@ -147,7 +147,7 @@ fn stays(names: &Visible<'_>, line: &str) -> bool
 /// A line with its names replaced (SPRU018, "Macro Language"). `number` is that of the innermost expansion, 0
 /// outside expansions. A comment line stays as it is, and a line in which nothing is replaced is borrowed.
 /// `LongLine` (38) where the line gets more than 1,024 bytes, its comment among them, or takes more than
-/// 1,024 replacements.
+/// 1,024 replacements. `NoMemory` (9) where memory runs out.
 pub fn substitute<'a>(
     alloc: Global,
     names: &Visible<'_>,
@@ -169,7 +169,7 @@ pub fn substitute<'a>(
 }
 
 /// A line of `.asg` or `.eval` with its names replaced, but for those from the last comma outside quotes and
-/// the comment on. `LongLine` (38) as for other lines.
+/// the comment on. `LongLine` (38) as for other lines. `NoMemory` (9) where memory runs out.
 pub fn substitute_before_comma<'a>(
     alloc: Global,
     names: &Visible<'_>,

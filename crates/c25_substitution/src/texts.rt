@@ -47,7 +47,7 @@ impl SubstitutionTexts {
         self.entries.is_empty()
     }
 
-    /// The text that a name stands for. Where there are no names, no hash is taken.
+    /// The text that a name stands for, if it stands for one. Where there are no names, no hash is taken.
     pub fn get(&self, name: &str) -> Option<&str>
         ensures { option_map (λ s. s.now) result ≡ lookup (bytes_eq name.now) self.now }
     {
@@ -60,7 +60,8 @@ impl SubstitutionTexts {
         }
     }
 
-    /// Sets the text that a name stands for from now on. A new name comes last.
+    /// Sets the text that a name stands for from now on. A new name comes last. `NoMemory` (9) where memory
+    /// runs out.
     pub fn put(&mut self, name: &str, text: String) -> Result<(), NoMemory>
         ensures ok { OnOk result (self.new ≡ with_name self.old name.now (string_bytes text)) }
         ensures err { OnErr result (self.new ≡ self.old) }

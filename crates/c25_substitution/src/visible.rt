@@ -16,7 +16,7 @@ pub struct Visible<'a> {
 }
 
 impl<'a> Visible<'a> {
-    /// The text that a name stands for.
+    /// The text that a name stands for, if it stands for one.
     pub(crate) fn get(&self, name: &str) -> Option<&'a str>
         ensures { option_map (λ s. s.now) result ≡ names_of self.now name.now }
     {

@@ -53,7 +53,7 @@ none_tied {A = A} lt o x y (z ∷ zs) h above =
 kept : {A : Type 0} (test : A → Bool) (x : A) (xs : List A) → test x ≡ true → filter test (x ∷ xs) ≡ x ∷ filter test xs
 kept test x xs h = ap (λ (b : Bool). cond b (x ∷ filter test xs) (filter test xs)) h
 
--- the same item in front, kept or not
+-- two lists with the same item in front, kept or not, have the same rest
 behind : {A : Type 0} (x y : A) (xs ys : List A) (b : Bool) → x ≡ y → cond b (x ∷ xs) xs ≡ cond b (y ∷ ys) ys → xs ≡ ys
 behind x y xs ys true e h = cc
 behind x y xs ys false e h = h

@@ -1,4 +1,4 @@
--- The symbols that modules define, local ones too, by their names (own).
+-- The symbols that modules define, local ones too, by their names (this project's own).
 use Rattle.std.specs.Prelude.{ℕ, Bool, List, [], ◌∷◌, map, filter, unwrap_or, codes, if◌then◌else◌}
 use Rattle.std.specs.Cmp.Lexicographic.{slice_cmp}
 use Rattle.std.specs.List.{slice_get}
@@ -48,7 +48,7 @@ module_symbols modules sources places number m = map (listed modules sources pla
 abbrev pub all_symbols : List Contents → List (List ℕ) → List Place → List Listed
 all_symbols modules sources places = by_modules (module_symbols modules sources places) 0 modules
 
--- ---- their order
+-- ---- the order of symbols
 
 -- an item put into a list, after the items that have to be before it
 abbrev pub inserted : {A : Type 0} → (A → A → Bool) → A → List A → List A

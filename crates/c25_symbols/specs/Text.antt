@@ -1,4 +1,5 @@
--- The text that lists the symbols of a program by name, and after them the ranges of its memories (own).
+-- The text that lists the symbols of a program by name, and after them the ranges of its memories (this
+-- project's own).
 use Rattle.std.specs.Prelude.{ℕ, ◌-◌, List, ◌++◌, codes, nat_lt, if◌then◌else◌}
 use Rattle.std.specs.Fmt.{decimal}
 use Rattle.std.specs.List.{flat_map}
@@ -16,7 +17,8 @@ use Rattle.c25_symbols.specs.Used.{used_in}
 abbrev pub value_digits : ℕ → List ℕ
 value_digits n = if nat_lt n 65536 then four_digits n else eight_digits n
 
--- the keyword of a symbol's kind: a number, an address in its section, or one where its section is loaded
+-- the keyword of a symbol's kind: a number, an address in its section, one where its section is loaded, or a
+-- symbol of another module, which is not listed
 abbrev pub kind_text : SymbolKind → List ℕ
 kind_text Absolute = codes "SET"
 kind_text (InSection index) = codes "IN"

@@ -1,4 +1,4 @@
--- The words of a range that sections have (own).
+-- The words of a range that sections have (this project's own).
 use Rattle.std.specs.Prelude.{ℕ, zero, suc, ◌+◌, ◌==◌, Bool, ◌&&◌, ◌||◌, List, if◌then◌else◌}
 use Rattle.std.specs.List.{list_any}
 use Rattle.c25_meaning_linking.specs.Command.{RangeData}

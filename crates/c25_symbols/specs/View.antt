@@ -30,15 +30,15 @@ place_of s = (section_data s).place
 abbrev pub places_view : List OutputSection → List Place
 places_view sections = map place_of sections
 
--- a symbol
+-- a symbol, as the definitions have it
 abbrev pub entry_view : SymbolEntry → Listed
 entry_view e = record { value = e.value; kind = e.kind; section = e.section.now; source = e.source.now; name = e.name.now }
 
--- symbols
+-- symbols, as the definitions have them
 abbrev pub entries_view : List SymbolEntry → List Listed
 entries_view entries = map entry_view entries
 
--- a range
+-- a range, as the definitions have it
 abbrev pub range_view : RangeUse → RangeData
 range_view r = record { page = r.page; name = r.name.now; origin = r.origin; size = r.size }
 

@@ -24,7 +24,7 @@ use c25_texts::appending::{push_name, push_spaced};
 use std::alloc::Global;
 
 /// The keyword of a symbol's kind: `SET` for a number, `IN` for an address of a section, `LOAD` for one where
-/// a section is loaded.
+/// a section is loaded, `REF` for a symbol of another module, which no text lists.
 fn kind_text(kind: SymbolKind) -> &'static str
     ensures { result.now ≡ kind_text kind }
 {
@@ -90,11 +90,11 @@ fn push_symbols(
 /// A symbol's line is `SYMBOL`, its value in four hexadecimal digits, or in eight where it does not fit in 16
 /// bits, `SET` for a number, `IN` for an address of a section or `LOAD` for one where a section is loaded,
 /// the name of that section, or `-`, the name of the module's source, and its own name. Symbols of one name
-/// are in the order of the modules. A range's line is `RANGE`, its page, its first address, how many words it
-/// has, how many of them a section uses where it is loaded or where it runs, how many are free, and its name.
-/// The sections stand where the map says.
+/// are in the order of the modules. A range's line is `RANGE`, its page, its first address in hexadecimal,
+/// and in five decimal digits each how many words it has, how many of them a section uses where it is loaded
+/// or where it runs, and how many are free; then its name. The sections stand where the map says.
 ///
-/// It fails only where memory runs out.
+/// `NoMemory` where memory runs out.
 pub fn write_symbols(
     alloc: Global,
     modules: &[Module],

@@ -29,7 +29,7 @@ pub record IsFirstToken (text : List ℕ) (from : ℕ) (kind : TokenKind) (start
 abbrev pub pieces_left : Tokens → List Piece
 pieces_left s = (scan_from s.at s.text.now).pieces
 
--- the part of a line that a `Word` stands for: its label, mnemonic or comment has no token
+-- the part of a line that a `Word` stands for: its mnemonic field or its comment
 abbrev pub part_of : Word → Part
 part_of w = record { start = w.start; text = w.text.now }
 

@@ -7,7 +7,7 @@ ghost use Rattle.c25_meaning_language.specs.Line.{past_blanks, past_field};
 
 use c25_meaning_common::bytes::is_blank;
 
-/// Whether a byte is neither a blank nor `;`.
+/// Whether a byte belongs to a field: it is neither a blank, a tab nor `;`.
 fn is_field(b: u8) -> bool
     ensures { result ≡ is_field b }
 {
@@ -28,7 +28,7 @@ fn field_run(text: &[u8]) -> usize
     text.iter().take_while(|b| is_field(**b)).count()
 }
 
-/// Where the blanks that begin at a place end.
+/// The place after the blanks and tabs that begin at a place; that place itself where none begin there.
 pub fn past_blanks(text: &[u8], from: usize) -> usize
     requires { from ≤ length text.now }
     ensures value { result ≡ past_blanks from text.now }
@@ -38,7 +38,7 @@ pub fn past_blanks(text: &[u8], from: usize) -> usize
     from + blank_run(&text[from..])
 }
 
-/// Where the field that begins at a place ends.
+/// The place after the field that begins at a place; that place itself where none begins there.
 pub fn past_field(text: &[u8], from: usize) -> usize
     requires { from ≤ length text.now }
     ensures value { result ≡ past_field from text.now }

@@ -50,8 +50,8 @@ fn is_constant(text: &[u8]) -> bool
     all_digits(base, digits)
 }
 
-/// The number that the text of a constant token stands for; 2,147,483,648, which is not a valid value, where
-/// it stands for more than that.
+/// The number that the text of a constant token stands for; 2,147,483,648, which no expression has as its
+/// value, for any larger one.
 pub fn constant_value(text: &[u8]) -> u32
     ensures { result ≡ min (constant_value text.now) (2 ^ 31) }
 {
@@ -92,7 +92,8 @@ fn all_plain(text: &[u8]) -> bool
     text.iter().all(|b| is_plain(*b))
 }
 
-/// The character constant at the front of a text, by the three bytes after its first quote.
+/// The character constant at the front of a text, by the three bytes after its first quote, or `OpenQuote`
+/// (12).
 fn character_of(c: u8, d: u8, e: u8) -> Lexeme
     ensures { result ≡ character_of c d e }
 {
@@ -132,7 +133,7 @@ fn quoted_of(rest: &[u8]) -> Lexeme
     }
 }
 
-/// The name that begins with a dot, by the text after the dot.
+/// The name that begins with a dot, by the text after the dot, or `StrayText` (13) where no name follows.
 fn dotted_of(rest: &[u8]) -> Lexeme
     ensures { result ≡ dotted_of rest.now }
 {

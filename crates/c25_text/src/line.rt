@@ -47,10 +47,11 @@ impl<'a> Line<'a> {
     }
 }
 
-/// The parts of a line without its end (LF or CR LF), or its leftmost fault: `BadLabel` where the text in
-/// column 1 is no label or a name among the operands is too long, `BadConstant` for a text that begins with a
-/// digit and is no constant, `OpenQuote` for a string that is not closed and a `'` that begins no character,
-/// `StrayText` for a character of no token.
+/// The parts of a line without its end (LF or CR LF), or its leftmost fault: `BadLabel` (10) where the text
+/// in column 1 is no label or a name among the operands is too long, `BadConstant` (11) for a text that
+/// begins with a digit and is no constant, `OpenQuote` (12) for a string that is not closed and a `'` that
+/// begins no character, `StrayText` (13) for a character that is part of no token, or may not stand in the
+/// mnemonic field or in a string.
 pub fn split_line(text: &str) -> Result<Line<'_>, LineFault>
     ensures { MatchResult result (λ l. line_of text.now ≡ Ok (parts_of l)) (λ f. line_of text.now ≡ Err f) }
 {
@@ -101,7 +102,8 @@ fn part_from(text: &str, start: usize) -> Option<Word<'_>>
     }
 }
 
-/// The label in column 1; the field there ends at the first blank or `;`.
+/// The label in the field of column 1, without the colon that may end it; none in an empty field, and
+/// `BadLabel` (10) where the field is no label.
 fn label_of(field: &str) -> Result<Option<&str>, LineFault>
     ensures { MatchResult result (λ o. label_of field.now ≡ Ok (option_map (λ s. s.now) o)) (λ f. label_of field.now ≡ Err f) }
 {
@@ -148,7 +150,8 @@ fn all_visible(text: &[u8]) -> bool
     text.iter().all(|b| is_visible(*b))
 }
 
-/// The mnemonic, directive or macro name.
+/// The mnemonic, directive or macro name in a field; none in an empty field, and `StrayText` (13) where a
+/// byte is not one of 21h to 7Eh.
 fn word_of(start: usize, text: &str) -> Result<Option<Word<'_>>, LineFault>
     ensures { MatchResult result (λ o. word_of start text.now ≡ Ok (option_map part_of o)) (λ f. word_of start text.now ≡ Err f) }
 {

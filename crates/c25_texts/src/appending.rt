@@ -1,4 +1,5 @@
-//! Pieces appended to a text: other texts, numbers in digits, names.
+//! Pieces appended to a text: other texts, numbers in digits, names. Each function fails only where memory
+//! runs out; a part of the piece may then have been appended.
 
 ghost use Rattle.std.specs.Prelude.{◌≡◌, ◌++◌, ◌∷◌, ◌+◌, ◌/◌, ◌%◌, ◌<◌, [], OnOk, string_bytes};
 ghost use Rattle.std.specs.List.{flat_map};
@@ -61,8 +62,8 @@ fn push_ascii(text: &mut String, byte: u8) -> Result<(), NoMemory>
     Ok(text.push(char::from(byte))?)
 }
 
-/// Appends the last five decimal digits of a number, which are all digits of one below 100,000, with
-/// leading zeros.
+/// Appends the last five decimal digits of a number, with leading zeros: all its digits where it is below
+/// 100,000.
 pub fn push_five(text: &mut String, number: u32) -> Result<(), NoMemory>
     ensures { OnOk result (string_bytes text.new ≡ string_bytes text.old
         ++ (48 + number / 10000 % 10) ∷ (48 + number / 1000 % 10) ∷ (48 + number / 100 % 10) ∷ (48 + number / 10 % 10) ∷ (48 + number % 10) ∷ []) }
@@ -90,7 +91,7 @@ pub fn push_spaced(text: &mut String, piece: &str) -> Result<(), NoMemory>
     push_texts(text, &[" ", piece])
 }
 
-/// Appends a blank and the name that ends a line.
+/// Appends a blank, a name, and the LF that ends the line.
 pub fn push_name(text: &mut String, name: &str) -> Result<(), NoMemory>
     ensures { OnOk result (string_bytes text.new ≡ string_bytes text.old ++ 32 ∷ name.now ++ 10 ∷ []) }
 {

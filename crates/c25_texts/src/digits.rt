@@ -1,4 +1,4 @@
-//! Bytes and words in hexadecimal digits of upper case, made without memory.
+//! Bytes and words in hexadecimal digits of upper case, made without the allocator.
 
 ghost use Rattle.std.specs.Prelude.{◌≡◌, ◌+◌, ◌<◌, ◌≤◌, ◌∷◌, [], ◌++◌};
 ghost use Rattle.arrayvec.specs.ArrayString.{array_string_len};

@@ -27,7 +27,7 @@ pub trait LineFormat {
     fn fault() -> Self::Fault;
 }
 
-/// Adds the item of a line; a blank line has none. False where the line is no item.
+/// Adds the item of a line; a blank line adds none. False where the line is not blank and is no item.
 fn add_line<F: LineFormat>(
     alloc: Global,
     items: &mut Vec<F::Item>,
@@ -68,8 +68,8 @@ fn items_in<F: LineFormat>(
     Ok(items)
 }
 
-/// The items of a text, one on each line that is not blank, or its first line that is no item, counted from
-/// 1.
+/// The items of a text, one on each line that is not blank. The first line that is no item is reported by its
+/// number, counted from 1, with the format's fault; `NoMemory` where memory runs out.
 pub fn read_items<F: LineFormat>(
     alloc: Global,
     text: &str,

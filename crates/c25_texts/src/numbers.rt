@@ -8,8 +8,8 @@ use c25_meaning_common::digits::{are_digits, value_in};
 /// How many hexadecimal digits the largest word has.
 const MOST_DIGITS: usize = 4;
 
-/// The number that a text of decimal digits stands for, if it is at most `most`. It may have any number of
-/// leading zeros.
+/// The number that a text of decimal digits stands for, if it is at most `most`. The text may have any number
+/// of leading zeros; without a digit, or with another character, it stands for no number.
 #[tactic(auto, unfolding(c25_meaning_common::specs::Digits::decimal_of))]
 pub fn decimal_of(most: u32, word: &[u8]) -> Option<u32>
     ensures value { result ≡ decimal_of most word.now }
@@ -23,8 +23,8 @@ pub fn decimal_of(most: u32, word: &[u8]) -> Option<u32>
     }
 }
 
-/// The number that a text of hexadecimal digits stands for, if it has at least `least` digits and at most
-/// four.
+/// The number that a text of hexadecimal digits, in either case, stands for, if there are one to four digits,
+/// and no fewer than `least`.
 #[tactic(auto, unfolding(c25_meaning_common::specs::Digits::hexadecimal_of))]
 pub fn hexadecimal_of(least: usize, word: &[u8]) -> Option<u16>
     ensures { result ≡ hexadecimal_of least word.now }

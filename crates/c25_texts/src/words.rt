@@ -24,7 +24,7 @@ pub(crate) fn line_words(alloc: Global, line: &[u8]) -> Result<Vec<&[u8]>, Alloc
         .collect(alloc)
 }
 
-/// Whether a part of a line is this name, in upper or lower case.
+/// Whether a part of a line is this name, its letters in either case.
 pub fn is_word(word: &[u8], name: &str) -> bool
     ensures { result ≡ str_eq_ignore_ascii_case word.now name.now }
 {

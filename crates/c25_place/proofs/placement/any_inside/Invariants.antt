@@ -1,4 +1,4 @@
--- it lies in no range so far
+-- the section lies in no range so far
 use Rattle.std.proofs.Common.{◌≡◌, false, take}
 use Rattle.std.specs.List.{list_any}
 use Rattle.c25_meaning_linking.specs.GoodMap.{is_inside}

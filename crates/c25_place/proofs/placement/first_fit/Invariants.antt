@@ -1,4 +1,4 @@
--- it fits in no range so far
+-- the section fits in no range so far
 use Rattle.std.proofs.Common.{ℕ, List, All, take}
 use Rattle.c25_meaning_linking.specs.GoodMap.{NoneFits}
 use Rattle.c25_meaning_linking.specs.Place as place

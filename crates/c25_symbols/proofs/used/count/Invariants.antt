@@ -1,4 +1,4 @@
--- those so far are counted
+-- the marked words so far are counted
 use Rattle.std.proofs.Common.{◌≡◌, ◌≤◌, ℕ, List}
 use Rattle.c25_meaning_linking.specs.Place.{Place}
 use Rattle.c25_symbols.specs.Used.{used_from}

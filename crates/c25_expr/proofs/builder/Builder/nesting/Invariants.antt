@@ -1,4 +1,4 @@
--- those of the frames so far are counted
+-- the open parentheses and unary operators of the frames so far are counted
 use Rattle.std.proofs.Common.{◌≡◌, ◌≤◌, reverse, take}
 use Rattle.c25_expr.proofs.Frames.{nested}
 use Rattle.c25_expr.proofs.builder.Builder.nesting.Given as goal

@@ -1,4 +1,4 @@
--- those of the frames so far are counted
+-- the open parentheses of the frames so far are counted
 use Rattle.std.proofs.Common.{◌≡◌, ◌≤◌, reverse, take}
 use Rattle.c25_expr.proofs.Frames.{grouped}
 use Rattle.c25_expr.proofs.builder.Builder.open_groups.Given as goal

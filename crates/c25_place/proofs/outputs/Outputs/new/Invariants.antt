@@ -1,4 +1,4 @@
--- each name has what the sections so far come to
+-- each name has the sum of the sections so far
 use Rattle.std.proofs.Common.{◌≡◌, ℕ, List, take}
 use Rattle.c25_place.specs.Outputs.{output_of}
 use Rattle.c25_place.specs.View.{named, sections_view}
