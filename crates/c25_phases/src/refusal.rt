@@ -17,11 +17,9 @@ pub fn at_origin<'a>(
 {
     match failure {
         Failure::NoMemory(error) => Failure::NoMemory(error),
-        Failure::Fault(fault) => {
-            Failure::Fault(AsmFault::Line(Placed {
-                place: origin,
-                fault,
-            }))
-        }
+        Failure::Fault(fault) => Failure::Fault(AsmFault::Line(Placed {
+            place: origin,
+            fault,
+        })),
     }
 }
