@@ -99,8 +99,8 @@ fn read_named<D: Disk>(
 }
 
 /// Reads the files that the texts from number `first` on name plainly, and the files that those name, until
-/// `files` has `most` texts. Answers the number of the first text that is still to be looked at. An error is
-/// that memory ran out; a file that cannot be read is none.
+/// `files` has `most` texts. Where a file cannot be read, the rest of those that its text names is passed
+/// over. Answers the number of the first text that is still to be looked at; an error is that memory ran out.
 pub(crate) fn read_ahead<D: Disk>(
     alloc: Global,
     disk: &D,
