@@ -96,7 +96,7 @@ fn keep(acc: &mut Acc, total: Total, carry: bool, ovm: bool)
     acc.value = total.bits;
 }
 
-/// `A += v`, where v is `addend` as a signed number. C is the carry out of the 32 bits. Where the sum lies
+/// `ACC += v`, where v is `addend` as a signed number. C is the carry out of the 32 bits. Where the sum lies
 /// outside 32 signed bits, OV is set, and with `ovm` the accumulator takes the end of the range on its side.
 #[tactic(auto, unfolding(c25_meaning_processor::specs::Arithmetic::sum))]
 #[inline(always)]
@@ -108,7 +108,7 @@ pub fn add(acc: &mut Acc, addend: u32, ovm: bool)
     keep(acc, total, carry, ovm);
 }
 
-/// `A -= v`, where v is `amount` as a signed number. C is 0 where the 32 bits borrow. OV and saturation are
+/// `ACC -= v`, where v is `amount` as a signed number. C is 0 where the 32 bits borrow. OV and saturation are
 /// as for [`add`].
 #[tactic(auto, unfolding(c25_meaning_processor::specs::Arithmetic::difference))]
 #[inline(always)]

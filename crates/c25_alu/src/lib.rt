@@ -1,5 +1,5 @@
 //! The data path of the processor: operations on the 32 bits of the accumulator and its flags (SPRU014,
-//! "Central Arithmetic Logic Unit"). Nothing here takes memory.
+//! "Central Arithmetic Logic Unit"). Nothing here allocates.
 #![tactic(auto)]
 
 mod addition;

@@ -22,8 +22,8 @@ pub fn shift_left(value: u32, shift: u16) -> u32
     }
 }
 
-/// A value times 2^`shift`, cut to 32 bits, for shifts below 32: every shift of an instruction is, so that no
-/// step tests it.
+/// A value times 2^`shift`, cut to 32 bits, for shifts below 32. The shift of every instruction is below 32,
+/// so that no step tests it.
 #[inline(always)]
 pub fn moved_left(value: u32, shift: u16) -> u32
     requires { shift < 32 }
@@ -68,7 +68,7 @@ pub fn shift_left_once(acc: Acc) -> Acc
     }
 }
 
-/// The accumulator after `SFR`: bit 0 goes to C, and with `sxm` the sign stays.
+/// The accumulator after `SFR`: bit 0 goes to C, and bit 31 stays with `sxm`, else it becomes 0.
 #[tactic(auto, unfolding(c25_meaning_processor::specs::Arithmetic::right_once))]
 pub fn shift_right_once(acc: Acc, sxm: bool) -> Acc
     ensures { result ≡ right_once acc sxm }

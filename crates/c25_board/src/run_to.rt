@@ -26,8 +26,8 @@ impl<F: Feed + Drop, S: Sink + Drop> Board<F, S> {
     ghost use Rattle.c25_board.specs.Board.{entries, signals, state, steps};
     ghost use Rattle.c25_board.specs.RunTo.{IsRunTo};
 
-    /// Whether a breakpoint is met: one is set at PC, and the next step begins an instruction. The breakpoint
-    /// is tested first, since there is seldom one.
+    /// Whether a breakpoint is met: one is set at PC, no repeat is running, and the processor is awake. The
+    /// breakpoint is tested first, since there is seldom one.
     #[inline(always)]
     fn meets(&self, breaks: &Breakpoints) -> bool
         ensures { result ≡ is_met breaks.now (state self.now) }

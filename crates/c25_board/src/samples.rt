@@ -111,7 +111,7 @@ impl LineFormat for SampleLines {
 }
 
 /// The samples of a text. `BadSamples` comes with the first line that is neither blank nor a sample, counted
-/// from 1.
+/// from 1, and `NoMemory` where memory runs out.
 pub fn read_samples(
     alloc: Global,
     text: &str,

@@ -103,7 +103,7 @@ impl LineFormat for EntryLines {
 }
 
 /// The schedule of a text. `BadSchedule` comes with the first line, counted from 1, that is neither blank nor
-/// an entry, or whose step is less than the one before it.
+/// an entry, or whose step is less than that of the entry before it, and `NoMemory` where memory runs out.
 pub fn read_schedule(
     alloc: Global,
     text: &str,

@@ -30,6 +30,6 @@ abbrev pub steps_of : ℕ → Ending → ℕ
 steps_of n (Ran t) = n
 steps_of n (Left j stop t) = j
 
--- the text of n steps that end so: that of an answer with this run
+-- the text of n steps with this end, which is that of an answer with this run
 abbrev pub end_text : ℕ → Ending → List ℕ
 end_text n e = outputs_text (last_state e).world.outputs ++ outcome_text (outcome_of e) (steps_of n e)

@@ -24,7 +24,7 @@ Readies g (Err (failure.Fault f)) = IsRefused g (refusal_of f)
 
 -- ---- its run
 
--- n steps of the program's words end so, under its samples and its schedule
+-- n steps of the program's words have this end, under its samples and its schedule
 abbrev pub RunsReady : Ready → ℕ → Ending → Type 0
 RunsReady r = RunsItsWords r.built.linked.image r.samples r.schedule
 
@@ -32,8 +32,8 @@ RunsReady r = RunsItsWords r.built.linked.image r.samples r.schedule
 abbrev pub statements_end : Given → Ready → ℕ → Ending
 statements_end g r = statements_run g.files g.sources r.built.linked.image r.samples r.schedule
 
--- an answer is of that program and of that run: its samples and entries are the same, its n steps end so, it
--- has the outcome of this end, and their text is one
+-- an answer is of this program with its inputs, and of this end of its run: its samples and entries are the
+-- program's, its n steps have this end, it has the outcome of this end, and their text is one
 pub record IsAnswerOf (r : Ready) (n : ℕ) (end : Ending) (g : Given) (c : Chain) (a : IsAnswer g n c) : Type 0 where
   pub image : a.image ≡ r.built.linked.image
   pub inputs : a.inputs ≡ record { samples = r.samples; entries = r.schedule }

@@ -33,7 +33,7 @@ pub record Shows (t : State) (d : RunData) : Type 0 where
   pub size : length d.memory ≡ 65536
   pub memory : (address : ℕ) → address < 65536 → slice_index d.memory address ≡ t.world.words address
 
--- a run of n steps that ends so has this outcome and number of steps, and shows its last state
+-- a run of n steps with this end has this outcome and number of steps, and shows its last state
 abbrev pub EndsAs : ℕ → Ending → RunData → Type 0
 EndsAs n (Ran t) d = (d.outcome ≡ outcome.Ran) × (d.steps ≡ n) × Shows t d
 EndsAs n (Left j stop t) d = (d.outcome ≡ outcome.Left j stop) × (d.steps ≡ j) × Shows t d

@@ -31,7 +31,7 @@ pub fn product_word(registers: &Registers) -> u32
     shifted_product(registers.p, registers.pm)
 }
 
-/// A += v, where v is the signed number of these bits.
+/// ACC += v, where v is the signed number of these bits.
 #[inline(always)]
 pub fn plus(registers: &mut Registers, addend: u32)
     ensures { registers.new ≡ plus (signed addend 32) registers.old }
@@ -40,7 +40,7 @@ pub fn plus(registers: &mut Registers, addend: u32)
     add(&mut registers.acc, addend, ovm);
 }
 
-/// A -= v, where v is the signed number of these bits.
+/// ACC -= v, where v is the signed number of these bits.
 #[inline(always)]
 pub fn minus(registers: &mut Registers, amount: u32)
     ensures { registers.new ≡ minus (signed amount 32) registers.old }
@@ -49,7 +49,7 @@ pub fn minus(registers: &mut Registers, amount: u32)
     subtract(&mut registers.acc, amount, ovm);
 }
 
-/// A += a number below 2^31.
+/// ACC += a number below 2^31.
 #[inline(always)]
 pub fn plus_natural(registers: &mut Registers, number: u32)
     requires { number < 2 ^ 31 }
@@ -58,7 +58,7 @@ pub fn plus_natural(registers: &mut Registers, number: u32)
     plus(registers, number)
 }
 
-/// A -= a number below 2^31.
+/// ACC -= a number below 2^31.
 #[inline(always)]
 pub fn minus_natural(registers: &mut Registers, number: u32)
     requires { number < 2 ^ 31 }
@@ -67,7 +67,7 @@ pub fn minus_natural(registers: &mut Registers, number: u32)
     minus(registers, number)
 }
 
-/// A = a word times 2^`shift`.
+/// ACC = a word times 2^`shift`; under SXM 1 the word has its sign. No flag changes.
 #[inline(always)]
 pub fn become_scaled(registers: &mut Registers, word: u16, shift: u16)
     requires { shift < 16 }
@@ -77,7 +77,7 @@ pub fn become_scaled(registers: &mut Registers, word: u16, shift: u16)
     registers.acc.value = scaled(registers.sxm, word, shift);
 }
 
-/// A += a word times 2^`shift`.
+/// ACC += a word times 2^`shift`; under SXM 1 the word has its sign.
 #[inline(always)]
 pub fn plus_scaled(registers: &mut Registers, word: u16, shift: u16)
     requires { shift < 16 }
@@ -86,7 +86,7 @@ pub fn plus_scaled(registers: &mut Registers, word: u16, shift: u16)
     plus(registers, scaled(registers.sxm, word, shift))
 }
 
-/// A -= a word times 2^`shift`.
+/// ACC -= a word times 2^`shift`; under SXM 1 the word has its sign.
 #[inline(always)]
 pub fn minus_scaled(registers: &mut Registers, word: u16, shift: u16)
     requires { shift < 16 }
@@ -95,7 +95,7 @@ pub fn minus_scaled(registers: &mut Registers, word: u16, shift: u16)
     minus(registers, scaled(registers.sxm, word, shift))
 }
 
-/// A += p.
+/// ACC += P, shifted as PM says.
 #[inline(always)]
 pub fn plus_product(registers: &mut Registers)
     ensures { registers.new ≡ plus_product registers.old }
@@ -103,7 +103,7 @@ pub fn plus_product(registers: &mut Registers)
     plus(registers, product_word(registers))
 }
 
-/// A -= p.
+/// ACC -= P, shifted as PM says.
 #[inline(always)]
 pub fn minus_product(registers: &mut Registers)
     ensures { registers.new ≡ minus_product registers.old }
@@ -111,7 +111,7 @@ pub fn minus_product(registers: &mut Registers)
     minus(registers, product_word(registers))
 }
 
-/// A += a high word. C is set where there is a carry, and otherwise stays as it is.
+/// ACC += a word times 2^16. C is set where there is a carry, and otherwise stays as it is.
 #[inline(always)]
 pub fn plus_high(registers: &mut Registers, word: u16)
     ensures { registers.new ≡ plus_high word registers.old }
@@ -121,7 +121,7 @@ pub fn plus_high(registers: &mut Registers, word: u16)
     registers.acc.c = carry || registers.acc.c;
 }
 
-/// A -= a high word. C is cleared where there is a borrow, and otherwise stays as it is.
+/// ACC -= a word times 2^16. C is cleared where there is a borrow, and otherwise stays as it is.
 #[inline(always)]
 pub fn minus_high(registers: &mut Registers, word: u16)
     ensures { registers.new ≡ minus_high word registers.old }

@@ -64,7 +64,7 @@ pub fn count(registers: &mut Registers)
     registers.repeated = registers.repeated.wrapping_add(1);
 }
 
-/// Ends a repeat after its last repetition, and moves PC past its instruction, which has this size.
+/// Ends a repeat with its last repetition, and moves PC past its instruction, which has this size.
 #[inline(always)]
 #[tactic(auto, using(crate::proofs::Alone::ended))]
 pub fn end_repeat(registers: &mut Registers, size: u16)

@@ -35,7 +35,7 @@ pub fn asks(registers: &Registers, mask: u16, line: Lines) -> bool
     registers.latched.contains(line) && mask & u16::from(line.bits()) == u16::from(line.bits())
 }
 
-/// Takes the interrupt of the lowest line that is latched and has its bit in the mask set.
+/// Takes the interrupt of the lowest line that is latched and has its bit in the mask set, if there is one.
 #[tactic(auto, unfolding(c25_meaning_processor::specs::Step::taken_under))]
 fn take_under(registers: &mut Registers, mask: u16)
     ensures { registers.new ≡ taken_under mask registers.old }
@@ -49,7 +49,8 @@ fn take_under(registers: &mut Registers, mask: u16)
     }
 }
 
-/// Takes an interrupt, unless a repeat is running, `EINT` was the last instruction, or INTM is 1.
+/// Takes the interrupt of a line that is latched and has its bit in the mask set, if there is one, unless a
+/// repeat is running, `EINT` was the last instruction, or INTM is 1.
 fn interrupt(registers: &mut Registers, mask: u16)
     ensures { registers.new ≡ interrupted mask registers.old }
 {

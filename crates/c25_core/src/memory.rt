@@ -16,7 +16,7 @@ fn is_in_b0(address: u16) -> bool
     0x200 <= address && address < 0x300
 }
 
-/// Whether a program address is one of block B0 under CNF 1.
+/// Whether a program address is one of those at which block B0 is seen under CNF 1.
 fn is_in_program_b0(address: u16) -> bool
     ensures { result ≡ in_program_b0 address }
 {
@@ -98,7 +98,8 @@ fn write_program<B: Bus>(bus: &mut B, cnf: bool, address: u16, word: u16)
     bus.set_program(address, word)
 }
 
-/// Writes a program word, unless it belongs to an instruction, which is a stop.
+/// Writes a program word. Where the word is a loaded word of an instruction, nothing is written: `CodeWrite`.
+/// The words of block B0, seen as program memory under CNF 1, may be written.
 pub fn store_program<B: Bus>(
     registers: &Registers,
     bus: &mut B,

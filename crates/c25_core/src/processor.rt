@@ -103,8 +103,8 @@ impl Core {
         self.registers.cnf && 0xFF00 <= self.registers.pc
     }
 
-    /// Whether the next step begins an instruction: no repeat is running, and the processor is
-    /// awake.
+    /// Whether the next step begins an instruction, unless it takes an interrupt: no repeat is running, and
+    /// the processor is awake.
     pub fn settled(&self) -> bool
         ensures { result ≡ (not self.now.repeating && not self.now.asleep) }
     {
@@ -125,7 +125,7 @@ impl Core {
         read_program(bus, self.registers.cnf, address)
     }
 
-    /// The place of the instruction that runs at PC in block B0; None under CNF 0.
+    /// The place of the instruction that runs at PC in block B0; None where none does, and under CNF 0.
     pub fn run_mark<B: Bus>(&self, bus: &B) -> Option<RunMark>
         ensures { result ≡ mark_found self.now.cnf (B.world bus.now) self.now.pc }
     {

@@ -29,7 +29,9 @@ pub fn is_unrepeatable(insn: &Insn) -> bool
     }
 }
 
-/// Runs the instruction, or stops where there is none, unless the processor sleeps.
+/// Runs the instruction, unless the processor sleeps. The step stops with `OutOfCode` where there is no
+/// instruction, and with `BadRepeat` where a repeat is running and the instruction may not be repeated; other
+/// halts are those of `execute`.
 #[tactic(auto, unfolding(c25_meaning_processor::specs::Step::stepped))]
 pub fn turn<B: Bus>(
     registers: &mut Registers,

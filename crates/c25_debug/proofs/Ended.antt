@@ -34,7 +34,7 @@ ended signals breaks kept n k j before now s t (halted.SinkFault at) text refuse
       puts = subst (λ (x : ℕ). Puts signals x t) (sym j_is) puts;
     })
 
--- the same of an answer that may be refused
+-- an answer to a run, which may be refused, says how the run ended
 pub told_of : {E : Type 0} (signals : Signals) (breaks : List ℕ) (n k m j before now steps pc : ℕ) (s t : State) (h : Halted) (empty : List ℕ) (r : Result Answer E)
     → m ≡ tried k n → IsRunTo signals breaks k m s h j t before now → empty ≡ [] → steps ≡ j → pc ≡ t.registers.pc
     → IfOk r (λ told. string_bytes told.text ≡ empty ++ end_text h steps pc) → IfOk r (λ told. told.is_refused ≡ is_sunk h)

@@ -14,12 +14,12 @@ use Rattle.c25_debug.specs.declared.steps.Answer.{Answer}
 pub only_line : (line : ℕ → List ℕ) (address pc : ℕ) (empty text : List ℕ) → address ≡ pc → empty ≡ [] → text ≡ empty ++ line address → text ≡ line pc
 only_line line address pc empty text at none written = written ∙ ap (λ (e : List ℕ). e ++ line address) none ∙ ap line at
 
--- this place was found
+-- the line of PC where the place of an instruction was found
 pub where_by : (image : ImageData) (s : State) (found : Option RunMark) (m : RunMark) (text : List ℕ)
     → found ≡ Some m → IsWhereBy image s (Some m) text → IsWhereBy image s found text
 where_by image s found m text is shown = subst (λ (f : Option RunMark). IsWhereBy image s f text) (sym is) shown
 
--- nothing is fetched of it: an answer that may be refused has the line of the mark at PC
+-- nothing is fetched at a place that was found: an answer that may be refused has the line of the mark at PC
 pub nothing_fetched : {E : Type 0} (image : ImageData) (s : State) (found : Option RunMark) (m : RunMark) (address : ℕ) (r : Result Answer E)
     → found ≡ Some m → IsFetchedBy s.registers.cnf s.world s.registers.pc (Some m) None → address ≡ s.registers.pc
     → IfOk r (λ told. IsWhere image.program (source_line_at image) address (size_at image.marks address) (string_bytes told.text))

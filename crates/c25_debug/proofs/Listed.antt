@@ -47,7 +47,7 @@ module _ (words : map.FinMap nat_cmp ℕ) (sources : ℕ → SourceLine) (marks 
       from_mark (get_or marks i d) (drop (i + 1) marks) fewer text line next there is e
       (subst (λ (n : ℕ). Finishes words sources marks address count before (get_or marks i d ∷ drop (i + 1) marks) n text) counted (split_at i left text d lt h))
 
-  -- one below it is not
+  -- a mark below the address is not shown
   pub one_passed : (i left same : ℕ) (text next : List ℕ) (d : Mark) → i < length marks → left ≡ same → nat_le address (get_or marks i d).address ≡ false → text ≡ next
       → Finishes words sources marks address count before (drop i marks) left text → Finishes words sources marks address count before (drop (i + 1) marks) same next
   one_passed i left same text next d lt counted away e h =

@@ -1,5 +1,5 @@
 -- What a session's answers say: what the definition says, or that the sink refused a word in one of the steps
--- (own).
+-- (this project's own).
 use Rattle.std.specs.Prelude.{◌≡◌, ◌<◌, ℕ, ◌+◌, Bool, true, false, List, []}
 use Rattle.c25_board.specs.Board.{state, steps}
 use Rattle.c25_board.specs.Run.{Puts}
@@ -22,8 +22,8 @@ use Rattle.c25_meaning_processor.specs.declared.script.Cmd.TheVariants as cmd
 abbrev pub point_of : {F S : Type 0} {feed : feeds.Ghosts F} {sink : sinks.Ghosts S} → Board F S feed sink → List ℕ → Point
 point_of board breaks = record { steps = steps board; state = state board; breaks = breaks }
 
--- the sink refused a word in one of n steps from a point on, none past one of these breakpoints; it had
--- failed so often before and so often now
+-- the sink refused a word in one of n steps from a point on, and after no step before that one a breakpoint
+-- was met; the last two numbers are the sink's failures before and now
 pub record IsSunk (signals : Signals) (breaks : List ℕ) (n : ℕ) (p : Point) (text : List ℕ) (q : Point) (before now : ℕ) : Type 0 where
   pub done : ℕ
   pub below : done < tried p.steps n

@@ -11,7 +11,7 @@ use c25_board::breakpoints::{Breakpoints, MOST};
 use c25_meaning_common::no_memory::NoMemory;
 use std::alloc::Global;
 
-/// Whether a breakpoint can be set: it is set already, or fewer than the most are.
+/// Whether a breakpoint can be set: it is set already, or fewer than `MOST` are.
 fn can_be_set(breakpoints: &Breakpoints, address: u16) -> bool
     ensures { result ≡ can_set breakpoints.now address }
 {

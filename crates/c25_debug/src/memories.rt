@@ -6,7 +6,7 @@ use crate::answers::memory::Memory;
 use c25_board::board::Board;
 use c25_board::ports::{Feed, Sink};
 
-/// Data memory.
+/// The data memory of a board, as the processor reads it.
 #[derive(Drop)]
 pub(crate) struct DataMemory<'a, F: Feed + Drop, S: Sink + Drop> {
     pub(crate) board: &'a Board<F, S>,
@@ -23,7 +23,7 @@ impl<F: Feed + Drop, S: Sink + Drop> Memory for DataMemory<'_, F, S> {
     }
 }
 
-/// Program memory.
+/// The program memory of a board, as the processor reads it.
 #[derive(Drop)]
 pub(crate) struct ProgramMemory<'a, F: Feed + Drop, S: Sink + Drop> {
     pub(crate) board: &'a Board<F, S>,

@@ -138,7 +138,7 @@ impl LineFormat for CommandLines {
 }
 
 /// The script of a text. `BadCommand` comes with the first line that is neither blank nor a command, counted
-/// from 1.
+/// from 1, and `NoMemory` where memory runs out.
 pub fn read_script(alloc: Global, text: &str) -> Result<Script, Failure<Placed<usize, BadCommand>>>
     ensures { MeetsBy (λ f. f.place) (λ x. x) (script_of text.now) result }
 {

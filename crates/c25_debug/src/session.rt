@@ -31,7 +31,7 @@ impl<'a, F: Feed + Drop, S: Sink + Drop> Session<'a, F, S> {
     ghost use Rattle.c25_debug.specs.Told.{point_of};
     ghost use Rattle.c25_debug.specs.Told as meant;
 
-    /// A session over a board that runs this image, with no breakpoint set. It takes no memory.
+    /// A session over a board that runs this image, with no breakpoint set. Nothing is allocated.
     pub fn new(alloc: Global, board: Board<F, S>, image: &'a Image) -> Self
         ensures board { result.board ≡ board }
         ensures image { result.image.now ≡ image.now }
@@ -54,7 +54,8 @@ impl<'a, F: Feed + Drop, S: Sink + Drop> Session<'a, F, S> {
         &self.board
     }
 
-    /// Whether the last text that was answered says that the sink refused a word.
+    /// Whether the last text that was answered says that the sink refused a word; false before the first
+    /// text.
     pub fn refused(&self) -> bool
         ensures { result ≡ self.now.is_refused }
     {
@@ -90,9 +91,9 @@ impl<'a, F: Feed + Drop, S: Sink + Drop> Session<'a, F, S> {
         }
     }
 
-    /// Does what a command asks for, and answers its text. No step is done after 4,294,967,295 in all. Out of
-    /// memory, nothing is done: the board and the breakpoints are as they were, and so is what `refused`
-    /// answers.
+    /// Does what a command asks for, and answers its text, which also says where a step stopped or the sink
+    /// refused a word. No step is done after 4,294,967,295 in all. Out of memory, nothing is done: the board
+    /// and the breakpoints are as they were, and so is what `refused` answers.
     pub fn command(&mut self, command: &Cmd) -> Result<String, NoMemory>
         requires { IsWithin command.now }
         ensures answer { IfOk result (λ text. meant.Told (signals self.old.board) self.old.image.now command.now

@@ -21,7 +21,7 @@ use c25_meaning_common::no_memory::NoMemory;
 use c25_meaning_image::marks::size_at;
 use std::alloc::Global;
 
-/// The registers.
+/// The answer to `regs`: the registers.
 pub(crate) fn show_registers<F: Feed + Drop, S: Sink + Drop>(
     alloc: Global,
     board: &Board<F, S>,
@@ -34,7 +34,7 @@ pub(crate) fn show_registers<F: Feed + Drop, S: Sink + Drop>(
     Ok(shown(text))
 }
 
-/// The hardware stack.
+/// The answer to `stack`: the hardware stack.
 pub(crate) fn show_stack<F: Feed + Drop, S: Sink + Drop>(
     alloc: Global,
     board: &Board<F, S>,
@@ -47,7 +47,7 @@ pub(crate) fn show_stack<F: Feed + Drop, S: Sink + Drop>(
     Ok(shown(text))
 }
 
-/// Words of data memory.
+/// The answer to `data`: words of data memory, as the processor reads them.
 pub(crate) fn show_data<F: Feed + Drop, S: Sink + Drop>(
     alloc: Global,
     board: &Board<F, S>,
@@ -63,7 +63,7 @@ pub(crate) fn show_data<F: Feed + Drop, S: Sink + Drop>(
     Ok(shown(text))
 }
 
-/// Words of program memory.
+/// The answer to `prog`: words of program memory, as the processor reads them.
 pub(crate) fn show_program<F: Feed + Drop, S: Sink + Drop>(
     alloc: Global,
     board: &Board<F, S>,
@@ -79,7 +79,7 @@ pub(crate) fn show_program<F: Feed + Drop, S: Sink + Drop>(
     Ok(shown(text))
 }
 
-/// The image's instruction at an address.
+/// The line of the image's instruction at an address, which has `none` where no instruction starts there.
 fn show_mark(alloc: Global, image: &Image, address: u16) -> Result<Answer, NoMemory>
     ensures text { IfOk result (λ answer. IsWhere image.now.program (source_line_at image.now) address (marks.size_at image.now.marks address) (string_bytes answer.text)) }
     ensures refused { IfOk result (λ answer. answer.is_refused ≡ false) }
@@ -90,8 +90,8 @@ fn show_mark(alloc: Global, image: &Image, address: u16) -> Result<Answer, NoMem
     Ok(shown(text))
 }
 
-/// The instruction at PC: the one that is fetched there from block B0, if there is one, otherwise the
-/// image's.
+/// The answer to `where`: the instruction that is fetched at PC from block B0, if there is one, otherwise the
+/// image's instruction at PC.
 pub(crate) fn show_place<F: Feed + Drop, S: Sink + Drop>(
     alloc: Global,
     image: &Image,
@@ -115,7 +115,7 @@ pub(crate) fn show_place<F: Feed + Drop, S: Sink + Drop>(
     }
 }
 
-/// The first `count` instructions of the image at an address or after it.
+/// The answer to `list`: the first `count` instructions of the image at an address or after it.
 pub(crate) fn show_list(
     alloc: Global,
     image: &Image,
@@ -130,7 +130,7 @@ pub(crate) fn show_list(
     Ok(shown(text))
 }
 
-/// The image's symbols.
+/// The answer to `symbols`: a line for each symbol of the image.
 pub(crate) fn show_symbols(alloc: Global, image: &Image) -> Result<Answer, NoMemory>
     ensures text { IfOk result (λ answer. string_bytes answer.text ≡ symbols_text image.now.described.symbols) }
     ensures refused { IfOk result (λ answer. answer.is_refused ≡ false) }

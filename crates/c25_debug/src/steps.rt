@@ -38,7 +38,8 @@ fn is_refusal(halted: Halted) -> bool
     matches!(halted, Halted::SinkFault(_))
 }
 
-/// The answer to a run that ended so, with the steps done in all and PC: its text is appended to `text`.
+/// The answer to steps that ended in this way, with the number of steps done in all and PC, whose line is
+/// appended to `text`.
 fn answer_halted(mut text: String, halted: Halted, steps: u32, pc: u16) -> Result<Answer, NoMemory>
     ensures text { IfOk result (λ answer. string_bytes answer.text ≡ string_bytes text ++ end_text halted steps pc) }
     ensures refused { IfOk result (λ answer. answer.is_refused ≡ is_sunk halted) }
@@ -51,8 +52,9 @@ fn answer_halted(mut text: String, halted: Halted, steps: u32, pc: u16) -> Resul
     })
 }
 
-/// At most `count` steps of a board, none after one of these breakpoints is met and none after the last that
-/// can be counted, and their answer. The answer's memory is taken before the first step.
+/// Does at most `count` steps of a board, none after one of these breakpoints is met and none after the last
+/// that can be counted, and answers how they ended. The answer's memory is taken before the first step: out
+/// of memory, no step is done.
 pub(crate) fn answer_steps<F: Feed + Drop, S: Sink + Drop>(
     alloc: Global,
     board: &mut Board<F, S>,

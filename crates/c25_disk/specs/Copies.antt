@@ -75,7 +75,7 @@ abbrev pub EndsOver : {A F : Type 0} → Held → Files → (Files → Result A 
 EndsOver held given comes_to missing result =
     (files : Files) × HasCopied held given 256 files × IsEnd (comes_to files) missing files result
 
--- such an answer, or none yet
+-- the answer of a task over given files and at most 256 others, or none yet
 abbrev pub EndsAhead : {A F : Type 0} → Held → Files → (Files → Result A (Failure F) → Type 0) → (F → Option (List ℕ)) → Result (Option A) (Failure (CopyFault F)) → Type 0
 EndsAhead held given comes_to missing (Ok (Some a)) = EndsOver held given comes_to missing (Ok a)
 EndsAhead held given comes_to missing (Ok None) = Unit {0}

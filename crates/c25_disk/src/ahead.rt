@@ -9,8 +9,9 @@ use crate::sources::{add_file, is_among};
 use c25_files::files::Files;
 use std::alloc::{AllocError, Global};
 
-/// The name of the file that a line copies, where the line shows it: a `.copy` or `.include` directive with a
-/// string that has no quote in it.
+/// The name that a line plainly copies: the text up to the next quote in a line that begins, after white
+/// space, with `.copy` or `.include` in lower case and a quote. Other lines may copy files too: what a line
+/// copies the task itself finds.
 fn name_copied(line: &str) -> Option<&str> {
     let line = line.trim_start();
     let operand = line
@@ -97,8 +98,9 @@ fn read_named<D: Disk>(
     Ok(())
 }
 
-/// Reads the files that the texts from number `first` on name plainly, and the files that those name. Answers
-/// the number after the last text.
+/// Reads the files that the texts from number `first` on name plainly, and the files that those name, until
+/// `files` has `most` texts. Where a file cannot be read, the rest of those that its text names is passed
+/// over. Answers the number of the first text that is still to be looked at; an error is that memory ran out.
 pub(crate) fn read_ahead<D: Disk>(
     alloc: Global,
     disk: &D,

@@ -16,7 +16,7 @@ pub(crate) enum Turn<A> {
 }
 
 /// The result of an attempt that ended with a fault: the missing file's name, where the fault asks for a file
-/// that has not been read.
+/// that has not been read, and otherwise the fault.
 #[tactic(auto, using(crate::proofs::Asked::there, crate::proofs::Asked::there_none, crate::proofs::Asked::lacking))]
 fn after_fault<W: Work>(
     alloc: Global,

@@ -45,7 +45,8 @@ fn add_copy<D: Disk, F: Drop>(
     }
 }
 
-/// Runs the task when no further file may be copied: a file that it asks for cannot be read (8).
+/// Runs the task when no further file may be copied: where it asks for one more, that one is `CannotRead`
+/// (8).
 fn last_attempt<W: Work>(
     alloc: Global,
     files: &Files,
@@ -137,7 +138,8 @@ fn with_either<D: Disk, W: Work>(
 /// Runs a task over the given files. When the task needs a copied file that has not been read, it stops and
 /// names the file; that file is read, with those that lines of the texts plainly copy, and the task runs
 /// again from the start. At most 256 files are copied. Where the task then asks for one more, it runs anew
-/// with only the files that it asks for, and the 257th of these is `CannotRead` (8).
+/// with only the files that it asks for. `CopyFault::File` is `CannotRead` (8), of a file that the task asks
+/// for and that cannot be read, or of the 257th of them; `CopyFault::Work` is the task's own fault.
 pub fn with_copies<D: Disk, W: Work>(
     alloc: Global,
     disk: &D,

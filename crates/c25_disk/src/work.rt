@@ -41,7 +41,7 @@ pub trait Work {
 #[derive(Debug, Drop, Error)]
 #[error_bound(F: fmt::Display)]
 pub enum CopyFault<F> {
-    /// A file that the task asks for cannot be read.
+    /// A file that the task asks for cannot be read, or is the 257th of them (8).
     #[error(transparent)]
     File(Placed<String, FileFault>),
     /// The task's own fault, which asks for no file that is missing.

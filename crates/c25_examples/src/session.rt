@@ -110,8 +110,9 @@ fn number_of(status: ExitCode) -> u8 {
     u8::MAX
 }
 
-/// Runs a command: `c25 ARGUMENTS..`; `cat FILE`; `od` and `sed` as above; `echo $?`, which prints the status
-/// of the call before; or a call of a library. A call of the program sets `status`.
+/// Runs a command: `c25 ARGUMENTS..`, after `echo 'TEXT' |` too; `cat FILE`; `od` and `sed` as above; `echo
+/// $?`, which prints the status of the call before; or a call of a library. A call of the program sets
+/// `status`.
 fn run_command(rt: &HostRuntime, line: &str, status: &mut ExitCode) -> Result<()> {
     let (name, told) = line.split_once(' ').unwrap_or((line, ""));
     match name {

@@ -50,12 +50,12 @@ IsFieldNote names modules command note = (f : MisfitData) × IsMisfitUnder modul
 
 -- ---- where it is looked for
 
--- in sources of these names among files
+-- the note is about a field of the sources of these names among files
 abbrev pub IsFieldAmong : Files → List (List ℕ) → List ℕ → FieldNote → Type 0
 IsFieldAmong files names command note = (all : Modules) × (modules_of files names ≡ Ok all) × IsFieldNote names all.modules command note
 
--- in sources of a disk, over their files and at most 256 others that they copy, under a command file where
--- one is named
+-- the note is about a field of sources of a disk, over their files and at most 256 others that they copy,
+-- under a command file where one is named
 pub record IsFieldOfSources (held : Held) (sources : List (List ℕ)) (command : Option (List ℕ)) (note : FieldNote) : Type 0 where
   pub given : Files
   pub read : ReadsSources held [] sources (Ok given)
@@ -65,7 +65,7 @@ pub record IsFieldOfSources (held : Held) (sources : List (List ℕ)) (command :
   pub copied : HasCopied held given 256 files
   pub told : IsFieldAmong files sources text note
 
--- in objects of a disk, under a command file
+-- the note is about a field of objects of a disk, under a command file where one is named
 pub record IsFieldOfObjects (held : Held) (objects : List (List ℕ)) (command : Option (List ℕ)) (note : FieldNote) : Type 0 where
   pub text : List ℕ
   pub of_command : IsOptional held command text
@@ -75,7 +75,7 @@ pub record IsFieldOfObjects (held : Held) (objects : List (List ℕ)) (command :
   pub are : modules_in files ≡ Ok modules
   pub told : IsFieldNote objects modules text note
 
--- in the objects, if there are any, and else in the sources
+-- the note is about a field of the objects, if there are any, and else of the sources
 abbrev pub IsFieldOver : Held → (command : Option (List ℕ)) → (sources objects : List (List ℕ)) → FieldNote → Type 0
 IsFieldOver held command sources [] note = IsFieldOfSources held sources command note
 IsFieldOver held command sources (object ∷ objects) note = IsFieldOfObjects held (object ∷ objects) command note

@@ -55,7 +55,7 @@ IsLineOf file number text shown.Nothing = line_of text number ≡ None
 IsLineOf file number text (shown.Line of_file at line) = (of_file.now ≡ file) × (at ≡ number) × (line_of text number ≡ Some line.now)
 IsLineOf file number text (shown.Unread of_file why) = ⊥
 
--- the line of this number of what the file holds, or nothing, as where it cannot be read
+-- the line of this number of what the file holds, or nothing, for instance where the file cannot be read
 abbrev pub IsLineAt : Held → (file : List ℕ) → (number : ℕ) → Shown → Type 0
 IsLineAt held file number shown.Nothing = Unit {0}
 IsLineAt held file number shows = (text : List ℕ) × IsAllOf (held file) text × IsLineOf file number text shows

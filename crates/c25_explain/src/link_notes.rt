@@ -16,7 +16,7 @@ use c25_place::missing_range;
 use std::alloc::Global;
 
 /// What stands at the fault in this line of the text of a command file, shown with the file's name; empty
-/// where the text has no fault.
+/// where the text has no fault or memory runs out.
 fn standing_shown(alloc: Global, file: &str, line: usize, text: &str) -> String
     ensures { ShowsStanding file.now line text.now (string_bytes result) }
 {
@@ -29,8 +29,8 @@ fn standing_shown(alloc: Global, file: &str, line: usize, text: &str) -> String
     }
 }
 
-/// What stands at the fault in this line of the command file; empty where no file is named or it cannot be
-/// read.
+/// What stands at the fault in this line of the command file; empty where no file is named, it cannot be read
+/// or memory runs out.
 pub(crate) fn standing_text<D: Disk>(
     alloc: Global,
     disk: &D,
@@ -48,7 +48,8 @@ pub(crate) fn standing_text<D: Disk>(
     }
 }
 
-/// The range that the text of a command file lacks for a section; empty where it lacks none.
+/// The range that the text of a command file lacks for a section; empty where it lacks none, is invalid or
+/// memory runs out.
 fn missing_shown(alloc: Global, file: &str, section: &str, text: &str) -> String
     ensures { ShowsMissing file.now section.now text.now (string_bytes result) }
 {
@@ -64,7 +65,8 @@ fn missing_shown(alloc: Global, file: &str, section: &str, text: &str) -> String
     }
 }
 
-/// The range that the command file lacks for a section; empty where no file is named or it cannot be read.
+/// The range that the command file lacks for a section; empty where no file is named, it cannot be read or
+/// memory runs out.
 fn range_text<D: Disk>(alloc: Global, disk: &D, file: Option<&str>, section: &str) -> String
     ensures { ShowsOf (D.bytes_of disk.now) (text_of file.entry) (λ file text. ShowsMissing file section.now text) (string_bytes result) }
 {

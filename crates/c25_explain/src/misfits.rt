@@ -40,7 +40,7 @@ struct Fields<'a> {
     command: &'a str,
 }
 
-/// A line of a file with a name of its own.
+/// A copy of the place of a source line, with a copy of the file's name.
 fn owned_line(
     alloc: Global,
     line: Option<FileLine<&str>>,
@@ -56,7 +56,7 @@ fn owned_line(
     }
 }
 
-/// The name of the file of the module of this number.
+/// The name of the file of the module of this number, counted from 0; empty where there is no such module.
 fn name_at(names: &[String], number: usize) -> &str
     ensures { result.now ≡ name_at (map string_bytes names.now) number }
 {
@@ -80,7 +80,8 @@ fn note_of_field(
 }
 
 /// The note about the first field that does not take its value, in modules of the files of these names,
-/// linked under the text of a command file.
+/// linked under the text of a command file; none where all fields take their values, or the command file or
+/// the modules are refused before fields are looked at.
 fn field_of(
     alloc: Global,
     names: &[String],
@@ -126,7 +127,7 @@ impl Work for Fields<'_> {
     }
 }
 
-/// The note about the first such field of sources.
+/// The note about the first field of sources that does not take its value.
 fn field_of_sources<D: Disk>(
     alloc: Global,
     disk: &D,
@@ -148,7 +149,7 @@ fn field_of_sources<D: Disk>(
     work_over(alloc, disk, files, &work)
 }
 
-/// The note about the first such field of objects.
+/// The note about the first field of objects that does not take its value.
 fn field_of_objects<D: Disk>(
     alloc: Global,
     disk: &D,
@@ -172,7 +173,8 @@ fn field_of_objects<D: Disk>(
     }
 }
 
-/// The note about the first such field of the objects, if there are any, else of the sources.
+/// The note about the first field that does not take its value, of the objects, if there are any, else of the
+/// sources.
 fn field_found<D: Disk>(
     alloc: Global,
     disk: &D,

@@ -12,7 +12,8 @@ use c25_files::{Rows, count_lines};
 use c25_meaning_common::no_memory::NoMemory;
 use std::alloc::Global;
 
-/// The text of the line of this number, counted from 1, without its line end.
+/// The text of the line of this number, counted from 1, without its line end; `None` where there is no such
+/// line.
 pub fn line_of(text: &str, number: usize) -> Option<&str>
     ensures { option_map (λ line. line.now) result ≡ line_of text.now number }
 {

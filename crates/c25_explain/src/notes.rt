@@ -69,7 +69,8 @@ fn at_line<'a>(file: Option<&'a str>, line: usize) -> Option<FileLine<&'a str>>
     }
 }
 
-/// The line of a file where a fault is; `None` for a fault without a line.
+/// The line of a file where a fault is; `None` for a fault without a line, or in a file of the run that no
+/// option names.
 fn place_of<'a>(
     refusal: &'a ChainFault<String>,
     files: RunFiles<'a>,
@@ -99,7 +100,8 @@ fn line_shown<'a>(file: &'a str, number: usize, text: &'a str) -> Shown<'a>
     }
 }
 
-/// The explanation of a fault in this line of a file, after that line and the lines `behind` it.
+/// The explanation of a fault in this line of a file, after the lines `behind` and, where the file can be
+/// read and has it, after that line.
 fn explained_at<D: Disk>(
     alloc: Global,
     disk: &D,

@@ -1,4 +1,4 @@
-//! Words, numbers and items of texts.
+//! Tests of the fields of lines, of numbers and of items of texts.
 
 use crate::values::equal;
 use c25_meaning_common::failure::Failure;
@@ -15,7 +15,7 @@ fn words_are_numbers_and_names(rt: HostRuntime) {
     equal(&rt, (decimals, hexadecimals, names), wanted);
 }
 
-/// The format of a line of at most three words: it gives their number.
+/// The format of a line of at most three fields: its item is their number.
 struct Counts;
 
 impl LineFormat for Counts {
@@ -40,7 +40,7 @@ impl LineFormat for Counts {
     }
 }
 
-/// Why a line is refused: it has too many words.
+/// Why a line is refused: it has too many fields.
 type Refused = Failure<Placed<usize, &'static str>>;
 
 /// The counts of a text's lines, if it has two lines.

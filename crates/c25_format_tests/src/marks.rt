@@ -1,4 +1,4 @@
-//! Lists of marks.
+//! Tests of lists of marks.
 
 use crate::values::equal;
 use c25_meaning_image::mark::{Mark, RunMark};

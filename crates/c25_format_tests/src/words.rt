@@ -1,4 +1,4 @@
-//! Words by their addresses.
+//! Tests of words by their addresses.
 
 use crate::values::equal;
 use c25_meaning_common::no_memory::NoMemory;

@@ -1,4 +1,4 @@
--- What the signs of each row come to.
+-- The numbers whose bits the signs of each row are.
 use Rattle.std.proofs.Common.{◌≡◌, ℕ, ◌+◌, ◌*◌, ◌/◌, ◌%◌, ◌<◌, pos, List, [], ◌∷◌, arith}
 use Rattle.std.specs.Prelude.{codes}
 use Rattle.c25_meaning_instructions.specs.Table.{mem_row, shifted_row, ar_mem_row, port_row, bit_row, long_mem_row, jump_row, shift_limit}

@@ -48,7 +48,7 @@ pub data Flag : Type 0 where
   TXM : Flag
   PM : Flag
 
--- two fields are one
+-- whether two fields are the same
 abbrev pub same : Flag → Flag → Bool
 same ARP ARP = true
 same OV OV = true
@@ -68,7 +68,7 @@ same TXM TXM = true
 same PM PM = true
 same f g = false
 
--- a field is among others
+-- whether a field is among others
 abbrev pub among : Flag → List Flag → Bool
 among f [] = false
 among f (first ∷ flags) = same f first || among f flags

@@ -29,8 +29,8 @@ pub fn patterns_are_the_table()
     ensures { (first second : ℕ) (i : Insn) → Reads first second i ↔ IsPrinted first second i }
 {}
 
-/// A field of ST0 or ST1 stays as it is where the instruction's row does not say that it affects the field, if the
-/// instruction does not stop.
+/// A field of ST0 or ST1 stays as it is where neither the instruction's row nor the next auxiliary register
+/// of its operand affects the field, if the instruction does not stop.
 pub fn rows_affect_what_is_printed()
     ensures { (i : Insn) (f : Flag) (k : ℕ) (bio : Bool) (r : Registers) (w : World) → affects i f ≡ false
         → IfOk (effect i k bio r w) (λ s. number_of f s.registers ≡ number_of f r) }
@@ -67,7 +67,8 @@ pub fn logic_acts_on_the_low_half()
     ensures xors { (acc m : ℕ) → m < 2 ^ 16 → high_half acc + bit_xor (low_half acc) m ≡ bit_xor acc m }
 {}
 
-/// The jumps on the accumulator compare it, as a number with its sign, with 0.
+/// BLZ, BLEZ, BGZ and BGEZ compare the accumulator, as a number with its sign, with 0. The premise is that
+/// ACC has 32 bits.
 pub fn jumps_compare_with_zero()
     ensures less { (target : ℕ) (bio : Bool) (r : Registers) → r.acc.value < 2 ^ 32
         → jump_effect jump.Blz target bio r ≡ branch (int_lt (with_sign_32 r.acc.value) (pos 0)) target r }

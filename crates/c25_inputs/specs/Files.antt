@@ -95,11 +95,11 @@ abbrev pub ReadsAll : Held → List (List ℕ) → Result Files Fault → Type 0
 ReadsAll held names (Ok files) = ReadsSources held [] names (Ok files)
 ReadsAll held names (Err fault) = (failure : Failure (Placed (String Global) FileFault)) × ReadsSources held [] names (Err failure) × IsToldOfFile failure fault
 
--- one of these sources has such a fault
+-- one of these sources is among those before it (37) or cannot be read (8), or memory ran out
 abbrev pub IsRefusedSource : {A : Type 0} → Held → List (List ℕ) → Result A Fault → Type 0
 IsRefusedSource held names answer = FailsWith answer (λ fault. ReadsAll held names (Err fault))
 
--- what follows these sources, or that one of them has such a fault
+-- what follows these sources, or that one of them is refused
 abbrev pub AfterSources : {A : Type 0} → Held → List (List ℕ) → (Files → Result A Fault → Type 0) → Result A Fault → Type 0
 AfterSources held names next answer = IsRefusedSource held names answer ⊎ ((given : Files) × ReadsAll held names (Ok given) × next given answer)
 

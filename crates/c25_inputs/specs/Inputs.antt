@@ -20,7 +20,7 @@ AfterBeside held files next answer =
     AfterOptional held (text_of files.samples) (λ samples.
     AfterOptional held (text_of files.schedule) (next command samples))) answer
 
--- these are the texts
+-- an answer has these texts
 abbrev pub AreTexts : (command samples schedule : List ℕ) → Result TextsBeside Fault → Type 0
 AreTexts command samples schedule (Ok texts) =
     (string_bytes texts.command ≡ command) × (string_bytes texts.samples ≡ samples) × (string_bytes texts.schedule ≡ schedule)

@@ -56,7 +56,8 @@ pub fn read_named<D: Disk>(alloc: Global, disk: &D, name: &str) -> Result<String
     }
 }
 
-/// Reads the text of a file; the text is empty where no file is named.
+/// Reads the text of a file; the text is empty where no file is named. A named file that cannot be read is
+/// fault 8.
 pub fn read_optional<D: Disk>(alloc: Global, disk: &D, name: Option<&str>) -> Result<String, Fault>
     ensures { ReadsOptional (D.bytes_of disk.now) (text_of name.entry) result }
 {

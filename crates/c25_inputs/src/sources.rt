@@ -65,7 +65,8 @@ fn texts_beside<D: Disk>(alloc: Global, disk: &D, files: RunFiles<'_>) -> Result
     })
 }
 
-/// Reads sources, and after them the files that are named in addition to them.
+/// Reads sources, and after them the command file, the samples and the schedule. Stops at the first source
+/// that is given twice (37), and at the first file that cannot be read (8).
 pub fn inputs_of<D: Disk>(
     alloc: Global,
     disk: &D,

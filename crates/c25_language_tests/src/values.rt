@@ -1,4 +1,4 @@
-//! What was found and what is wanted.
+//! The comparison of what a test finds with what it wants.
 
 use std::fmt::Debug;
 use std::process::Abort;

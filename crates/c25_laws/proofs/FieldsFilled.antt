@@ -175,7 +175,7 @@ fill_none number f k word (a ∷ list) h =
     later : (b : Address) → Contains list b → Contains (a ∷ list) b
     later b c = behind_in a b list c
 
--- one is
+-- one address is in the word
 pub fill_one : (number : Address → ℕ) (f : Form) (k word : ℕ) (list : List Address) (a : Address) → AreApart f list → Contains list a → place f a ≡ k → fold (fill number f k) word list ≡ filled a.kind (number a) word
 fill_one number f k word [] a apart c e = absurd (nothing_in a c)
 fill_one number f k word (b ∷ list) a apart c e =

@@ -255,7 +255,7 @@ page_words_are files names modules places q page of has =
     All-from_recursion (ReadsAs page) (page_statements q files names modules places)
     (chosen_read (ReadsAs page) (all_statements files names modules places) (stands_on q) (words_read files names modules places q page of has))
 
--- the words of a program do
+-- the words of page 0 of a program read as its sources' statements
 pub words_are : (files : Files) (names : List (List ℕ)) (modules : List Contents) (command : CommandData) (image : ImageData) → AreModulesOf files names modules → (p : IsProgram modules command image)
     → All (ReadsAs image.program) (loaded_statements (program_statements files names modules p.places))
 words_are files names modules command image of p =
@@ -267,7 +267,7 @@ words_are files names modules command image of p =
     (both_hold (ReadsAs image.program) (map loaded_statement (map as_copied (filter runs_in_b0 all))) (map as_loaded (filter runs_in_place all))
     (subst (AllByRecursion (ReadsAs image.program)) (sym (map-map loaded_statement as_copied (filter runs_in_b0 all))) copied) plain)
 
--- the words of the other page of a program do
+-- the words of page 1 of a program read as its sources' statements
 pub stored_words_are : (files : Files) (names : List (List ℕ)) (modules : List Contents) (command : CommandData) (image : ImageData) → AreModulesOf files names modules → (p : IsProgram modules command image)
     → All (ReadsAs image.store) (page_statements 1 files names modules p.places)
 stored_words_are files names modules command image of p = page_words_are files names modules p.places 1 image.store of p.store

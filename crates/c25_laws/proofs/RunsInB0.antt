@@ -45,7 +45,7 @@ module _ (marks : List Mark) where
         | inr later ↦ let g = lies (m.run + m.size) ms x f.1 later in let from = g.from in let start = (f.0).from in record { from = omega (arith, from, start); some = g.some; room = g.room; loaded = g.loaded }
       ]
 
-  -- two that run at one address are one
+  -- two run marks that run at one address are one
   pub one_run : (low : ℕ) (ms : List RunMark) (x y : RunMark) → run_fit_from marks low ms ≡ true → Contains ms x → Contains ms y → x.run ≡ y.run → x ≡ y
   one_run low [] x y h c d e = absurd (nothing_in x c)
   one_run low (m ∷ ms) x y h c d e =
@@ -101,7 +101,7 @@ pub runs_at : (copied : List Copied) (address : ℕ) (c : Copied) → copied_at 
 unfolding copied_at
 runs_at copied address c e = let h = found_in (λ (x : Copied). eqb x.run address) copied c e in record { there = h.0; run_is = eqb-true c.run address h.1 }
 
--- where one runs, one is found
+-- at the address where a statement runs, a statement is found
 pub some_runs : (copied : List Copied) (c : Copied) → Contains copied c → (d : Copied) × (copied_at copied c.run ≡ Some d)
 unfolding copied_at
 some_runs copied c there = by (find (λ x. eqb x.run c.run) copied) refl

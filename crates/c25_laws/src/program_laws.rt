@@ -91,7 +91,8 @@ pub fn linked_images_run_as_statements()
 
 /// Where block B0 holds the words of a section that runs there, as program memory holds them where the
 /// section is loaded, each instruction statement of that section is executed under CNF 1 at the address where
-/// it runs. That the state holds the statements of the program is so in every state of a run.
+/// it runs. The premise that the state is an image of the program's statements holds in every state of a run
+/// of the program (`linked_images_run_as_statements`).
 pub fn sections_held_in_b0_run()
     ensures { (files : Files) (names : List (List ℕ)) (modules : List Contents) (command : CommandData) (image : ImageData) (w : World)
         → AreModulesOf files names modules → (p : IsProgram modules command image) → IsImageOf (program_statements files names modules p.places) w

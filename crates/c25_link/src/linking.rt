@@ -95,7 +95,7 @@ fn linked_image(
 ///
 /// The first fault is returned: `DefinedTwice`, `Unresolved` and `NoEntry`, each over all modules; `NoRange`,
 /// `DoesNotFit`, `Overlap` and `BadRun`, section by section as they are placed; `RelocRange` by modules and
-/// relocations.
+/// relocations. It fails with `NoMemory` too.
 pub fn link<'a>(
     alloc: Global,
     modules: &'a [Module],

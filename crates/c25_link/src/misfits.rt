@@ -36,7 +36,7 @@ pub struct Misfit<'a> {
     pub address: u16,
     /// The section or the symbol that the value counts from.
     pub base: RelocationBase,
-    /// The name of that section or symbol.
+    /// The name of the section or the symbol that the value counts from.
     pub base_name: &'a str,
     /// The number that is added to the section's address or the symbol's value.
     pub addend: i32,

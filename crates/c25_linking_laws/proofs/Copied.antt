@@ -46,7 +46,7 @@ load_word : (modules : List Contents) (places : List Place) (number : ℕ) (m : 
 load_word modules places number m x p word c =
     record { page_is = sym p.page; covers = record { from = omega (arith, p.base, c.from); upto = omega (arith, p.base, p.there.within, c.upto) } }
 
--- ---- where they run
+-- ---- where the words of a mark run
 
 -- a mark on page 0 whose section runs elsewhere
 pub record OnRun (modules : List Contents) (places : List Place) (number : ℕ) (m : Contents) (x : ModuleMark) : Type 0 where

@@ -28,7 +28,7 @@ each_holds fits P holds before (x ∷ xs) e =
     let h = and_parts (fits before x) (each_fits fits (before ++ x ∷ []) xs) e in
     All-cons P x xs (holds before x h.0) (each_holds fits P holds (before ++ x ∷ []) xs h.1)
 
--- a section's name is one, and it is small
+-- a section's name is a name, and the section is small
 pub record IsFine (s : SectionData) : Type 0 where
   pub name : is_section_name s.name ≡ true
   pub size : body_size s.body ≤ 65536
@@ -44,7 +44,7 @@ fine_section before s e =
 pub fine_sections : (c : Contents) → IsModule c → All IsFine c.sections
 fine_sections c is = each_holds section_fits IsFine fine_section [] c.sections (sections_of_module c is.lists)
 
--- a symbol's name is one
+-- a symbol's name is a name
 abbrev IsNamed : SymbolData → Type 0
 IsNamed y = is_symbol_name y.name ≡ true
 

@@ -10,7 +10,7 @@ use Rattle.c25_meaning_linking.specs.GoodMap.{Request, IsLeastFit, NoneFits, IsF
 least_once : (page size : ℕ) (blocks : List BlockData) (range : RangeData) (places : List Place) (a b : ℕ) → IsLeastFit page size blocks range places a → IsLeastFit page size blocks range places b → a ≡ b
 least_once page size blocks range places a b x y = omega (arith, x.least b y.fits, y.least a x.fits)
 
--- the same list cut at its first range that has an address
+-- a list cut at its first range that has an address
 first_once : (page size : ℕ) (blocks : List BlockData) (places : List Place) (before after other rest : List RangeData) (range s : RangeData) (a b : ℕ) → before ++ range ∷ after ≡ other ++ s ∷ rest → All (NoneFits page size blocks places) before → All (NoneFits page size blocks places) other → IsLeastFit page size blocks range places a → IsLeastFit page size blocks s places b → a ≡ b
 first_once page size blocks places [] after [] rest range s a b e none others x y =
     let same : s ≡ range = cc in

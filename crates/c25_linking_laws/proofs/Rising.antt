@@ -12,7 +12,7 @@ use Rattle.c25_meaning_objects.specs.Module.{SectionBody, Uninitialised, Initial
 use Rattle.c25_meaning_objects.specs.declared.object.ModuleMark.{ModuleMark}
 use Rattle.c25_linking_laws.proofs.Members.{fits_in}
 
--- one stands before the other
+-- one mark stands before another
 abbrev pub Before : ModuleMark → ModuleMark → Type 0
 Before x y = (x.section < y.section) ⊎ ((x.section ≡ y.section) × (x.offset + x.size ≤ y.offset))
 

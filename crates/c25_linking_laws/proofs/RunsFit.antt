@@ -32,11 +32,11 @@ use Rattle.c25_linking_laws.proofs.Placed.{IsGoodPlace, IsInB0, good_places}
 abbrev is_over : ℕ → RunMark → Bool
 is_over word m = nat_le m.run word && nat_lt word (m.run + m.size)
 
--- one where a test holds, else none
+-- 1 where a test holds, else 0
 abbrev once_if : Bool → ℕ
 once_if b = cond b 1 0
 
--- how often
+-- 1 where an instruction runs at a word, else 0
 abbrev over : ℕ → RunMark → ℕ
 over word m = once_if (is_over word m)
 
@@ -96,7 +96,7 @@ sorted_pairs (m ∷ ms) some once order = (
   sorted_pairs ms (λ n c. some n (behind_in m n ms c)) (λ word. omega (arith, once word, sum_by-cons (over word) m ms)) (λ i j d le lt. order (suc i) (suc j) d (omega (arith, le)) (omega (arith, lt))),
 )
 
--- ---- they fit
+-- ---- run marks fit
 
 -- the words of a run mark are words of block B0 and of program memory
 record IsSmallRun (a : RunMark) : Type 0 where
@@ -145,7 +145,7 @@ all_fit marks from (a ∷ ms) behind pairs small loads others =
     let rest = all_fit marks (a.run + a.size) ms pairs.0 pairs.1 (λ b c. small b (behind_in a b ms c)) (λ b d c e. loads b d (behind_in a b ms c) (behind_in a d ms e)) (λ b d c. others b d (behind_in a b ms c)) in
     and_from (run_fits_behind from a && load_is_free (with_loads ms marks) a) (run_fit_from marks (a.run + a.size) ms) (and_from (run_fits_behind from a) (load_is_free (with_loads ms marks) a) head open_) rest
 
--- ---- those of a program
+-- ---- the run marks of a program
 
 in_b0 : (size run : ℕ) (o : Option ℕ) → o ≡ Some run → IfSome o (IsInB0 size) → IsInB0 size run
 in_b0 size run o e h = subst (λ p. IfSome p (IsInB0 size)) e h

@@ -31,7 +31,7 @@ use c25_substitution::parameters::Arguments;
 /// How many turns a loop without a count has.
 const TURNS: usize = 1024;
 
-/// How many turns a count asks for; none where it is negative.
+/// How many turns a count asks for; 0 where it is negative.
 fn turns_of(count: i32) -> usize
     ensures { result ≡ rule.turns_of count }
 {
@@ -53,7 +53,8 @@ impl<'a> ExpanderState<'a> {
         self.names.has_macro(name) || is_mnemonic(name)
     }
 
-    /// `.macro`
+    /// Does `.macro`: the lines that follow are collected as the body of a macro of this name. A name that is
+    /// that of a macro or of a mnemonic is `Redefined` (36).
     #[tactic(auto, unfolding(c25_meaning_expansion::specs::ExpansionRules::begins_macro))]
     pub(crate) fn begin_macro(
         &mut self,
@@ -75,7 +76,8 @@ impl<'a> ExpanderState<'a> {
         Ok(())
     }
 
-    /// A call of a macro.
+    /// Calls a macro: the lines of its body come next, with these arguments. `Depth` (33) where 32 blocks are
+    /// open.
     #[tactic(auto, unfolding(c25_meaning_expansion::specs::ExpansionRules::begins_expansion))]
     pub(crate) fn begin_expansion(
         &mut self,
@@ -96,7 +98,7 @@ impl<'a> ExpanderState<'a> {
     }
 
     /// Leaves the innermost expansion or the innermost loop: its lines still to come are dropped, with all
-    /// that it opened.
+    /// that it opened. `StrayEnd` (32) where none is open.
     pub(crate) fn leave_block(
         &mut self,
         block: ExitTarget,
@@ -112,7 +114,8 @@ impl<'a> ExpanderState<'a> {
         }
     }
 
-    /// Collects the lines that follow, as the body of a loop of so many turns.
+    /// Collects the lines that follow, as the body of a loop of so many turns. `Depth` (33) where 32 blocks
+    /// are open.
     fn collect(
         &mut self,
         place: FileLine<usize>,
@@ -128,7 +131,8 @@ impl<'a> ExpanderState<'a> {
         Ok(())
     }
 
-    /// `.loop`
+    /// Does `.loop`: the lines that follow are collected as the body of a loop of `count` turns, 1,024
+    /// without a count. The faults are those of the count (22 to 25), then `Depth` (33).
     #[tactic(auto, unfolding(c25_meaning_expansion::specs::ExpansionRules::begins_loop))]
     pub(crate) fn begin_loop(
         &mut self,
@@ -147,7 +151,7 @@ impl<'a> ExpanderState<'a> {
         }
     }
 
-    /// `.break`, given whether its condition holds.
+    /// Does `.break`, given whether its condition holds. `StrayEnd` (32) outside a loop.
     fn break_if(
         &mut self,
         holds: bool,
@@ -166,7 +170,8 @@ impl<'a> ExpanderState<'a> {
         }
     }
 
-    /// `.break`
+    /// Does `.break`: leaves the innermost loop, if there is no condition or if it is not 0. The faults are
+    /// those of the condition (22 to 25), then `StrayEnd` (32) outside a loop.
     #[tactic(auto, unfolding(c25_meaning_expansion::specs::ExpansionRules::breaks))]
     pub(crate) fn break_loop(
         &mut self,
@@ -186,14 +191,15 @@ impl<'a> ExpanderState<'a> {
         }
     }
 
-    /// `.asg`
+    /// Does `.asg`: the name stands for this text from now on. Only memory may run out.
     pub(crate) fn assign(&mut self, name: &str, text: String) -> Result<(), Failure<ExpanderFault>>
         ensures { GoesOn (exp.Goes (record (config self.old) { names = exp.assigned name.now (string_bytes text) (config self.old).names })) result (config self.new) }
     {
         self.names.assign(name, text).map_err(Failure::NoMemory)
     }
 
-    /// `.eval`
+    /// Does `.eval`: the name stands for the decimal digits of the expression's value from now on. The faults
+    /// are those of the expression (22 to 25).
     #[tactic(auto, unfolding(c25_meaning_expansion::specs::ExpansionRules::evaluates))]
     pub(crate) fn evaluate(
         &mut self,
@@ -212,7 +218,8 @@ impl<'a> ExpanderState<'a> {
         self.assign(name, text)
     }
 
-    /// `.copy`
+    /// Does `.copy`: the lines of the file of this name come next. A file that is not there is `Missing`
+    /// (30); `Depth` (33) where 32 blocks are open.
     #[tactic(auto, unfolding(c25_meaning_expansion::specs::ExpansionRules::copies))]
     pub(crate) fn copy(
         &mut self,
@@ -236,7 +243,7 @@ impl<'a> ExpanderState<'a> {
         }
     }
 
-    /// `.end`
+    /// Does `.end`: all lines still to come are dropped, and all that is open is closed.
     #[tactic(auto, unfolding(c25_meaning_expansion::specs::ExpansionRules::ends_all))]
     pub(crate) fn end_all(&mut self, place: FileLine<usize>) -> Result<(), Failure<ExpanderFault>>
         requires reading { self.old.mode ≡ modes.Reading }

@@ -40,7 +40,8 @@ fn phase_of(number: i32) -> Phase
 }
 
 impl ExpanderState<'_> {
-    /// `.if`
+    /// Does `.if`: opens one, whose lines are taken where the condition is not 0. The faults are those of the
+    /// condition (22 to 25), then `Depth` (33) where 32 blocks are open.
     #[tactic(auto, unfolding(c25_meaning_expansion::specs::ExpansionRules::begins_if))]
     pub(crate) fn begin_if(
         &mut self,
@@ -79,7 +80,8 @@ impl ExpanderState<'_> {
             .map_err(Failure::NoMemory)
     }
 
-    /// `.elseif` where no condition has held so far.
+    /// Does `.elseif` where no condition has held so far, given the value of its condition or the fault of
+    /// that.
     fn seek(
         &mut self,
         place: FileLine<usize>,
@@ -94,7 +96,8 @@ impl ExpanderState<'_> {
         }
     }
 
-    /// `.elseif`
+    /// Does `.elseif`: its lines are taken where no condition has held so far and its own is not 0.
+    /// `StrayEnd` (32) where no `.if` is open, or after an `.else`.
     pub(crate) fn elseif(
         &mut self,
         symbols: &Symbols,
@@ -119,7 +122,8 @@ impl ExpanderState<'_> {
         }
     }
 
-    /// `.else`
+    /// Does `.else`: its lines are taken where no condition has held. `StrayEnd` (32) where no `.if` is open,
+    /// or after another `.else`.
     pub(crate) fn pass_else(&mut self, place: FileLine<usize>) -> Result<(), Failure<ExpanderFault>>
         ensures { GoesOn (rule.else_by place (config self.old).frame.branches (config self.old)) result (config self.new) }
     {
@@ -133,7 +137,7 @@ impl ExpanderState<'_> {
         }
     }
 
-    /// `.endif`
+    /// Does `.endif`: closes the innermost `.if`. `StrayEnd` (32) where none is open.
     pub(crate) fn end_if(&mut self, place: FileLine<usize>) -> Result<(), Failure<ExpanderFault>>
         ensures { GoesOn (rule.endif_by place (config self.old).frame.branches (config self.old)) result (config self.new) }
     {

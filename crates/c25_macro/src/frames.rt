@@ -113,9 +113,10 @@ impl Kind<'_> {
 #[derive(Drop)]
 pub(crate) struct SourceFrame<'a> {
     pub(crate) kind: Kind<'a>,
-    /// The place of its last line, or of the line that opened it where it has none.
+    /// The place of the last line of the file, expansion or turn, or of the line that opened it where it has
+    /// none.
     pub(crate) last: FileLine<usize>,
-    /// The open `.if`s that began in it, the innermost first.
+    /// The open `.if`s that began in the file, expansion or turn, the innermost first.
     pub(crate) branches: Branches,
 }
 

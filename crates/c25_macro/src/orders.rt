@@ -43,7 +43,8 @@ fn without<'a>(
         .ok_or(Failure::Fault(FaultKind::OperandCount))
 }
 
-/// `.macro`
+/// What `.macro` asks for: the label is the macro's name, and the operands are its parameters, at most 32
+/// (35).
 fn definition_in<'a>(
     alloc: Global,
     line: &Line<'_>,
@@ -69,7 +70,8 @@ fn last_of_two<'a, 'b>(operands: &'b [&'b [Token<'a>]]) -> Option<&'b [Token<'a>
     }
 }
 
-/// `.asg`
+/// What `.asg` asks for: the last operand is the name, and the text is read from the whole line. 51 for fewer
+/// than two operands.
 fn assignment_in<'a>(
     alloc: Global,
     text: &str,
@@ -105,7 +107,7 @@ fn evaluation_of<'a>(
     }
 }
 
-/// `.eval`
+/// What `.eval` asks for: an expression and a name; 51 for other than two operands.
 fn evaluation_in<'a>(
     alloc: Global,
     operands: &[&[Token<'_>]],
@@ -118,7 +120,7 @@ fn evaluation_in<'a>(
     }
 }
 
-/// `.copy`
+/// What `.copy` asks for: a string, the file's name; 51 for other than one operand.
 fn copy_in<'a>(
     alloc: Global,
     operands: &[&[Token<'_>]],

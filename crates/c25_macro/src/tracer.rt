@@ -11,7 +11,7 @@ use c25_meaning_common::placed::FileLine;
 pub struct Tracer<'a> {
     pub(crate) files: &'a Files,
     pub(crate) state: Box<ExpanderState<'a>>,
-    /// The places of these lines, the outermost first.
+    /// The places of the lines that opened what is open, the outermost first.
     pub(crate) trail: Vec<FileLine<usize>>,
 }
 

@@ -14,8 +14,8 @@ use c25_meaning_language::statement::FaultKind;
 use c25_meaning_language::value::Base;
 use std::mem;
 
-/// The number that an expression stands for under the symbols so far; `NotAbsolute` where it counts from a
-/// section or from another module's name.
+/// The number that an expression stands for under the symbols so far: the fault of its value (22 to 25), or
+/// `NotAbsolute` (23) where it counts from a section or from another module's name.
 pub(crate) fn number(symbols: &Symbols, expr: Expr) -> Result<i32, FaultKind>
     ensures { result ≡ absolute_number (valued symbols.now (tree_of expr)) }
 {

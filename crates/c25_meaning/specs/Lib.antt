@@ -1,4 +1,5 @@
--- The definitions of the processor, of images and of printed texts, under one name for users of the repository.
+-- The definitions of the processor, of instructions, of images, and of what all subjects share, under one
+-- name for users of the repository.
 pub use Rattle.c25_meaning_common.specs.Bytes
 pub use Rattle.c25_meaning_common.specs.Digits
 pub use Rattle.c25_meaning_common.specs.Faults

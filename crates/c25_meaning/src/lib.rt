@@ -1,5 +1,5 @@
-//! The plain types of the processor and of the images of programs, under one name for users of the
-//! repository: its own crates use the crates of definitions.
+//! The plain types of the processor, of instructions and of the images of programs, under one name for users
+//! of the repository, whose own crates use the crates of definitions instead.
 #![tactic(auto)]
 
 pub use c25_meaning_common::failure::Failure;

@@ -49,7 +49,8 @@ program_word s address = program_at s.registers.cnf s.world address
 abbrev pub source_line_at : ImageData → ℕ → SourceLine
 source_line_at image address = line_at address image.lines
 
--- the answer to `where` is the line of the instruction whose mark is at PC, or says that no mark is there
+-- the answer to `where` is the line of the instruction whose mark is at PC; where no mark is there, the line
+-- has `none` for an instruction
 abbrev pub IsMarkAt : ImageData → State → List ℕ → Type 0
 IsMarkAt image s text = IsWhere image.program (source_line_at image) s.registers.pc (size_at image.marks s.registers.pc) text
 

@@ -68,7 +68,7 @@ words_from word_at address (suc n) = word_at address ∷ words_from word_at (add
 abbrev pub words_line : (ℕ → ℕ) → ℕ → ℕ → List ℕ
 words_line word_at address n = four_digits address ++ spaced (words_from word_at address n) ++ codes "\n"
 
--- so many lines of n words in all, each of eight words but the last
+-- so many lines of n words in all: each has eight words, the last those that are left
 abbrev pub words_lines : (ℕ → ℕ) → ℕ → ℕ → ℕ → List ℕ
 words_lines word_at zero address n = []
 words_lines word_at (suc more) address n = words_line word_at address (min 8 n) ++ words_lines word_at more (address + 8) (n - 8)
@@ -79,8 +79,8 @@ words_text word_at address n = words_lines word_at ((n + 7) / 8) address n
 
 -- ---- the image
 
--- which instruction of this size the words of program memory read as at an address; None where they read as
--- none of this size
+-- which instruction of this size the words of an image's page 0 read as at an address; None where they read
+-- as none of this size
 abbrev pub ReadsAt : map.FinMap nat_cmp ℕ → ℕ → ℕ → Option Insn → Type 0
 ReadsAt words address size (Some i) = Reads (memory_of_map words address) (memory_of_map words (address + 1)) i × (size_of i ≡ size)
 ReadsAt words address size None =

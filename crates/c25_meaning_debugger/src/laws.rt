@@ -11,7 +11,7 @@ ghost use Rattle.c25_meaning_processor.specs.declared.script.Cmd.{Cmd};
 
 /// From any state whose words are an image of the statements, under all samples, interrupt lines and BIO
 /// levels, a script is answered over the words by a text exactly where it is answered by that text over the
-/// statements: what a debugger shows of a program is what its source says.
+/// statements: what a debugger shows of the words' run it would show of the statements' run.
 pub fn debuggers_answer_alike()
     ensures { (statements : Statements) (signals : Signals) (image : ImageData) (commands : List Cmd) (s : State) (text : List ℕ) →
         IsImageOf statements s.world →

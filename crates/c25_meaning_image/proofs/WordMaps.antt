@@ -111,7 +111,7 @@ all_in_range (e ∷ es) m inside are =
 none_in_range : IsWordMap map.empty
 none_in_range address word is = let gone : None ≡ Some word = sym (get-empty nat_cmp address) ∙ is in cc gone
 
--- words of 16 bits stay so
+-- a map that is collected of words of 16 bits has words of 16 bits
 pub in_range-collected : (m : BTreeMap ℕ ℕ) (es : List (ℕ × ℕ)) → tree.IsFromIterResult nat_cmp es m → AreWords es → IsWordMap (map.from_entries {R = nat_cmp} m.entries)
 in_range-collected m es made are =
     subst IsWordMap (sym (collected_view m es made)) (all_in_range es map.empty none_in_range are)

@@ -32,7 +32,7 @@ pub fn size_at(marks: &[Mark], address: u16) -> Option<u16>
         .map(|mark| mark.size)
 }
 
-/// Whether a program word belongs to an instruction.
+/// Whether the program word at an address belongs to an instruction.
 #[tactic(auto, unfolding(crate::specs::Marks::is_code))]
 pub fn is_code(marks: &[Mark], address: u16) -> bool
     ensures { result ≡ is_code marks.now address }
@@ -43,7 +43,7 @@ pub fn is_code(marks: &[Mark], address: u16) -> bool
     })
 }
 
-/// The instruction that runs at a program address of block B0, where one does.
+/// The run mark of the instruction that runs at a program address of block B0, if there is one.
 #[tactic(auto, unfolding(crate::specs::Marks::run_at))]
 pub fn run_at(run_marks: &[RunMark], address: u16) -> Option<RunMark>
     ensures { result ≡ run_at run_marks.now address }
@@ -85,7 +85,7 @@ fn run_fits_behind(end: u32, mark: &RunMark) -> bool
         && u32::from(mark.load) + u32::from(mark.size) <= 65_536
 }
 
-/// Whether the loaded words of a run mark belong to none of the other instructions.
+/// Whether the loaded words of a run mark belong to none of the instructions of these marks and run marks.
 fn load_is_free(run_marks: &[RunMark], marks: &[Mark], mark: &RunMark) -> bool
     requires some { 1 ≤ mark.now.size }
     requires room { mark.now.load + mark.now.size ≤ 65536 }

@@ -8,8 +8,8 @@ use c25_meaning_common::no_memory::NoMemory;
 use std::alloc::Global;
 use std::marker::Model;
 
-/// Words with their addresses, in the order in which they were put. A map of all of them is made at once,
-/// which takes less time than to put them into one by one.
+/// Words with their addresses, in the order in which they were put. One map of them all is made at the end,
+/// which takes less time than to put them into a map one by one.
 #[derive(Drop)]
 pub struct WordList {
     words: Vec<(u16, u16)>,

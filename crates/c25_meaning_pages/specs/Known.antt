@@ -25,7 +25,8 @@ pub record IsTrueOf (known : Known) (r : Registers) : Type 0 where
   pub shadowed : known.shadowed ≡ true → r.shadowed ≡ true
   pub once : known.once ≡ true → r.repeating ≡ false
 
--- what is known of a saved ST0 is true: its word is on page 0, and the low nine bits of that word are the DP
+-- what is known of a saved ST0 is true: its word is on data page 0, and the low nine bits of that word are
+-- the DP
 abbrev pub IsSaved : Known → Memory → Type 0
 IsSaved known words = (v : Saved) → known.saved ≡ Some v → (v.address < 128) × (words v.address % 512 ≡ v.page)
 
@@ -37,7 +38,8 @@ pub record Implies (known weaker : Known) : Type 0 where
   pub shadowed : weaker.shadowed ≡ true → known.shadowed ≡ true
   pub once : weaker.once ≡ true → known.once ≡ true
 
--- what is known after a reset: DP is 0, no ST0 is saved, INTM is 1, EINT was not the last instruction, and no repeat is running
+-- what is known after a reset: DP is 0, INTM is 1, and no repeat is running; no saved ST0 is known, nor that
+-- EINT was the last instruction
 abbrev pub known_on_reset : Known
 known_on_reset = record { page = Some 0; saved = None; masked = true; shadowed = false; once = true }
 

@@ -61,7 +61,8 @@ written_address (insn.LongMem long_mem.Blkp word a) r = Some (address_of a r)
 written_address (insn.LongMem long_mem.Blkd word a) r = Some (address_of a r)
 written_address i r = None
 
--- an instruction saves ST0 in a word: it is SST with a direct operand, which is on page 0 whatever DP is, and DP is known
+-- an instruction saves ST0 in a word: it is SST with a direct operand, which is on data page 0 whatever DP
+-- is, and DP is known
 abbrev pub Saves : Insn → Known → Saved → Type 0
 Saves (insn.Mem mem.Sst (Direct low)) known v = (v.address ≡ low % 128) × (known.page ≡ Some v.page) × (v.page < 512)
 Saves i known v = ⊥

@@ -8,8 +8,8 @@ use Rattle.c25_meaning_processor.specs.declared.registers.Registers.{Registers}
 use Rattle.c25_meaning_processor.specs.Operand.{address_of}
 use Rattle.c25_meaning_processor.specs.Effect.{mem_address}
 
--- the seven bits of an instruction's direct operand, which is on the page of DP; SST and SST1 have none, since their direct operand
--- is on page 0 whatever DP is
+-- the seven bits of an instruction's direct operand, which is on the page of DP; SST and SST1 have none,
+-- since their direct operand is on data page 0 whatever DP is
 abbrev pub direct_of : Insn → Option ℕ
 direct_of (insn.Mem mem.Sst a) = None
 direct_of (insn.Mem mem.Sst1 a) = None

@@ -36,9 +36,10 @@ MayReturn knowledge known (suc inner) =
 
 -- ---- instructions
 
--- where the instruction at an address leads that acted once, with what is known after it and the address of the instruction after
--- it. A conditional branch leads to its target and on. BACC and CALA lead where they are supposed to go. PUSH, POP, PSHD and POPD
--- move words of the stack that may be returns, so that nothing is followed through them
+-- where the instruction at an address leads once it has acted, with what is known after it and the address of
+-- the instruction after it. A conditional branch leads to its target and on. BACC and CALA lead where they
+-- are supposed to go. PUSH, POP, PSHD and POPD move words of the stack that may be returns, so that nothing
+-- is followed through them
 abbrev pub LeadsOn : Knowledge → Insn → Known → (context address next : ℕ) → Type 0
 LeadsOn knowledge (insn.Jump jump.B target change ar) known context address next = LeadsTo knowledge known context target
 LeadsOn knowledge (insn.Jump jump.Call target change ar) known context address next = Begins knowledge known target context next
@@ -71,7 +72,8 @@ Repeats knowledge i known address =
 
 -- ---- interrupts
 
--- what is known where the routine of an interrupt begins: INTM is 1, EINT was not the last instruction, and no repeat is running
+-- what is known where the routine of an interrupt begins: INTM is 1 and no repeat is running; not, that EINT
+-- was the last instruction; all else as it was known before
 abbrev pub known_on_entry : Known → Known
 known_on_entry known = record known { masked = true; shadowed = false; once = true }
 

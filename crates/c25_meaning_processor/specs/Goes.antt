@@ -9,8 +9,8 @@ use Rattle.c25_meaning_processor.specs.Run.{Signals, Stepping}
 abbrev pub is_breakpoint : List ℕ → ℕ → Bool
 is_breakpoint breaks address = list_any (λ b. b == address) breaks
 
--- whether a breakpoint is met in a state: PC is a breakpoint, and the next step begins the instruction there,
--- since no repeat is running and IDLE is not waiting
+-- whether a breakpoint is met in a state: PC is a breakpoint, no repeat is running and IDLE is not waiting,
+-- so that the next step begins the instruction there, unless it takes an interrupt
 abbrev pub is_met : List ℕ → State → Bool
 is_met breaks s = not s.registers.repeating && not s.registers.asleep && is_breakpoint breaks s.registers.pc
 

@@ -130,9 +130,9 @@ pub struct Registers {
     pub asleep: bool,
     /// Whether `EINT` was the last instruction: no interrupt is taken before the next one.
     pub shadowed: bool,
-    /// Whether the next instruction is one of a repeat.
+    /// Whether a repeat is running: the next step is one of its repetitions.
     pub repeating: bool,
-    /// How many repetitions are done.
+    /// How many repetitions the repeat that is running has done; 0 outside a repeat.
     pub repeated: u16,
 }
 

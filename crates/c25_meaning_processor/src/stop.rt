@@ -8,7 +8,7 @@ use thiserror::Error;
 pub enum Stop {
     /// No instruction can be fetched at PC.
     OutOfCode,
-    /// `TBLW` would change a loaded word of an instruction.
+    /// `TBLW` would write a loaded word of an instruction, even if with the same word.
     CodeWrite,
     /// The instruction at PC may not be repeated, and a repeat is running.
     BadRepeat,

@@ -202,7 +202,7 @@ pub record AreLinesOf (marks : List ModuleMark) (l : Lines) : Type 0 where
   pub few : length l.files ≤ 65535
   pub sized : AllByRecursion (λ x. (x.file < 2 ^ 16) × (x.line < 2 ^ 32)) l.lines
 
--- each mark having a line
+-- files and lines are those of marks, each mark having a line
 pub lines_told : (files : List (List ℕ)) (marks : List ModuleMark) (os : List (FileLine (List ℕ))) → AreFiles files → AllByRecursion (IsOrigin files) os → length os ≡ length marks → AreLinesOf marks (lines_of os)
 lines_told files marks os are is size =
     let none : AreUsed files no_lines = record { known = tt; distinct = refl; fit = refl; used_is = refl; sized = tt } in

@@ -17,7 +17,7 @@ IsThere rows id = is_some (first_of id rows) ≡ true
 abbrev pub IsNumberText : ℕ → Text → Type 0
 IsNumberText bits text = IsNumeral 10 (without_leading_plus text) × (digits_value 10 (without_leading_plus text) < 2 ^ bits)
 
--- the text that is found for a flag
+-- the text that is found for a flag is `true` or `false`
 abbrev pub IsFlagText : Text → Type 0
 IsFlagText text = (bytes_eq text (codes "true") || bytes_eq text (codes "false")) ≡ true
 

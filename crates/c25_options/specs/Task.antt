@@ -102,7 +102,7 @@ RefusesBy kinds (NoMemory n) = Unit {0}
 RefusesBy kinds (Fault error) = HasKind kinds error
 
 -- what is read of a command line, the program's name first: a task where `clap` finds no fault, and else one
--- of its faults
+-- of its faults, or out of memory
 abbrev pub Reads : List Text → Result Task (Failure Error) → Type 0
 Reads words (Ok task) = (fault_of program words ≡ []) × IsAskedBy (subcommand_of program words) task
 Reads words (Err failure) = RefusesBy (fault_of program words) failure

@@ -8,8 +8,8 @@ use clap::Error;
 use clap::error::ErrorKind;
 
 /// Out of memory (9), or an error of `clap`. The `Display` of that error is a text for the user: the mistake
-/// with the usage of the subcommand, or the help that was asked for. An error of `clap` may be out of memory
-/// too, so call `is_want_of_memory`.
+/// with the usage of the subcommand, or the help or the version that was asked for. An error of `clap` may be
+/// out of memory too, so call `is_want_of_memory`.
 pub type WordsFault = Failure<Error>;
 
 /// Whether a fault is out of memory (9); if not, the command line is invalid or asks for help or the version.

@@ -161,10 +161,11 @@ fn read_some<'a>(alloc: Global, arguments: &'a [String]) -> Result<Task<'a>, Wor
     }
 }
 
-/// Reads the command line, of which the first argument is the program's name. `Failure::NoMemory` is out of
-/// memory; `Failure::Fault` is `clap`'s error for a command line that no case of `Task` describes (an
-/// unknown subcommand or option, an option given twice, a missing or surplus operand or option, an invalid
-/// number of steps or of a fault) and for a request for help or the version.
+/// Reads the command line, of which the first argument is the program's name; without further ones the task
+/// is `RunStandardInput`. `Failure::NoMemory` is out of memory; `Failure::Fault` is `clap`'s error for a
+/// command line that no case of `Task` describes (no subcommand or an unknown one, an unknown option, an
+/// option given twice or without its argument, a missing or surplus operand or option, an invalid number of
+/// steps or of a fault), for a request for help or the version, and where memory runs out in `clap`.
 pub fn read_words<'a>(alloc: Global, arguments: &'a [String]) -> Result<Task<'a>, WordsFault>
     ensures none { length arguments.now < 2 → result ≡ Ok RunStandardInput }
     ensures some { 2 ≤ length arguments.now → Reads (map string_bytes arguments.now) result }

@@ -34,8 +34,9 @@ pub enum Task<'a> {
         base: &'a str,
         explain: bool,
     },
-    /// `build SOURCE.. --out BASE [--command FILE] [--symbols FILE] [--explain]`: writes what `link`
-    /// does, and `BASE.1.lst`, `BASE.2.lst`, .., a listing for each source.
+    /// `build SOURCE.. --out BASE [--command FILE] [--symbols FILE] [--explain]`: writes what `link` does,
+    /// and `BASE.1.lst`, `BASE.2.lst`, .., a listing for each source; with `--symbols` also the names of the
+    /// program and their addresses.
     Build {
         sources: Vec<&'a str>,
         base: &'a str,

@@ -20,7 +20,7 @@ stay = insn.Jump jump.B 1 change.Keep None
 abbrev pub example_program : Statements
 example_program = plainly (record { address = 0; insn = load_page } ∷ record { address = 1; insn = stay } ∷ [])
 
--- DP is a page, no ST0 is saved, INTM is 1, and no repeat is running
+-- what is known: DP is a page, INTM is 1, and no repeat is running; no saved ST0 is known
 abbrev pub on_page : ℕ → Known
 on_page page = record { page = Some page; saved = None; masked = true; shadowed = false; once = true }
 

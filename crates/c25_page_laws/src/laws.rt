@@ -36,12 +36,12 @@ pub fn pages_are_sure()
         (begun lines t).pc ≡ address → (begun lines t).dp ≡ page }
 {}
 
-/// Where the knowledge of a program is inductive and closed, a step after any run from a reset stops for
-/// two reasons at most: a TBLW writes a word of an instruction, or an IN finds no sample left at its
-/// port. So PC never comes to an address where no statement stands, and no repeat runs an instruction
-/// that may not be repeated. The premises on the run are those of `pages_are_sure`. That a run stops at
-/// all, or that the program does what it is meant to do, is not said.
-pub fn code_is_never_left()
+/// Where the knowledge of a program is inductive and closed, a step after any run from a reset stops for two
+/// reasons at most: a TBLW writes a word of an instruction, or an IN finds no sample left at its port. So no
+/// step stops because no statement stands at PC, or because a repeat runs an instruction that may not be
+/// repeated. The premises on the run are those of `pages_are_sure`. That a run stops at all, or that the
+/// program does what it is meant to do, is not said.
+pub fn code_is_left_by_writes_and_ports_alone()
     ensures { (statements : Statements) (knowledge : Knowledge) → IsInductive statements knowledge → IsClosed statements knowledge →
         (signals : Signals) (k n : ℕ) (s t : State) (lines : Lines) (bio : Bool) (stop : Stop) → s.registers ≡ reset →
         Reaches (StepAsSupposed statements knowledge) signals k n s t →
@@ -49,10 +49,10 @@ pub fn code_is_never_left()
         statement_step statements lines bio t ≡ Err stop → (stop ≡ CodeWrite) ⊎ (stop ≡ PortDry) }
 {}
 
-/// The two laws above (`pages_are_sure`, `code_is_never_left`) hold of runs of words: where the words of
-/// the first state are those of the statements (`IsImageOf`), which the first state of each linked
-/// program is, and the states of the statements' run are as supposed, DP is surely the page, and the
-/// run of words stops only at a TBLW that writes code or at an IN without a sample.
+/// The two laws above (`pages_are_sure`, `code_is_left_by_writes_and_ports_alone`) hold of runs of words:
+/// where the words of the first state are those of the statements (`IsImageOf`), as they are in the first
+/// state of each linked program, and the states of the statements' run are as supposed, DP is surely the
+/// page, and the run of words stops only at a TBLW that writes code or at an IN without a sample.
 pub fn words_keep_to_their_pages()
     ensures pages { (statements : Statements) (knowledge : Knowledge) (signals : Signals) (k : ℕ) (s : State) (address page : ℕ) →
         IsInductive statements knowledge → IsSurelyOn knowledge address page →
@@ -67,11 +67,11 @@ pub fn words_keep_to_their_pages()
         AreSupposed statements knowledge signals k n s → (stop ≡ CodeWrite) ⊎ (stop ≡ PortDry) }
 {}
 
-/// Where DP is surely the page of a data word before the statement at an address acts, an instruction
-/// there whose direct operand has the low seven bits of that word's address has that very word as its
-/// operand, when it acts: the word that `LAC X` reads is X. The premises on the run are those of
-/// `pages_are_sure`, and for runs of words those of `words_keep_to_their_pages`. SST and SST1 are left
-/// out, whose direct operands are on page 0; nothing is said of indirect operands.
+/// Where DP is surely the page of a data word before the statement at an address acts, an instruction there
+/// whose direct operand has the low seven bits of that word's address has that very word as its operand, when
+/// it acts: the word that `LAC X` reads is X. The premises on the run are those of `pages_are_sure`, and for
+/// runs of words those of `words_keep_to_their_pages`. SST and SST1 are left out, whose direct operands are
+/// on data page 0; nothing is said of indirect operands.
 pub fn direct_operands_reach_their_words()
     ensures statements { (statements : Statements) (knowledge : Knowledge) (address word : ℕ) (i : Insn) →
         IsInductive statements knowledge → IsSurelyOn knowledge address (word / 128) → direct_of i ≡ Some (field_number Low7 (pos word)) →

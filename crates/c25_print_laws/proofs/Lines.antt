@@ -35,12 +35,12 @@ pub record IsQuiet (text : List ℕ) : Type 0 where
 abbrev pub is_word : List ℕ → Bool
 is_word w = list_all is_field w && list_all is_visible w && nat_lt 0 (length w)
 
--- whether it is no directive either
+-- whether no directive was found
 abbrev is_none : Option Directive → Bool
 is_none None = true
 is_none (Some d) = false
 
--- whether it is short, and expansion leaves it alone
+-- whether no directive of expansion was found
 abbrev is_unmoved : Option expansion.Directive → Bool
 is_unmoved None = true
 is_unmoved (Some d) = false

@@ -132,7 +132,7 @@ module _ (files : Files) (number : ℕ) (text : List ℕ) (good : is_file_name (
         },
       )
 
-  -- all lines are
+  -- all lines are passed
   passed_all : (ps : List Printed) (line fuel left : ℕ) (ws : List ℕ) (a : LinesSoFar) → AllRead ps → length ps < fuel → length ps ≤ left → 1 ≤ line → line + length ps < 2 ^ 32 → length ws + length (flat_map words_in ps) ≤ 65536 → Made a ws
       → (b : LinesSoFar) × (passed files fuel (from_lines line ps left) a ≡ Ok b) × Made b (ws ++ flat_map words_in ps)
   unfolding passed

@@ -51,7 +51,7 @@ same_bytes name = (bytes_eq-Decides name name).1 refl
 abbrev pub IsUsed : List ℕ → List (List ℕ) → Type 0
 IsUsed name names = (names ≡ []) ⊎ (names ≡ name ∷ [])
 
--- a line leads on to such a state
+-- a line leads on to a state of instructions in one section
 pub record Leads (origin : FileLine (List ℕ)) (t : Target) (es : List Tree) (n : ℕ) (items : List PendingItem) (p : Progress) : Type 0 where
   pub marks : List ModuleMark
   pub origins : List (FileLine (List ℕ))
@@ -78,7 +78,7 @@ module _ (origin : FileLine (List ℕ)) (es : List Tree) (n : ℕ) (marks : List
   unfolding pass lay grow
   data_pass w names h = rw (fits n (length es) h) refl
 
-  -- whatever it puts
+  -- a line leads on to a state of instructions in one section, whatever words it puts
   pub leads : (t : Target) (names : List (List ℕ)) → IsUsed origin.file names → n + target_size t (length es) ≤ 65536 → Leads origin t es n items (standing n marks origins items names)
   leads (Instruction f) names (inl none) h = record {
     marks = marks ++ mark_at f ∷ [];

@@ -25,7 +25,7 @@ abbrev pub placed : ℕ → List Word → List Piece
 placed at [] = []
 placed at (w ∷ ws) = record { kind = w.kind; start = at; text = w.text } ∷ placed (at + length w.text) ws
 
--- where they end
+-- where tokens end
 abbrev pub behind : ℕ → List Word → ℕ
 behind at [] = at
 behind at (w ∷ ws) = behind (at + length w.text) ws

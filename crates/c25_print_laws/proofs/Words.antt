@@ -99,7 +99,7 @@ front a ws = place (form_of a) (low_of a) ws
 abbrev pub back : Addr → List Word
 back a = tail (form_of a) (next_of a)
 
--- ---- their texts are what is printed
+-- ---- the texts of operands are what is printed
 
 pub changing_text : (c : Change) (ws : List Word) → texts (changing c ws) ≡ change_text c ++ texts ws
 changing_text change.Keep ws = refl
@@ -117,7 +117,7 @@ pub back_text : (a : Addr) → texts (back a) ≡ tail_text a
 back_text (addr.Direct low) = refl
 back_text (addr.Indirect c n) = next_printed n
 
--- ---- they are lexed
+-- ---- operands are lexed
 
 pub constant_lexed : (n : ℕ) (text : List ℕ) (ws : List Word) → IsConstantOf n text → prefix_len is_letter_or_digit (texts ws) ≡ 0 → AreLexed ws → AreLexed (constant text ∷ ws)
 constant_lexed n text ws is ends h = (is.lexed (texts ws) ends, is.some, is.quiet, is.short, h)
@@ -172,7 +172,7 @@ pub front_lexed : (a : Addr) (ws : List Word) → AddrInRange a → prefix_len i
 front_lexed (addr.Direct low) ws h ends lexed = constant_lexed low (low_text low) ws (byte_constant low (omega (arith, h))) ends lexed
 front_lexed (addr.Indirect c n) ws h ends lexed = changing_lexed c ws lexed
 
--- ---- they are few
+-- ---- operands are few
 
 changing_few : (c : Change) (ws : List Word) → length (changing c ws) ≤ length ws + 3
 changing_few change.Keep ws = omega arith

@@ -12,8 +12,8 @@ ghost use Rattle.c25_meaning_assembly.specs.ModuleOfSource.{Assembled, assembled
 ghost use Rattle.c25_print_laws.specs.Source.{IsTextOf};
 
 /// The disassembly of words is a source of these words. Where words of 16 bits are at the addresses from 0
-/// on, without a gap, the lines printed of them, cut off after their columns and each put after a blank,
-/// assemble to a module of one section with these words.
+/// on, without a gap, the lines printed of them, each without its columns and put after a blank, assemble to
+/// a module of one section with these words.
 pub fn words_texts_are_sources_of_their_words()
     ensures { (words : FinMap nat_cmp ℕ) (ws text : List ℕ) (files : Files) (name : List ℕ) → ((k : ℕ) → word_at words k ≡ slice_get ws k)
         → All (λ w. w < 2 ^ 16) ws → IsWordsText words 0 text → text_named files name ≡ Some (source_of_text text) → is_file_name name ≡ true

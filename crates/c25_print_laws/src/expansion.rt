@@ -33,9 +33,10 @@ pub fn expansion_opens_at_most_32_blocks()
         Gave files (start file text) rows c → depth c ≤ 32 }
 {}
 
-/// Plain lines expand to themselves. Where lines are taken, a line without a directive of expansion or a call
-/// of a macro, and in which nothing is replaced, is given as it is, and only the number of lines that may
-/// still be read changes. So a source of such lines gives all of them and then ends.
+/// Plain lines expand to themselves. Where lines are taken, a line of at most 1,024 bytes without a directive
+/// of expansion or a call of a macro, and in which nothing is replaced, is given as it is, and only the
+/// number of lines that may still be read changes. So a source of at most 200,000 such lines gives all of
+/// them and then ends.
 pub fn plain_lines_expand_to_themselves()
     ensures line { (files : Files) (s : Table) (row : Row) (rest : List LineOrEnd) (c : Config) → c.mode ≡ Reading → c.lines ≡ Read row ∷ rest
         → are_taken c.frame.branches ≡ true → 0 < c.left → IsPlain c.names row.text
@@ -45,7 +46,8 @@ pub fn plain_lines_expand_to_themselves()
 {}
 
 /// The lines of a false `.if` are skipped: up to its `.elseif`, `.else` or `.endif`, whatever they are and
-/// whatever the symbols are, only the number of lines that may still be read changes.
+/// whatever the symbols are, only the number of lines that may still be read changes, as long as there are
+/// such.
 pub fn lines_of_a_false_if_are_skipped()
     ensures { (files : Files) (s : Table) (rows : List Row) (rest : List LineOrEnd) (c : Config) (b : Branch) (bs : List Branch) → c.mode ≡ Reading
         → c.lines ≡ map Read rows ++ rest → c.frame.branches ≡ b ∷ bs → takes_lines b.phase ≡ false → b.nested ≡ 0 → are_closed 0 rows ≡ true

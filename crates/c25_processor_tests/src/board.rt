@@ -74,8 +74,8 @@ fn board_with(alloc: Global, page: &WordMap) -> Result<Board<NoSamples, ListSink
     Ok(Board::new(alloc, page, &none, &MARKS, &[], schedule, NoSamples, sink)?)
 }
 
-/// Two runs make one run of nine steps. Under CNF 1 block B0 reads 0 as data, and its words still are those
-/// of `data`.
+/// Two runs make one run of nine steps. Under CNF 1 block B0 reads 0 as data, while `Board::data` still has
+/// its words.
 fn runs_twice(rt: &impl Abort, board: &mut Board<NoSamples, ListSink>)
     requires { steps board.old ≡ 0 }
 {

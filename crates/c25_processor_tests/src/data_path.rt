@@ -12,8 +12,8 @@ fn acc(value: u32, ov: bool, c: bool) -> Acc {
     Acc { value, ov, c }
 }
 
-/// 7FFFFFFFh plus 1, without OVM and with it; 0 less 1, which borrows while OV stays set; -2 made positive,
-/// and 80000000h negative under OVM.
+/// 7FFFFFFFh plus 1, without OVM and with it; 0 less 1, which borrows while OV stays set; the absolute value
+/// of -2, and 80000000h negated under OVM.
 #[test]
 fn sums_differences_and_signs(rt: HostRuntime) {
     let mut sum = acc(0x7fff_ffff, false, true);

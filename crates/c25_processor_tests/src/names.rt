@@ -1,4 +1,4 @@
-//! The names of instructions.
+//! Tests of the names of instructions.
 
 use crate::values::equal;
 use c25_isa::mnemonic;

@@ -46,7 +46,7 @@ fn the_data_path(rt: HostRuntime) {
     );
 }
 
-/// `LACK 9`.
+/// `LACK 9`, encoded, decoded and found by its name.
 #[test]
 fn the_instruction_set(rt: HostRuntime) -> Result<(), Fail> {
     let lack = Insn::Short(ShortName::Lack, 0, 9);

@@ -1,4 +1,4 @@
-//! Samples.
+//! Tests of samples.
 
 use crate::values::equal;
 use c25_board::ports::Feed;

@@ -56,7 +56,7 @@ HasFront text old new = (front rest : List ℕ) × (text ≡ front ++ rest) × A
 abbrev pub IsPrinted : List ℕ → Ending → Ending → Option (List ℕ) → Option (List ℕ) → Type 0
 IsPrinted text done ending old new = ((ending ≡ done) × Appends old new text) ⊎ ((ending ≡ Unprinted) × HasFront text old new)
 
--- the program ends since memory ran out
+-- the program ends because memory ran out
 abbrev pub IsShort : Ending → Type 0
 IsShort e = (n : no_memory.NoMemory) × (e ≡ NoMemory n)
 

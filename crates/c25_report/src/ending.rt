@@ -36,7 +36,8 @@ pub enum Ending {
     NoMemory(NoMemory),
     /// Standard output cannot be written (1).
     Unprinted,
-    /// The command line is no task (2), or memory ran out when it was read (1).
+    /// The command line is no task, or asks for help or the version (2), or memory ran out when it was read
+    /// (1).
     NoTask(WordsFault),
     /// An argument of the command line is not UTF-8 (2).
     NoText,
@@ -130,7 +131,7 @@ fn tell_report<E: Write>(report: &Report, err: &mut E) -> io::Result<()>
 }
 
 /// Prints a report on standard error: a fault's line, or why the command line is no task, and the note after
-/// it.
+/// it. Where standard error cannot be written, `told` of the result says so.
 pub fn finish<E: Write>(report: Report, err: &mut E) -> Ended
     ensures report { result.report ≡ report }
     ensures told { OnOk result.told (IsReported report (E.contents err.old) (E.contents err.new)) }

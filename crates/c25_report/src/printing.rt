@@ -14,7 +14,8 @@ use std::io::{ErrorKind, Write};
 #[derive(Clone, Copy)]
 pub struct Unwritten;
 
-/// Writes the first of these bytes, and answers how many: 0 where the write was interrupted.
+/// Writes the first of these bytes, and answers how many: 0 where the write was interrupted. `Unwritten`
+/// where the writer took none or failed.
 fn write_some<O: Write>(bytes: &[u8], out: &mut O) -> Result<usize, Unwritten>
     ensures most { IfOk result (λ count. count ≤ length bytes.now) }
     ensures ok { IfOk result (λ count. Appends (O.contents out.old) (O.contents out.new) (take count bytes.now)) }
@@ -32,7 +33,8 @@ fn write_some<O: Write>(bytes: &[u8], out: &mut O) -> Result<usize, Unwritten>
     }
 }
 
-/// Prints bytes. After an error some of the first bytes may have been printed.
+/// Prints bytes. `Unwritten` where the writer fails or takes none of the bytes that are left; an interrupted
+/// write is tried again. After an error some of the first bytes may have been printed.
 #[tactic(auto, using(crate::proofs::Fronts::more_written))]
 pub fn print_bytes<O: Write>(bytes: &[u8], out: &mut O) -> Result<(), Unwritten>
     ensures ok { OnOk result (Appends (O.contents out.old) (O.contents out.new) bytes.now) }
@@ -51,7 +53,8 @@ pub fn print_bytes<O: Write>(bytes: &[u8], out: &mut O) -> Result<(), Unwritten>
     Err(Unwritten)
 }
 
-/// Prints a text. After an error some of its first bytes may have been printed.
+/// Prints a text. `Unwritten` as for [`print_bytes`]: some of the text's first bytes may then have been
+/// printed.
 pub fn print_text<O: Write>(text: &str, out: &mut O) -> Result<(), Unwritten>
     ensures ok { OnOk result (Appends (O.contents out.old) (O.contents out.new) text.now) }
     ensures err { OnErr result (HasFront text.now (O.contents out.old) (O.contents out.new)) }

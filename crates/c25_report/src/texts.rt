@@ -90,7 +90,7 @@ fn push_listings<'a>(
 }
 
 /// The files of a program under these names, which must be for as many listings: both hex texts, the map, and
-/// the listings.
+/// the listings. A listing without a name is left out.
 pub fn program_outputs<'a>(
     alloc: Global,
     names: &'a ProgramFileNames,

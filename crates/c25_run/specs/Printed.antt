@@ -16,8 +16,9 @@ use Rattle.c25_run.specs.declared.batch.Batch.{Batch}
 abbrev pub IsFresh : Batch → Type 0
 IsFresh batch = (batch.outputs.items ≡ []) × (batch.failures ≡ 0)
 
--- n steps from step k on ended so, with j done in all: their outputs are printed, and t is what the board holds of their last state, in
--- which the outputs that were printed stand before those that it still has
+-- n steps from step k on ended with this outcome, with j done in all: their outputs are printed, and t is
+-- what the board holds of their last state, in which the outputs that were printed stand before those that it
+-- still has
 pub record PrintsSome (signals : Signals) (k n : ℕ) (s : State) (o : Outcome) (j : ℕ) (t : State) (old new : Option (List ℕ)) : Type 0 where
   pub end : Ending
   pub run : Runs WordStep signals k n s end
@@ -35,7 +36,7 @@ pub record BreaksOff (signals : Signals) (k n : ℕ) (s : State) (old new : Opti
   pub reaches : Reaches WordStep signals k done s reached
   pub front : HasFront (outputs_text reached.world.outputs) old new
 
--- n steps from the first on ended so, with j done, and their text is printed
+-- n steps from the first on ended with this outcome, with j done, and their text is printed
 pub record PrintsAll (signals : Signals) (n : ℕ) (s : State) (o : Outcome) (j : ℕ) (t : State) (old new : Option (List ℕ)) : Type 0 where
   pub end : Ending
   pub run : Runs WordStep signals 0 n s end

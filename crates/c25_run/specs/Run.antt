@@ -47,11 +47,11 @@ IsShortBefore e note old new = IsShort e × (note ≡ []) × Keeps old new
 
 -- ---- by the end of the program's words
 
--- what is reported of n steps that ended so
+-- what is reported of n steps with this end
 abbrev pub TellsEnd : (regs : Bool) → ImageData → List ScheduleEntry → ℕ → Ending → Telling
 TellsEnd regs image entries n end = TellsOutcome regs image entries (outcome_of end) (steps_of n end) (last_state end)
 
--- the text of n steps that ended so is printed
+-- the text of n steps with this end is printed
 abbrev pub PrintsEnd : (regs : Bool) → ImageData → List ScheduleEntry → ℕ → Ending → Printing
 PrintsEnd regs image entries n end = PrintsText (end_text n end) (TellsEnd regs image entries n end)
 

@@ -16,7 +16,7 @@ use std::io::Write;
 /// A board that keeps the outputs of one batch of steps.
 pub(crate) type BatchBoard = Board<Samples, Batch>;
 
-/// Runs one batch of steps of a board, and prints their outputs.
+/// Runs one batch of steps of a board, or fewer where one stops, and prints their outputs.
 fn print_some<O: Write>(
     board: &mut BatchBoard,
     lines: &mut OutputLines,
@@ -74,8 +74,8 @@ fn print_steps<O: Write>(
     Ok(Outcome::Ran)
 }
 
-/// Runs n steps of a new board, prints their outputs as they go, and then the line that says how the run
-/// ended.
+/// Runs n steps of a new board, or fewer where one stops, prints their outputs as they go, and then the line
+/// that says how the run ended.
 pub(crate) fn print_board<O: Write>(
     board: &mut BatchBoard,
     n: u32,

@@ -81,7 +81,7 @@ fn report_of(
     }
 }
 
-/// Runs n steps of a linked program from a reset on, and prints the run as it goes.
+/// Runs n steps of a linked program from a reset on, or fewer where one stops, and prints the run as it goes.
 fn print_linked<O: Write>(
     alloc: Global,
     linked: &Linked,
@@ -107,9 +107,10 @@ fn print_linked<O: Write>(
     }
 }
 
-/// Runs n steps of a program from a reset on, prints their outputs as they go, and then how the run ended.
-/// Except for the registers, all memory is taken before the first step: if it runs out then, nothing is
-/// printed.
+/// Runs n steps of a program from a reset on, or fewer where one stops, prints their outputs as they go, and
+/// then how the run ended. Except for the registers, all memory is taken before the first step: if it runs
+/// out then, nothing is printed. Where the outputs or the last line cannot be printed, the ending is
+/// `Unprinted`, and no further step is done.
 ///
 /// Where the registers are asked for, the note has what a debugger answers to `regs` and `where` after the
 /// run; memory may run out for it after the run is printed.

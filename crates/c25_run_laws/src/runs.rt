@@ -15,8 +15,8 @@ ghost use Rattle.c25_meaning_processor.specs.WordStep.{IsFetched, IsFetchedBy, W
 ghost use Rattle.c25_meaning_image.specs.declared.mark.Mark.{Mark};
 ghost use Rattle.c25_run_laws.specs.KeptCode.{KeepsCode};
 
-/// Each word of an instruction that starts at an address, as far as memory goes, belongs to an
-/// instruction, so no step overwrites it.
+/// Each word of an instruction that starts at an address belongs to an instruction. So no step writes it
+/// (`steps_keep_the_words_of_code`).
 pub fn started_words_are_code()
     ensures { (marks : List Mark) (address word size : ℕ) → size_at marks address ≡ Some size →
         address ≤ word → word < address + size → is_code marks word ≡ true }
@@ -43,9 +43,9 @@ pub fn image_runs_as_statements()
 
 /// Under CNF 1 a statement whose section runs in block B0 acts at the address at which it runs, where B0
 /// holds its words; where B0 holds others, and at each other address of B0, no statement acts, so that the
-/// run stops there. At all other addresses, and everywhere under CNF 0, it is the statement that stands there
-/// which acts. The words of a statement that runs in B0 are code where they are loaded, and no instruction is
-/// fetched from them there.
+/// run stops there. At all other addresses the statement that stands there acts, unless under CNF 1 its
+/// second word lies in B0; under CNF 0 it acts at every address. The words of a statement that runs in B0 are
+/// code where they are loaded, and no instruction is fetched from them there.
 pub fn code_in_b0()
     ensures held { (ss : Statements) (w : World) (pc : ℕ) (c : Copied) → copied_at ss.copied pc ≡ Some c →
         holds w c.run (words c.insn) ≡ true → standing ss true w pc ≡ Some c.insn }
@@ -63,7 +63,8 @@ pub fn code_in_b0()
 {}
 
 /// A program of which nothing runs in block B0 steps by the statements that stand where they run, and so do
-/// its words: the definitions for B0 change nothing in it.
+/// its words. All that the definitions for B0 change is that under CNF 1 no statement acts of which a word
+/// lies in B0.
 pub fn programs_outside_b0_step_plainly()
     ensures statements { (statements : List Statement) (lines : Lines) (bio : Bool) (s : State) →
         statement_step (plainly statements) lines bio s

@@ -37,7 +37,7 @@ fn one_source(alloc: Global) -> Result<Files, Fail> {
     Ok(files)
 }
 
-/// The expansion of that source has one line.
+/// The expansion of the source `a.asm` has one line.
 #[test]
 fn the_expander(rt: HostRuntime) -> Result<(), Fail> {
     let files = one_source(rt.alloc())?;
@@ -50,7 +50,7 @@ fn the_expander(rt: HostRuntime) -> Result<(), Fail> {
     Ok(())
 }
 
-/// That source assembled.
+/// The source `a.asm`, assembled with its listing.
 fn assembled(alloc: Global, files: &Files) -> Result<Listing<'_>, Fail> {
     match assemble(alloc, files, "a.asm") {
         Ok(listing) => Ok(listing),
@@ -58,7 +58,7 @@ fn assembled(alloc: Global, files: &Files) -> Result<Listing<'_>, Fail> {
     }
 }
 
-/// The module of that source, through its object.
+/// The module of the source `a.asm`, written as its object and read from it.
 fn module_of(alloc: Global, files: &Files) -> Result<Module, Fail> {
     let listing = assembled(alloc, files)?;
     let object = write_module(alloc, &listing.module)?;
@@ -92,7 +92,7 @@ fn empty_lists(alloc: Global) -> Result<Parts, Fail> {
     })
 }
 
-/// These lists are a module's.
+/// The lists of a module of version 1 are a module's.
 #[test]
 fn lists_of_modules(rt: HostRuntime) -> Result<(), Fail> {
     let found = made_of(empty_lists(rt.alloc())?);
@@ -108,7 +108,7 @@ fn read_back(alloc: Global, image: &Image) -> Result<Option<u16>, Fail> {
     Ok(read_hex(alloc, text.as_str())?.get(0))
 }
 
-/// That source as an object, as a program, as its map and its hex text.
+/// The source `a.asm` as an object, as a program, as its map and its hex text.
 #[test]
 fn the_assembler_and_the_linker(rt: HostRuntime) -> Result<(), Fail> {
     let files = one_source(rt.alloc())?;
@@ -119,7 +119,7 @@ fn the_assembler_and_the_linker(rt: HostRuntime) -> Result<(), Fail> {
     Ok(())
 }
 
-/// That source run for one step.
+/// The source `a.asm`, run for one step.
 fn run_once(alloc: Global, files: &Files, sources: &[String]) -> Result<Chain, Fail> {
     match run_chain(alloc, files, sources, "", "", "", 1) {
         Ok(chain) => Ok(chain),
@@ -127,7 +127,7 @@ fn run_once(alloc: Global, files: &Files, sources: &[String]) -> Result<Chain, F
     }
 }
 
-/// What the debugger answers to one step of that source.
+/// What the debugger answers to one step of the source `a.asm`.
 fn step_once(alloc: Global, files: &Files, sources: &[String]) -> Result<String, Fail> {
     match debug_chain(alloc, files, sources, "", "", "", "step 1\n") {
         Ok(answers) => Ok(answers),
@@ -135,7 +135,7 @@ fn step_once(alloc: Global, files: &Files, sources: &[String]) -> Result<String,
     }
 }
 
-/// That source run for one step, and answered for one.
+/// The source `a.asm`, run for one step by the chain and by the debugger.
 #[test]
 fn the_chain(rt: HostRuntime) -> Result<(), Fail> {
     let files = one_source(rt.alloc())?;

@@ -59,7 +59,8 @@ abbrev pub TellsObject : List ℕ → Result Contents Fault → Ending → Type 
 TellsObject name (Ok contents) e = IsLineOf (object_line name) e
 TellsObject name (Err fault) e = IsEndingOf fault e
 
--- an object file with its name is reported so
+-- an object file with its name, where `--from` is given: by the module that its bytes spell, or their fault,
+-- it is reported that it is an object, or the fault
 abbrev pub RefusesObject : List ℕ × List ℕ → Ending → Type 0
 RefusesObject file e = (answer : Result Contents Fault) × MeetsBy refusal_of (λ m. m) (module_in file) answer × TellsObject file.0 answer e
 

@@ -85,9 +85,9 @@ Does held input (Debug sources script files explain) e =
 Does held input (Explain number) e = Explained number e.ending e.out × OnlyPrints e
 Does held input (Disassemble file from) e = DisassemblesTold held file.now (text_of from) e.ending e.out × OnlyPrints e
 
--- ---- words
+-- ---- command lines
 
--- what the program does where the command line is read so
+-- what the program does where this is read of the command line: the task, or the report that there is none
 abbrev pub DoesRead : Held → Option (List ℕ) → Result Task (Failure Error) → Effect → Type 0
 DoesRead held input (Ok task) e = Does held input task e
 DoesRead held input (Err fault) e = (e.ending ≡ ending.NoTask fault) × IsQuiet e

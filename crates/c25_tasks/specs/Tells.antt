@@ -83,8 +83,8 @@ IsRunOfStatements given n regs e note out =
 abbrev pub IsRunOfAnswers : Given → ℕ → (regs : Bool) → Ending → (note : List ℕ) → Printed → Type 0
 IsRunOfAnswers given n regs e note out = (chain : Chain) → (a : IsAnswer given n chain) → Appends out.0 out.1 (run_text chain) × TellsAnswer regs given n chain a e note
 
--- where the program ends with status 0 or 3, n steps of something that is given so are printed: as its
--- statements run, and as the chain answers
+-- where the program ends with status 0 or 3, n steps of what the chain is given, of which `is_given` holds,
+-- are printed: as its statements run, and as the chain answers
 abbrev pub PrintsGiven : (Given → Type 0) → ℕ → (regs : Bool) → Ending → (note : List ℕ) → Printed → Type 0
 PrintsGiven is_given n regs e note out = IsRun e → (given : Given) × is_given given × IsRunOfStatements given n regs e note out × IsRunOfAnswers given n regs e note out
 

@@ -82,7 +82,8 @@ fn report_of_program<V: Env, D: Disk, R: Read, O: Write>(
     }
 }
 
-/// The program: `run_words` over the command line in `env`. Where an argument is not UTF-8 the status is 2.
+/// The program: `run_words` over the command line in `env`. Where an argument is not UTF-8 the status is 2,
+/// and where memory runs out for the command line it is 1; nothing is done then.
 pub fn run_program<V: Env, D: Disk, R: Read, O: Write, E: Write>(
     alloc: Global,
     env: &V,

@@ -42,8 +42,8 @@ fn answer<D: Disk>(
     work_over(alloc, disk, files, &work)
 }
 
-/// Runs sources, and prints the run as it goes. Where they are asked for, the note has the registers at its
-/// end or the explanation of a fault.
+/// Runs sources, and prints the run as it goes. The note has the registers at the end of the run, or the
+/// explanation of a fault, where these are asked for.
 pub(crate) fn run_sources<D: Disk, O: Write>(
     alloc: Global,
     sources: &[&str],

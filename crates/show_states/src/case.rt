@@ -39,7 +39,8 @@ pub struct End {
     settled: bool,
 }
 
-/// The two words of a row of the opcode table with drawn operands that decode to an instruction.
+/// The two words of an instruction of a row of the opcode table, with drawn operands; where 64 draws decode
+/// to no instruction, the row's first word with operands 0.
 fn draw_words(generator: &mut Generator, base: u16, operands: u16) -> (u16, u16) {
     for _ in 0..64 {
         let first = base | (generator.bits() & operands);

@@ -37,8 +37,8 @@ fn fill(bench: &mut Bench, generator: &mut Generator) {
     }
 }
 
-/// Prints how the first state of a row ends; how many of its states end without a stop; and the sums of how
-/// all of them end and of both memories after them.
+/// Prints how the first state of a row ends; in how many of its states the last step runs an instruction; and
+/// the sums of how all of them end and of both memories after them.
 fn run_row(
     rt: &impl Print,
     bench: &mut Bench,

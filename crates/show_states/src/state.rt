@@ -31,7 +31,7 @@ const LOADS: [MemName; 7] = [
     MemName::Lst1,
 ];
 
-/// What the registers hold, but for PC.
+/// What the registers of a state hold, but for PC and RPTC.
 #[derive(Clone, Copy)]
 pub struct CaseState {
     pub acc_high: u16,

@@ -20,7 +20,7 @@ fn branch(registers: &mut Registers, holds: bool, target: u16)
     }
 }
 
-/// Goes to the target and clears OV, where it is set.
+/// Where OV is set, clears it and goes to the target.
 fn branch_on_overflow(registers: &mut Registers, target: u16)
     ensures { registers.new ≡ jump_effect JumpName.Bv target true registers.old }
 {
@@ -41,7 +41,7 @@ fn branch_without_overflow(registers: &mut Registers, target: u16)
     }
 }
 
-/// Any of the jumps, before the change of its operand; PC already stands after it.
+/// Runs a jump without the change of its operand; PC already stands after the jump.
 #[inline(always)]
 fn jump(registers: &mut Registers, name: JumpName, target: u16, bio: bool)
     ensures { registers.new ≡ jump_effect name target bio registers.old }
@@ -68,7 +68,7 @@ fn jump(registers: &mut Registers, name: JumpName, target: u16, bio: bool)
     }
 }
 
-/// Any of the jumps, and the change of its operand; PC already stands after it.
+/// Runs a jump with the change of its operand; PC already stands after the jump.
 #[inline(always)]
 pub fn jump_and_change(
     registers: &mut Registers,

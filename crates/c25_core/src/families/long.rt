@@ -9,7 +9,7 @@ use c25_alu::moved_left;
 use c25_meaning_instructions::mnemonic::LongName;
 use c25_meaning_processor::registers::Registers;
 
-/// Any of the instructions; `high` is the register that `LRLK` loads, or the shift.
+/// Runs an instruction with a long number; `high` is the register that `LRLK` loads, or the shift.
 pub fn long(registers: &mut Registers, name: LongName, number: u16, high: u16)
     requires { high < high_limit name }
     ensures { registers.new ≡ long_effect name number high registers.old }

@@ -14,7 +14,7 @@ use c25_meaning_instructions::insn::Addr;
 use c25_meaning_instructions::mnemonic::LongMemName;
 use c25_meaning_processor::registers::Registers;
 
-/// A += p, T = m and P = m times the program word.
+/// ACC += P, shifted as PM says; then T = `word` and P = `word` times `factor`, both with their signs.
 #[inline(always)]
 fn multiply(registers: &mut Registers, word: u16, factor: u16)
     ensures { registers.new
@@ -25,8 +25,8 @@ fn multiply(registers: &mut Registers, word: u16, factor: u16)
     registers.p = word_product(word, factor);
 }
 
-/// Any of the instructions, with its operand at this address, before the operand's change; `at` is the second
-/// word plus the number of repetitions that are done.
+/// Runs an instruction of this family with its operand at this address, without the operand's change; `at` is
+/// the second word plus the number of repetitions that are done.
 #[inline(always)]
 fn act<B: Bus>(
     registers: &mut Registers,
@@ -63,8 +63,8 @@ fn act<B: Bus>(
     }
 }
 
-/// Any of the instructions, with its second word and its operand; `repeated` repetitions are done. `cnf` is
-/// CNF, which the caller knows.
+/// Runs an instruction of this family with its second word and its operand; `repeated` repetitions are done.
+/// `cnf` is CNF, which the caller knows.
 #[inline(always)]
 pub fn long_mem_under<B: Bus>(
     registers: &mut Registers,
@@ -96,7 +96,7 @@ pub fn long_mem_under<B: Bus>(
     settle(registers, operand, arp);
 }
 
-/// Any of the instructions, with its second word and its operand; `repeated` repetitions are done.
+/// Runs an instruction of this family with its second word and its operand; `repeated` repetitions are done.
 #[inline(always)]
 pub fn long_mem<B: Bus>(
     registers: &mut Registers,

@@ -24,7 +24,7 @@ use c25_meaning_instructions::insn::Addr;
 use c25_meaning_instructions::mnemonic::MemName;
 use c25_meaning_processor::registers::{DataPage, Registers};
 
-/// Begins a repeat of the next instruction.
+/// Begins a repeat: the next instruction runs `count` + 1 times.
 pub fn repeat(registers: &mut Registers, count: u8)
     ensures { registers.new ≡ repeat count registers.old }
 {
@@ -33,7 +33,7 @@ pub fn repeat(registers: &mut Registers, count: u8)
     registers.repeated = 0;
 }
 
-/// T = m and P = m times m.
+/// T = `word` and P = `word` times `word`, with their signs.
 fn square(registers: &mut Registers, word: u16)
     ensures { registers.new ≡ record registers.old { t = word; p = word_product word word } }
 {
@@ -41,7 +41,7 @@ fn square(registers: &mut Registers, word: u16)
     registers.p = word_product(word, word);
 }
 
-/// P = T times m.
+/// P = T times `word`, both with their signs.
 #[inline(always)]
 fn multiply(registers: &mut Registers, word: u16)
     ensures { registers.new
@@ -50,7 +50,7 @@ fn multiply(registers: &mut Registers, word: u16)
     registers.p = word_product(registers.t, word);
 }
 
-/// A += p and T = m.
+/// ACC += P, shifted as PM says; T = `word`.
 #[inline(always)]
 fn add_and_load(registers: &mut Registers, word: u16)
     ensures { registers.new ≡ record (plus_product registers.old) { t = word } }
@@ -59,7 +59,7 @@ fn add_and_load(registers: &mut Registers, word: u16)
     registers.t = word;
 }
 
-/// A = p and T = m.
+/// ACC = P, shifted as PM says; T = `word`.
 #[inline(always)]
 fn take_and_load(registers: &mut Registers, word: u16)
     ensures { registers.new
@@ -69,7 +69,7 @@ fn take_and_load(registers: &mut Registers, word: u16)
     registers.t = word;
 }
 
-/// A -= p and T = m.
+/// ACC -= P, shifted as PM says; T = `word`.
 #[inline(always)]
 fn subtract_and_load(registers: &mut Registers, word: u16)
     ensures { registers.new ≡ record (minus_product registers.old) { t = word } }
@@ -78,7 +78,7 @@ fn subtract_and_load(registers: &mut Registers, word: u16)
     registers.t = word;
 }
 
-/// A += p and P = T times m.
+/// ACC += P, shifted as PM says; then P = T times `word`.
 #[inline(always)]
 fn add_and_multiply(registers: &mut Registers, word: u16)
     ensures { registers.new
@@ -88,7 +88,7 @@ fn add_and_multiply(registers: &mut Registers, word: u16)
     multiply(registers, word);
 }
 
-/// A -= p and P = T times m.
+/// ACC -= P, shifted as PM says; then P = T times `word`.
 fn subtract_and_multiply(registers: &mut Registers, word: u16)
     ensures { registers.new
         ≡ record (minus_product registers.old) { p = word_product registers.old.t word } }
@@ -97,7 +97,7 @@ fn subtract_and_multiply(registers: &mut Registers, word: u16)
     multiply(registers, word);
 }
 
-/// A += p, T = m and P = m times m.
+/// ACC += P, shifted as PM says; then T = `word` and P = `word` times `word`.
 fn add_and_square(registers: &mut Registers, word: u16)
     ensures { registers.new
         ≡ record (plus_product registers.old) { t = word; p = word_product word word } }
@@ -106,7 +106,7 @@ fn add_and_square(registers: &mut Registers, word: u16)
     square(registers, word);
 }
 
-/// A -= p, T = m and P = m times m.
+/// ACC -= P, shifted as PM says; then T = `word` and P = `word` times `word`.
 fn subtract_and_square(registers: &mut Registers, word: u16)
     ensures { registers.new
         ≡ record (minus_product registers.old) { t = word; p = word_product word word } }
@@ -115,7 +115,7 @@ fn subtract_and_square(registers: &mut Registers, word: u16)
     square(registers, word);
 }
 
-/// A -= m, and 1 more where C is 0, which is the borrow.
+/// ACC -= `word`, and 1 more where C is 0, which is the borrow.
 fn minus_with_borrow(registers: &mut Registers, word: u16)
     ensures { registers.new ≡ minus (pos (word + (1 - bit registers.old.acc.c))) registers.old }
 {
@@ -123,7 +123,7 @@ fn minus_with_borrow(registers: &mut Registers, word: u16)
     minus_natural(registers, u32::from(word) + borrow)
 }
 
-/// The rarer instructions that leave memory as it is; `word` is the memory word.
+/// Runs one of the rarer instructions that leave memory as it is; `word` is the memory word.
 fn load_rarely(registers: &mut Registers, name: MemName, word: u16)
     requires { IsRarerLoad name }
     ensures { (address k : ℕ) (w : World)
@@ -153,14 +153,15 @@ fn load_rarely(registers: &mut Registers, name: MemName, word: u16)
     }
 }
 
-/// The program address that `TBLR` and `TBLW` take: ACC, plus the number of repetitions that are done.
+/// The program address that `TBLR` and `TBLW` take: the low half of ACC plus the number of repetitions that
+/// are done, in 16 bits.
 fn table_address(registers: &Registers, repeated: u16) -> u16
     ensures { result ≡ (registers.now.acc.value + repeated) % 2 ^ 16 }
 {
     low_half(registers.acc.value).wrapping_add(repeated)
 }
 
-/// The address of the operand: for `SST` and `SST1` a direct one is on page 0.
+/// The address of the operand: for `SST` and `SST1` a direct one is on data page 0.
 fn mem_address(name: MemName, operand: &Addr, registers: &Registers) -> u16
     ensures { result ≡ mem_address name operand.now registers.now }
 {
@@ -182,7 +183,7 @@ fn mem_operand(name: MemName, operand: &Addr) -> Addr
     }
 }
 
-/// The rarer instructions, with their operand at this address and the word there.
+/// Runs one of the rarer instructions, with its operand at this address and the word there.
 #[inline(never)]
 fn act_rarely<B: Bus>(
     registers: &mut Registers,
@@ -215,7 +216,8 @@ fn act_rarely<B: Bus>(
     }
 }
 
-/// Any of the instructions but `TBLW`, with its operand at this address, before the operand's change.
+/// Runs any instruction of this family but `TBLW`, with its operand at this address, without the operand's
+/// change.
 #[inline(always)]
 fn act<B: Bus>(
     registers: &mut Registers,
@@ -259,8 +261,8 @@ fn act<B: Bus>(
     }
 }
 
-/// Any of the instructions but `TBLW`, with its operand; `repeated` repetitions are done. `cnf` is CNF, which
-/// the caller knows.
+/// Runs any instruction of this family but `TBLW`, with its operand; `repeated` repetitions are done. `cnf`
+/// is CNF, which the caller knows.
 #[inline(always)]
 pub fn mem_under<B: Bus>(
     registers: &mut Registers,
@@ -286,7 +288,7 @@ pub fn mem_under<B: Bus>(
     settle(registers, &mem_operand(name, operand), arp);
 }
 
-/// Any of the instructions but `TBLW`, with its operand; `repeated` repetitions are done.
+/// Runs any instruction of this family but `TBLW`, with its operand; `repeated` repetitions are done.
 #[inline(always)]
 pub fn mem<B: Bus>(
     registers: &mut Registers,
@@ -308,7 +310,8 @@ pub fn mem<B: Bus>(
     mem_under(registers, bus, cnf, name, operand, repeated);
 }
 
-/// `TBLW`, with its operand; `repeated` repetitions are done.
+/// Runs `TBLW` with its operand; `repeated` repetitions are done. It stops with `CodeWrite` where the program
+/// word is one of an instruction.
 #[tactic(auto, using(crate::proofs::Settle::IsMet_settle))]
 pub fn write_table<B: Bus>(
     registers: &mut Registers,

@@ -35,7 +35,8 @@ fn operand_change(operand: &PlainOperand) -> Change
     }
 }
 
-/// Whether the current register is equal to, less than, greater than or different from AR0.
+/// The comparison of `CMPR` with this number: for 0, 1, 2 and 3, whether the current register is equal to,
+/// less than, greater than and different from AR0.
 fn compares(number: u16, ar: u16, ar0: u16) -> bool
     ensures { result ≡ compares number ar ar0 }
 {
@@ -80,7 +81,7 @@ fn enable_interrupts(registers: &mut Registers)
     registers.shadowed = true;
 }
 
-/// `IDLE`: the processor sleeps until an interrupt.
+/// `IDLE`: INTM is cleared, and the processor sleeps until an interrupt is taken.
 fn sleep(registers: &mut Registers)
     ensures { registers.new ≡ record registers.old { intm = false; asleep = true } }
 {
@@ -88,8 +89,8 @@ fn sleep(registers: &mut Registers)
     registers.asleep = true;
 }
 
-/// Any of the instructions; PC already stands after it. Of two names that share a `match` arm, the second
-/// sets the bit and the first clears it.
+/// Runs an instruction without an address; PC already stands after it. Of two names that share a `match` arm,
+/// the second sets the bit and the first clears it.
 #[inline(always)]
 pub fn plain(registers: &mut Registers, name: PlainName, operand: &PlainOperand)
     ensures { registers.new ≡ plain_effect name operand.now registers.old }

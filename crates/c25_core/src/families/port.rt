@@ -18,8 +18,8 @@ use c25_meaning_instructions::mnemonic::PortName;
 use c25_meaning_processor::registers::Registers;
 use c25_meaning_processor::stop::Stop;
 
-/// `IN` or `OUT`, with its operand at this address, before the operand's change. PC may stand before or after
-/// it: of the registers only CNF is read.
+/// Runs `IN` or `OUT` with its operand at this address, without the operand's change. PC may stand before or
+/// after the instruction: of the registers only CNF is read.
 #[inline(always)]
 fn act<B: Bus>(
     registers: &Registers,
@@ -52,8 +52,8 @@ fn act<B: Bus>(
     }
 }
 
-/// `IN` or `OUT`, with its operand. PC moves past it or, in a repeat, the repetition is counted. Where it
-/// stops the registers stay as they are.
+/// Runs `IN` or `OUT` with its operand. PC moves past it or, in a repeat, the repetition is counted. Where
+/// `IN` finds no sample (`PortDry`) or the sink fails at `OUT`, the registers stay as they are.
 #[inline(always)]
 pub fn port<B: Bus>(
     registers: &mut Registers,

@@ -15,7 +15,7 @@ use c25_meaning_instructions::insn::Addr;
 use c25_meaning_instructions::mnemonic::ShiftedName;
 use c25_meaning_processor::registers::Registers;
 
-/// Any of the instructions, with its operand at this address, before the operand's change.
+/// Runs an instruction of this family with its operand at this address, without the operand's change.
 #[inline(always)]
 fn act<B: Bus>(
     registers: &mut Registers,
@@ -43,7 +43,7 @@ fn act<B: Bus>(
     }
 }
 
-/// Any of the instructions, with its operand. `cnf` is CNF, which the caller knows.
+/// Runs an instruction of this family with its operand. `cnf` is CNF, which the caller knows.
 #[inline(always)]
 pub fn shifted_under<B: Bus>(
     registers: &mut Registers,
@@ -68,7 +68,7 @@ pub fn shifted_under<B: Bus>(
     settle(registers, operand, arp);
 }
 
-/// Any of the instructions, with its operand.
+/// Runs an instruction of this family with its operand.
 #[inline(always)]
 pub fn shifted<B: Bus>(
     registers: &mut Registers,

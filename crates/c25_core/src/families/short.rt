@@ -18,7 +18,7 @@ fn natural(number: i16) -> u16
     number.cast_unsigned()
 }
 
-/// Any of the instructions; `register` is the one that `LARK` loads.
+/// Runs an instruction with a short number; `register` is the one that `LARK` loads.
 #[inline(always)]
 pub fn short(registers: &mut Registers, name: ShortName, register: u16, number: i16)
     requires { ShortInRange name register number }

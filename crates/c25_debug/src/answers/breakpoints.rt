@@ -15,7 +15,7 @@ fn push_line(text: &mut String, word: &str, address: u16) -> Result<(), NoMemory
     push_texts(text, &[word, " ", four(address).as_str(), "\n"])
 }
 
-/// Appends the answer to a breakpoint that was to be set: whether it is set, or the most are set already.
+/// Appends the answer to a breakpoint that was to be set: it is set, or as many as may be are set already.
 pub(crate) fn push_set(text: &mut String, address: u16, is_set: bool) -> Result<(), NoMemory>
     ensures { OnOk result (string_bytes text.new ≡ string_bytes text.old ++ set_text is_set address) }
 {

@@ -1,4 +1,4 @@
-//! The lines that answer steps, made without memory.
+//! The lines that answer steps, made without allocation.
 
 ghost use Rattle.std.specs.Prelude.{◌≡◌, ◌+◌, ◌≤◌, ◌++◌, codes, decimal, length};
 ghost use Rattle.arrayvec.specs.ArrayString.{array_string_len};
@@ -13,7 +13,7 @@ use itoa::Buffer;
 /// How many bytes the longest answer to steps has: `left 4294967295 OutOfCode` and its LF.
 pub(crate) const MOST_BYTES: usize = 26;
 
-/// A text, a blank and a number.
+/// A text and after it a number in decimal.
 fn counted(word: &str, steps: u32) -> ArrayString<MOST_BYTES>
     requires { length word.now ≤ 6 }
     ensures bytes { result.bytes ≡ word.now ++ decimal steps }

@@ -10,7 +10,7 @@ use c25_meaning_common::no_memory::NoMemory;
 use c25_meaning_processor::registers::Regs;
 use std::alloc::Global;
 
-/// Appends PC and the registers of the arithmetic unit.
+/// Appends PC, ACC, P and T.
 fn push_factors(text: &mut String, registers: &Regs) -> Result<(), NoMemory>
     ensures { OnOk result (string_bytes text.new ≡ string_bytes text.old
         ++ (codes "PC " ++ four_digits registers.now.pc ++ codes " ACC " ++ eight_digits registers.now.acc ++ codes " P " ++ eight_digits registers.now.p ++ codes " T " ++ four_digits registers.now.t)) }
@@ -41,8 +41,8 @@ fn push_row(text: &mut String, name: &str, words: &[u16]) -> Result<(), NoMemory
     push_text(text, "\n")
 }
 
-/// Appends the registers but for the stack: a line of PC, the arithmetic unit's registers, the status words
-/// and the repeat counter, and a line of the auxiliary registers.
+/// Appends the registers but for the stack: a line of PC, ACC, P, T, the status words and the repeat counter,
+/// and a line of the auxiliary registers.
 #[tactic(auto, unfolding(c25_meaning_debugger::specs::Texts::regs_text))]
 pub(crate) fn push_registers(text: &mut String, registers: &Regs) -> Result<(), NoMemory>
     ensures { OnOk result (string_bytes text.new ≡ string_bytes text.old ++ regs_text registers.now) }

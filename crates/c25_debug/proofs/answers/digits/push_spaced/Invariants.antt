@@ -1,4 +1,4 @@
--- the words so far stand there
+-- the text has the words so far at its end
 use Rattle.std.proofs.Common.{◌≡◌, ◌++◌, take, string_bytes}
 use Rattle.c25_meaning_debugger.specs.Texts.{spaced}
 use Rattle.c25_debug.proofs.answers.digits.push_spaced.Given as goal

@@ -1,4 +1,4 @@
--- the texts so far stand there
+-- the text has the texts so far at its end
 use Rattle.std.proofs.Common.{◌≡◌, ◌++◌, take, string_bytes}
 use Rattle.std.specs.List.{flat_map}
 use Rattle.c25_debug.proofs.answers.digits.push_texts.Given as goal
