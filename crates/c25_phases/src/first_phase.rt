@@ -270,7 +270,7 @@ impl<'a> Progress<'a> {
     #[tactic(auto, unfolding(c25_meaning_assembly::specs::Sections::use_line))]
     fn use_line(&mut self, origin: FileLine<&'a str>) -> Result<u32, Failure<FaultKind>>
         ensures told { Meets (λ _. progress_of self.new) (meaning.use_line (origin_of origin.entry) (progress_of self.old)) result }
-        ensures line { IfOk result (λ number. number ≡ origin.line) }
+        ensures line { IfOk result (λ number. number ≡ origin.entry.line) }
     {
         if !is_line_number(origin.line) {
             return Err(Failure::Fault(FaultKind::TooLarge));

@@ -21,24 +21,32 @@ use c25_meaning_language::quoting::Quoting;
 use std::alloc::Global;
 use std::borrow::CowStr;
 
-/// Writes a text that begins in this quoting, with its names replaced. The names set aside are those whose
+/// A text, and the quoting in which it begins.
+#[derive(Clone, Copy)]
+struct Passage<'a> {
+    quoting: Quoting,
+    text: &'a str,
+}
+
+/// Writes a passage with its names replaced. The names set aside are those whose
 /// texts this text is part of: as many as it is deep.
 #[cycle(writing)]
 fn write<'a>(
     names: &Visible<'a>,
     number: u32,
     aside: &mut Aside<'a>,
-    mut quoting: Quoting,
-    text: &'a str,
+    passage: Passage<'a>,
     out: &mut Output,
 ) -> Result<(), Failure<LongLine>>
     requires within { IsWithin (written_so_far out.old) }
     requires deep { length aside.old ≤ out.old.replacements }
     ensures aside { OnOk result (aside.new ≡ aside.old) }
     ensures out { Writes (written_so_far out.old)
-        (drafted (1025 - length aside.old) (names_of names.now) number aside.old quoting text.now)
+        (drafted (1025 - length aside.old) (names_of names.now) number aside.old passage.entry.quoting passage.entry.text.now)
         result (written_so_far out.new) }
 {
+    let Passage { quoting, text } = passage;
+    let mut quoting = quoting;
     let mut rest = text;
     while !rest.is_empty() {
         let first = rest.as_bytes()[0];
@@ -70,10 +78,10 @@ fn write_fragment<'a>(
     match fragment {
         Fragment::Kept(kept) => out.push(kept),
         Fragment::Numbered(name) => out.push_numbered(name, number),
-        Fragment::Replaced(name, inner, begins) => {
+        Fragment::Replaced(name, text, quoting) => {
             out.count()?;
             aside.push(name)?;
-            write(names, number, aside, begins, inner, out)?;
+            write(names, number, aside, Passage { quoting, text }, out)?;
             aside.pop();
             Ok(())
         }
@@ -100,7 +108,11 @@ fn write_change<'a>(
     } = change;
     out.push(front)?;
     write_fragment(names, number, aside, fragment, out)?;
-    write(names, number, aside, quoting, rest, out)
+    let passage = Passage {
+        quoting,
+        text: rest,
+    };
+    write(names, number, aside, passage, out)
 }
 
 /// The text of which this is the first change, with its names replaced, in memory that is taken at once for
