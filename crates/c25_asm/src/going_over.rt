@@ -14,9 +14,10 @@ use c25_macro::expander::Expander;
 use c25_macro::files::Files;
 use c25_meaning_common::failure::Failure;
 use c25_meaning_common::no_memory::NoMemory;
+use c25_meaning_common::placed::FileLine;
 use c25_meaning_language::statement::FaultKind;
 use c25_phases::fault::AsmFault;
-use c25_phases::{Origin, Progress, line_fault, operand_faults, pass_or_leave_out};
+use c25_phases::{Progress, line_fault, operand_faults, pass_or_leave_out};
 use std::alloc::Global;
 
 /// The state before the first line.
@@ -48,7 +49,7 @@ fn go_over_line<'a>(
     ensures room { OnOk result (HasRoom (gone_over_of lines.new)) }
 {
     let ExpLine { file, line, text } = line;
-    let origin = Origin { file, line };
+    let origin = FileLine { file, line };
     match pass_or_leave_out(&mut lines.progress, origin, text.as_str()) {
         Ok(()) => Ok(true),
         Err(Failure::NoMemory(error)) => Err(error),

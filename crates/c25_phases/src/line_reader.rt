@@ -37,7 +37,7 @@ pub fn read_and_pass<'a>(
 /// label, where that can be defined. After `TooLarge` (54) nothing is said of the state.
 pub fn pass_or_leave_out<'a>(
     progress: &mut Progress<'a>,
-    origin: Origin<'a>,
+    origin: FileLine<&'a str>,
     text: &str,
 ) -> Result<(), Failure<FaultKind>>
     ensures told { Meets (λ _. progress_of progress.new) (text_passed (origin_of origin.entry) text.now (progress_of progress.old)) result }
@@ -57,7 +57,7 @@ pub fn pass_or_leave_out<'a>(
 /// Reads a line's text, and does what it says.
 fn pass_text<'a>(
     progress: &mut Progress<'a>,
-    origin: Origin<'a>,
+    origin: FileLine<&'a str>,
     text: &str,
 ) -> Result<(), Failure<FaultKind>>
     ensures told { Meets (λ _. progress_of progress.new) (text_passed (origin_of origin.entry) text.now (progress_of progress.old)) result }

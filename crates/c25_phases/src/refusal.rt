@@ -2,7 +2,6 @@
 
 ghost use Rattle.std.specs.Prelude.{◌≡◌};
 ghost use Rattle.c25_meaning_language.specs.ExpansionFault.{Faulty};
-ghost use Rattle.c25_phases.specs.Origins.{origin_of};
 ghost use Rattle.c25_phases.specs.Refusals.{at_origin};
 ghost use Rattle.c25_phases.specs.View.{fault_of};
 
@@ -28,12 +27,11 @@ pub fn at_origin<'a>(
 }
 
 /// The fault of a line as the fault of its source.
-pub fn line_fault<'a>(origin: Origin<'a>, fault: FaultKind) -> AsmFault<'a>
-    ensures { fault_of result ≡ Faulty (origin_of origin.entry).file (origin_of origin.entry).line fault }
+pub fn line_fault<'a>(origin: FileLine<&'a str>, fault: FaultKind) -> AsmFault<'a>
+    ensures { fault_of result ≡ Faulty origin.entry.file.now origin.entry.line fault }
 {
-    let place = FileLine {
-        file: origin.file,
-        line: origin.line,
-    };
-    AsmFault::Line(Placed { place, fault })
+    AsmFault::Line(Placed {
+        place: origin,
+        fault,
+    })
 }
