@@ -46,7 +46,7 @@ names_alike listed s a b alike is = is ∙ ap table (sym (same_made listed a b a
 
 -- ---- what a rewriting gives
 
-no_fault : (files : Files) (r : Rewriting) (l : ExpandedLine) (d : Config) → given_by files r ≡ Some (l, d) → fault_by files r ≡ None
+pub no_fault : (files : Files) (r : Rewriting) (l : ExpandedLine) (d : Config) → given_by files r ≡ Some (l, d) → fault_by files r ≡ None
 no_fault files (Gives row c) l d h = refl
 no_fault files (Goes c) l d h = absurd (cc)
 no_fault files (Finishes c) l d h = absurd (cc)
@@ -164,7 +164,7 @@ told_fault A (Missing file line name) e (Some n) (Fault (NoFile file' line' name
     let same : n.now ≡ name = cc in
     ap Err (ap (λ x. Missing x line name) (sym t.0 ∙ sym is.0) ∙ ap (λ x. Missing file'.now x name) (sym t.1 ∙ sym is.1) ∙ ap (λ x. Missing file'.now line' x) (sym same ∙ sym is.2))
 
-told_failure : {A : Type 0} (failure : Failure ExpansionFault) (meant : Result A ExpansionFault) (e : Failure ExpandFault) (missing : Option (Bor (List ℕ))) (g : Failure AsmFault)
+pub told_failure : {A : Type 0} (failure : Failure ExpansionFault) (meant : Result A ExpansionFault) (e : Failure ExpandFault) (missing : Option (Bor (List ℕ))) (g : Failure AsmFault)
     → ((f : ExpansionFault) → failure ≡ Fault f → meant ≡ Err f) → Tells failure e → option_map (λ n. n.now) missing ≡ missing_of (Failed failure) → IsTold missing e g → FailsBy fault_of meant g
 told_failure (NoMemory n) meant (NoMemory m) missing (NoMemory x) is t same told = tt
 told_failure (NoMemory n) meant (NoMemory m) missing (Fault x) is t same told = absurd told

@@ -1,6 +1,8 @@
+pub mod AllFaults
 pub mod Alike
 pub mod Coming
 pub mod FromStart
+pub mod GoingOver
 pub mod Lined
 pub mod Made
 pub mod Refusals

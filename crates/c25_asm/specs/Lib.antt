@@ -1,4 +1,5 @@
 pub mod Coming
+pub mod GoneOver
 pub mod Listed
 pub mod Told
 pub mod Traces

@@ -46,7 +46,7 @@ fn wrong_line<'a>(fault: ExpandFault<'a>) -> Failure<AsmFault<'a>>
 
 /// The failure of expansion as the failure of the source; `missing` is the name of a file that was asked for
 /// and is not there.
-fn told<'a>(
+pub(crate) fn told<'a>(
     alloc: Global,
     missing: Option<&str>,
     failure: Failure<ExpandFault<'a>>,

@@ -7,11 +7,16 @@
 //! through the source again, one rewriting after another, and keeps the lines that opened what is open. Where
 //! the second phase refuses an item, it goes through the source a second time, up to the line with which that
 //! item came, which is found by the item's number.
+//!
+//! `all_faults` goes over a source for all its faults: a line that the first phase refuses is left out but for
+//! its label, and where no line is refused, all items are gone over.
 #![tactic(auto)]
 
 mod assembly;
+mod going_over;
 pub mod laws;
 mod lines;
+mod lines_gone_over;
 mod lines_so_far;
 mod tracing;
 mod walk;
@@ -20,4 +25,5 @@ pub use assembly::{assemble, assemble_module};
 pub use c25_listing::listing;
 pub use c25_listing::listing::Listing;
 pub use c25_phases::fault;
+pub use going_over::all_faults;
 pub use tracing::{Refused, Traced, trace};

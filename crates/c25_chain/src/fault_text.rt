@@ -130,7 +130,7 @@ fn at_file(alloc: Global, name: &str, fault: FileFault) -> Result<String, NoMemo
 }
 
 /// The line of a fault that is not out of memory.
-fn write_refusal(alloc: Global, refusal: &ChainFault<String>) -> Result<String, NoMemory>
+pub fn write_refusal(alloc: Global, refusal: &ChainFault<String>) -> Result<String, NoMemory>
     ensures { IfOk result (λ text. string_bytes text ≡ refusal_text (refusal_of refusal.now)) }
 {
     match refusal {

@@ -21,7 +21,7 @@ pub mod sources;
 pub use built::build;
 pub use chain::{RunTexts, chain_of, make_ready, run_chain};
 pub use debugging::debug_chain;
-pub use fault_text::write_fault;
+pub use fault_text::{write_fault, write_refusal};
 pub use inspection::where_it_stands;
 pub use linked::link_modules;
 pub use modules::assemble_all;

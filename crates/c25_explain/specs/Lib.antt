@@ -1,5 +1,6 @@
 pub mod Explanation
 pub mod Note
+pub mod AllFaults
 pub mod Details
 pub mod LinkNotes
 pub mod Misfits

@@ -1,6 +1,7 @@
 //! What each fault means, and what is reported after the line of a fault.
 #![tactic(auto)]
 
+mod all_faults;
 mod command_file;
 mod expansion;
 pub mod explanation;

@@ -1,4 +1,5 @@
 pub mod Addresses
+pub mod AllFaults
 pub mod AssemblyLine
 pub mod Emission
 pub mod InstructionStatements

@@ -53,6 +53,10 @@ added shape rule = record shape { rules = shape.rules ++ rule ∷ [] }
 abbrev pub with_explain : Shape → Shape
 with_explain shape = added shape (flag_rule (codes "explain"))
 
+-- .. [--explain] [--all]
+abbrev pub with_fault_options : Shape → Shape
+with_fault_options shape = added (with_explain shape) (flag_rule (codes "all"))
+
 -- .. SOURCE..
 abbrev pub with_sources : Shape → Shape
 with_sources shape = added shape (operands_rule (codes "source"))
@@ -61,25 +65,25 @@ with_sources shape = added shape (operands_rule (codes "source"))
 abbrev pub with_run_files : Shape → Shape
 with_run_files shape = added (added (added shape (option_rule (codes "command"))) (option_rule (codes "samples"))) (option_rule (codes "schedule"))
 
--- asm SOURCE --obj F [--list F] [--explain]; here and below `-o` may be written for `--obj` and for `--out`
+-- asm SOURCE --obj F [--list F] [--explain] [--all]; here and below `-o` may be written for `--obj` and for `--out`
 abbrev pub asm_shape : Shape
-asm_shape = with_explain (shape_with (codes "asm") (operand_rule (codes "source") ∷ output_rule (codes "obj") ∷ option_rule (codes "list") ∷ []))
+asm_shape = with_fault_options (shape_with (codes "asm") (operand_rule (codes "source") ∷ output_rule (codes "obj") ∷ option_rule (codes "list") ∷ []))
 
 -- link COMMAND OBJECT.. --out B [--explain]
 abbrev pub link_shape : Shape
 link_shape = with_explain (shape_with (codes "link") (operand_rule (codes "command") ∷ operands_rule (codes "object") ∷ output_rule (codes "out") ∷ []))
 
--- build SOURCE.. --out B [--command F] [--symbols F] [--explain]
+-- build SOURCE.. --out B [--command F] [--symbols F] [--explain] [--all]
 abbrev pub build_shape : Shape
-build_shape = with_explain (shape_with (codes "build") (operands_rule (codes "source") ∷ output_rule (codes "out") ∷ option_rule (codes "command") ∷ option_rule (codes "symbols") ∷ []))
+build_shape = with_fault_options (shape_with (codes "build") (operands_rule (codes "source") ∷ output_rule (codes "out") ∷ option_rule (codes "command") ∷ option_rule (codes "symbols") ∷ []))
 
--- run SOURCE.. [--steps N] [--regs] [--command F] [--samples F] [--schedule F] [--explain]
+-- run SOURCE.. [--steps N] [--regs] [--command F] [--samples F] [--schedule F] [--explain] [--all]
 abbrev pub run_shape : Shape
-run_shape = with_explain (with_run_files (shape_with (codes "run") (operands_rule (codes "source") ∷ steps_rule ∷ flag_rule (codes "regs") ∷ [])))
+run_shape = with_fault_options (with_run_files (shape_with (codes "run") (operands_rule (codes "source") ∷ steps_rule ∷ flag_rule (codes "regs") ∷ [])))
 
--- debug SOURCE.. --script F [--command F] [--samples F] [--schedule F] [--explain]
+-- debug SOURCE.. --script F [--command F] [--samples F] [--schedule F] [--explain] [--all]
 abbrev pub debug_shape : Shape
-debug_shape = with_explain (with_run_files (shape_with (codes "debug") (operands_rule (codes "source") ∷ needed_rule (codes "script") ∷ [])))
+debug_shape = with_fault_options (with_run_files (shape_with (codes "debug") (operands_rule (codes "source") ∷ needed_rule (codes "script") ∷ [])))
 
 -- explain NUMBER
 abbrev pub explain_shape : Shape

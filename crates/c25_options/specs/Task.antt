@@ -11,6 +11,7 @@ use Rattle.clap.specs.declared.error.kind.ErrorKind.TheVariants.{OutOfMemory}
 use Rattle.c25_meaning_common.specs.declared.failure.Failure.{Failure}
 use Rattle.c25_meaning_common.specs.declared.failure.Failure.TheVariants.{NoMemory, Fault}
 use Rattle.c25_options.specs.Program.{program}
+use Rattle.c25_options.specs.declared.task.FaultOptions.{FaultOptions}
 use Rattle.c25_options.specs.declared.task.RunFiles.{RunFiles}
 use Rattle.c25_options.specs.declared.task.Task.{Task}
 use Rattle.c25_options.specs.declared.task.Task.TheVariants.{RunStandardInput, Assemble, Link, Build, Run, Debug, Explain, Disassemble}
@@ -47,41 +48,46 @@ pub record AreRunFiles (rows : List Row) (files : RunFiles) : Type 0 where
   pub samples : text_of files.samples ≡ first_of (codes "samples") rows
   pub schedule : text_of files.schedule ≡ first_of (codes "schedule") rows
 
+-- what is reported of faults is what these flags say
+pub record AreFaultOptions (rows : List Row) (options : FaultOptions) : Type 0 where
+  pub explain : IsFlag (one_of (codes "explain") rows) options.explain
+  pub all : IsFlag (one_of (codes "all") rows) options.all
+
 -- the task that a subcommand of this name with these matches asks for
 abbrev pub Asks : Text → List Row → Task → Type 0
 Asks name rows RunStandardInput = ⊥
-Asks name rows (Assemble source object listing explain) =
+Asks name rows (Assemble source object listing faults) =
     (name ≡ codes "asm")
     × (first_of (codes "source") rows ≡ Some source.now)
     × (first_of (codes "obj") rows ≡ Some object.now)
     × (first_of (codes "list") rows ≡ text_of listing)
-    × IsFlag (one_of (codes "explain") rows) explain
+    × AreFaultOptions rows faults
 Asks name rows (Link command objects base explain) =
     (name ≡ codes "link")
     × (first_of (codes "command") rows ≡ Some command.now)
     × (all_of (codes "object") rows ≡ Some (texts_of objects.items))
     × (first_of (codes "out") rows ≡ Some base.now)
     × IsFlag (one_of (codes "explain") rows) explain
-Asks name rows (Build sources base command symbols explain) =
+Asks name rows (Build sources base command symbols faults) =
     (name ≡ codes "build")
     × (all_of (codes "source") rows ≡ Some (texts_of sources.items))
     × (first_of (codes "out") rows ≡ Some base.now)
     × (first_of (codes "command") rows ≡ text_of command)
     × (first_of (codes "symbols") rows ≡ text_of symbols)
-    × IsFlag (one_of (codes "explain") rows) explain
-Asks name rows (Run sources steps files regs explain) =
+    × AreFaultOptions rows faults
+Asks name rows (Run sources steps files regs faults) =
     (name ≡ codes "run")
     × (all_of (codes "source") rows ≡ Some (texts_of sources.items))
     × IsSteps (one_of (codes "steps") rows) steps
     × AreRunFiles rows files
     × IsFlag (one_of (codes "regs") rows) regs
-    × IsFlag (one_of (codes "explain") rows) explain
-Asks name rows (Debug sources script files explain) =
+    × AreFaultOptions rows faults
+Asks name rows (Debug sources script files faults) =
     (name ≡ codes "debug")
     × (all_of (codes "source") rows ≡ Some (texts_of sources.items))
     × (first_of (codes "script") rows ≡ Some script.now)
     × AreRunFiles rows files
-    × IsFlag (one_of (codes "explain") rows) explain
+    × AreFaultOptions rows faults
 Asks name rows (Explain number) = (name ≡ codes "explain") × IsNumber (one_of (codes "number") rows) number
 Asks name rows (Disassemble file from) =
     (name ≡ codes "dis") × (first_of (codes "file") rows ≡ Some file.now) × (first_of (codes "from") rows ≡ text_of from)

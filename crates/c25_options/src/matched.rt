@@ -3,9 +3,9 @@
 ghost use Rattle.std.specs.Prelude.{◌≡◌, IfOk, IfSome, IsSomeAnd, Some, codes};
 ghost use Rattle.clap.specs.Words.{all_of, first_of, one_of};
 ghost use Rattle.c25_options.specs.Complete.{IsFlagIn, IsNumberText, IsThere, rows_in};
-ghost use Rattle.c25_options.specs.Task.{AreRunFiles, IsFlag, IsNumber, IsSteps, text_of, texts_of};
+ghost use Rattle.c25_options.specs.Task.{AreFaultOptions, AreRunFiles, IsFlag, IsNumber, IsSteps, text_of, texts_of};
 
-use crate::task::{DEFAULT_STEPS, RunFiles};
+use crate::task::{DEFAULT_STEPS, FaultOptions, RunFiles};
 use c25_meaning_common::no_memory::NoMemory;
 use clap::ArgMatches;
 use std::alloc::Global;
@@ -56,6 +56,17 @@ pub(crate) fn flag(matches: &ArgMatches<'_>, id: &str) -> bool
     ensures { IsFlag (one_of id.now (rows_in matches.now)) result }
 {
     matches.get_flag(id)
+}
+
+/// What is reported of faults.
+pub(crate) fn fault_options(matches: &ArgMatches<'_>) -> FaultOptions
+    requires { IsFlagIn (rows_in matches.now) (codes "explain") × IsFlagIn (rows_in matches.now) (codes "all") }
+    ensures { AreFaultOptions (rows_in matches.now) result }
+{
+    FaultOptions {
+        explain: flag(matches, "explain"),
+        all: flag(matches, "all"),
+    }
 }
 
 /// The number of steps of a run, `DEFAULT_STEPS` where the option is not given.

@@ -3,7 +3,7 @@
 ghost use Rattle.std.specs.Prelude.{◌≡◌, IfOk, false};
 ghost use Rattle.clap.specs.Simple.{new_shape};
 ghost use Rattle.clap.specs.Words.{App, Rule, Shape, app_of, rule_of, with_subcommand};
-ghost use Rattle.c25_options.specs.Program.{IsSubcommand, added, asm_shape, bare_program, build_shape, debug_shape, dis_shape, explain_shape, link_shape, program, run_shape, with_explain, with_run_files, with_sources};
+ghost use Rattle.c25_options.specs.Program.{IsSubcommand, added, asm_shape, bare_program, build_shape, debug_shape, dis_shape, explain_shape, link_shape, program, run_shape, with_explain, with_fault_options, with_run_files, with_sources};
 
 use crate::arguments::{
     base_name, command_file, first_address, flag, needed, number, operand, operands, option,
@@ -14,7 +14,7 @@ use std::alloc::{AllocError, Global};
 
 /// The version that `--version` prints after the program's name. It rises with each change of what the
 /// program reads, writes or answers.
-const VERSION: &str = "1.6.0";
+const VERSION: &str = "1.7.0";
 
 /// The text that help prints after the list of subcommands.
 const MORE: &str =
@@ -50,6 +50,15 @@ fn with_explain<'a>(alloc: Global, subcommand: Made<'a>) -> Made<'a>
     with_argument(subcommand, flag(alloc, "explain", help))
 }
 
+/// The subcommand with the flags `--explain` and `--all`.
+fn with_fault_options<'a>(alloc: Global, subcommand: Made<'a>) -> Made<'a>
+    ensures { (shape : Shape) → IfOk subcommand.entry (IsSubcommand shape) → IfOk result (IsSubcommand (with_fault_options shape)) }
+{
+    let command = with_explain(alloc, subcommand);
+    let help = "Reports all faults of the sources, not the first alone";
+    with_argument(command, flag(alloc, "all", help))
+}
+
 /// The subcommand with sources as operands.
 fn with_sources<'a>(alloc: Global, subcommand: Made<'a>) -> Made<'a>
     ensures { (shape : Shape) → IfOk subcommand.entry (IsSubcommand shape) → IfOk result (IsSubcommand (with_sources shape)) }
@@ -81,7 +90,7 @@ fn asm<'a>(alloc: Global) -> Made<'a>
     let command = with_argument(command, operand(alloc, "source", "SOURCE", "The source"));
     let command = with_argument(command, output(alloc, "obj", "The file for the object"));
     let command = with_argument(command, option(alloc, "list", "The file for the listing"));
-    with_explain(alloc, command)
+    with_fault_options(alloc, command)
 }
 
 fn link<'a>(alloc: Global) -> Made<'a>
@@ -117,7 +126,7 @@ fn build<'a>(alloc: Global) -> Made<'a>
     let command = with_argument(command, command_file(alloc));
     let help = "The file for the names of the program and their addresses";
     let command = with_argument(command, option(alloc, "symbols", help));
-    with_explain(alloc, command)
+    with_fault_options(alloc, command)
 }
 
 fn run<'a>(alloc: Global) -> Made<'a>
@@ -134,7 +143,7 @@ fn run<'a>(alloc: Global) -> Made<'a>
     let help = "Prints the registers at the end of the run too";
     let command = with_argument(command, flag(alloc, "regs", help));
     let command = with_run_files(alloc, command);
-    with_explain(alloc, command)
+    with_fault_options(alloc, command)
 }
 
 fn debug<'a>(alloc: Global) -> Made<'a>
@@ -150,7 +159,7 @@ fn debug<'a>(alloc: Global) -> Made<'a>
     let script = needed(alloc, "script", "The debugger's commands, a line each");
     let command = with_argument(command, script);
     let command = with_run_files(alloc, command);
-    with_explain(alloc, command)
+    with_fault_options(alloc, command)
 }
 
 fn explain<'a>(alloc: Global) -> Made<'a>

@@ -9,7 +9,7 @@ ghost use Rattle.c25_options.specs.declared.task.Task.TheVariants.{RunStandardIn
 ghost use Rattle.c25_options.specs.Task.{Asks, IsAskedBy, IsWantOfMemory, Reads};
 
 use crate::fault::WordsFault;
-use crate::matched::{all, flag, needed, number, optional, run_files, steps};
+use crate::matched::{all, fault_options, flag, needed, number, optional, run_files, steps};
 use crate::program::program;
 use crate::task::Task;
 use c25_meaning_common::failure::Failure;
@@ -19,14 +19,14 @@ use std::alloc::Global;
 
 /// The task of the subcommand `asm`.
 fn assemble<'a>(matches: &ArgMatches<'a>) -> Task<'a>
-    requires { IsThere (rows_in matches.now) (codes "source") × IsThere (rows_in matches.now) (codes "obj") × IsFlagIn (rows_in matches.now) (codes "explain") }
+    requires { IsThere (rows_in matches.now) (codes "source") × IsThere (rows_in matches.now) (codes "obj") × IsFlagIn (rows_in matches.now) (codes "explain") × IsFlagIn (rows_in matches.now) (codes "all") }
     ensures { Asks (codes "asm") (rows_in matches.now) result }
 {
     Task::Assemble {
         source: needed(matches, "source"),
         object: needed(matches, "obj"),
         listing: optional(matches, "list"),
-        explain: flag(matches, "explain"),
+        faults: fault_options(matches),
     }
 }
 
@@ -45,7 +45,7 @@ fn link<'a>(alloc: Global, matches: &ArgMatches<'a>) -> Result<Task<'a>, NoMemor
 
 /// The task of the subcommand `build`.
 fn build<'a>(alloc: Global, matches: &ArgMatches<'a>) -> Result<Task<'a>, NoMemory>
-    requires { IsThere (rows_in matches.now) (codes "source") × IsThere (rows_in matches.now) (codes "out") × IsFlagIn (rows_in matches.now) (codes "explain") }
+    requires { IsThere (rows_in matches.now) (codes "source") × IsThere (rows_in matches.now) (codes "out") × IsFlagIn (rows_in matches.now) (codes "explain") × IsFlagIn (rows_in matches.now) (codes "all") }
     ensures { IfOk result (Asks (codes "build") (rows_in matches.now)) }
 {
     Ok(Task::Build {
@@ -53,13 +53,13 @@ fn build<'a>(alloc: Global, matches: &ArgMatches<'a>) -> Result<Task<'a>, NoMemo
         base: needed(matches, "out"),
         command: optional(matches, "command"),
         symbols: optional(matches, "symbols"),
-        explain: flag(matches, "explain"),
+        faults: fault_options(matches),
     })
 }
 
 /// The task of the subcommand `run`.
 fn run<'a>(alloc: Global, matches: &ArgMatches<'a>) -> Result<Task<'a>, NoMemory>
-    requires { IsThere (rows_in matches.now) (codes "source") × IfSome (one_of (codes "steps") (rows_in matches.now)) (IsNumberText 32) × IsFlagIn (rows_in matches.now) (codes "regs") × IsFlagIn (rows_in matches.now) (codes "explain") }
+    requires { IsThere (rows_in matches.now) (codes "source") × IfSome (one_of (codes "steps") (rows_in matches.now)) (IsNumberText 32) × IsFlagIn (rows_in matches.now) (codes "regs") × IsFlagIn (rows_in matches.now) (codes "explain") × IsFlagIn (rows_in matches.now) (codes "all") }
     ensures { IfOk result (Asks (codes "run") (rows_in matches.now)) }
 {
     Ok(Task::Run {
@@ -67,20 +67,20 @@ fn run<'a>(alloc: Global, matches: &ArgMatches<'a>) -> Result<Task<'a>, NoMemory
         steps: steps(matches),
         files: run_files(matches),
         regs: flag(matches, "regs"),
-        explain: flag(matches, "explain"),
+        faults: fault_options(matches),
     })
 }
 
 /// The task of the subcommand `debug`.
 fn debug<'a>(alloc: Global, matches: &ArgMatches<'a>) -> Result<Task<'a>, NoMemory>
-    requires { IsThere (rows_in matches.now) (codes "source") × IsThere (rows_in matches.now) (codes "script") × IsFlagIn (rows_in matches.now) (codes "explain") }
+    requires { IsThere (rows_in matches.now) (codes "source") × IsThere (rows_in matches.now) (codes "script") × IsFlagIn (rows_in matches.now) (codes "explain") × IsFlagIn (rows_in matches.now) (codes "all") }
     ensures { IfOk result (Asks (codes "debug") (rows_in matches.now)) }
 {
     Ok(Task::Debug {
         sources: all(alloc, matches, "source")?,
         script: needed(matches, "script"),
         files: run_files(matches),
-        explain: flag(matches, "explain"),
+        faults: fault_options(matches),
     })
 }
 

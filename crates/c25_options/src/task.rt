@@ -14,17 +14,26 @@ pub struct RunFiles<'a> {
     pub schedule: Option<&'a str>,
 }
 
+/// What is reported of faults in addition to the line of the first one.
+#[derive(Clone, Copy)]
+pub struct FaultOptions {
+    /// Whether the first fault is explained.
+    pub explain: bool,
+    /// Whether all faults of the sources are reported.
+    pub all: bool,
+}
+
 /// What the program is to do: a subcommand with its operands in order and the arguments of its options.
 #[derive(Drop)]
 pub enum Task<'a> {
     /// No command line: the source is standard input, and runs for `DEFAULT_STEPS` steps.
     RunStandardInput,
-    /// `asm SOURCE --obj FILE [--list FILE] [--explain]`: writes the object, and the listing.
+    /// `asm SOURCE --obj FILE [--list FILE] [--explain] [--all]`: writes the object, and the listing.
     Assemble {
         source: &'a str,
         object: &'a str,
         listing: Option<&'a str>,
-        explain: bool,
+        faults: FaultOptions,
     },
     /// `link COMMAND OBJECT.. --out BASE [--explain]`: writes `BASE.p0.hex`, `BASE.p1.hex` and
     /// `BASE.map`.
@@ -34,32 +43,32 @@ pub enum Task<'a> {
         base: &'a str,
         explain: bool,
     },
-    /// `build SOURCE.. --out BASE [--command FILE] [--symbols FILE] [--explain]`: writes what `link` does,
-    /// and `BASE.1.lst`, `BASE.2.lst`, .., a listing for each source; with `--symbols` also the names of the
-    /// program and their addresses.
+    /// `build SOURCE.. --out BASE [--command FILE] [--symbols FILE] [--explain] [--all]`: writes what `link`
+    /// does, and `BASE.1.lst`, `BASE.2.lst`, .., a listing for each source; with `--symbols` also the names of
+    /// the program and their addresses.
     Build {
         sources: Vec<&'a str>,
         base: &'a str,
         command: Option<&'a str>,
         symbols: Option<&'a str>,
-        explain: bool,
+        faults: FaultOptions,
     },
     /// `run SOURCE.. [--steps N] [--regs] [--command FILE] [--samples FILE] [--schedule FILE]
-    /// [--explain]`: prints the outputs and how the run ended.
+    /// [--explain] [--all]`: prints the outputs and how the run ended.
     Run {
         sources: Vec<&'a str>,
         steps: u32,
         files: RunFiles<'a>,
         regs: bool,
-        explain: bool,
+        faults: FaultOptions,
     },
     /// `debug SOURCE.. --script FILE [--command FILE] [--samples FILE] [--schedule FILE]
-    /// [--explain]`: prints the answers to a debugger's script.
+    /// [--explain] [--all]`: prints the answers to a debugger's script.
     Debug {
         sources: Vec<&'a str>,
         script: &'a str,
         files: RunFiles<'a>,
-        explain: bool,
+        faults: FaultOptions,
     },
     /// `explain NUMBER`: prints what the fault of this number means.
     Explain {

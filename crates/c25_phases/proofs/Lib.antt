@@ -2,8 +2,10 @@ pub mod Declared
 pub mod Filed
 pub mod Gathered
 pub mod Keys
+pub mod LeftOut
 pub mod Listed
 pub mod Passed
+pub mod RegisterNames
 pub mod Reversed
 pub mod Runs
 pub mod OperandsValued

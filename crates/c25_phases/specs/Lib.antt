@@ -4,6 +4,7 @@ pub mod Lined
 pub mod Names
 pub mod Origins
 pub mod Refusals
+pub mod Refused
 pub mod Runs
 pub mod Sizes
 pub mod SourceLines

@@ -1,15 +1,17 @@
 //! The first phase: what one line does. `Progress`, the type of these methods, is in `progress.rt`; its other
 //! methods are in `first_phase.rt`.
 
-ghost use Rattle.std.specs.Prelude.{◌≡◌, ◌≤◌, ◌+◌, OnOk};
+ghost use Rattle.std.specs.Prelude.{◌≡◌, ◌≤◌, ◌+◌, ◌∷◌, ◌++◌, [], OnOk, false};
 ghost use Rattle.std.specs.List.{list_any};
 ghost use Rattle.std.specs.Option.{option_map};
 ghost use Rattle.c25_meaning_common.specs.Results.{Meets};
+ghost use Rattle.c25_meaning_assembly.specs.AllFaults.{left_out};
 ghost use Rattle.c25_meaning_assembly.specs.Sections as meaning;
 ghost use Rattle.c25_expr.specs.View.{tree_of};
 ghost use Rattle.c25_statements.specs.Exprs.{exprs_in};
 ghost use Rattle.c25_statements.specs.View.{act_of, room_in, room_of, statement_of, texts_of, trees_of};
 ghost use Rattle.c25_phases.specs.Origins.{origin_of};
+ghost use Rattle.c25_phases.specs.Refused.{IsFull, IsKept, IsLabelled, IsUndone};
 ghost use Rattle.c25_phases.specs.Sizes.{IsBlockSize, IsSize};
 ghost use Rattle.c25_phases.specs.Steps.{begun, carried_out};
 ghost use Rattle.c25_phases.specs.View.{progress_of};
@@ -27,6 +29,7 @@ use c25_meaning_common::no_memory::NoMemory;
 use c25_meaning_common::placed::FileLine;
 use c25_meaning_language::statement::FaultKind;
 use c25_meaning_language::value::{Base, Value};
+use c25_statements::address_label;
 use c25_statements::statement::{AssemblyAct, Exprs, Room, Statement};
 
 /// The words that a line lays: their section, the offset of the first one, and how many there are.
@@ -79,7 +82,8 @@ impl<'a> Progress<'a> {
     }
 
     fn label(&mut self, label: Option<&str>) -> Result<(), Failure<FaultKind>>
-        ensures { Meets (λ _. progress_of self.new) (meaning.label (option_map (λ t. t.now) label.entry) (progress_of self.old)) result }
+        ensures told { Meets (λ _. progress_of self.new) (meaning.label (option_map (λ t. t.now) label.entry) (progress_of self.old)) result }
+        ensures kept { IsKept (progress_of self.old) result (progress_of self.new) }
     {
         match label {
             Some(name) => {
@@ -92,7 +96,8 @@ impl<'a> Progress<'a> {
 
     /// `.text`, `.data`, `.sect`
     fn enter(&mut self, section: &str) -> Result<(), Failure<FaultKind>>
-        ensures { Meets (λ _. progress_of self.new) (meaning.enter section.now (progress_of self.old)) result }
+        ensures told { Meets (λ _. progress_of self.new) (meaning.enter section.now (progress_of self.old)) result }
+        ensures full { IsFull result }
     {
         self.current = self.open(section, true)?;
         Ok(())
@@ -107,8 +112,10 @@ impl<'a> Progress<'a> {
         words: usize,
         flag: bool,
     ) -> Result<(), Failure<FaultKind>>
-        requires { IsBlockSize flag words }
-        ensures { Meets (λ _. progress_of self.new) (meaning.reserve section.now name.now words flag (progress_of self.old)) result }
+        requires size { IsBlockSize flag words }
+        requires anew { meaning.stands (progress_of self.old).names name.now ≡ false }
+        ensures told { Meets (λ _. progress_of self.new) (meaning.reserve section.now name.now words flag (progress_of self.old)) result }
+        ensures full { IsFull result }
     {
         let section = self.open(section, false)?;
         let place = self.place_in(section);
@@ -125,7 +132,9 @@ impl<'a> Progress<'a> {
         name: &str,
         room: &Room,
     ) -> Result<(), Failure<FaultKind>>
-        ensures { Meets (λ _. progress_of self.new) (meaning.reserve_room section.now name.now (room_of room.now) (progress_of self.old)) result }
+        requires { meaning.stands (progress_of self.old).names name.now ≡ false }
+        ensures told { Meets (λ _. progress_of self.new) (meaning.reserve_room section.now name.now (room_of room.now) (progress_of self.old)) result }
+        ensures undone { IsUndone (progress_of self.old) result (progress_of self.new) }
     {
         let words = match self.count_in(&room.count) {
             Ok(words) => words,
@@ -148,7 +157,8 @@ impl<'a> Progress<'a> {
         name: &str,
         room: &Result<Room, FaultKind>,
     ) -> Result<(), Failure<FaultKind>>
-        ensures { Meets (λ _. progress_of self.new) (meaning.reserve_count section.now name.now (room_in room.now) (progress_of self.old)) result }
+        ensures told { Meets (λ _. progress_of self.new) (meaning.reserve_count section.now name.now (room_in room.now) (progress_of self.old)) result }
+        ensures undone { IsUndone (progress_of self.old) result (progress_of self.new) }
     {
         if self.symbols.get(name).is_some() {
             return Err(Failure::Fault(FaultKind::Defined));
@@ -161,7 +171,8 @@ impl<'a> Progress<'a> {
 
     /// `.set`, `.equ`
     fn equate(&mut self, name: &str, value: &Expr) -> Result<(), Failure<FaultKind>>
-        ensures { Meets (λ _. progress_of self.new) (meaning.equate name.now (tree_of value.now) (progress_of self.old)) result }
+        ensures told { Meets (λ _. progress_of self.new) (meaning.equate name.now (tree_of value.now) (progress_of self.old)) result }
+        ensures kept { IsKept (progress_of self.old) result (progress_of self.new) }
     {
         if self.symbols.get(name).is_some() {
             return Err(Failure::Fault(FaultKind::Defined));
@@ -181,7 +192,8 @@ impl<'a> Progress<'a> {
     ) -> Result<(), Failure<FaultKind>>
         requires within { laid.offset + laid.count ≤ 65536 }
         requires some { IsSize target laid.count }
-        ensures { Meets (λ _. progress_of self.new) (meaning.mark (origin_of origin.entry) target laid.section laid.offset laid.count (progress_of self.old)) result }
+        ensures told { Meets (λ _. progress_of self.new) (meaning.mark (origin_of origin.entry) target laid.section laid.offset laid.count (progress_of self.old)) result }
+        ensures full { IsFull result }
     {
         match target {
             Target::Instruction(_) => {
@@ -198,7 +210,8 @@ impl<'a> Progress<'a> {
         target: Target,
         operands: Exprs,
     ) -> Result<(), Failure<FaultKind>>
-        ensures { Meets (λ _. progress_of self.new) (meaning.put (origin_of origin.entry) target (trees_of (exprs_in operands)) (progress_of self.old)) result }
+        ensures told { Meets (λ _. progress_of self.new) (meaning.put (origin_of origin.entry) target (trees_of (exprs_in operands)) (progress_of self.old)) result }
+        ensures full { IsFull result }
     {
         let count = target_size(target, operands.as_slice().len());
         let section = self.current;
@@ -214,7 +227,8 @@ impl<'a> Progress<'a> {
 
     /// `.space`
     fn space(&mut self, origin: FileLine<&'a str>, bits: &Expr) -> Result<(), Failure<FaultKind>>
-        ensures { Meets (λ _. progress_of self.new) (meaning.space (origin_of origin.entry) (tree_of bits.now) (progress_of self.old)) result }
+        ensures told { Meets (λ _. progress_of self.new) (meaning.space (origin_of origin.entry) (tree_of bits.now) (progress_of self.old)) result }
+        ensures undone { IsUndone (progress_of self.old) result (progress_of self.new) }
     {
         match self.count_in(bits) {
             Ok(bits) => {
@@ -250,9 +264,20 @@ impl<'a> Progress<'a> {
         Ok(())
     }
 
+    /// Gives the label of a line that is left out the place where the line begins, if it has no value yet.
+    pub(crate) fn keep_label(&mut self, text: &str) -> Result<(), NoMemory>
+        ensures { OnOk result (progress_of self.new ≡ left_out text.now (progress_of self.old)) }
+    {
+        match self.label(address_label(text)) {
+            Ok(()) | Err(Failure::Fault(_)) => Ok(()),
+            Err(Failure::NoMemory(error)) => Err(error),
+        }
+    }
+
     /// `.global`, `.ref`
     fn declare(&mut self, names: &[&str]) -> Result<(), Failure<FaultKind>>
-        ensures { Meets (λ _. progress_of self.new) (meaning.declare (texts_of names.now) (progress_of self.old)) result }
+        ensures told { Meets (λ _. progress_of self.new) (meaning.declare (texts_of names.now) (progress_of self.old)) result }
+        ensures kept { IsKept (progress_of self.old) result (progress_of self.new) }
     {
         if any_predefined(names) {
             return Err(Failure::Fault(FaultKind::Defined));
@@ -267,7 +292,8 @@ impl<'a> Progress<'a> {
         origin: FileLine<&'a str>,
         names: &[&str],
     ) -> Result<(), Failure<FaultKind>>
-        ensures { Meets (λ _. progress_of self.new) (meaning.export (origin_of origin.entry) (texts_of names.now) (progress_of self.old)) result }
+        ensures told { Meets (λ _. progress_of self.new) (meaning.export (origin_of origin.entry) (texts_of names.now) (progress_of self.old)) result }
+        ensures undone { IsUndone (progress_of self.old) result (progress_of self.new) }
     {
         if any_predefined(names) {
             return Err(Failure::Fault(FaultKind::Defined));
@@ -286,14 +312,17 @@ impl<'a> Progress<'a> {
 
     /// `.label`
     fn name_loaded(&mut self, name: &str) -> Result<(), Failure<FaultKind>>
-        ensures { Meets (λ _. progress_of self.new) (meaning.name_loaded name.now (progress_of self.old)) result }
+        ensures told { Meets (λ _. progress_of self.new) (meaning.name_loaded name.now (progress_of self.old)) result }
+        ensures kept { IsKept (progress_of self.old) result (progress_of self.new) }
     {
         let here = self.loaded_here();
         self.define(name, here)
     }
 
     fn define_register(&mut self, name: &str, number: u8) -> Result<(), Failure<FaultKind>>
-        ensures { Meets (λ _. progress_of self.new) (meaning.define name.now (meaning.value_of_number number) (progress_of self.old)) result }
+        ensures told { Meets (λ _. progress_of self.new) (meaning.define name.now (meaning.value_of_number number) (progress_of self.old)) result }
+        ensures names { OnOk result ((progress_of self.new).names ≡ (progress_of self.old).names ++ (name.now, meaning.value_of_number number) ∷ []) }
+        ensures anew { meaning.stands (progress_of self.old).names name.now ≡ false → IsFull result }
     {
         let value = Value {
             base: Base::Absolute,
@@ -302,13 +331,29 @@ impl<'a> Progress<'a> {
         self.define(name, value)
     }
 
-    /// `.mmregs`
+    /// Whether the name of a memory-mapped register is defined.
+    fn has_register(&self) -> bool
+        ensures { result ≡ list_any (λ pair. meaning.stands (progress_of self.now).names pair.0) meaning.register_names }
+    {
+        self.symbols.get("DRR").is_some()
+            || self.symbols.get("DXR").is_some()
+            || self.symbols.get("TIM").is_some()
+            || self.symbols.get("PRD").is_some()
+            || self.symbols.get("IMR").is_some()
+            || self.symbols.get("GREG").is_some()
+    }
+
+    /// `.mmregs`: all names are new, or none is defined.
     #[tactic(auto, unfolding(c25_meaning_assembly::specs::Sections::registers))]
     fn name_registers(&mut self) -> Result<(), Failure<FaultKind>>
-        ensures { Meets (λ _. progress_of self.new) (meaning.registers (progress_of self.old)) result }
+        ensures told { Meets (λ _. progress_of self.new) (meaning.registers (progress_of self.old)) result }
+        ensures undone { IsUndone (progress_of self.old) result (progress_of self.new) }
     {
         if self.registers {
             return Ok(());
+        }
+        if self.has_register() {
+            return Err(Failure::Fault(FaultKind::Defined));
         }
         self.registers = true;
         self.define_register("DRR", 0)?;
@@ -325,7 +370,8 @@ impl<'a> Progress<'a> {
         origin: FileLine<&'a str>,
         act: AssemblyAct<'_>,
     ) -> Result<(), Failure<FaultKind>>
-        ensures { Meets (λ _. progress_of self.new) (meaning.act (origin_of origin.entry) (act_of act.entry) (progress_of self.old)) result }
+        ensures told { Meets (λ _. progress_of self.new) (meaning.act (origin_of origin.entry) (act_of act.entry) (progress_of self.old)) result }
+        ensures undone { IsUndone (progress_of self.old) result (progress_of self.new) }
     {
         match act {
             AssemblyAct::Nothing => Ok(()),
@@ -355,7 +401,8 @@ impl<'a> Progress<'a> {
         label: Option<&str>,
         act: &AssemblyAct<'_>,
     ) -> Result<(), Failure<FaultKind>>
-        ensures { Meets (λ _. progress_of self.new) (begun (option_map (λ t. t.now) label.entry) (act_of act.now) (progress_of self.old)) result }
+        ensures told { Meets (λ _. progress_of self.new) (begun (option_map (λ t. t.now) label.entry) (act_of act.now) (progress_of self.old)) result }
+        ensures kept { IsKept (progress_of self.old) result (progress_of self.new) }
     {
         match self.allowed(act) {
             Ok(()) => self.label(label),
@@ -370,6 +417,7 @@ impl<'a> Progress<'a> {
         act: AssemblyAct<'_>,
     ) -> Result<(), Failure<FaultKind>>
         ensures told { Meets (λ _. progress_of self.new) (carried_out (origin_of origin.entry) (act_of act.entry) (progress_of self.old)) result }
+        ensures undone { IsUndone (progress_of self.old) result (progress_of self.new) }
         ensures few { OnOk result (meaning.name_count (progress_of self.new).names (progress_of self.new).declared ≤ 65535) }
     {
         self.act(origin, act)?;
@@ -384,6 +432,7 @@ impl<'a> Progress<'a> {
         statement: Statement<'_>,
     ) -> Result<(), Failure<FaultKind>>
         ensures told { Meets (λ _. progress_of self.new) (meaning.pass (origin_of origin.entry) (statement_of statement.entry) (progress_of self.old)) result }
+        ensures kept { IsLabelled (statement_of statement.entry).label (progress_of self.old) result (progress_of self.new) }
         ensures few { OnOk result (meaning.name_count (progress_of self.new).names (progress_of self.new).declared ≤ 65535) }
     {
         let Statement { label, act } = statement;

@@ -9,6 +9,7 @@ ghost use Rattle.c25_meaning_common.specs.Results.{Meets, MeetsBy};
 ghost use Rattle.c25_meaning_assembly.specs.Sections.{name_count};
 ghost use Rattle.c25_phases.specs.Imports.{imported};
 ghost use Rattle.c25_phases.specs.Names.{bytes_of_names};
+ghost use Rattle.c25_phases.specs.Refused.{IsKept};
 ghost use Rattle.c25_phases.specs.View.{content_of, fault_of, item_of};
 
 use crate::fault::AsmFault;
@@ -183,6 +184,7 @@ pub(crate) fn emit(
     item: &PendingItem<'_>,
 ) -> Result<(), Failure<FaultKind>>
     ensures told { Meets (λ _. sections.new) (emission.emit symbols.old.entries item.now.section item.now.offset sections.old (content_of item.now.content)) result }
+    ensures kept { IsKept sections.old result sections.new }
     ensures names { symbols.new.entries ≡ symbols.old.entries }
 {
     let section = item.section;

@@ -1,14 +1,16 @@
 //! The first phase: names, counts and sections. `Progress`, the type of these methods, is in `progress.rt`;
 //! its other methods are in `acts.rt`.
 
-ghost use Rattle.std.specs.Prelude.{◌≡◌, ◌≤◌, ◌<◌, ◌+◌, Ok, OnOk, IfOk};
+ghost use Rattle.std.specs.Prelude.{◌≡◌, ◌≤◌, ◌<◌, ◌+◌, ◌∷◌, ◌++◌, [], Ok, OnOk, IfOk, IfErr, true, false};
 ghost use Rattle.std.specs.Option.{option_map};
 ghost use Rattle.c25_meaning_common.specs.Results.{Meets};
+ghost use Rattle.c25_meaning_assembly.specs.AllFaults.{is_last_kind};
 ghost use Rattle.c25_meaning_assembly.specs.Sections as meaning;
 ghost use Rattle.c25_meaning_language.specs.Statement.{valued};
 ghost use Rattle.c25_expr.specs.View.{tree_of};
 ghost use Rattle.c25_phases.specs.Sizes.{IsBlockSize, content_size};
 ghost use Rattle.c25_phases.specs.Origins.{origin_of};
+ghost use Rattle.c25_phases.specs.Refused.{IsFull, IsKept};
 ghost use Rattle.c25_phases.specs.Steps.{marked, waited};
 ghost use Rattle.c25_phases.specs.View.{content_of, item_of, progress_of, symbols_of};
 
@@ -125,7 +127,10 @@ impl<'a> Progress<'a> {
     /// Defines a name, or reports that it is defined already (26).
     #[tactic(auto, using(crate::proofs::Declared::define_counts), unfolding(c25_meaning_assembly::specs::Sections::define))]
     pub(crate) fn define(&mut self, name: &str, value: Value) -> Result<(), Failure<FaultKind>>
-        ensures { Meets (λ _. progress_of self.new) (meaning.define name.now value (progress_of self.old)) result }
+        ensures told { Meets (λ _. progress_of self.new) (meaning.define name.now value (progress_of self.old)) result }
+        ensures kept { IsKept (progress_of self.old) result (progress_of self.new) }
+        ensures names { OnOk result ((progress_of self.new).names ≡ (progress_of self.old).names ++ (name.now, value) ∷ []) }
+        ensures anew { meaning.stands (progress_of self.old).names name.now ≡ false → IsFull result }
     {
         if self.symbols.get(name).is_some() {
             return Err(Failure::Fault(FaultKind::Defined));
@@ -183,7 +188,9 @@ impl<'a> Progress<'a> {
     /// 255 already.
     #[tactic(auto, unfolding(c25_meaning_assembly::specs::Sections::section_opened))]
     pub(crate) fn open(&mut self, name: &str, initialised: bool) -> Result<u16, Failure<FaultKind>>
-        ensures { Meets (λ i. (i, progress_of self.new)) (meaning.section_opened name.now initialised (progress_of self.old)) result }
+        ensures told { Meets (λ i. (i, progress_of self.new)) (meaning.section_opened name.now initialised (progress_of self.old)) result }
+        ensures full { IsFull result }
+        ensures names { (progress_of self.new).names ≡ (progress_of self.old).names }
     {
         if let Some(number) = self.sections.position(name) {
             return Ok(number as u16);
@@ -201,6 +208,8 @@ impl<'a> Progress<'a> {
     #[tactic(auto, unfolding(c25_meaning_assembly::specs::Sections::grow))]
     pub(crate) fn grow(&mut self, section: u16, words: usize) -> Result<(), Failure<FaultKind>>
         ensures told { Meets (λ _. progress_of self.new) (meaning.grow section words (progress_of self.old)) result }
+        ensures full { IsFull result }
+        ensures names { (progress_of self.new).names ≡ (progress_of self.old).names }
         ensures room { OnOk result (meaning.size_at (progress_of self.old).sections section + words ≤ 65536) }
     {
         let size = self.sections.size_at(section);
@@ -221,6 +230,7 @@ impl<'a> Progress<'a> {
     ) -> Result<(), Failure<FaultKind>>
         requires { content_size content ≡ words }
         ensures told { Meets (λ _. progress_of self.new) (meaning.lay (origin_of origin.entry) (content_of content) words (progress_of self.old)) result }
+        ensures full { IsFull result }
         ensures room { OnOk result (meaning.size_at (progress_of self.old).sections (progress_of self.old).current + words ≤ 65536) }
     {
         let section = self.current;
@@ -238,7 +248,8 @@ impl<'a> Progress<'a> {
 
     /// Keeps one item more for the second phase.
     pub(crate) fn wait(&mut self, item: PendingItem<'a>) -> Result<(), Failure<FaultKind>>
-        ensures { Meets (λ _. progress_of self.new) (waited (item_of item.entry) (progress_of self.old)) result }
+        ensures told { Meets (λ _. progress_of self.new) (waited (item_of item.entry) (progress_of self.old)) result }
+        ensures full { IsFull result }
     {
         self.items.push(item)?;
         Ok(())
@@ -247,7 +258,8 @@ impl<'a> Progress<'a> {
     /// Counts a file among those that hold instructions; `TooLarge` (54) where there are 65,535 others, or
     /// its name has more than 65,535 bytes.
     fn use_file(&mut self, name: &str) -> Result<(), Failure<FaultKind>>
-        ensures { Meets (λ _. progress_of self.new) (meaning.use_file name.now (progress_of self.old)) result }
+        ensures told { Meets (λ _. progress_of self.new) (meaning.use_file name.now (progress_of self.old)) result }
+        ensures full { IsFull result }
     {
         if self.files.is_at(self.recent, name) {
             return Ok(());
@@ -270,6 +282,7 @@ impl<'a> Progress<'a> {
     #[tactic(auto, unfolding(c25_meaning_assembly::specs::Sections::use_line))]
     fn use_line(&mut self, origin: FileLine<&'a str>) -> Result<u32, Failure<FaultKind>>
         ensures told { Meets (λ _. progress_of self.new) (meaning.use_line (origin_of origin.entry) (progress_of self.old)) result }
+        ensures full { IsFull result }
         ensures line { IfOk result (λ number. number ≡ origin.entry.line) }
     {
         if !is_line_number(origin.line) {
@@ -287,7 +300,8 @@ impl<'a> Progress<'a> {
         offset: u16,
         words: u8,
     ) -> Result<(), Failure<FaultKind>>
-        ensures { Meets (λ _. progress_of self.new) (marked (origin_of origin.entry) (record { section = section; offset = offset; size = words }) (progress_of self.old)) result }
+        ensures told { Meets (λ _. progress_of self.new) (marked (origin_of origin.entry) (record { section = section; offset = offset; size = words }) (progress_of self.old)) result }
+        ensures full { IsFull result }
     {
         let number = self.use_line(origin)?;
         let mark = ModuleMark {
@@ -310,7 +324,8 @@ impl<'a> Progress<'a> {
     ) -> Result<(), NoMemory>
         requires within { offset + words ≤ 65536 }
         requires size { IsBlockSize flag words }
-        ensures { OnOk result (progress_of self.new ≡ meaning.block flag section offset words (progress_of self.old)) }
+        ensures told { OnOk result (progress_of self.new ≡ meaning.block flag section offset words (progress_of self.old)) }
+        ensures names { (progress_of self.new).names ≡ (progress_of self.old).names }
     {
         if !flag {
             return Ok(());
@@ -326,6 +341,7 @@ impl<'a> Progress<'a> {
     /// Checks that there are at most 65,535 names; else `TooLarge` (54).
     pub(crate) fn few(&self) -> Result<(), FaultKind>
         ensures told { result ≡ meaning.few (progress_of self.now) }
+        ensures full { IfErr result (λ kind. is_last_kind kind ≡ true) }
         ensures few { IfOk result (λ _. meaning.name_count (progress_of self.now).names (progress_of self.now).declared ≤ 65535) }
     {
         let defined = self.symbols.len();

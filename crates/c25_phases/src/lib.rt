@@ -30,8 +30,8 @@ mod source_lines;
 mod targets;
 mod wrong;
 
-pub use line_reader::read_and_pass;
+pub use line_reader::{pass_or_leave_out, read_and_pass};
 pub use making::finish;
 pub use progress::Progress;
-pub use refusal::at_origin;
-pub use wrong::{WrongItem, first_wrong};
+pub use refusal::{at_origin, line_fault};
+pub use wrong::{WrongItem, first_wrong, operand_faults};

@@ -1,9 +1,11 @@
 //! The first phase of one line: reading its text, then doing what it says.
 
-ghost use Rattle.std.specs.Prelude.{◌≤◌, IfOk};
+ghost use Rattle.std.specs.Prelude.{◌≤◌, IfOk, OnOk};
 ghost use Rattle.c25_meaning_common.specs.Results.{Meets};
+ghost use Rattle.c25_meaning_assembly.specs.AllFaults.{address_label};
 ghost use Rattle.c25_meaning_assembly.specs.Sections.{name_count};
 ghost use Rattle.c25_phases.specs.Origins.{origin_of};
+ghost use Rattle.c25_phases.specs.Refused.{IsLabelled, IsLeftOut};
 ghost use Rattle.c25_phases.specs.Steps.{text_passed};
 ghost use Rattle.c25_phases.specs.View.{progress_of};
 
@@ -29,4 +31,41 @@ pub fn read_and_pass<'a>(
     let statement = read_statement(progress.alloc, text)?;
     progress.pass(origin, statement)?;
     Ok(progress)
+}
+
+/// The first phase of one line that is left out if it is refused: what stood before it then stays, with its
+/// label, where that can be defined. After `TooLarge` (54) nothing is said of the state.
+pub fn pass_or_leave_out<'a>(
+    progress: &mut Progress<'a>,
+    origin: FileLine<&'a str>,
+    text: &str,
+) -> Result<(), Failure<FaultKind>>
+    ensures told { Meets (λ _. progress_of progress.new) (text_passed (origin_of origin.entry) text.now (progress_of progress.old)) result }
+    ensures few { OnOk result (name_count (progress_of progress.new).names (progress_of progress.new).declared ≤ 65535) }
+    ensures left { IsLeftOut text.now (progress_of progress.old) result (progress_of progress.new) }
+{
+    match pass_text(progress, origin, text) {
+        Ok(()) => Ok(()),
+        Err(Failure::NoMemory(error)) => Err(Failure::NoMemory(error)),
+        Err(Failure::Fault(kind)) => match progress.keep_label(text) {
+            Ok(()) => Err(Failure::Fault(kind)),
+            Err(error) => Err(Failure::NoMemory(error)),
+        },
+    }
+}
+
+/// Reads a line's text, and does what it says.
+fn pass_text<'a>(
+    progress: &mut Progress<'a>,
+    origin: FileLine<&'a str>,
+    text: &str,
+) -> Result<(), Failure<FaultKind>>
+    ensures told { Meets (λ _. progress_of progress.new) (text_passed (origin_of origin.entry) text.now (progress_of progress.old)) result }
+    ensures few { OnOk result (name_count (progress_of progress.new).names (progress_of progress.new).declared ≤ 65535) }
+    ensures kept { IsLabelled (address_label text.now) (progress_of progress.old) result (progress_of progress.new) }
+{
+    match read_statement(progress.alloc, text) {
+        Ok(statement) => progress.pass(origin, statement),
+        Err(failure) => Err(failure),
+    }
 }

@@ -1,7 +1,9 @@
 //! The fault of a line as the fault of a source.
 
 ghost use Rattle.std.specs.Prelude.{◌≡◌};
+ghost use Rattle.c25_meaning_language.specs.ExpansionFault.{Faulty};
 ghost use Rattle.c25_phases.specs.Refusals.{at_origin};
+ghost use Rattle.c25_phases.specs.View.{fault_of};
 
 use crate::fault::AsmFault;
 use c25_meaning_common::failure::Failure;
@@ -22,4 +24,14 @@ pub fn at_origin<'a>(
             fault,
         })),
     }
+}
+
+/// The fault of a line as the fault of its source.
+pub fn line_fault<'a>(origin: FileLine<&'a str>, fault: FaultKind) -> AsmFault<'a>
+    ensures { fault_of result ≡ Faulty origin.entry.file.now origin.entry.line fault }
+{
+    AsmFault::Line(Placed {
+        place: origin,
+        fault,
+    })
 }

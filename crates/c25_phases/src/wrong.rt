@@ -1,16 +1,19 @@
-//! Finding the first item that the second phase refuses.
+//! Finding the first item that the second phase refuses, and the faults of all.
 
 ghost use Rattle.std.specs.Option.{option_map};
 ghost use Rattle.std.specs.Prelude.{◌≡◌, ◌≤◌, IfOk, length, map};
+ghost use Rattle.c25_meaning_assembly.specs.AllFaults.{item_faults, operand_faults};
 ghost use Rattle.c25_meaning_assembly.specs.Emission.{names_with};
 ghost use Rattle.c25_meaning_assembly.specs.Sections.{name_count};
-ghost use Rattle.c25_phases.specs.View.{item_of, progress_of};
+ghost use Rattle.c25_phases.specs.View.{fault_of, item_of, progress_of};
 ghost use Rattle.c25_phases.specs.Wrong.{first_wrong, wrong_from, wrong_of};
 
 use crate::emission::{emit, import_all};
+use crate::fault::AsmFault;
 use crate::item::PendingItem;
 use crate::operand_values::OperandValues;
 use crate::progress::Progress;
+use crate::refusal::line_fault;
 use crate::second_phase::SecondPhase;
 use crate::sections::Sections;
 use c25_expr::symbols::Symbols;
@@ -87,6 +90,55 @@ pub fn first_wrong(progress: Progress<'_>) -> Result<Option<WrongItem<'_>>, NoMe
     // Only the answer is kept of what the lines have made.
     mem::drop(laid);
     wrong
+}
+
+/// The faults of those of some items that are refused, in their order.
+fn faults_among<'a>(
+    alloc: Global,
+    symbols: &mut Symbols,
+    sections: &mut Sections<'_>,
+    items: &[PendingItem<'a>],
+) -> Result<Vec<AsmFault<'a>>, NoMemory>
+    ensures { IfOk result (λ faults. map fault_of faults.items ≡ item_faults symbols.old.entries sections.old (map item_of items.now)) }
+{
+    let mut sheet = OperandValues::new(alloc);
+    let mut faults = Vec::new(alloc);
+    for item in items {
+        match emit(alloc, symbols, sections, &mut sheet, item) {
+            Ok(()) => {}
+            Err(Failure::NoMemory(error)) => return Err(error),
+            Err(Failure::Fault(kind)) => faults.push(line_fault(item.origin, kind))?,
+        }
+    }
+    Ok(faults)
+}
+
+impl<'a> SecondPhase<'a> {
+    /// The faults of the items that are refused when all names are known.
+    fn item_faults(&mut self) -> Result<Vec<AsmFault<'a>>, NoMemory>
+        requires { name_count self.old.symbols.entries self.old.declared ≤ 65535 }
+        ensures { IfOk result (λ faults. map fault_of faults.items ≡ item_faults (names_with self.old.symbols.entries self.old.declared) self.old.sections (map item_of self.old.items.items)) }
+    {
+        import_all(&mut self.symbols, &self.declared)?;
+        faults_among(
+            self.alloc,
+            &mut self.symbols,
+            &mut self.sections,
+            self.items.as_slice(),
+        )
+    }
+}
+
+/// The faults of all items of the lines that the second phase refuses, in the order of lines.
+pub fn operand_faults(progress: Progress<'_>) -> Result<Vec<AsmFault<'_>>, NoMemory>
+    requires { name_count (progress_of progress).names (progress_of progress).declared ≤ 65535 }
+    ensures { IfOk result (λ faults. map fault_of faults.items ≡ operand_faults (progress_of progress.entry)) }
+{
+    let mut laid = SecondPhase::of(progress);
+    let faults = laid.item_faults();
+    // Only the answer is kept of what the lines have made.
+    mem::drop(laid);
+    faults
 }
 
 impl Progress<'_> {

@@ -17,4 +17,4 @@ mod strings;
 mod trees;
 
 pub use operations::{operation_of, spelled};
-pub use statement_reader::read_statement;
+pub use statement_reader::{address_label, read_statement};

@@ -3,6 +3,7 @@
 ghost use Rattle.std.specs.Prelude.{◌≡◌};
 ghost use Rattle.std.specs.Option.{option_map};
 ghost use Rattle.c25_meaning_language.specs.DirectiveOperands.{parts_in};
+ghost use Rattle.c25_meaning_assembly.specs.AllFaults as faults;
 ghost use Rattle.c25_meaning_assembly.specs.AssemblyLine as says;
 ghost use Rattle.c25_meaning_common.specs.Results.{Meets};
 ghost use Rattle.c25_text.specs.View.{part_of, parts_of};
@@ -19,7 +20,7 @@ use c25_meaning_assembly::assembly::{Directive, Target};
 use c25_meaning_common::bytes::{byte_at, is_blank};
 use c25_meaning_common::failure::Failure;
 use c25_meaning_language::statement::FaultKind;
-use c25_text::line::{Line, Word, split_line};
+use c25_text::line::{Line, Word, is_comment_line, label_in, split_line};
 use c25_text::tokens::Token;
 use std::alloc::Global;
 
@@ -99,6 +100,20 @@ fn label_for(directive: Option<Directive>, label: Option<&str>) -> Option<&str>
     ensures { option_map (λ t. t.now) result ≡ says.label_for directive (option_map (λ t. t.now) label.entry) }
 {
     if names_label(directive) { None } else { label }
+}
+
+/// The label that stands for the place where a line begins, whatever else is wrong with the line.
+#[tactic(auto, unfolding(c25_meaning_assembly::specs::AllFaults::address_label))]
+pub fn address_label(text: &str) -> Option<&str>
+    ensures { option_map (λ t. t.now) result ≡ faults.address_label text.now }
+{
+    if is_comment_line(text.as_bytes()) {
+        return None;
+    }
+    match label_in(text) {
+        Ok(label) => label_for(directive_in(text), label),
+        Err(_) => None,
+    }
 }
 
 /// What a line says, with its directive if it has one.

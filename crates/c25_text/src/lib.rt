@@ -10,4 +10,4 @@ pub mod tokens;
 
 pub use fields::{past_blanks, past_field};
 pub use lexemes::{constant_value, quoted_len};
-pub use line::{Line, first_word, split_line};
+pub use line::{Line, first_word, is_comment_line, label_in, split_line};

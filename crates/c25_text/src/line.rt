@@ -4,7 +4,7 @@ ghost use Rattle.std.specs.Prelude.{◌≡◌, ℕ, List, Ok, Err, length, slice
 ghost use Rattle.std.specs.List.{list_all};
 ghost use Rattle.std.specs.Option.{option_map};
 ghost use Rattle.c25_meaning_common.specs.Bytes.{is_visible};
-ghost use Rattle.c25_meaning_language.specs.Line.{line_of, part_from, label_of, word_of, without_colon, is_name, is_comment_line, first_word, Operands, scan_from};
+ghost use Rattle.c25_meaning_language.specs.Line.{line_of, part_from, label_in, label_of, word_of, without_colon, is_name, is_comment_line, first_word, Operands, scan_from};
 ghost use Rattle.c25_text.specs.View.{parts_of, part_of, pieces_left};
 
 use crate::fields::{past_blanks, past_field};
@@ -80,7 +80,8 @@ pub fn split_line(text: &str) -> Result<Line<'_>, LineFault>
     })
 }
 
-fn is_comment_line(text: &[u8]) -> bool
+/// Whether a line is a comment: `*` or `;` in column 1.
+pub fn is_comment_line(text: &[u8]) -> bool
     ensures { result ≡ is_comment_line text.now }
 {
     byte_at(text, 0) == b'*' || byte_at(text, 0) == b';'
@@ -100,6 +101,14 @@ fn part_from(text: &str, start: usize) -> Option<Word<'_>>
     } else {
         None
     }
+}
+
+/// The label in column 1 of a line that is no comment line, whatever follows the label, or `BadLabel`.
+pub fn label_in(text: &str) -> Result<Option<&str>, LineFault>
+    ensures { MatchResult result (λ o. label_in text.now ≡ Ok (option_map (λ s. s.now) o)) (λ f. label_in text.now ≡ Err f) }
+{
+    let end = past_field(text.as_bytes(), 0);
+    label_of(&text[..end])
 }
 
 /// The label in the field of column 1, without the colon that may end it; none in an empty field, and

@@ -6,4 +6,4 @@ returns c =
     let command = c.with_sources-command.ensures _ command in
     let command = c.with_argument-command.ensures _ _ command c.needed-script.ensures.rule in
     let command = c.with_run_files-command.ensures _ command in
-    c.with_explain.ensures _ command
+    c.with_fault_options.ensures _ command

@@ -1,0 +1,128 @@
+-- The first of all faults of a source is the one with which it is refused.
+use Rattle.std.proofs.Common.{◌≡◌, ℕ, zero, suc, Bool, true, false, cond, List, [], ◌∷◌, ◌++◌, Option, Some, None, Result, Ok, Err, refl, sym, ap, ◌∙◌, subst}
+use Rattle.std.proofs.lemmas.List.{append_assoc, append-nil}
+use Rattle.c25_meaning_assembly.specs.AllFaults.{LinesGoneOver, after_item, after_line, all_faults, faults_by, faults_of, gone_over, gone_over_by, gone_over_from, is_last, item_faults, operand_faults, with_fault, without_line}
+use Rattle.c25_meaning_assembly.specs.Emission.{all_names, emit_all, emitted, finished, module_with}
+use Rattle.c25_meaning_assembly.specs.ModuleOfSource.{Assembled, LinesSoFar, assembled, completed, entry_of, no_lines, pass_line, passed, passed_by, passed_from, read_and_pass}
+use Rattle.c25_meaning_assembly.specs.Sections.{Definitions, PendingItem, Progress, Section, table}
+use Rattle.c25_meaning_common.specs.Results.{◌>>=◌, fold_ok}
+use Rattle.c25_meaning_expansion.specs.Expansion.{Config}
+use Rattle.c25_meaning_expansion.specs.ExpansionAnswers.{ExpandedLine, given_by, fault_by}
+use Rattle.c25_meaning_expansion.specs.ExpansionRuns.{first, start_of}
+use Rattle.c25_meaning_expansion.specs.Files.{Files}
+use Rattle.c25_meaning_language.specs.ExpansionFault.{ExpansionFault}
+use Rattle.c25_meaning_objects.specs.Module.{Contents}
+
+-- the faults of a result: none, or its fault comes first
+abbrev pub HasFaults : {A : Type 0} → Result A ExpansionFault → List ExpansionFault → Type 0
+HasFaults (Ok x) fs = fs ≡ []
+HasFaults (Err f) fs = (rest : List ExpansionFault) × (fs ≡ f ∷ rest)
+
+-- ---- the first phase: the faults so far stay the first ones
+
+-- lines gone over have these faults first
+abbrev BeginsWith : List ExpansionFault → LinesGoneOver → Type 0
+BeginsWith fs a = (rest : List ExpansionFault) × (a.faults ≡ fs ++ rest)
+
+line_keeps : (l : ExpandedLine) (go_on : LinesGoneOver → LinesGoneOver) (a : LinesGoneOver) → ((b : LinesGoneOver) → BeginsWith b.faults (go_on b))
+    → (r : Result Progress ExpansionFault) → BeginsWith a.faults (after_line l r go_on a)
+line_keeps l go_on a keeps (Ok p) = keeps (record a { progress = p })
+line_keeps l go_on a keeps (Err f) = on (is_last f)
+  where
+    on : (b : Bool) → BeginsWith a.faults (cond b (with_fault f a) (go_on (without_line l f a)))
+    on true = (f ∷ [], refl)
+    on false = let k = keeps (without_line l f a) in (f ∷ k.0, k.1 ∙ append_assoc a.faults (f ∷ []) k.0)
+
+answer_keeps : (go_on : Config → LinesGoneOver → LinesGoneOver) (a : LinesGoneOver) → ((c : Config) (b : LinesGoneOver) → BeginsWith b.faults (go_on c b))
+    → (o : Option ExpansionFault) (g : Option (ExpandedLine × Config)) → BeginsWith a.faults (gone_over_by o g go_on a)
+answer_keeps go_on a keeps (Some f) g = (f ∷ [], refl)
+answer_keeps go_on a keeps None None = ([], sym (append-nil a.faults))
+answer_keeps go_on a keeps None (Some (l, c)) = line_keeps l (go_on c) a (keeps c) (read_and_pass l a.progress)
+
+lines_keep : (files : Files) (n : ℕ) (c : Config) (a : LinesGoneOver) → BeginsWith a.faults (gone_over files n c a)
+unfolding gone_over
+lines_keep files zero c a = ([], sym (append-nil a.faults))
+lines_keep files (suc n) c a = answer_keeps (gone_over files n) a (lines_keep files n) (fault_by files (first files (table a.progress) c)) (given_by files (first files (table a.progress) c))
+
+-- ---- the first phase: its first fault
+
+-- lines that have passed, with no fault
+abbrev clean : LinesSoFar → LinesGoneOver
+clean a = record { progress = a.progress; faults = [] }
+
+-- lines that pass have no fault when they are gone over, and make the same; those that do not have their fault
+-- first
+abbrev Agrees : Result LinesSoFar ExpansionFault → LinesGoneOver → Type 0
+Agrees (Ok a) b = b ≡ clean a
+Agrees (Err f) b = (rest : List ExpansionFault) × (b.faults ≡ f ∷ rest)
+
+module _ (pass_on : Config → LinesSoFar → Result LinesSoFar ExpansionFault) (go_on : Config → LinesGoneOver → LinesGoneOver)
+    (agrees : (c : Config) (a : LinesSoFar) → Agrees (pass_on c a) (go_on c (clean a))) (keeps : (c : Config) (b : LinesGoneOver) → BeginsWith b.faults (go_on c b)) (a : LinesSoFar) where
+  line_agrees : (l : ExpandedLine) (c : Config) (r : Result Progress ExpansionFault)
+      → Agrees ((r >>= λ p. Ok (record { progress = p; entries = a.entries ++ entry_of l a.progress p ∷ [] })) >>= λ b. pass_on c b) (after_line l r (go_on c) (clean a))
+  line_agrees l c (Ok p) = agrees c (record { progress = p; entries = a.entries ++ entry_of l a.progress p ∷ [] })
+  line_agrees l c (Err f) = on (is_last f)
+    where
+      on : (b : Bool) → (rest : List ExpansionFault) × ((cond b (with_fault f (clean a)) (go_on c (without_line l f (clean a)))).faults ≡ f ∷ rest)
+      on true = ([], refl)
+      on false = let k = keeps c (without_line l f (clean a)) in (k.0, k.1)
+
+  answer_agrees : (o : Option ExpansionFault) (g : Option (ExpandedLine × Config)) → Agrees (passed_by o g pass_on a) (gone_over_by o g go_on (clean a))
+  unfolding pass_line
+  answer_agrees (Some f) g = ([], refl)
+  answer_agrees None None = refl
+  answer_agrees None (Some (l, c)) = line_agrees l c (read_and_pass l a.progress)
+
+lines_agree : (files : Files) (n : ℕ) (c : Config) (a : LinesSoFar) → Agrees (passed files n c a) (gone_over files n c (clean a))
+unfolding passed, gone_over
+lines_agree files zero c a = refl
+lines_agree files (suc n) c a =
+    answer_agrees (passed files n) (gone_over files n) (lines_agree files n) (lines_keep files n) a
+    (fault_by files (first files (table a.progress) c)) (given_by files (first files (table a.progress) c))
+
+source_agrees : (files : Files) (name : List ℕ) (o : Option Config) → Agrees (passed_from files name o) (gone_over_from files name o)
+source_agrees files name None = ([], refl)
+source_agrees files name (Some c) = lines_agree files 200001 c no_lines
+
+-- ---- the second phase
+
+items_have : (names : Definitions) (sections : List Section) (items : List PendingItem) → HasFaults (fold_ok (emitted names) sections items) (item_faults names sections items)
+items_have names sections [] = refl
+items_have names sections (i ∷ is) = on (emitted names sections i) (λ next. items_have names next is)
+  where
+    on : (r : Result (List Section) ExpansionFault) → ((next : List Section) → HasFaults (fold_ok (emitted names) next is) (item_faults names next is))
+        → HasFaults (r >>= λ next. fold_ok (emitted names) next is) (after_item r (λ next. item_faults names next is) sections)
+    on (Ok next) rest = rest next
+    on (Err f) rest = (item_faults names sections is, refl)
+
+module_has : (a : LinesSoFar) → HasFaults (completed a) (operand_faults a.progress)
+unfolding finished
+module_has a = on (emit_all (all_names a.progress) a.progress.sections a.progress.items) (operand_faults a.progress) (items_have (all_names a.progress) a.progress.sections a.progress.items)
+  where
+    on : (r : Result (List Section) ExpansionFault) (fs : List ExpansionFault) → HasFaults r fs
+        → HasFaults ((r >>= λ sections. Ok (module_with sections (all_names a.progress) a.progress.exported)) >>= λ m. Ok (record { contents = m; entries = a.entries })) fs
+    on (Ok sections) fs h = h
+    on (Err f) fs h = h
+
+-- ---- both
+
+lines_have : (r : Result LinesSoFar ExpansionFault) (b : LinesGoneOver) → Agrees r b → HasFaults (r >>= λ a. completed a) (faults_of b)
+lines_have (Ok a) b same = subst (λ (x : LinesGoneOver). HasFaults (completed a) (faults_of x)) (sym same) (module_has a)
+lines_have (Err f) b (rest, is) = (rest, ap (λ fs. faults_by fs b.progress) is)
+
+-- all faults of a source are those of its module: none, or its fault comes first
+pub source_has : (files : Files) (name : List ℕ) → HasFaults (assembled files name) (all_faults files name)
+unfolding assembled, all_faults
+source_has files name = lines_have (passed_from files name (start_of files name)) (gone_over_from files name (start_of files name)) (source_agrees files name (start_of files name))
+
+pub first_is : {A : Type 0} (r : Result A ExpansionFault) (fs : List ExpansionFault) (f : ExpansionFault) → HasFaults r fs → r ≡ Err f → (rest : List ExpansionFault) × (fs ≡ f ∷ rest)
+first_is (Ok x) fs f h is = absurd (cc)
+first_is (Err g) fs f (rest, h) is = let same : g ≡ f = cc in (rest, h ∙ ap (λ x. x ∷ rest) same)
+
+pub none_then : {A : Type 0} (r : Result A ExpansionFault) (fs : List ExpansionFault) → HasFaults r fs → (x : A) × (r ≡ Ok x) → fs ≡ []
+none_then (Ok y) fs h whole = h
+none_then (Err f) fs h (x, is) = absurd (cc)
+
+pub whole_then : {A : Type 0} (r : Result A ExpansionFault) (fs : List ExpansionFault) → HasFaults r fs → fs ≡ [] → (x : A) × (r ≡ Ok x)
+whole_then (Ok y) fs h none = (y, refl)
+whole_then (Err f) fs (rest, h) none = absurd (let both : f ∷ rest ≡ [] = sym h ∙ none in cc)

@@ -1,0 +1,147 @@
+#!/usr/bin/env python3
+"""Holds what `--all` reports of a source against the faults that are found one by one.
+
+usage: python3 tools/one_by_one.py PROGRAM [--seed S] [--count N] [--sources FOLDER]
+
+Each source is plain lines with faulty ones among them, put there at random; the sources of FOLDER (*.asm) are taken too, each
+alone. One by one means: the source is assembled without `--all`, the faulty line is left out but for its label (a line of the
+second phase is made a line of as many zeros, so that no address moves), and so on until no fault is left. A fault of expansion
+and 54 end both lists. With `--all` the first line on standard error must be the line without it, the lines must be those found
+one by one, and the status must be the same. The status is 1 where they differ anywhere.
+"""
+import argparse
+import glob
+import os
+import random
+import re
+import subprocess
+import sys
+import tempfile
+
+LINE = re.compile(r"([^\n:]*):([0-9]+): ([0-9]+) ([A-Za-z]+)$")
+LABEL = re.compile(r"([A-Za-z_][A-Za-z_0-9$?]*):?(?=[ \t;]|$)")
+# Those of the second phase, where a line is refused for its operands.
+SECOND = {22, 23, 24, 25, 53, 55}
+# Faults after which nothing is read.
+LAST = {30, 31, 32, 33, 34, 35, 36, 38, 54}
+GOOD = [" NOP", " LACK 5", " ADD 60h", " LALK 1234h", " B L0", " .word 1,2,3", " .byte 1", ' .string "ab"', " .space 32", " LARK AR1,2",
+        " .bss V%d,1", "K%d .set 5", " .text", " .data", ' .sect "s%d"', " .global G%d", " IN 60h,PA1", "; a comment", "", " SACL 61h,1"]
+# Faulty lines of the first phase, and of the second one with how many words they make.
+FIRST = [" FOO", " LACK", " LACK 1,2", " LARK 5", " LACK 2+", " .word 1F", " .word 'ab", " LAC \x01", " .space -1", " .space L0", "L0 NOP",
+         "AR1 NOP", " .bss V0,200,1", " .bss L0,1", "K0 .set 5", "M%d .set N%d", " .set 5", " .usect", ' .sect ""', " .def PA1", " LAC *AR9",
+         " .wrod 5", " .mmregs 1", " .space 1/0", "1X NOP", " .word ((((", " .bss W%d", "DRR .set 0", " .mmregs"]
+WORDS = [(" LACK 256", 1), (" LARK AR1,256", 1), (" LALK 70000", 2), (" B U%d", 2), (" .word 1,U%d,3", 3), (" .byte 256", 1), (" LAC L0", 1),
+         (" .word 1/0", 1), (" ADD 60h,16", 1), (" LACK L0", 1), (" .def U%d", 0), (" .word 65536", 1)]
+
+
+def run(program, folder, words):
+    done = subprocess.run([program] + words, cwd=folder, stdin=subprocess.DEVNULL, stdout=subprocess.DEVNULL, stderr=subprocess.PIPE)
+    return done.returncode, done.stderr.decode("utf-8", "replace").splitlines()
+
+
+def label_of(line):
+    """The label of a line, where it stands for an address."""
+    found = LABEL.match(line)
+    words = line.split()
+    if found is None or (len(words) > 1 and words[1].lower() in (".set", ".equ", ".usect")):
+        return ""
+    return found.group(1)
+
+
+def write(folder, name, lines):
+    with open(os.path.join(folder, name), "w", encoding="utf-8", newline="\n") as file:
+        file.write("".join(line + "\n" for line in lines))
+
+
+def one_by_one(program, folder, name, lines, sizes):
+    """The lines of all faults, found by mending one after another."""
+    told = []
+    first_phase = False
+    while True:
+        write(folder, name, lines)
+        status, said = run(program, folder, ["asm", name, "--obj", "o"])
+        if status == 0:
+            return told
+        at = LINE.match(said[0])
+        if at is None or at.group(1) != name:
+            return told + said[:1]
+        number, kind = int(at.group(2)), int(at.group(3))
+        second = kind in SECOND and sizes.get(number) is not None
+        if second and first_phase:
+            return told
+        told.append(said[0])
+        if kind in LAST or len(told) > 100:
+            return told
+        first_phase = first_phase or not second
+        label = label_of(lines[number - 1])
+        if kind == 26 and label:
+            label = "" if lines.index(lines[number - 1]) != number - 1 or any(label_of(l) == label for l in lines[:number - 1]) else label
+        if label.upper() in ("AR1",):
+            label = ""
+        rest = " .word " + ",".join(["0"] * sizes[number]) if second and sizes[number] else ""
+        lines = lines[:number - 1] + [label + rest] + lines[number:]
+
+
+def with_all(told, name):
+    """What `--all` is to print."""
+    return told[:100] + ([name + ": more faults are not shown"] if len(told) > 100 else [])
+
+
+def source_of(rng, first, most):
+    """The lines of a source, and the sizes of its faulty lines of the second phase."""
+    lines, sizes = ["L0 NOP", "K0 .set 4", " .bss V0,1"], {}
+    for k in range(1, rng.randrange(5, most)):
+        kind = rng.random()
+        if kind < 0.75:
+            text = rng.choice(GOOD)
+        elif first and kind < 0.9:
+            text = rng.choice(FIRST)
+        else:
+            text, sizes[len(lines) + 1] = rng.choice(WORDS)
+        text = text.replace("%d", str(k))
+        if rng.random() < 0.2 and text.startswith(" ") and not text.strip().startswith("."):
+            text = "T%d" % k + text
+        lines.append(text)
+    return lines, sizes
+
+
+def differs(program, folder, name, lines, sizes):
+    told = one_by_one(program, folder, name, list(lines), sizes)
+    write(folder, name, lines)
+    status, alone = run(program, folder, ["asm", name, "--obj", "o"])
+    again, said = run(program, folder, ["asm", name, "--obj", "o", "--all"])
+    if (status, alone[:1]) == (again, said[:1]) and said == with_all(told, name):
+        return 0, len(said)
+    print("differs:", name)
+    print("".join("  %4d %s\n" % (k + 1, line) for k, line in enumerate(lines)))
+    print("one by one:", *with_all(told, name), sep="\n  ")
+    print("--all:", *said, sep="\n  ")
+    return 1, len(said)
+
+
+def main():
+    words = argparse.ArgumentParser()
+    words.add_argument("program")
+    words.add_argument("--seed", type=int, default=7)
+    words.add_argument("--count", type=int, default=300)
+    words.add_argument("--sources")
+    given = words.parse_args()
+    program = os.path.abspath(given.program)
+    rng = random.Random(given.seed)
+    wrong = faults = count = 0
+    with tempfile.TemporaryDirectory() as folder:
+        for k in range(given.count):
+            lines, sizes = source_of(rng, k % 3 != 0, rng.choice((10, 60, 400)))
+            one, more = differs(program, folder, "a.asm", lines, sizes)
+            wrong, faults, count = wrong + one, faults + more, count + 1
+        for path in sorted(glob.glob(os.path.join(given.sources, "*.asm"))) if given.sources else []:
+            with open(path, encoding="utf-8", errors="replace") as file:
+                lines = file.read().split("\n")
+            one, more = differs(program, folder, os.path.basename(path), lines, {})
+            wrong, faults, count = wrong + one, faults + more, count + 1
+    print("%d sources, %d lines of faults, %d differ" % (count, faults, wrong))
+    return 1 if wrong else 0
+
+
+if __name__ == "__main__":
+    sys.exit(main())
