@@ -173,7 +173,7 @@ Reported:
         ),
         advice: r#"Do: look for a negative offset from the first label of a section, for a label after the last word of
 a page (its address is 10000h), and for a global .set that is not an address; keep only the low bits
-of a constant in the module that defines it (A .set 12345678h&0FFFFh).
+of a constant in the module that defines it, by &0FFFFh after its value.
 "#,
     }
 }
