@@ -140,7 +140,7 @@ class Folder:
         self.printed += ["$ " + command] + printed
         words = command.split()
         for option, value in zip(words, words[1:]):
-            if option in ("--obj", "--list"):
+            if option in ("--obj", "--list", "--symbols"):
                 self.made.add(value)
             elif option == "--out":
                 listings = ["%d.lst" % number for number in range(1, len(words))] if words[1] == "build" else []

@@ -334,13 +334,15 @@ Reported:
     a macro that is called before it is defined | the .macro above the call
     a mnemonic of the TMS320C5x | an instruction of the TMS320C25
     .long | .word with two words, in the order in which the program reads them
-    .asect | .sect, and an address in the command file
+    .asect, .align | .sect, and an address in the command file
+    .float, .bfloat, .field | .word with the words, worked out beforehand
+    .bes | .space and, after it, a .set of $-1
     .newblock | nothing; local labels as names
-    .field, .float, .bfloat, .bes, .align, .mlib, .var | what the manual has in their place (limits,
-        What is left out)
+    .mlib | .copy of a file of macros
+    .var | one more parameter, which callers leave out
 
 Do: look at the first name after the label, and find it in this table; otherwise correct its
-spelling.
+spelling. The manual has more of what is left out (limits, What is left out).
 "#,
     }
 }
