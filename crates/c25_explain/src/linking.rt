@@ -108,10 +108,10 @@ Reported:
     link:.text: 73 DoesNotFit
 "#,
         ),
-        advice: r#"Where the section has blocks, they may be the cause, and then no range is wide enough: the words of
-.bss follow one another in the order of their lines, and nothing is left free between them. So three
-blocks of 100 words one after another fit nowhere, since wherever the section begins one of them
-crosses a page.
+        advice: r#"Where the section has blocks, they may be the cause. The words of .bss follow one another in the
+order of their lines, and nothing is left free between them. So three blocks of 100 words one after
+another fit nowhere: wherever the section begins, one of them crosses a page, and no range is wide
+enough.
 
 Do: widen the range, split the section into two with names of their own, or give the section another
 range. Two ranges that touch are not one range. A section with an address and no PAGE is on page 0,
