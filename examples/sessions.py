@@ -55,6 +55,8 @@ EXPLAINING = ("asm", "link", "build", "run", "debug")
 # often each did: calls, `.copy`, and `.endloop`, which starts the turns of its loop.
 LED = {
     "a.asm:2: 53 FieldRange, 1": [(4, 1)],
+    "a.asm:2: 26 Defined, 3": [(3, 1)],
+    "a.asm:2: 26 Defined, 4": [(3, 1)],
     "a.asm:3: 31 OpenBlock, 1": [(4, 1)],
     "a.asm:2: 33 Depth, 1": [(2, 31), (4, 1)],
     "a.asm:1: 33 Depth, 1": [(1, 32)],
@@ -62,8 +64,10 @@ LED = {
     "a.asm:3: 38 LongLine, 1": [(4, 1)],
 }
 
-# For the examples with a fault of the command file, or a section or a field that linking refuses: what is printed in addition.
+# For the examples with a file that is no text, a fault of the command file, or a section or a field that linking refuses: what is printed
+# in addition.
 KNOWN = {
+    "a.obj: 8 CannotRead, 1": ["a.obj:1: the first line that is not UTF-8"],
     "command:1: 60 Syntax, 1": ["command:1: the text ends here"],
     "command:1: 60 Syntax, 2": ["command:1: column 18: >"],
     "command:1: 60 Syntax, 3": ["command:1: column 22: a.obj"],
@@ -136,7 +140,7 @@ class Folder:
         self.printed += ["$ " + command] + printed
         words = command.split()
         for option, value in zip(words, words[1:]):
-            if option in ("--obj", "--list"):
+            if option in ("--obj", "--list", "--symbols"):
                 self.made.add(value)
             elif option == "--out":
                 listings = ["%d.lst" % number for number in range(1, len(words))] if words[1] == "build" else []

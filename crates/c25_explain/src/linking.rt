@@ -25,8 +25,8 @@ Reported:
     link:X: 70 Unresolved
 "#,
         ),
-        advice: r#"Do: name the module that defines it on the command line, and write .def X or .global X in that
-module. A name that is declared and not used needs no definition.
+        advice: r#"Do: name the module that defines it on the command line, and write its name after a .def or .global
+in that module. A name that is declared and not used needs no definition.
 "#,
     }
 }
@@ -108,9 +108,16 @@ Reported:
     link:.text: 73 DoesNotFit
 "#,
         ),
-        advice: r#"Do: widen the range, split the section into two with names of their own, or give the section another
+        advice: r#"Where the section has blocks, they may be the cause. The words of .bss follow one another in the
+order of their lines, and nothing is left free between them. So three blocks of 100 words one after
+another fit nowhere: wherever the section begins, one of them crosses a page, and no range is wide
+enough.
+
+Do: widen the range, split the section into two with names of their own, or give the section another
 range. Two ranges that touch are not one range. A section with an address and no PAGE is on page 0,
-an uninitialised one too.
+an uninitialised one too. Where blocks are the cause, fill the page before a block that crosses it,
+as by .bss HOLE,28 between two blocks of 100 words; put words that are no blocks after all blocks;
+or reserve them by .usect, in a section of their own with an address.
 "#,
     }
 }
@@ -166,7 +173,7 @@ Reported:
         ),
         advice: r#"Do: look for a negative offset from the first label of a section, for a label after the last word of
 a page (its address is 10000h), and for a global .set that is not an address; keep only the low bits
-of a constant in the module that defines it (A .set 12345678h&0FFFFh).
+of a constant in the module that defines it, by &0FFFFh after its value.
 "#,
     }
 }
@@ -191,8 +198,8 @@ Reported:
     link:MAIN: 76 NoEntry
 "#,
         ),
-        advice: r#"Do: write .def with the name in the module that defines it. The entry is only printed in the map: a
-run always begins at address 0, so put a branch there.
+        advice: r#"Do: write a .def with that name in the module that defines it. The entry is only printed in the map:
+a run always begins at address 0, so put a branch there.
 "#,
     }
 }

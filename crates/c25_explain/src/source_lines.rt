@@ -28,7 +28,8 @@ Reported:
         ),
         advice: r#"Do: put a blank before whatever is not a label, above all a directive, and a blank after a label's
 colon. Give .set, .equ, .usect and .macro a label. Write local labels ($1) as names, in a macro as
-name?.
+name?. Where the line seems empty, look for a character that is not shown: the Ctrl-Z (1Ah) with
+which MS-DOS ended files is taken out by tr -d '\032' < old.asm > new.asm.
 "#,
     }
 }
@@ -103,8 +104,10 @@ Reported:
     a.asm:1: 13 StrayText
 "#,
         ),
-        advice: r#"Do: leave out the `#` of TMS320C5x operands; write `~` to invert all bits and X = 0 for a logical
-not; look for a :name: or name? that substitution left unchanged because nothing has that name.
+        advice: r#"Do: leave out the `#` of TMS320C5x operands; write `~` to invert all bits and = 0 after a value for
+a logical not; write a fraction as the words that stand for it, worked out beforehand; take out a
+Ctrl-Z (1Ah) by tr -d '\032' < old.asm > new.asm; look for a :name: or name? that substitution left
+unchanged because nothing has that name.
 "#,
     }
 }
@@ -129,8 +132,14 @@ Reported:
     a.asm:1: 20 BadExpression
 "#,
         ),
-        advice: r#"Do: complete the expression; begin a comment with `;`; write 10h for >10; put a comma between the
-address form and the next auxiliary register.
+        advice: r#"    Where there is | As in | Write
+    a comment without `;` | LACK 5 load it | `;` before the comment
+    a local label | B $1 | a name of its own, in a macro name?
+    `>` for hexadecimal | LALK >10, LALK >FF | LALK 10h, LALK 0FFh
+    a next register without a comma | MPY *AR1 | MPY *,AR1
+    the same, where the instruction has a shift | LAC *AR1 | LAC *,0,AR1
+
+Do: find the form in this table; otherwise complete the expression. (0x10 is 11.)
 "#,
     }
 }
@@ -179,9 +188,11 @@ Reported:
     a.asm:1: 22 Undefined
 "#,
         ),
-        advice: r#"Do: check the spelling and the case, since names are case-sensitive; declare a name of another
-module with .ref or .global; add .mmregs for IMR and the other registers in data memory; move what
-.set and .if need before them. Only AR0 to AR7 and PA0 to PA15 are predefined.
+        advice: r#"Do: check the spelling and the case, since names are case-sensitive. A hexadecimal constant begins
+with a digit: write 0FFh for FFh. Declare a name of another module with .ref or .global; add .mmregs
+for IMR and the other registers in data memory; move what .set and .if need before them; begin a
+comment with `;`, above all one that begins with an operator. Only AR0 to AR7 and PA0 to PA15 are
+predefined.
 "#,
     }
 }
@@ -208,9 +219,9 @@ Reported:
     a.asm:1: 23 NotAbsolute
 "#,
         ),
-        advice: r#"Do: use a difference, as END-START, or a symbol that is a number. For the length of code that is
+        advice: r#"Do: use the difference of two labels, or a symbol that is a number. For the length of code that is
 copied put a .label at both of its ends. An address needs no %128: a direct operand keeps only the
-low seven bits, and LDPK X takes the data page.
+low seven bits, and LDPK takes its data page.
 "#,
     }
 }
@@ -285,9 +296,13 @@ Reported:
     a.asm:2: 26 Defined
 "#,
         ),
-        advice: r#"Do: rename one, or copy the file with the definition only once; take out lines that define AR0 to
-AR7 or PA0 to PA15. For a value that changes use .asg or .eval in place of .set; for a label in a
-macro use name?.
+        advice: r#"    A label that is defined | Write
+    in a macro that is called twice | name?, which has another number in each call
+    in a loop | name:k:, with .asg 1,k before the loop and .eval k+1,k in it: name? is one name in
+        all turns
+
+Do: rename one, or copy the file with the definition only once; take out lines that define AR0 to
+AR7 or PA0 to PA15. For a value that changes use .asg or .eval in place of .set.
 "#,
     }
 }
@@ -311,10 +326,23 @@ Reported:
     a.asm:1: 50 UnknownMnemonic
 "#,
         ),
-        advice: r#"Do: put a blank before a mnemonic in column 1, where it is read as a label, and a blank after a
-mnemonic; define a macro before it is called; replace mnemonics of the TMS320C5x. This assembler
-does not have .long, .field, .float, .bfloat, .bes, .align, .asect, .mlib, .var and .newblock: write
-.long as two words and .asect as .sect with an address in the command file.
+        advice: r#"    Where there is | Write
+    a label in column 2 | the label in column 1
+    a mnemonic in column 1, where it is read as a label | a blank before it
+    a directive without its dot: EQU, DATA, DEF, REF, END | .equ, .word, .def, .ref, .end
+    no blank after a mnemonic: LAC* | LAC *
+    a macro that is called before it is defined | the .macro above the call
+    a mnemonic of the TMS320C5x | an instruction of the TMS320C25
+    .long | .word with two words, in the order in which the program reads them
+    .asect, .align | .sect, and an address in the command file
+    .float, .bfloat, .field | .word with the words, worked out beforehand
+    .bes | .space and, after it, a .set of $-1
+    .newblock | nothing; local labels as names
+    .mlib | .copy of a file of macros
+    .var | one more parameter, which callers leave out
+
+Do: look at the first name after the label, and find it in this table; otherwise correct its
+spelling. The manual has more of what is left out (limits, What is left out).
 "#,
     }
 }
@@ -337,9 +365,9 @@ Reported:
     a.asm:1: 51 OperandCount
 "#,
         ),
-        advice: r#"Do: see the instruction's syntax in SPRU014. A next auxiliary register goes only with an indirect
-operand, and never with NORM; NOP and .endif have no operands, so begin the comment with `;`. .usect
-has no third operand.
+        advice: r#"Do: see the instruction's syntax in SPRU014, and put a comma between two operands. A next auxiliary
+register goes only with an indirect operand, and never with NORM; NOP and .endif have no operands,
+so begin the comment with `;`. .usect has no third operand.
 "#,
     }
 }
@@ -403,8 +431,8 @@ Reported:
     .byte | -128 to 255
     .word, .int | any; the low 16 bits are kept
 
-Do: use the instruction with the wider field (LALK for LACK, LRLK for LARK), or write X&0FFh where
-the upper bits may be dropped.
+Do: use the instruction with the wider field (LALK for LACK, LRLK for LARK), or write &0FFh after
+the value where the upper bits may be dropped.
 "#,
     }
 }
