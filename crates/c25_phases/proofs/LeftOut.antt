@@ -78,7 +78,7 @@ by_parts d text s (Err f) is h = absurd (cc)
 
 -- the label of what a line says is the one that the line has whatever else is wrong with it
 pub label_is : (text : List ℕ) (s : Statement) → read_statement text ≡ Ok s → s.label ≡ address_label text
-unfolding statement_by, address_label
+unfolding statement_by address_label
 label_is text s h = by_parts (directive_in (first_word text)) text s (parts_for (directive_in (first_word text)) text) refl h
 
 -- ---- a label that is defined

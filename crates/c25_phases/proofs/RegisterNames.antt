@@ -1,14 +1,18 @@
 -- The names of `.mmregs`: all are new, or none is defined.
-use Rattle.std.proofs.Common.{◌≡◌, ℕ, Bool, true, false, ◌||◌, List, [], ◌∷◌, ◌++◌, map, Result, Ok, Err, refl, sym, ap, ◌∙◌, subst}
+use Rattle.std.proofs.Common.{◌≡◌, ℕ, Bool, true, false, cond, ◌||◌, List, [], ◌∷◌, ◌++◌, map, Result, Ok, Err, refl, sym, ap, ◌∙◌, subst}
 use Rattle.std.specs.List.{list_any}
 use Rattle.std.specs.Str.{bytes_eq}
-use Rattle.c25_meaning_assembly.specs.Sections.{Definitions, Progress, define_pair, is_in, stands}
+use Rattle.c25_meaning_assembly.specs.Sections.{Definitions, Progress, define_pair, is_in, register_names, registers, stands}
 use Rattle.c25_meaning_assembly.proofs.Distinct.{neither, turned}
 use Rattle.c25_meaning_common.specs.Results.{◌>>=◌, fold_ok}
+use Rattle.c25_meaning_common.specs.declared.failure.Failure.{Failure}
+use Rattle.c25_meaning_common.specs.declared.failure.Failure.TheVariants.{NoMemory, Fault}
+use Rattle.c25_meaning_language.specs.declared.statement.FaultKind.{FaultKind}
 use Rattle.c25_meaning_language.specs.declared.statement.FaultKind.TheVariants as fault
 use Rattle.c25_meaning_language.specs.declared.value.Value.{Value}
 use Rattle.c25_phases.proofs.Declared.{stands_still, stands_with}
 use Rattle.c25_phases.proofs.LeftOut.{defined_anew, not_again}
+use Rattle.c25_phases.specs.Refused.{IsFull, IsUndone}
 
 -- whether one of these names stands for something
 abbrev pub some_stand : Definitions → Definitions → Bool
@@ -53,3 +57,18 @@ one_less names after x rest none apart is = subst (λ (n : Definitions). some_st
 -- the first of names that stand for nothing
 pub first_new : (names : Definitions) (x : List ℕ × Value) (rest : Definitions) → some_stand names (x ∷ rest) ≡ false → stands names x.0 ≡ false
 first_new names x rest none = (neither (stands names x.0) (some_stand names rest) none).0
+
+-- `.mmregs` is refused where one of its names stands for something
+pub registers_refused : (p : Progress) → p.registers ≡ false → some_stand p.names register_names ≡ true → registers p ≡ Err fault.Defined
+unfolding registers
+registers_refused p new some =
+    ap (λ b. cond b (Ok p) (fold_ok define_pair (record p { registers = true }) register_names)) new ∙ refused register_names (record p { registers = true }) some
+
+-- a call that is refused for want of room alone may have changed anything
+pub full_undone : {S T : Type 0} (old new : Progress) (e : Failure FaultKind) → IsFull {T = S} (Err e) → IsUndone {T = T} old (Err e) new
+full_undone old new (NoMemory n) full = tt
+full_undone old new (Fault kind) full = λ more. absurd (cc)
+
+pub full_undone_by : (old new : Progress) (r : Result (Unit {0}) (Failure FaultKind)) → IsFull r → IsUndone old r new
+full_undone_by old new (Ok x) full = tt
+full_undone_by old new (Err e) full = full_undone {S = Unit {0}} {T = Unit {0}} old new e full
