@@ -74,7 +74,7 @@ module _ (pass_on : Config → LinesSoFar → Result LinesSoFar ExpansionFault) 
   answer_agrees None (Some (l, c)) = line_agrees l c (read_and_pass l a.progress)
 
 lines_agree : (files : Files) (n : ℕ) (c : Config) (a : LinesSoFar) → Agrees (passed files n c a) (gone_over files n c (clean a))
-unfolding passed, gone_over
+unfolding passed gone_over
 lines_agree files zero c a = refl
 lines_agree files (suc n) c a =
     answer_agrees (passed files n) (gone_over files n) (lines_agree files n) (lines_keep files n) a
@@ -112,7 +112,7 @@ lines_have (Err f) b (rest, is) = (rest, ap (λ fs. faults_by fs b.progress) is)
 
 -- all faults of a source are those of its module: none, or its fault comes first
 pub source_has : (files : Files) (name : List ℕ) → HasFaults (assembled files name) (all_faults files name)
-unfolding assembled, all_faults
+unfolding assembled all_faults
 source_has files name = lines_have (passed_from files name (start_of files name)) (gone_over_from files name (start_of files name)) (source_agrees files name (start_of files name))
 
 pub first_is : {A : Type 0} (r : Result A ExpansionFault) (fs : List ExpansionFault) (f : ExpansionFault) → HasFaults r fs → r ≡ Err f → (rest : List ExpansionFault) × (fs ≡ f ∷ rest)

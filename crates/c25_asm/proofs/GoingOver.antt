@@ -79,8 +79,6 @@ leaves_out l a b kind false more h is answer left found = subst (λ m. LeadsTo l
   where
     f : ExpansionFault
     f = Faulty l.file l.line kind
-    made : Progress → List ExpansionFault → LinesGoneOver
-    made p fs = record { progress = p; faults = fs }
     goes : LeadsTo l a b true
     goes = λ go_on.
         ap (λ (r : Result Progress FaultKind). after_line l (at_origin (origin_of l) r) go_on a) h
