@@ -69,6 +69,7 @@ leaves_out l a b kind true more h is answer left found = subst (λ m. LeadsTo l 
   where
     f : ExpansionFault
     f = Faulty l.file l.line kind
+
     ended : LeadsTo l a b false
     ended = λ go_on.
         ap (λ (r : Result Progress FaultKind). faults_of (after_line l (at_origin (origin_of l) r) go_on a)) h
@@ -79,6 +80,7 @@ leaves_out l a b kind false more h is answer left found = subst (λ m. LeadsTo l
   where
     f : ExpansionFault
     f = Faulty l.file l.line kind
+
     goes : LeadsTo l a b true
     goes = λ go_on.
         ap (λ (r : Result Progress FaultKind). after_line l (at_origin (origin_of l) r) go_on a) h
@@ -154,7 +156,7 @@ told_last (NoMemory n) a meant (NoMemory m) missing x is t same told = absurd to
 told_last (NoMemory n) a meant (Fault e) missing x is t same told = absurd t
 told_last (Fault f) a meant e missing x is t same told =
     let known : ◌≡◌ {A = Result LinesGoneOver ExpansionFault} (Err f) (Err (fault_of x)) =
-      told_failure {A = LinesGoneOver} (Fault f) (Err f) e missing (Fault x) (λ g q. let one : f ≡ g = cc in ap Err one) t same told in
+    told_failure {A = LinesGoneOver} (Fault f) (Err f) e missing (Fault x) (λ g q. let one : f ≡ g = cc in ap Err one) t same told in
     let fault : f ≡ fault_of x = cc in
     sym (is f refl) ∙ ap (λ g. with_fault g a) fault
 

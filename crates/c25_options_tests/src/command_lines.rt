@@ -3,7 +3,7 @@
 
 use c25_options::fault::is_want_of_memory;
 use c25_options::read::read_words;
-use c25_options::task::{RunFiles, Task};
+use c25_options::task::{FaultOptions, RunFiles, Task};
 use std::alloc::{AllocError, Global};
 use std::fmt;
 use std::fmt::{Display, Formatter, Write};
@@ -73,6 +73,18 @@ impl Display for Files<'_> {
     }
 }
 
+/// What is reported of faults, shown where it was asked for.
+#[derive(Clone, Copy)]
+struct Faults<'a>(&'a FaultOptions);
+
+impl Display for Faults<'_> {
+    fn fmt<W: Write>(&self, f: &mut Formatter<W>) -> fmt::Result {
+        let explain = Flag("explain", self.0.explain);
+        let all = Flag("all", self.0.all);
+        write!(f, "{explain}{all}")
+    }
+}
+
 fn show(alloc: Global, task: &Task<'_>) -> Result<String, AllocError> {
     match task {
         Task::RunStandardInput => String::from_str(alloc, "standard input"),
@@ -80,11 +92,11 @@ fn show(alloc: Global, task: &Task<'_>) -> Result<String, AllocError> {
             source,
             object,
             listing,
-            explain,
+            faults,
         } => {
             let listing = Value("listing", *listing);
-            let explain = Flag("explain", *explain);
-            format!(in alloc; "asm {source} object={object}{listing}{explain}")
+            let faults = Faults(faults);
+            format!(in alloc; "asm {source} object={object}{listing}{faults}")
         }
         Task::Link {
             command,
@@ -100,33 +112,33 @@ fn show(alloc: Global, task: &Task<'_>) -> Result<String, AllocError> {
             base,
             command,
             symbols,
-            explain,
+            faults,
         } => {
-            let (sources, explain) = (Operands(sources), Flag("explain", *explain));
+            let (sources, faults) = (Operands(sources), Faults(faults));
             let command = Value("command", *command);
             let symbols = Value("symbols", *symbols);
-            format!(in alloc; "build{sources} base={base}{command}{symbols}{explain}")
+            format!(in alloc; "build{sources} base={base}{command}{symbols}{faults}")
         }
         Task::Run {
             sources,
             steps,
             files,
             regs,
-            explain,
+            faults,
         } => {
             let (sources, files) = (Operands(sources), Files(files));
-            let (regs, explain) = (Flag("regs", *regs), Flag("explain", *explain));
-            format!(in alloc; "run{sources} steps={steps}{files}{regs}{explain}")
+            let (regs, faults) = (Flag("regs", *regs), Faults(faults));
+            format!(in alloc; "run{sources} steps={steps}{files}{regs}{faults}")
         }
         Task::Debug {
             sources,
             script,
             files,
-            explain,
+            faults,
         } => {
             let (sources, files) = (Operands(sources), Files(files));
-            let explain = Flag("explain", *explain);
-            format!(in alloc; "debug{sources} script={script}{files}{explain}")
+            let faults = Faults(faults);
+            format!(in alloc; "debug{sources} script={script}{files}{faults}")
         }
         Task::Explain { number } => format!(in alloc; "explain {number}"),
         Task::Disassemble { file, from } => {
@@ -203,7 +215,8 @@ fn flags_and_values_are_told_apart(rt: HostRuntime) -> Result<(), Fail> {
     are_answered(&rt, REGS)?;
     are_answered(&rt, SYMBOLS)?;
     are_answered(&rt, FROM)?;
-    are_answered(&rt, EXPLAIN)
+    are_answered(&rt, EXPLAIN)?;
+    are_answered(&rt, ALL)
 }
 
 #[test]
@@ -384,6 +397,19 @@ refused | run a --expl
 refused | dis a --explain
 refused | explain 53 --explain
 refused | --explain run a
+";
+
+const ALL: &str = "\
+asm a object=o all | asm a -o o --all
+build a b base=d explain all | build --all a --out d b --explain
+run a steps=1000 regs all | run --regs --all a
+debug a script=d explain all | debug a --explain --script d --all
+asm --all object=o | asm -o o -- --all
+refused | asm a -o o --all --all
+refused | run a --all=true
+refused | link c a -o d --all
+refused | dis a --all
+refused | explain 50 --all
 ";
 
 const REFUSED: &str = "\
