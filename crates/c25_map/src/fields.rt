@@ -12,22 +12,34 @@ use c25_meaning_common::failure::Failure;
 use c25_module::{is_section_name, is_symbol_name};
 use std::alloc::Global;
 
+/// The fields of a line `PART number base size`.
+#[derive(Clone, Copy)]
+pub(crate) struct PartFields<'a> {
+    pub(crate) number: &'a str,
+    pub(crate) base: &'a str,
+    pub(crate) size: &'a str,
+}
+
+/// The fields of a line `SECTION page base size name`.
+#[derive(Clone, Copy)]
+pub(crate) struct SectionFields<'a> {
+    pub(crate) page: &'a str,
+    pub(crate) base: &'a str,
+    pub(crate) size: &'a str,
+    pub(crate) name: &'a str,
+}
+
 /// The part of a line `PART number base size`.
 #[tactic(auto, unfolding(crate::specs::Reading::part_of))]
-pub(crate) fn part_of(
-    alloc: Global,
-    number: &str,
-    base: &str,
-    size: &str,
-) -> Result<Part, Failure<MapFault>>
-    ensures { Meets part_data (part_of number.now base.now size.now) result }
+pub(crate) fn part_of(alloc: Global, fields: PartFields<'_>) -> Result<Part, Failure<MapFault>>
+    ensures { Meets part_data (part_of fields.entry.number.now fields.entry.base.now fields.entry.size.now) result }
 {
-    if !is_number(number.as_bytes()) {
+    if !is_number(fields.number.as_bytes()) {
         return Err(Failure::Fault(MapFault::BadMap));
     }
-    let base = address_of(base)?;
-    let size = size_of(size.as_bytes())?;
-    let number = String::from_str(alloc, number)?;
+    let base = address_of(fields.base)?;
+    let size = size_of(fields.size.as_bytes())?;
+    let number = String::from_str(alloc, fields.number)?;
     Ok(Part { number, base, size })
 }
 
@@ -35,21 +47,18 @@ pub(crate) fn part_of(
 #[tactic(auto, unfolding(crate::specs::Reading::place_of))]
 pub(crate) fn section_of(
     alloc: Global,
-    page: &str,
-    base: &str,
-    size: &str,
-    name: &str,
+    fields: SectionFields<'_>,
 ) -> Result<OutputSection, Failure<MapFault>>
-    ensures place { Meets (λ s. (section_data s).place) (place_of page.now base.now size.now name.now) result }
+    ensures place { Meets (λ s. (section_data s).place) (place_of fields.entry.page.now fields.entry.base.now fields.entry.size.now fields.entry.name.now) result }
     ensures parts { IfOk result (λ s. s.parts.items ≡ []) }
 {
-    if !is_section_name(name.as_bytes()) {
+    if !is_section_name(fields.name.as_bytes()) {
         return Err(Failure::Fault(MapFault::BadMap));
     }
-    let page = page_of(page)?;
-    let base = u32::from(word_of(base.as_bytes())?);
-    let size = size_of(size.as_bytes())?;
-    let name = String::from_str(alloc, name)?;
+    let page = page_of(fields.page)?;
+    let base = u32::from(word_of(fields.base.as_bytes())?);
+    let size = size_of(fields.size.as_bytes())?;
+    let name = String::from_str(alloc, fields.name)?;
     Ok(OutputSection {
         name,
         page,

@@ -6,7 +6,7 @@ ghost use Rattle.c25_map.specs.Reading as reading;
 ghost use Rattle.c25_map.specs.declared.map_fault.MapFault.TheVariants.{BadMap};
 ghost use Rattle.c25_map.specs.View.{part_data, section_data, symbol_data, map_data};
 
-use crate::fields::{part_of, section_of, symbol_of};
+use crate::fields::{PartFields, SectionFields, part_of, section_of, symbol_of};
 use crate::map::{GlobalSymbol, Map, OutputSection, Part};
 use crate::map_fault::MapFault;
 use crate::numbers::word_of;
@@ -141,14 +141,12 @@ fn add_part_line(
     alloc: Global,
     so_far: &mut Map,
     kind: &str,
-    number: &str,
-    base: &str,
-    size: &str,
+    fields: PartFields<'_>,
 ) -> Result<(), Failure<MapFault>>
-    ensures { Meets (λ _. map_data so_far.new) (reading.with_fields (map_data so_far.old) (kind.now ∷ number.now ∷ base.now ∷ size.now ∷ [])) result }
+    ensures { Meets (λ _. map_data so_far.new) (reading.with_fields (map_data so_far.old) (kind.now ∷ fields.entry.number.now ∷ fields.entry.base.now ∷ fields.entry.size.now ∷ [])) result }
 {
     match kind {
-        "PART" => add_part(so_far, part_of(alloc, number, base, size)?),
+        "PART" => add_part(so_far, part_of(alloc, fields)?),
         _ => Err(Failure::Fault(MapFault::BadMap)),
     }
 }
@@ -159,15 +157,12 @@ fn add_section_line(
     alloc: Global,
     so_far: &mut Map,
     kind: &str,
-    page: &str,
-    base: &str,
-    size: &str,
-    name: &str,
+    fields: SectionFields<'_>,
 ) -> Result<(), Failure<MapFault>>
-    ensures { Meets (λ _. map_data so_far.new) (reading.with_fields (map_data so_far.old) (kind.now ∷ page.now ∷ base.now ∷ size.now ∷ name.now ∷ [])) result }
+    ensures { Meets (λ _. map_data so_far.new) (reading.with_fields (map_data so_far.old) (kind.now ∷ fields.entry.page.now ∷ fields.entry.base.now ∷ fields.entry.size.now ∷ fields.entry.name.now ∷ [])) result }
 {
     match kind {
-        "SECTION" => add_section(so_far, section_of(alloc, page, base, size, name)?),
+        "SECTION" => add_section(so_far, section_of(alloc, fields)?),
         _ => Err(Failure::Fault(MapFault::BadMap)),
     }
 }
@@ -180,9 +175,18 @@ fn add_fields(alloc: Global, so_far: &mut Map, fields: &[&str]) -> Result<(), Fa
     match fields {
         [kind, run] => add_run(so_far, kind, run),
         [kind, value, name] => add_named(alloc, so_far, kind, value, name),
-        [kind, number, base, size] => add_part_line(alloc, so_far, kind, number, base, size),
+        [kind, number, base, size] => {
+            let fields = PartFields { number, base, size };
+            add_part_line(alloc, so_far, kind, fields)
+        }
         [kind, page, base, size, name] => {
-            add_section_line(alloc, so_far, kind, page, base, size, name)
+            let fields = SectionFields {
+                page,
+                base,
+                size,
+                name,
+            };
+            add_section_line(alloc, so_far, kind, fields)
         }
         _ => Err(Failure::Fault(MapFault::BadMap)),
     }
