@@ -126,14 +126,7 @@ fn add_symbol<'a>(
     ensures kept { OnOk result (Keeps (λ k. k.now) reader.new.names reader.new.file_names reader.new.used (contents reader.new.parts)) }
 {
     let parts = &mut reader.parts;
-    let symbol = symbol_after(
-        alloc,
-        parts.version,
-        &parts.sections,
-        &parts.symbols,
-        &mut reader.names,
-        payload,
-    )?;
+    let symbol = symbol_after(alloc, parts, &mut reader.names, payload)?;
     parts.symbols.push(symbol)?;
     Ok(())
 }

@@ -7,14 +7,14 @@ ghost use Rattle.c25_meaning_objects.specs.Module as spec;
 ghost use Rattle.c25_meaning_objects.specs.RecordReading as reading;
 ghost use Rattle.c25_records.specs.Names.{HasNames, HasFiles};
 ghost use Rattle.c25_meaning_common.specs.Results.{IsNoMemory, Meets};
-ghost use Rattle.c25_module.specs.View.{body_data, section_data, symbol_data, sections_data, symbols_data, files_data};
+ghost use Rattle.c25_module.specs.View.{body_data, contents, section_data, symbol_data, sections_data, symbols_data, files_data};
 
 use crate::codes::{kind_of, scope_of};
 use crate::fields::{long_at, short_at, signed_at};
 use c25_meaning_common::failure::Failure;
-use c25_meaning_objects::object::{ObjectFault, Scope, SymbolKind, Version};
+use c25_meaning_objects::object::{ObjectFault, Scope, SymbolKind};
 use c25_module::{
-    Body, MAX_SYMBOLS, Section, Symbol, is_section_name, is_symbol_name, section_fits,
+    Body, MAX_SYMBOLS, Parts, Section, Symbol, is_section_name, is_symbol_name, section_fits,
     symbol_stands,
 };
 use std::alloc::Global;
@@ -74,20 +74,18 @@ fn takes_name<'a>(
     Ok(before.len() < MAX_SYMBOLS && names.insert(name)?)
 }
 
-/// The symbol of a payload; `BadField` where it has another form or may not follow the symbols before it. Its
-/// name joins `names`.
+/// The symbol of a payload; `BadField` where it has another form or may not follow the sections and symbols
+/// before it. Its name joins `names`.
 pub(crate) fn symbol_after<'a>(
     alloc: Global,
-    version: Version,
-    sections: &[Section],
-    before: &[Symbol],
+    before: &Parts,
     names: &mut HashSet<&'a str>,
     bytes: &'a [u8],
 ) -> Result<Symbol, Failure<ObjectFault>>
-    requires { HasNames (λ k. k.now) names.old (symbols_data before.now) }
+    requires { HasNames (λ k. k.now) names.old (contents before.now).symbols }
     ensures given { Meets symbol_data
-        (reading.checked (spec.symbol_fits version (sections_data sections.now) (symbols_data before.now)) (reading.symbol_of bytes.now)) result }
-    ensures named { IfOk result (λ y. HasNames (λ k. k.now) names.new (symbols_data before.now ++ symbol_data y ∷ [])) }
+        (reading.checked (spec.symbol_fits before.now.version (contents before.now).sections (contents before.now).symbols) (reading.symbol_of bytes.now)) result }
+    ensures named { IfOk result (λ y. HasNames (λ k. k.now) names.new ((contents before.now).symbols ++ symbol_data y ∷ [])) }
 {
     let Some(found) = symbol_of(bytes) else {
         return Err(Failure::Fault(ObjectFault::BadField));
@@ -102,10 +100,10 @@ pub(crate) fn symbol_after<'a>(
         value: found.value,
         name: String::from_str(alloc, name)?,
     };
-    if !symbol_stands(version, sections, &symbol) {
+    if !symbol_stands(before.version, &before.sections, &symbol) {
         return Err(Failure::Fault(ObjectFault::BadField));
     }
-    if !takes_name(before, names, name)? {
+    if !takes_name(&before.symbols, names, name)? {
         return Err(Failure::Fault(ObjectFault::BadField));
     }
     Ok(symbol)
