@@ -39,11 +39,15 @@ ST1 = {"ARB": (13, 7), "CNF": (12, 1), "TC": (11, 1), "SXM": (10, 1), "C": (9, 1
        "FO": (3, 1), "TXM": (2, 1), "PM": (0, 3)}
 
 
-def end_of(acc, p, t, registers, st0, st1, rptc, stack, memory):
+# the registers of which the processor has one each
+Single = collections.namedtuple("Single", "acc p t st0 st1 rptc")
+
+
+def end_of(single, auxiliary, stack, memory):
     """The state of a run, by names."""
-    end = {"ACC": acc, "P": p, "T": t, "RPTC": rptc, "stack": stack, "memory": memory}
-    end.update(("AR%d" % at, word) for at, word in enumerate(registers))
-    for word, fields in ((st0, ST0), (st1, ST1)):
+    end = {"ACC": single.acc, "P": single.p, "T": single.t, "RPTC": single.rptc, "stack": stack, "memory": memory}
+    end.update(("AR%d" % at, word) for at, word in enumerate(auxiliary))
+    for word, fields in ((single.st0, ST0), (single.st1, ST1)):
         end.update((name, word >> at & most) for name, (at, most) in fields.items())
     return end
 
@@ -69,9 +73,9 @@ def told_by(text):
     pattern = re.compile(r"PC (\w+) ACC (\w+) P (\w+) T (\w+) ST0 (\w+) ST1 (\w+) RPTC (\w+)\nAR ([^\n]*)\nSTACK ([^\n]*)\n"
                          r"((?:[0-9A-F]{4} [^\n]*\n){68})")
     for told in pattern.finditer(text):
-        _, acc, p, t, st0, st1, rptc = (int(it, 16) for it in told.groups()[:7])
+        single = Single(*(int(it, 16) for it in told.groups()[1:7]))
         memory = [word for line in told[10].splitlines() for word in numbers(line)[1:]]
-        yield end_of(acc, p, t, numbers(told[8]), st0, st1, rptc, numbers(told[9]), memory)
+        yield end_of(single, numbers(told[8]), numbers(told[9]), memory)
 
 
 class Case:
@@ -115,7 +119,7 @@ def ends_by_mame(folder, cases):
     with open(ends, encoding="ascii") as text:
         for line in text:
             found = numbers(line)
-            yield end_of(*found[:3], found[3:11], *found[11:14], found[14:22], found[22:])
+            yield end_of(Single(*found[:3], *found[11:14]), found[3:11], found[14:22], found[22:])
 
 
 def is_saturated_half(before, ours, theirs):
