@@ -21,12 +21,19 @@ use c25_meaning_language::quoting::Quoting;
 use std::alloc::Global;
 use std::borrow::CowStr;
 
+/// The names that are replaced: those that stand for a text, and `name?`, which gets a number.
+#[derive(Clone, Copy)]
+struct Names<'v, 'a> {
+    visible: &'v Visible<'a>,
+    /// The number of the innermost expansion, 0 outside expansions.
+    number: u32,
+}
+
 /// Writes a text that begins in this quoting, with its names replaced. The names set aside are those whose
 /// texts this text is part of: as many as it is deep.
 #[cycle(writing)]
 fn write<'a>(
-    names: &Visible<'a>,
-    number: u32,
+    names: &Names<'_, 'a>,
     aside: &mut Aside<'a>,
     mut quoting: Quoting,
     text: &'a str,
@@ -36,14 +43,14 @@ fn write<'a>(
     requires deep { length aside.old ≤ out.old.replacements }
     ensures aside { OnOk result (aside.new ≡ aside.old) }
     ensures out { Writes (written_so_far out.old)
-        (drafted (1025 - length aside.old) (names_of names.now) number aside.old quoting text.now)
+        (drafted (1025 - length aside.old) (names_of names.now.visible.now) names.now.number aside.old quoting text.now)
         result (written_so_far out.new) }
 {
     let mut rest = text;
     while !rest.is_empty() {
         let first = rest.as_bytes()[0];
-        let (fragment, after) = first_fragment(names, aside, quoting, rest);
-        write_fragment(names, number, aside, fragment, out)?;
+        let (fragment, after) = first_fragment(names.visible, aside, quoting, rest);
+        write_fragment(names, aside, fragment, out)?;
         quoting = behind(first, quoting);
         rest = after;
     }
@@ -53,8 +60,7 @@ fn write<'a>(
 /// Writes a fragment, with its name replaced.
 #[cycle(writing)]
 fn write_fragment<'a>(
-    names: &Visible<'a>,
-    number: u32,
+    names: &Names<'_, 'a>,
     aside: &mut Aside<'a>,
     fragment: Fragment<'a>,
     out: &mut Output,
@@ -64,16 +70,16 @@ fn write_fragment<'a>(
     requires fresh { IsFresh aside.old (fragment_of fragment) }
     ensures aside { OnOk result (aside.new ≡ aside.old) }
     ensures out { Writes (written_so_far out.old)
-        (drafted_by (λ name inner begins. drafted (1024 - length aside.old) (names_of names.now) number (aside.old ++ name ∷ []) begins inner) number (fragment_of fragment.entry))
+        (drafted_by (λ name inner begins. drafted (1024 - length aside.old) (names_of names.now.visible.now) names.now.number (aside.old ++ name ∷ []) begins inner) names.now.number (fragment_of fragment.entry))
         result (written_so_far out.new) }
 {
     match fragment {
         Fragment::Kept(kept) => out.push(kept),
-        Fragment::Numbered(name) => out.push_numbered(name, number),
+        Fragment::Numbered(name) => out.push_numbered(name, names.number),
         Fragment::Replaced(name, inner, begins) => {
             out.count()?;
             aside.push(name)?;
-            write(names, number, aside, begins, inner, out)?;
+            write(names, aside, begins, inner, out)?;
             aside.pop();
             Ok(())
         }
@@ -82,15 +88,14 @@ fn write_fragment<'a>(
 
 /// Writes a text of which this is the first change, with its names replaced. No name is set aside.
 fn write_change<'a>(
-    names: &Visible<'a>,
-    number: u32,
+    names: &Names<'_, 'a>,
     aside: &mut Aside<'a>,
     change: Change<'a>,
     out: &mut Output,
 ) -> Result<(), Failure<LongLine>>
     requires none { aside.old ≡ [] }
     requires within { IsWithin (written_so_far out.old) }
-    ensures { Writes (written_so_far out.old) (changed (names_of names.now) number change.entry) result (written_so_far out.new) }
+    ensures { Writes (written_so_far out.old) (changed (names_of names.now.visible.now) names.now.number change.entry) result (written_so_far out.new) }
 {
     let Change {
         front,
@@ -99,8 +104,8 @@ fn write_change<'a>(
         rest,
     } = change;
     out.push(front)?;
-    write_fragment(names, number, aside, fragment, out)?;
-    write(names, number, aside, quoting, rest, out)
+    write_fragment(names, aside, fragment, out)?;
+    write(names, aside, quoting, rest, out)
 }
 
 /// The text of which this is the first change, with its names replaced; room is taken for so many bytes at
@@ -115,7 +120,11 @@ fn rewrite<'a>(
     ensures { IsAll (changed (names_of names.now) number change.entry) result }
 {
     let mut out = Output::with_room(alloc, room)?;
-    write_change(names, number, &mut Aside::new(alloc), change, &mut out)?;
+    let names = Names {
+        visible: names,
+        number,
+    };
+    write_change(&names, &mut Aside::new(alloc), change, &mut out)?;
     Ok(out)
 }
 

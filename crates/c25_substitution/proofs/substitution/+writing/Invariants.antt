@@ -15,7 +15,7 @@ decreases-write_fragment l = 2 * (1025 - length l.aside.now)
 abbrev pub invariant-write-loop-rest : goal.invariant-write-loop-rest
 invariant-write-loop-rest l = record {
   text : shadow (Utf8 l.rest);
-  so_far : joined (written_so_far l.out) (whole (names_of l.names) l.number (length l.fn.aside) l.fn.aside l.quoting l.rest) ≡ joined (written_so_far l.fn.out) (whole (names_of l.names) l.number (length l.fn.aside) l.fn.aside l.fn.quoting l.text);
+  so_far : joined (written_so_far l.out) (whole (names_of l.names.visible.now) l.names.number (length l.fn.aside) l.fn.aside l.quoting l.rest) ≡ joined (written_so_far l.fn.out) (whole (names_of l.names.visible.now) l.names.number (length l.fn.aside) l.fn.aside l.fn.quoting l.text);
   aside : l.aside ≡ l.fn.aside;
   within : IsWithin (written_so_far l.out);
   deep : length l.fn.aside ≤ l.out.replacements;

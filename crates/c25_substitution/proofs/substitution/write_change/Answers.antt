@@ -7,17 +7,17 @@ use Rattle.c25_substitution.proofs.substitution.write_change.Goals as goal
 
 pub returns-in_err-push : goal.returns-in_err-push
 returns-in_err-push c =
-    let names = names_of c.args.names.now in
+    let names = names_of c.args.names.now.visible.now in
     let change = c.args.change in
-    let rest = joined (part names c.args.number 0 [] (fragment_of change.fragment)) (rewritten names c.args.number change.quoting change.rest.now) in
+    let rest = joined (part names c.args.names.now.number 0 [] (fragment_of change.fragment)) (rewritten names c.args.names.now.number change.quoting change.rest.now) in
     let p = err_from_is_err_and c.from_residual.result c.from_residual.ensures.1 in
     let all = first_refused (written_so_far c.args.out.now) (as_is change.front.now) rest c.in_err-push.field-0.0 c.in_err-push.ensures in
     rw (p.1, p.2) all
 
 pub returns-in_err-write_fragment : goal.returns-in_err-write_fragment
 returns-in_err-write_fragment c =
-    let names = names_of c.args.names.now in
-    let number = c.args.number in
+    let names = names_of c.args.names.now.visible.now in
+    let number = c.args.names.now.number in
     let change = c.args.change in
     let fragment = fragment_of change.fragment in
     let p = err_from_is_err_and c.from_residual-in_err-write_fragment.result c.from_residual-in_err-write_fragment.ensures.1 in
@@ -27,8 +27,8 @@ returns-in_err-write_fragment c =
 
 pub returns : goal.returns
 returns c =
-    let names = names_of c.args.names.now in
-    let number = c.args.number in
+    let names = names_of c.args.names.now.visible.now in
+    let number = c.args.names.now.number in
     let change = c.args.change in
     let fragment = fragment_of change.fragment in
     let behind = rewritten names number change.quoting change.rest.now in
