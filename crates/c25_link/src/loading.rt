@@ -54,21 +54,39 @@ fn by_word(alloc: Global, owner: &Parts) -> Result<ByWord, AllocError>
     Ok(found)
 }
 
+/// The module whose words are loaded.
+#[derive(Clone, Copy)]
+struct Owner<'a> {
+    /// Its number among the modules that are linked, from 0 on.
+    number: usize,
+    parts: &'a Parts,
+    relocations: &'a ByWord,
+}
+
+/// The words of a section, and where they are loaded.
+#[derive(Clone, Copy)]
+struct SectionWords<'a> {
+    /// The number of the section in its module, from 0 on.
+    index: u16,
+    /// The address of the first word.
+    base: u32,
+    words: &'a [u16],
+}
+
 /// A word of a module with its field filled, where a relocation fills one.
 fn linked_word(
     layout: &Layout<'_, '_>,
-    number: usize,
-    owner: &Parts,
+    owner: &Owner<'_>,
     relocation: Option<&Relocation>,
     word: u16,
 ) -> u16
     requires laid { IsLaidOut layout.now }
-    requires owner { IsOwner layout.now number (contents owner.now) }
-    ensures { result ≡ relocated layout.now.modules.now (places_in layout.now) number (contents owner.now) (option_map (λ r. r.now) relocation.entry) word }
+    requires owner { IsOwner layout.now owner.now.number (contents owner.now.parts.now) }
+    ensures { result ≡ relocated layout.now.modules.now (places_in layout.now) owner.now.number (contents owner.now.parts.now) (option_map (λ r. r.now) relocation.entry) word }
 {
     match relocation {
         Some(relocation) => {
-            let value = relocated_value(layout, number, owner, relocation);
+            let value = relocated_value(layout, owner.number, owner.parts, relocation);
             let number = field_number(relocation.kind, value);
             filled(relocation.kind, number, word)
         }
@@ -76,28 +94,24 @@ fn linked_word(
     }
 }
 
-/// Loads the words of a section from an address on.
+/// Loads the words of a section.
 fn load_words(
     layout: &Layout<'_, '_>,
-    number: usize,
-    owner: &Parts,
-    relocations: &ByWord,
-    section: u16,
-    base: u32,
-    words: &[u16],
+    owner: &Owner<'_>,
+    section: &SectionWords<'_>,
     page: &mut WordList,
 ) -> Result<(), NoMemory>
     requires laid { IsLaidOut layout.now }
-    requires owner { IsOwner layout.now number (contents owner.now) }
-    requires relocations { KnowsRelocations relocations.now (contents owner.now) }
-    requires within { base + length words.now ≤ 65536 }
+    requires owner { IsOwner layout.now owner.now.number (contents owner.now.parts.now) }
+    requires relocations { KnowsRelocations owner.now.relocations.now (contents owner.now.parts.now) }
+    requires within { section.now.base + length section.now.words.now ≤ 65536 }
     ensures { (address : ℕ) → OnOk result (finite.get (put_all page.new) address
-        ≡ loaded base (length words.now) (linked_at layout.now.modules.now (places_in layout.now) number (contents owner.now) section words.now) (finite.get (put_all page.old) address) address) }
+        ≡ loaded section.now.base (length section.now.words.now) (linked_at layout.now.modules.now (places_in layout.now) owner.now.number (contents owner.now.parts.now) section.now.index section.now.words.now) (finite.get (put_all page.old) address) address) }
 {
-    for (offset, word) in words.iter().enumerate() {
-        let address = (base as usize + offset) as u16;
-        let relocation = relocations.get(&(section, offset as u16));
-        let linked = linked_word(layout, number, owner, relocation, *word);
+    for (offset, word) in section.words.iter().enumerate() {
+        let address = (section.base as usize + offset) as u16;
+        let relocation = owner.relocations.get(&(section.index, offset as u16));
+        let linked = linked_word(layout, owner, relocation, *word);
         page.push(address, linked)?;
     }
     Ok(())
@@ -107,47 +121,31 @@ fn load_words(
 #[tactic(auto, using(crate::proofs::Loaded::section_loaded, crate::proofs::Loaded::section_passed, crate::proofs::Loaded::none_elsewhere, crate::proofs::Loaded::none_uninitialised))]
 fn load_section(
     layout: &Layout<'_, '_>,
-    number: usize,
-    owner: &Parts,
-    relocations: &ByWord,
+    owner: &Owner<'_>,
     index: usize,
     pages: &mut PageLists,
 ) -> Result<(), NoMemory>
     requires laid { IsLaidOut layout.now }
-    requires owner { IsOwner layout.now number (contents owner.now) }
-    requires relocations { KnowsRelocations relocations.now (contents owner.now) }
-    requires section { index < length (contents owner.now).sections }
-    requires before { HavePagesBefore layout.now.modules.now (places_in layout.now) number index pages.old }
-    ensures { OnOk result (HavePagesBefore layout.now.modules.now (places_in layout.now) number (index + 1) pages.new) }
+    requires owner { IsOwner layout.now owner.now.number (contents owner.now.parts.now) }
+    requires relocations { KnowsRelocations owner.now.relocations.now (contents owner.now.parts.now) }
+    requires section { index < length (contents owner.now.parts.now).sections }
+    requires before { HavePagesBefore layout.now.modules.now (places_in layout.now) owner.now.number index pages.old }
+    ensures { OnOk result (HavePagesBefore layout.now.modules.now (places_in layout.now) owner.now.number (index + 1) pages.new) }
 {
-    let part = layout.bases.get(number, index);
-    let section = &owner.sections[index];
+    let part = layout.bases.get(owner.number, index);
+    let section = &owner.parts.sections[index];
     match &section.body {
         Body::Uninitialised(_) => Ok(()),
         Body::Initialised(words) => {
-            let index = index as u16;
+            let section = SectionWords {
+                index: index as u16,
+                base: part.base,
+                words,
+            };
             if part.page == 0 {
-                load_words(
-                    layout,
-                    number,
-                    owner,
-                    relocations,
-                    index,
-                    part.base,
-                    words,
-                    &mut pages.program,
-                )
+                load_words(layout, owner, &section, &mut pages.program)
             } else {
-                load_words(
-                    layout,
-                    number,
-                    owner,
-                    relocations,
-                    index,
-                    part.base,
-                    words,
-                    &mut pages.store,
-                )
+                load_words(layout, owner, &section, &mut pages.store)
             }
         }
     }
@@ -159,17 +157,22 @@ fn load_module(
     alloc: Global,
     layout: &Layout<'_, '_>,
     number: usize,
-    owner: &Parts,
+    parts: &Parts,
     pages: &mut PageLists,
 ) -> Result<(), NoMemory>
     requires laid { IsLaidOut layout.now }
-    requires owner { IsOwner layout.now number (contents owner.now) }
+    requires owner { IsOwner layout.now number (contents parts.now) }
     requires before { HavePagesBefore layout.now.modules.now (places_in layout.now) number 0 pages.old }
     ensures { OnOk result (HavePagesBefore layout.now.modules.now (places_in layout.now) (number + 1) 0 pages.new) }
 {
-    let relocations = by_word(alloc, owner)?;
-    for index in 0..owner.sections.len() {
-        load_section(layout, number, owner, &relocations, index, pages)?;
+    let relocations = by_word(alloc, parts)?;
+    let owner = Owner {
+        number,
+        parts,
+        relocations: &relocations,
+    };
+    for index in 0..parts.sections.len() {
+        load_section(layout, &owner, index, pages)?;
     }
     Ok(())
 }
