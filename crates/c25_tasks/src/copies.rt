@@ -7,13 +7,13 @@ ghost use Rattle.c25_inputs.specs.Files.{missing_name};
 use c25_chain::built::Built;
 use c25_chain::fault::{ChainFault, Fault};
 use c25_chain::ready::Ready;
-use c25_chain::{build, debug_chain, make_ready};
+use c25_chain::{RunTexts, build, debug_chain, make_ready};
 use c25_disk::work::Work;
 use c25_inputs::files::missing_name;
 use c25_macro::files::Files;
 use std::alloc::Global;
 
-/// A task over files: sources to link under the text of a command file.
+/// A task over files: sources to assemble and to link under the text of a command file.
 #[derive(Clone, Copy)]
 pub(crate) struct Build<'a> {
     pub(crate) sources: &'a [String],
@@ -67,14 +67,12 @@ impl<'a> Work for Run<'a> {
     ghost missing_of = { missing_name };
 
     fn answer(&self, alloc: Global, files: &Files) -> Result<Ready, Fault> {
-        make_ready(
-            alloc,
-            files,
-            self.sources,
-            self.command,
-            self.samples,
-            self.schedule,
-        )
+        let texts = RunTexts {
+            command: self.command,
+            samples: self.samples,
+            schedule: self.schedule,
+        };
+        make_ready(alloc, files, self.sources, texts)
     }
 
     fn missing(fault: &ChainFault<String>) -> Option<&str>
