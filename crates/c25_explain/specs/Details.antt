@@ -68,7 +68,7 @@ base_text (base.Section index) name = name
 base_text (base.Loaded index) name = codes "load of " ++ name
 base_text (base.External index) name = name
 
--- the words before the address of a field
+-- the text before the address of a field
 unfoldable pub at_text : List ℕ
 at_text = codes "the field at "
 

@@ -35,7 +35,7 @@ fn push_base(text: &mut String, base: RelocationBase, name: &str) -> Result<(), 
     }
 }
 
-/// Appends the words before the address of a field.
+/// Appends the text before the address of a field.
 #[tactic(auto, unfolding(crate::specs::Details::at_text))]
 fn push_at(text: &mut String) -> Result<(), NoMemory>
     ensures { OnOk result (string_bytes text.new ≡ string_bytes text.old ++ at_text) }
