@@ -85,7 +85,7 @@ Does held input (Debug sources script files explain) e =
 Does held input (Explain number) e = Explained number e.ending e.out × OnlyPrints e
 Does held input (Disassemble file from) e = DisassemblesTold held file.now (text_of from) e.ending e.out × OnlyPrints e
 
--- ---- words
+-- ---- command lines
 
 -- what the program does where the command line is read so
 abbrev pub DoesRead : Held → Option (List ℕ) → Result Task (Failure Error) → Effect → Type 0

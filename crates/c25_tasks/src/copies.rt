@@ -44,13 +44,11 @@ impl<'a> Work for Build<'a> {
     }
 }
 
-/// A task over files: sources to run, with the texts of the command file, the samples and the schedule.
+/// A task over files: sources to run, with the texts of the other files of the run.
 #[derive(Clone, Copy)]
 pub(crate) struct Run<'a> {
     pub(crate) sources: &'a [String],
-    pub(crate) command: &'a str,
-    pub(crate) samples: &'a str,
-    pub(crate) schedule: &'a str,
+    pub(crate) texts: RunTexts<'a>,
 }
 
 impl<'a> Work for Run<'a> {
@@ -67,12 +65,7 @@ impl<'a> Work for Run<'a> {
     ghost missing_of = { missing_name };
 
     fn answer(&self, alloc: Global, files: &Files) -> Result<Ready, Fault> {
-        let texts = RunTexts {
-            command: self.command,
-            samples: self.samples,
-            schedule: self.schedule,
-        };
-        make_ready(alloc, files, self.sources, texts)
+        make_ready(alloc, files, self.sources, self.texts)
     }
 
     fn missing(fault: &ChainFault<String>) -> Option<&str>
@@ -82,14 +75,11 @@ impl<'a> Work for Run<'a> {
     }
 }
 
-/// A task over files: sources to debug, with the texts of the command file, the samples, the schedule and the
-/// script.
+/// A task over files: sources to debug, with the texts of the other files of the run and of the script.
 #[derive(Clone, Copy)]
 pub(crate) struct Debug<'a> {
     pub(crate) sources: &'a [String],
-    pub(crate) command: &'a str,
-    pub(crate) samples: &'a str,
-    pub(crate) schedule: &'a str,
+    pub(crate) texts: RunTexts<'a>,
     pub(crate) script: &'a str,
 }
 
@@ -111,9 +101,9 @@ impl<'a> Work for Debug<'a> {
             alloc,
             files,
             self.sources,
-            self.command,
-            self.samples,
-            self.schedule,
+            self.texts.command,
+            self.texts.samples,
+            self.texts.schedule,
             self.script,
         )
     }
