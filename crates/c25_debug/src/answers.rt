@@ -10,7 +10,7 @@ mod steps;
 mod words;
 
 pub(crate) use breakpoints::{push_cleared, push_set};
-pub(crate) use instructions::{push_copied, push_instruction, push_instructions};
+pub(crate) use instructions::{push_instruction, push_instructions, push_line};
 pub(crate) use line::MOST_BYTES;
 pub(crate) use registers::{push_registers, push_stack};
 pub(crate) use steps::push_halted;

@@ -9,7 +9,7 @@ ghost use Rattle.c25_meaning_processor.specs.Status.{regs_of};
 ghost use Rattle.c25_meaning_processor.specs.WordStep.{mark_found};
 
 use crate::answers::{
-    push_copied, push_instruction, push_instructions, push_registers, push_stack, push_words,
+    push_instruction, push_instructions, push_line, push_registers, push_stack, push_words,
 };
 use crate::memories::{DataMemory, ProgramMemory};
 use crate::steps::{Answer, shown};
@@ -91,7 +91,8 @@ fn show_mark(alloc: Global, image: &Image, address: u16) -> Result<Answer, NoMem
 }
 
 /// The answer to `where`: the instruction that is fetched at PC from block B0, if there is one, otherwise the
-/// image's instruction at PC.
+/// image's instruction at PC. Where that of block B0 stands in the sources is looked up by the address where
+/// it is loaded.
 pub(crate) fn show_place<F: Feed + Drop, S: Sink + Drop>(
     alloc: Global,
     image: &Image,
@@ -106,7 +107,8 @@ pub(crate) fn show_place<F: Feed + Drop, S: Sink + Drop>(
         Some(mark) => match board.copied(&mark) {
             Some(insn) => {
                 let mut text = String::new(alloc);
-                push_copied(alloc, &mut text, image, address, mark.load, insn)?;
+                let source = image.line_of(mark.load);
+                push_line(alloc, &mut text, address, &Some(insn), source)?;
                 Ok(shown(text))
             }
             None => show_mark(alloc, image, address),
@@ -126,7 +128,7 @@ pub(crate) fn show_list(
     ensures refused { IfOk result (λ answer. answer.is_refused ≡ false) }
 {
     let mut text = String::new(alloc);
-    push_instructions(alloc, &mut text, image, image.marks(), address, count)?;
+    push_instructions(alloc, &mut text, image, address, count)?;
     Ok(shown(text))
 }
 

@@ -1,6 +1,6 @@
 //! The instructions of an image, decoded from its words.
 
-ghost use Rattle.std.specs.Prelude.{◌≡◌, ◌≤◌, ◌++◌, ℕ, List, OnOk, Some, string_bytes};
+ghost use Rattle.std.specs.Prelude.{◌≡◌, ◌≤◌, ◌++◌, ℕ, List, OnOk, string_bytes};
 ghost use Rattle.std.specs.Option.{option_map};
 ghost use Rattle.c25_meaning_debugger.specs.Debugger.{source_line_at};
 ghost use Rattle.c25_meaning_debugger.specs.Texts.{AreLinesOf, IsLineOf, IsWhere, ReadsAt, insn_line, insn_text, marks_from, source_line_end};
@@ -10,7 +10,6 @@ use crate::answers::digits::{push_text, push_texts};
 use c25_isa::{decode, show, size_of};
 use c25_link::Image;
 use c25_meaning_common::no_memory::NoMemory;
-use c25_meaning_image::mark::Mark;
 use c25_meaning_image::word_map::WordMap;
 use c25_meaning_instructions::insn::Insn;
 use c25_texts::digits::four;
@@ -67,8 +66,8 @@ fn push_end(text: &mut String, source: Option<(&str, u32)>) -> Result<(), NoMemo
     }
 }
 
-/// Appends a line: an address, an instruction or `none`, and where it stands in the sources.
-fn push_line(
+/// Appends a line: an address, an instruction or `none`, and where it stands in the sources, if that is known.
+pub(crate) fn push_line(
     alloc: Global,
     text: &mut String,
     address: u16,
@@ -117,37 +116,20 @@ pub(crate) fn push_instruction(
     }
 }
 
-/// Appends the line of an instruction that runs at an address of block B0. Where it stands in the sources, if
-/// that is known, is looked up by the address where it is loaded.
-pub(crate) fn push_copied(
-    alloc: Global,
-    text: &mut String,
-    image: &Image,
-    address: u16,
-    load: u16,
-    insn: Insn,
-) -> Result<(), NoMemory>
-    ensures { OnOk result (string_bytes text.new ≡ string_bytes text.old
-        ++ insn_line address (Some insn) (source_line_at image.now load)) }
-{
-    push_line(alloc, text, address, &Some(insn), image.line_of(load))
-}
-
-/// Appends the lines of the first so many instructions at an address or after it, in the order of their
-/// places.
+/// Appends the lines of the first so many instructions of an image at an address or after it, in the order of
+/// their places.
 pub(crate) fn push_instructions(
     alloc: Global,
     text: &mut String,
     image: &Image,
-    marks: &[Mark],
     address: u16,
     count: u32,
 ) -> Result<(), NoMemory>
-    ensures { OnOk result ((lines : List ℕ) × AreLinesOf image.now.program (source_line_at image.now) (marks_from marks.now address count) lines
+    ensures { OnOk result ((lines : List ℕ) × AreLinesOf image.now.program (source_line_at image.now) (marks_from image.now.marks address count) lines
         × (string_bytes text.new ≡ string_bytes text.old ++ lines)) }
 {
     let mut left = count;
-    for mark in marks {
+    for mark in image.marks() {
         if left == 0 {
             return Ok(());
         }
