@@ -29,7 +29,7 @@ pub record Given : Type 0 where
 abbrev pub given_of : Files → (names : List (List ℕ)) → (command samples schedule : List ℕ) → Given
 given_of files names command samples schedule = record { files = files; sources = names; command = command; samples = samples; schedule = schedule }
 
--- ---- the texts in addition to the sources
+-- ---- the texts in addition to its sources
 
 -- samples and the entries of a schedule
 pub record Inputs : Type 0 where

@@ -89,6 +89,17 @@ fn inputs_in(alloc: Global, samples: &str, schedule: &str) -> Result<(Samples, S
     }
 }
 
+/// The texts of the files that a run reads in addition to its sources.
+#[derive(Clone, Copy)]
+pub struct RunTexts<'a> {
+    /// The linker's command file.
+    pub command: &'a str,
+    /// The samples: the words that `IN` reads.
+    pub samples: &'a str,
+    /// The schedule: interrupts and levels of BIO by steps.
+    pub schedule: &'a str,
+}
+
 /// Assembles sources, links their modules under a command file, and reads the samples and the schedule of a
 /// run, so that the run itself can fail only when memory runs out.
 ///
@@ -98,14 +109,12 @@ pub fn make_ready(
     alloc: Global,
     files: &Files,
     sources: &[String],
-    command: &str,
-    samples: &str,
-    schedule: &str,
+    texts: RunTexts<'_>,
 ) -> Result<Ready, Fault>
-    ensures { Readies (given_of files.now (map string_bytes sources.now) command.now samples.now schedule.now) result }
+    ensures { Readies (given_of files.now (map string_bytes sources.now) texts.entry.command.now texts.entry.samples.now texts.entry.schedule.now) result }
 {
-    let built = build(alloc, files, sources, command)?;
-    match inputs_in(alloc, samples, schedule) {
+    let built = build(alloc, files, sources, texts.command)?;
+    match inputs_in(alloc, texts.samples, texts.schedule) {
         Ok((samples, schedule)) => Ok(Ready {
             built,
             samples,
@@ -168,11 +177,16 @@ pub fn run_chain(
     ensures own_run_is_the_statements { IfOk result (TellsStatementsRun (given_of files.now (map string_bytes sources.now) command.now samples.now schedule.now) n) }
 {
     answers_run_as_their_sources();
+    let texts = RunTexts {
+        command,
+        samples,
+        schedule,
+    };
     let Ready {
         built,
         samples,
         schedule,
-    } = make_ready(alloc, files, sources, command, samples, schedule)?;
+    } = make_ready(alloc, files, sources, texts)?;
     match run_linked(alloc, &built.linked, samples, schedule, n) {
         Ok(done) => Ok(chain_of(built, done)),
         Err(error) => Err(error.into()),

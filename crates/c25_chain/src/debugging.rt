@@ -16,7 +16,7 @@ use crate::laws::answers_run_as_their_sources;
 use crate::linked::Linked;
 use crate::ready::Ready;
 use crate::script::script_in;
-use crate::{board_of, make_ready};
+use crate::{RunTexts, board_of, make_ready};
 use c25_board::samples::Samples;
 use c25_board::schedule::Schedule;
 use c25_debug::script::Script;
@@ -86,10 +86,15 @@ pub fn debug_chain(
 {
     answers_run_as_their_sources();
     debuggers_answer_alike();
+    let texts = RunTexts {
+        command,
+        samples,
+        schedule,
+    };
     let Ready {
         built,
         samples,
         schedule,
-    } = make_ready(alloc, files, sources, command, samples, schedule)?;
+    } = make_ready(alloc, files, sources, texts)?;
     debug_text(alloc, &built.linked, samples, schedule, script)
 }

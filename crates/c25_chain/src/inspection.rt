@@ -14,7 +14,7 @@ use c25_meaning_processor::script::Cmd;
 use std::alloc::Global;
 
 /// The answers of a session to `regs` and then to `where`.
-fn tell_both<F: Feed + Drop, S: Sink + Drop>(
+fn both_answers<F: Feed + Drop, S: Sink + Drop>(
     session: &mut Session<'_, F, S>,
 ) -> Result<String, NoMemory>
     ensures { IfOk result (λ text. TellsBoth (signals session.old.board) session.old.image.now
@@ -35,5 +35,5 @@ pub fn where_it_stands<F: Feed + Drop, S: Sink + Drop>(
     ensures { IfOk result (λ text. TellsWhere image.now (entries board) (steps board) (state board) (string_bytes text)) }
 {
     let mut session = Session::new(alloc, board, image);
-    tell_both(&mut session)
+    both_answers(&mut session)
 }

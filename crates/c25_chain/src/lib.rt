@@ -19,7 +19,7 @@ mod script;
 pub mod sources;
 
 pub use built::build;
-pub use chain::{chain_of, make_ready, run_chain};
+pub use chain::{RunTexts, chain_of, make_ready, run_chain};
 pub use debugging::debug_chain;
 pub use fault_text::{write_fault, write_refusal};
 pub use inspection::where_it_stands;

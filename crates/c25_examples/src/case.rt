@@ -1,7 +1,7 @@
 //! Cases: a call of the program over files in memory, and what it must do.
 
 use crate::files::{File, Folder};
-use c25_tasks::run_words;
+use c25_tasks::{Streams, run_words};
 use std::alloc::{AllocError, Global};
 use std::io;
 use std::process::ExitCode;
@@ -78,21 +78,16 @@ impl<'a> Case<'a> {
     /// Calls the program, and prints each part that is not as it must be.
     pub(crate) fn run(&self, rt: &HostRuntime) -> io::Result<()> {
         let mut folder = Folder::new(rt.alloc(), &self.given);
-        let mut output = Vec::<u8>::new(rt.alloc());
-        let mut errors = Vec::<u8>::new(rt.alloc());
-        let status = run_words(
-            rt.alloc(),
-            &self.words,
-            &mut folder,
-            &mut self.input.as_slice(),
-            &mut output,
-            &mut errors,
-        )
-        .status();
+        let mut streams = Streams {
+            input: self.input.as_slice(),
+            out: Vec::<u8>::new(rt.alloc()),
+            err: Vec::<u8>::new(rt.alloc()),
+        };
+        let status = run_words(rt.alloc(), &self.words, &mut folder, &mut streams).status();
         let called = Called {
             status,
-            output: &output,
-            errors: &errors,
+            output: &streams.out,
+            errors: &streams.err,
         };
         self.compare(rt, &called, &folder)
     }

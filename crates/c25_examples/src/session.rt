@@ -5,7 +5,7 @@ use crate::command::{Input, call_of, lines_of};
 use crate::library::call_library;
 use anyhow::{Context, Result, bail};
 use c25_disk::system::System;
-use c25_tasks::run_words;
+use c25_tasks::{Streams, run_words};
 use std::alloc::{AllocError, Global};
 use std::io::Write;
 use std::process::ExitCode;
@@ -29,20 +29,17 @@ fn input_of(rt: &HostRuntime, input: Input<'_>) -> io::Result<String> {
     }
 }
 
-/// Calls the program `c25` with this command line and standard input. Standard error goes to `errors`.
-fn answer(rt: &HostRuntime, words: &[String], input: &str, errors: &mut Vec<u8>) -> ExitCode {
+/// Calls the program `c25` with this command line and standard input: its status, and what it reports on
+/// standard error.
+fn answer(rt: &HostRuntime, words: &[String], input: &str) -> (ExitCode, Vec<u8>) {
     let mut disk = System::new(rt);
-    let mut input = input.as_bytes();
-    let mut output = io::writer(rt);
-    run_words(
-        rt.alloc(),
-        words,
-        &mut disk,
-        &mut input,
-        &mut output,
-        errors,
-    )
-    .status()
+    let mut streams = Streams {
+        input: input.as_bytes(),
+        out: io::writer(rt),
+        err: Vec::<u8>::new(rt.alloc()),
+    };
+    let status = run_words(rt.alloc(), words, &mut disk, &mut streams).status();
+    (status, streams.err)
 }
 
 /// Runs the call of a line: standard error is shown last, and `status` is set.
@@ -52,12 +49,11 @@ fn run_call(rt: &HostRuntime, line: &str, status: &mut ExitCode) -> Result<()> {
     };
     let words = words_of(rt.alloc(), call.words)?;
     let input = input_of(rt, call.input)?;
-    let mut errors = Vec::<u8>::new(rt.alloc());
-    *status = answer(rt, &words, &input, &mut errors);
-    if !call.shows_errors {
-        errors.clear();
+    let (ended, errors) = answer(rt, &words, &input);
+    *status = ended;
+    if call.shows_errors {
+        io::writer(rt).write_all(&errors)?;
     }
-    io::writer(rt).write_all(&errors)?;
     Ok(())
 }
 

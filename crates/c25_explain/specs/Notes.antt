@@ -24,8 +24,8 @@ use Rattle.c25_explain.specs.declared.notes.Notes.TheVariants.{Nothing, Explanat
 
 -- explanations, where they are asked for
 abbrev pub AreNotesFor : Bool → RunFiles → Option (Bor (List ℕ)) → (sources objects : List (List ℕ)) → Notes → Type 0
-AreNotesFor true files script sources objects (Explanations f s names others) =
-    (f ≡ files) × (s ≡ script) × (texts_of names.now ≡ sources) × (texts_of others.now ≡ objects)
+AreNotesFor true files script sources objects (Explanations named) =
+    (named.files ≡ files) × (named.script ≡ script) × (texts_of named.sources.now ≡ sources) × (texts_of named.objects.now ≡ objects)
 AreNotesFor true files script sources objects Nothing = ⊥
 AreNotesFor false files script sources objects notes = notes ≡ Nothing
 
@@ -124,5 +124,5 @@ IsExplained held place command sources objects refusal note =
 -- the note of a fault: its explanation where that is asked for, unless memory runs out
 abbrev pub IsNoted : Held → Notes → ChainFault (String Global) → List ℕ → Type 0
 IsNoted held Nothing refusal note = note ≡ []
-IsNoted held (Explanations files script sources objects) refusal note =
-    IsExplained held (place_of files script refusal) (text_of files.command) (texts_of sources.now) (texts_of objects.now) refusal note ⊎ (note ≡ [])
+IsNoted held (Explanations named) refusal note =
+    IsExplained held (place_of named.files named.script refusal) (text_of named.files.command) (texts_of named.sources.now) (texts_of named.objects.now) refusal note ⊎ (note ≡ [])

@@ -11,6 +11,7 @@ mod files;
 mod link_notes;
 mod linking;
 mod misfits;
+pub mod named;
 pub mod note;
 pub mod notes;
 mod numbers;

@@ -1,10 +1,11 @@
-//! Notes of faults of the command file and of linking, next to the fault's line.
+//! Notes of faults of the command file and of linking, after the fault's line.
 
 ghost use Rattle.std.specs.Prelude.{string_bytes};
 ghost use Rattle.c25_options.specs.Task.{text_of, texts_of};
 ghost use Rattle.c25_explain.specs.LinkNotes.{ShowsLink, ShowsMissing, ShowsOf, ShowsStanding};
 
 use crate::misfits::field_text;
+use crate::named::NamedFiles;
 use crate::ranges::missing_text;
 use crate::standing::refused_text;
 use c25_cmd::{read_command, refused_at};
@@ -84,16 +85,14 @@ fn range_text<D: Disk>(alloc: Global, disk: &D, file: Option<&str>, section: &st
 pub(crate) fn link_text<D: Disk>(
     alloc: Global,
     disk: &D,
-    command: Option<&str>,
-    sources: &[&str],
-    objects: &[&str],
+    named: NamedFiles<'_>,
     refusal: &Placed<String, LinkFault>,
 ) -> String
-    ensures { ShowsLink (D.bytes_of disk.now) (text_of command.entry) (texts_of sources.now) (texts_of objects.now) refusal.now.fault (string_bytes refusal.now.place) (string_bytes result) }
+    ensures { ShowsLink (D.bytes_of disk.now) (text_of named.entry.files.command) (texts_of named.entry.sources.now) (texts_of named.entry.objects.now) refusal.now.fault (string_bytes refusal.now.place) (string_bytes result) }
 {
     match refusal.fault {
-        LinkFault::NoRange => range_text(alloc, disk, command, refusal.place.as_str()),
-        LinkFault::RelocRange => field_text(alloc, disk, command, sources, objects),
+        LinkFault::NoRange => range_text(alloc, disk, named.files.command, refusal.place.as_str()),
+        LinkFault::RelocRange => field_text(alloc, disk, named),
         LinkFault::Unresolved
         | LinkFault::DefinedTwice
         | LinkFault::DoesNotFit

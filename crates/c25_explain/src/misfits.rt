@@ -8,6 +8,7 @@ ghost use Rattle.c25_options.specs.Task.{text_of, texts_of};
 ghost use Rattle.c25_explain.specs.Misfits.{IsFieldNote, IsFieldOfObjects, IsFieldOfSources, IsFieldOver, IsLineText, IsNoteOfField, ShowsField, ShowsFieldOver, line_text, line_view, name_at};
 
 use crate::fields::misfit_text;
+use crate::named::NamedFiles;
 use crate::note::line_of;
 use c25_chain::assemble_all;
 use c25_chain::fault::{ChainFault, Fault};
@@ -33,7 +34,8 @@ pub(crate) struct FieldNote {
     line: Option<FileLine<String>>,
 }
 
-/// A task: the field of these sources, linked under the text of this command file.
+/// A task over files: the first field of these sources, linked under the text of this command file, that does
+/// not take its value.
 #[derive(Clone, Copy)]
 struct Fields<'a> {
     sources: &'a [String],
@@ -173,20 +175,19 @@ fn field_of_objects<D: Disk>(
     }
 }
 
-/// The note about the first field that does not take its value, of the objects, if there are any, else of the
+/// The note about the first field that does not take its value: of the objects, if there are any, else of the
 /// sources.
 fn field_found<D: Disk>(
     alloc: Global,
     disk: &D,
-    command: Option<&str>,
-    sources: &[&str],
-    objects: &[&str],
+    named: NamedFiles<'_>,
 ) -> Result<Option<FieldNote>, Fault>
-    ensures { IfOk result (λ note. IfSome note (IsFieldOver (D.bytes_of disk.now) (text_of command.entry) (texts_of sources.now) (texts_of objects.now))) }
+    ensures { IfOk result (λ note. IfSome note (IsFieldOver (D.bytes_of disk.now) (text_of named.entry.files.command) (texts_of named.entry.sources.now) (texts_of named.entry.objects.now))) }
 {
-    match objects {
-        [] => field_of_sources(alloc, disk, command, sources),
-        [_, ..] => field_of_objects(alloc, disk, command, objects),
+    let command = named.files.command;
+    match named.objects {
+        [] => field_of_sources(alloc, disk, command, named.sources),
+        [_, ..] => field_of_objects(alloc, disk, command, named.objects),
     }
 }
 
@@ -229,16 +230,10 @@ fn field_shown<D: Disk>(alloc: Global, disk: &D, note: &FieldNote) -> Result<Str
 /// The note about the first field that does not take its value, after the line of its instruction. The
 /// objects, if there are any, else the sources are read and linked again. The note is empty where that fails,
 /// all fields take their values, or memory runs out.
-pub(crate) fn field_text<D: Disk>(
-    alloc: Global,
-    disk: &D,
-    command: Option<&str>,
-    sources: &[&str],
-    objects: &[&str],
-) -> String
-    ensures { ShowsFieldOver (D.bytes_of disk.now) (text_of command.entry) (texts_of sources.now) (texts_of objects.now) (string_bytes result) }
+pub(crate) fn field_text<D: Disk>(alloc: Global, disk: &D, named: NamedFiles<'_>) -> String
+    ensures { ShowsFieldOver (D.bytes_of disk.now) (text_of named.entry.files.command) (texts_of named.entry.sources.now) (texts_of named.entry.objects.now) (string_bytes result) }
 {
-    let Ok(Some(note)) = field_found(alloc, disk, command, sources, objects) else {
+    let Ok(Some(note)) = field_found(alloc, disk, named) else {
         return String::new(alloc);
     };
     match field_shown(alloc, disk, &note) {

@@ -90,11 +90,11 @@ fn shown_line(alloc: Global, shown: Shown<'_>) -> Result<String, NoMemory>
 }
 
 /// The line that a note shows first, and the lines after it.
-fn shown_lines(alloc: Global, shown: Shown<'_>, behind: &str) -> Result<String, NoMemory>
-    ensures { IfOk result (λ text. string_bytes text ≡ shown_text shown.entry ++ behind.now) }
+fn shown_lines(alloc: Global, shown: Shown<'_>, after: &str) -> Result<String, NoMemory>
+    ensures { IfOk result (λ text. string_bytes text ≡ shown_text shown.entry ++ after.now) }
 {
     let mut text = shown_line(alloc, shown)?;
-    text.push_str(behind)?;
+    text.push_str(after)?;
     Ok(text)
 }
 
@@ -121,18 +121,18 @@ fn note_with(alloc: Global, shown: &str, lesson: &str, example: &str) -> Result<
     Ok(format!(in alloc; "{shown}\n{lesson}\n{example}\n")?)
 }
 
-/// The note of a fault, in whole lines: what is shown, the lines `behind` that, what the fault means, what to
+/// The note of a fault, in whole lines: what is shown, the text `after` that, what the fault means, what to
 /// do, and how to see its example.
 pub fn explained(
     alloc: Global,
     fault: AnyFault,
     shown: Shown<'_>,
-    behind: &str,
+    after: &str,
 ) -> Result<String, NoMemory>
-    ensures { IfOk result (λ note. IsNoteOf fault shown.entry behind.now (string_bytes note)) }
+    ensures { IfOk result (λ note. IsNoteOf fault shown.entry after.now (string_bytes note)) }
 {
     let explanation = explanation_of(fault);
-    let shown = shown_lines(alloc, shown, behind)?;
+    let shown = shown_lines(alloc, shown, after)?;
     let lesson = lesson(alloc, &explanation)?;
     let example = example_line(alloc, explanation.number)?;
     note_with(alloc, shown.as_str(), lesson.as_str(), example.as_str())

@@ -8,6 +8,7 @@ ghost use Rattle.c25_explain.specs.Notes.{AreNotesFor, IsExplained, IsExplainedA
 
 use crate::fault::AnyFault;
 use crate::link_notes::{link_text, standing_text};
+use crate::named::NamedFiles;
 use crate::note::{Shown, Unread, explained, line_of};
 use crate::refusals::of_refusal;
 use crate::trails::trail_text;
@@ -29,12 +30,7 @@ pub enum Notes<'a> {
     /// fault of a command file, samples, a schedule or a script has the number of its line only, so their
     /// names are given here. The sources are expanded again to find where a line was called or copied, and
     /// the sources or objects are linked again to find a field.
-    Explanations {
-        files: RunFiles<'a>,
-        script: Option<&'a str>,
-        sources: &'a [&'a str],
-        objects: &'a [&'a str],
-    },
+    Explanations(NamedFiles<'a>),
 }
 
 /// Explanations, where `explain` asks for them.
@@ -48,12 +44,12 @@ pub fn notes_for<'a>(
     ensures { AreNotesFor explain files.entry script.entry (texts_of sources.entry.now) (texts_of objects.entry.now) result }
 {
     if explain {
-        Notes::Explanations {
+        Notes::Explanations(NamedFiles {
             files,
             script,
             sources,
             objects,
-        }
+        })
     } else {
         Notes::Nothing
     }
@@ -100,26 +96,20 @@ fn line_shown<'a>(file: &'a str, number: usize, text: &'a str) -> Shown<'a>
     }
 }
 
-/// The explanation of a fault in this line of a file, after the lines `behind` and, where the file can be
-/// read and has it, after that line.
+/// The explanation of a fault in a line of a file, after that line and the text `after` it.
 fn explained_at<D: Disk>(
     alloc: Global,
     disk: &D,
     fault: AnyFault,
-    file: &str,
-    number: usize,
-    behind: &str,
+    place: FileLine<&str>,
+    after: &str,
 ) -> Result<String, NoMemory>
-    ensures { IfOk result (λ note. IsExplainedAt (D.bytes_of disk.now) file.now number behind.now fault (string_bytes note)) }
+    ensures { IfOk result (λ note. IsExplainedAt (D.bytes_of disk.now) place.entry.file.now place.entry.line after.now fault (string_bytes note)) }
 {
+    let FileLine { file, line } = place;
     match read_file(alloc, disk, file) {
-        Ok(text) => explained(
-            alloc,
-            fault,
-            line_shown(file, number, text.as_str()),
-            behind,
-        ),
-        Err(_) => explained(alloc, fault, Shown::Nothing, behind),
+        Ok(text) => explained(alloc, fault, line_shown(file, line, text.as_str()), after),
+        Err(_) => explained(alloc, fault, Shown::Nothing, after),
     }
 }
 
@@ -181,22 +171,22 @@ fn explained_unread<D: Disk>(
     }
 }
 
-/// The lines that are shown next to the line of a fault: for a line of a source the lines that led there, for
+/// The lines that are shown after the line of a fault: for a line of a source the lines that led there, for
 /// the command file what stands at the fault, for linking the range or the field.
-fn behind_text<D: Disk>(
+fn text_after<D: Disk>(
     alloc: Global,
     disk: &D,
-    command: Option<&str>,
-    sources: &[&str],
-    objects: &[&str],
+    named: NamedFiles<'_>,
     refusal: &ChainFault<String>,
 ) -> String
-    ensures { IsBehind (D.bytes_of disk.now) (text_of command.entry) (texts_of sources.now) (texts_of objects.now) refusal.now (string_bytes result) }
+    ensures { IsBehind (D.bytes_of disk.now) (text_of named.entry.files.command) (texts_of named.entry.sources.now) (texts_of named.entry.objects.now) refusal.now (string_bytes result) }
 {
     match refusal {
-        ChainFault::Command(placed) => standing_text(alloc, disk, command, placed.place),
-        ChainFault::Link(placed) => link_text(alloc, disk, command, sources, objects, placed),
-        ChainFault::Source(placed) => trail_text(alloc, disk, sources, placed),
+        ChainFault::Command(placed) => {
+            standing_text(alloc, disk, named.files.command, placed.place)
+        }
+        ChainFault::Link(placed) => link_text(alloc, disk, named, placed),
+        ChainFault::Source(placed) => trail_text(alloc, disk, named.sources, placed),
         ChainFault::NoFile { .. }
         | ChainFault::Object(_)
         | ChainFault::Hex(_)
@@ -207,28 +197,25 @@ fn behind_text<D: Disk>(
     }
 }
 
-/// The explanation of a fault, after the line of the file where it is and the lines next to it, or after why
-/// a file cannot be read. The files are read again; where they cannot be read or have no such line, no line
-/// is shown.
+/// The explanation of a fault, after the line of the file where it is and the text after that line, or after
+/// why a file cannot be read. The files are read again; where they cannot be read or have no such line, no
+/// line is shown.
 fn explanation_of<D: Disk>(
     alloc: Global,
     disk: &D,
     refusal: &ChainFault<String>,
-    files: RunFiles<'_>,
-    script: Option<&str>,
-    sources: &[&str],
-    objects: &[&str],
+    named: NamedFiles<'_>,
 ) -> Result<String, NoMemory>
-    ensures { IfOk result (λ note. IsExplained (D.bytes_of disk.now) (place_of files.entry script.entry refusal.now) (text_of files.entry.command) (texts_of sources.now) (texts_of objects.now) refusal.now (string_bytes note)) }
+    ensures { IfOk result (λ note. IsExplained (D.bytes_of disk.now) (place_of named.entry.files named.entry.script refusal.now) (text_of named.entry.files.command) (texts_of named.entry.sources.now) (texts_of named.entry.objects.now) refusal.now (string_bytes note)) }
 {
     let fault = of_refusal(refusal);
-    let behind = behind_text(alloc, disk, files.command, sources, objects, refusal);
-    if let Some(place) = place_of(refusal, files, script) {
-        return explained_at(alloc, disk, fault, place.file, place.line, behind.as_str());
+    let after = text_after(alloc, disk, named, refusal);
+    if let Some(place) = place_of(refusal, named.files, named.script) {
+        return explained_at(alloc, disk, fault, place, after.as_str());
     }
     match unread_name(refusal) {
         Some(file) => explained_unread(alloc, disk, fault, file),
-        None => explained(alloc, fault, Shown::Nothing, behind.as_str()),
+        None => explained(alloc, fault, Shown::Nothing, after.as_str()),
     }
 }
 
@@ -241,16 +228,10 @@ pub fn note_of<D: Disk>(
 ) -> String
     ensures { IsNoted (D.bytes_of disk.now) notes.entry refusal.now (string_bytes result) }
 {
-    let Notes::Explanations {
-        files,
-        script,
-        sources,
-        objects,
-    } = notes
-    else {
+    let Notes::Explanations(named) = notes else {
         return String::new(alloc);
     };
-    match explanation_of(alloc, disk, refusal, files, script, sources, objects) {
+    match explanation_of(alloc, disk, refusal, named) {
         Ok(note) => note,
         Err(_) => String::new(alloc),
     }

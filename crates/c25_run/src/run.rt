@@ -32,20 +32,31 @@ use c25_run_laws::runs::{two_runs_are_one, words_end_once};
 use std::alloc::Global;
 use std::io::Write;
 
-/// The board of a linked program after a reset, with a sink for one batch of outputs.
-fn board_of(
-    alloc: Global,
-    linked: &Linked,
+/// The inputs of a run: the words that `IN` reads, and the levels of the interrupt lines and of BIO by steps.
+#[derive(Drop)]
+struct Stimulus {
     samples: Samples,
     schedule: Schedule,
-) -> Result<BatchBoard, NoMemory>
+}
+
+/// How long a run is, and what is reported after it.
+#[derive(Clone, Copy)]
+struct RunOptions {
+    steps: u32,
+    /// Whether the registers after the run are reported.
+    regs: bool,
+}
+
+/// The board of a linked program after a reset, with a sink for one batch of outputs.
+fn board_of(alloc: Global, linked: &Linked, stimulus: Stimulus) -> Result<BatchBoard, NoMemory>
     requires marks { fit_from 0 linked.now.image.marks ≡ true }
     requires run_marks { run_fit linked.now.image.marks linked.now.image.run_marks ≡ true }
-    ensures state { IfOk result (λ board. state board ≡ first_of_pages linked.now.page0.words linked.now.page1.words linked.now.image.marks linked.now.image.run_marks (samples_at samples)) }
+    ensures state { IfOk result (λ board. state board ≡ first_of_pages linked.now.page0.words linked.now.page1.words linked.now.image.marks linked.now.image.run_marks (samples_at stimulus.samples)) }
     ensures steps { IfOk result (λ board. steps board ≡ 0) }
-    ensures schedule { IfOk result (λ board. entries board ≡ schedule) }
+    ensures schedule { IfOk result (λ board. entries board ≡ stimulus.schedule) }
     ensures fresh { IfOk result (λ board. IsFresh board.devices.sink) }
 {
+    let Stimulus { samples, schedule } = stimulus;
     let page0 = &linked.page0.words;
     let page1 = &linked.page1.words;
     let marks = linked.image.marks();
@@ -81,28 +92,26 @@ fn report_of(
     }
 }
 
-/// Runs n steps of a linked program from a reset on, or fewer where one stops, and prints the run as it goes.
+/// Runs a linked program from a reset on, and prints the run as it goes.
 fn print_linked<O: Write>(
     alloc: Global,
     linked: &Linked,
-    samples: Samples,
-    schedule: Schedule,
-    n: u32,
-    regs: bool,
+    stimulus: Stimulus,
+    options: RunOptions,
     out: &mut O,
 ) -> Report
     requires marks { fit_from 0 linked.now.image.marks ≡ true }
     requires run_marks { run_fit linked.now.image.marks linked.now.image.run_marks ≡ true }
-    ensures { PrintsFrom regs linked.now.image schedule n
-        (first_of_pages linked.now.page0.words linked.now.page1.words linked.now.image.marks linked.now.image.run_marks (samples_at samples))
+    ensures { PrintsFrom options.regs linked.now.image stimulus.schedule options.steps
+        (first_of_pages linked.now.page0.words linked.now.page1.words linked.now.image.marks linked.now.image.run_marks (samples_at stimulus.samples))
         result.ending (string_bytes result.note) (O.contents out.old) (O.contents out.new) }
 {
-    let mut board = match board_of(alloc, linked, samples, schedule) {
+    let mut board = match board_of(alloc, linked, stimulus) {
         Ok(board) => board,
         Err(error) => return Report::without_note(alloc, Ending::NoMemory(error)),
     };
-    match print_board(&mut board, n, out) {
-        Ok(outcome) => report_of(alloc, board, &linked.image, outcome, regs),
+    match print_board(&mut board, options.steps, out) {
+        Ok(outcome) => report_of(alloc, board, &linked.image, outcome, options.regs),
         Err(_) => Report::without_note(alloc, Ending::Unprinted),
     }
 }
@@ -135,5 +144,7 @@ pub fn print_run<O: Write>(alloc: Global, ready: Ready, n: u32, regs: bool, out:
         samples,
         schedule,
     } = ready;
-    print_linked(alloc, &built.linked, samples, schedule, n, regs, out)
+    let stimulus = Stimulus { samples, schedule };
+    let options = RunOptions { steps: n, regs };
+    print_linked(alloc, &built.linked, stimulus, options, out)
 }

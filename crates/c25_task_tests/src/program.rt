@@ -3,40 +3,38 @@
 use crate::values::equal;
 use crate::worlds::{Closed, CommandLine, Narrow, NotText, empty_shelf, input_of};
 use c25_disk_tests::readers::Pieces;
-use c25_disk_tests::shelf::Shelf;
-use c25_tasks::run_program;
+use c25_tasks::{Streams, run_program};
 use std::alloc::Global;
 use std::io::Write;
 use std::process::{Abort, ExitCode};
 use std::rt::Env;
 use std::test::Fail;
 
-/// Runs the program: its status, and what it reports on standard error.
-fn run<V: Env, O: Write>(
-    alloc: Global,
-    words: &V,
-    shelf: &mut Shelf<'_>,
-    input: &mut Pieces<'_>,
-    out: &mut O,
-) -> (ExitCode, Vec<u8>) {
-    let mut err = Vec::<u8>::new(alloc);
-    let ended = run_program(alloc, words, shelf, input, out, &mut err);
-    (ended.status(), err)
+/// The streams of a program that reads these bytes and prints to this writer.
+fn streams_of<O: Write>(alloc: Global, input: &[u8], out: O) -> Streams<Pieces<'_>, O, Vec<u8>> {
+    Streams {
+        input: input_of(input),
+        out,
+        err: Vec::new(alloc),
+    }
 }
 
 /// Checks that the program has status 2 for this command line, prints nothing but to standard error, and
 /// reads and writes nothing.
 fn are_no_task(rt: &(impl Abort + AllocGlobal), words: &impl Env, told: Option<&str>) {
-    let mut out = Vec::<u8>::new(rt.alloc());
     let mut shelf = empty_shelf(rt.alloc());
-    let mut input = input_of(b" NOP\n");
-    let (status, err) = run(rt.alloc(), words, &mut shelf, &mut input, &mut out);
+    let mut streams = streams_of(rt.alloc(), b" NOP\n", Vec::<u8>::new(rt.alloc()));
+    let status = run_program(rt.alloc(), words, &mut shelf, &mut streams).status();
     equal(rt, status, ExitCode::from(2));
-    equal(rt, (out.is_empty(), shelf.written.is_empty()), (true, true));
-    equal(rt, input.rest, b" NOP\n".as_slice());
+    equal(
+        rt,
+        (streams.out.is_empty(), shelf.written.is_empty()),
+        (true, true),
+    );
+    equal(rt, streams.input.rest, b" NOP\n".as_slice());
     match told {
-        Some(text) => equal(rt, err.as_slice(), text.as_bytes()),
-        None => equal(rt, err.is_empty(), false),
+        Some(text) => equal(rt, streams.err.as_slice(), text.as_bytes()),
+        None => equal(rt, streams.err.is_empty(), false),
     }
 }
 
@@ -46,20 +44,18 @@ fn words_that_are_no_task_have_status_2(rt: HostRuntime) {
     are_no_task(&rt, &CommandLine { words: &["asm"] }, None);
 }
 
-/// Checks the status and the report of a run of a source that is printed to this writer.
+/// Checks the status and the report of a run of the source on standard input.
 fn is_printed<O: Write>(
     rt: &(impl Abort + AllocGlobal),
-    source: &[u8],
-    out: &mut O,
+    streams: &mut Streams<Pieces<'_>, O, Vec<u8>>,
     status: ExitCode,
     told: &[u8],
 ) {
     let mut shelf = empty_shelf(rt.alloc());
-    let mut input = input_of(source);
     let no_words = CommandLine { words: &[] };
-    let (found, err) = run(rt.alloc(), &no_words, &mut shelf, &mut input, out);
+    let found = run_program(rt.alloc(), &no_words, &mut shelf, streams).status();
     equal(rt, found, status);
-    equal(rt, err.as_slice(), told);
+    equal(rt, streams.err.as_slice(), told);
 }
 
 /// The report where standard output takes no more.
@@ -67,7 +63,8 @@ const CANNOT_WRITE: &[u8] = b"stdout: 7 CannotWrite\n";
 
 #[test]
 fn a_run_that_cannot_be_printed_is_a_failure(rt: HostRuntime) {
-    is_printed(&rt, b"", &mut Closed, ExitCode::FAILURE, CANNOT_WRITE);
+    let mut streams = streams_of(rt.alloc(), b"", Closed);
+    is_printed(&rt, &mut streams, ExitCode::FAILURE, CANNOT_WRITE);
 }
 
 /// What a run of `OUTPUTS` prints.
@@ -79,14 +76,15 @@ const OUTPUTS: &[u8] = b" OUT 60h,PA1\n OUT 60h,PA2\n";
 /// Checks that a run that is printed to a writer with this room prints its first bytes, with this status and
 /// report.
 fn prints_front(rt: &(impl Abort + AllocGlobal), room: usize, status: ExitCode, told: &[u8]) {
-    let mut out = Narrow {
+    let out = Narrow {
         room,
         taken: Vec::new(rt.alloc()),
     };
-    is_printed(rt, OUTPUTS, &mut out, status, told);
+    let mut streams = streams_of(rt.alloc(), OUTPUTS, out);
+    is_printed(rt, &mut streams, status, told);
     equal(
         rt,
-        out.taken.as_slice(),
+        streams.out.taken.as_slice(),
         &PRINTED[..room.min(PRINTED.len())],
     );
 }

@@ -57,8 +57,8 @@ explained_anew held other f kind trail note is explained =
 
 noted_anew : (held other : Held) (notes : Notes) (f : Placed (String Global) FileFault) (note : List ℕ) → f.fault ≡ CannotWrite → IsNoted held notes (File f) note → IsNoted other notes (File f) note
 noted_anew held other Nothing f note is noted = noted
-noted_anew held other (Explanations files script sources objects) f note is (inl (behind, none, explained)) = inl (behind, none, explained_anew held other f f.fault behind note is explained)
-noted_anew held other (Explanations files script sources objects) f note is (inr none) = inr none
+noted_anew held other (Explanations named) f note is (inl (behind, none, explained)) = inl (behind, none, explained_anew held other f f.fault behind note is explained)
+noted_anew held other (Explanations named) f note is (inr none) = inr none
 
 of_refusal_anew : (held other : Held) (notes : Notes) (f : Placed (String Global) FileFault) (e : Ending) (note : List ℕ) → f.fault ≡ CannotWrite → IsReportOf held notes (failure.Fault (File f)) e note → IsReportOf other notes (failure.Fault (File f)) e note
 of_refusal_anew held other notes f e note is (inl (line, noted)) = inl (line, noted_anew held other notes f note is noted)

@@ -8,8 +8,8 @@ use Rattle.c25_tasks.specs.declared.copies.Run.{Run}
 
 -- what the chain is given to run
 abbrev pub readied_of : Files → Run → Given
-readied_of files run = given_of files (map string_bytes run.sources.now) run.command.now run.samples.now run.schedule.now
+readied_of files run = given_of files (map string_bytes run.sources.now) run.texts.command.now run.texts.samples.now run.texts.schedule.now
 
 -- what the chain is given to debug
 abbrev pub debugged_of : Files → Debug → Given
-debugged_of files debug = given_of files (map string_bytes debug.sources.now) debug.command.now debug.samples.now debug.schedule.now
+debugged_of files debug = given_of files (map string_bytes debug.sources.now) debug.texts.command.now debug.texts.samples.now debug.texts.schedule.now

@@ -93,10 +93,11 @@ fn listed_of_source<'a>(
 
 /// A task over files: a source to assemble, and the names of its output files.
 #[derive(Clone, Copy)]
-struct Assembly<'a> {
-    source: &'a str,
-    object: &'a str,
-    list: Option<&'a str>,
+pub(crate) struct Assembly<'a> {
+    pub(crate) source: &'a str,
+    pub(crate) object: &'a str,
+    /// The name of the listing, where one is asked for.
+    pub(crate) list: Option<&'a str>,
 }
 
 impl<'a> Work for Assembly<'a> {
@@ -134,17 +135,10 @@ impl<'a> Work for Assembly<'a> {
 pub(crate) fn asm_outputs<'a, D: Disk>(
     alloc: Global,
     disk: &D,
-    source: &'a str,
-    object: &'a str,
-    list: Option<&'a str>,
+    assembly: Assembly<'a>,
 ) -> Result<Vec<Output<'a>>, Fault>
-    ensures { AsmOutputs (D.bytes_of disk.now) source.entry.now object.entry.now (text_of list.entry) result }
+    ensures { AsmOutputs (D.bytes_of disk.now) assembly.entry.source.now assembly.entry.object.now (text_of assembly.entry.list) result }
 {
-    let files = sources_of(alloc, disk, &[source])?;
-    let work = Assembly {
-        source,
-        object,
-        list,
-    };
-    work_over(alloc, disk, files, &work)
+    let files = sources_of(alloc, disk, &[assembly.source])?;
+    work_over(alloc, disk, files, &assembly)
 }

@@ -7,13 +7,13 @@ ghost use Rattle.c25_inputs.specs.Files.{missing_name};
 use c25_chain::built::Built;
 use c25_chain::fault::{ChainFault, Fault};
 use c25_chain::ready::Ready;
-use c25_chain::{build, debug_chain, make_ready};
+use c25_chain::{RunTexts, build, debug_chain, make_ready};
 use c25_disk::work::Work;
 use c25_inputs::files::missing_name;
 use c25_macro::files::Files;
 use std::alloc::Global;
 
-/// A task over files: sources to link under the text of a command file.
+/// A task over files: sources to assemble and to link under the text of a command file.
 #[derive(Clone, Copy)]
 pub(crate) struct Build<'a> {
     pub(crate) sources: &'a [String],
@@ -44,13 +44,11 @@ impl<'a> Work for Build<'a> {
     }
 }
 
-/// A task over files: sources to run, with the texts of the command file, the samples and the schedule.
+/// A task over files: sources to run, with the texts of the other files of the run.
 #[derive(Clone, Copy)]
 pub(crate) struct Run<'a> {
     pub(crate) sources: &'a [String],
-    pub(crate) command: &'a str,
-    pub(crate) samples: &'a str,
-    pub(crate) schedule: &'a str,
+    pub(crate) texts: RunTexts<'a>,
 }
 
 impl<'a> Work for Run<'a> {
@@ -67,14 +65,7 @@ impl<'a> Work for Run<'a> {
     ghost missing_of = { missing_name };
 
     fn answer(&self, alloc: Global, files: &Files) -> Result<Ready, Fault> {
-        make_ready(
-            alloc,
-            files,
-            self.sources,
-            self.command,
-            self.samples,
-            self.schedule,
-        )
+        make_ready(alloc, files, self.sources, self.texts)
     }
 
     fn missing(fault: &ChainFault<String>) -> Option<&str>
@@ -84,14 +75,11 @@ impl<'a> Work for Run<'a> {
     }
 }
 
-/// A task over files: sources to debug, with the texts of the command file, the samples, the schedule and the
-/// script.
+/// A task over files: sources to debug, with the texts of the other files of the run and of the script.
 #[derive(Clone, Copy)]
 pub(crate) struct Debug<'a> {
     pub(crate) sources: &'a [String],
-    pub(crate) command: &'a str,
-    pub(crate) samples: &'a str,
-    pub(crate) schedule: &'a str,
+    pub(crate) texts: RunTexts<'a>,
     pub(crate) script: &'a str,
 }
 
@@ -113,9 +101,9 @@ impl<'a> Work for Debug<'a> {
             alloc,
             files,
             self.sources,
-            self.command,
-            self.samples,
-            self.schedule,
+            self.texts.command,
+            self.texts.samples,
+            self.texts.schedule,
             self.script,
         )
     }

@@ -18,5 +18,5 @@ mod system;
 mod task;
 mod texts;
 
-pub use program::{run_program, run_words};
+pub use program::{Streams, run_program, run_words};
 pub use system::run_on;

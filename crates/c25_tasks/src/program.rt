@@ -30,21 +30,27 @@ fn report_of_words<D: Disk, R: Read, O: Write>(
     }
 }
 
+/// Standard input, standard output and standard error.
+#[derive(Drop)]
+pub struct Streams<R, O, E> {
+    pub input: R,
+    pub out: O,
+    pub err: E,
+}
+
 /// Runs the task of a command line, of which the first argument is the program's name, and prints its report
-/// to `err`.
+/// to standard error.
 pub fn run_words<D: Disk, R: Read, O: Write, E: Write>(
     alloc: Global,
     words: &[String],
     disk: &mut D,
-    input: &mut R,
-    out: &mut O,
-    err: &mut E,
+    streams: &mut Streams<R, O, E>,
 ) -> Ended
-    ensures done { DoesWords (D.bytes_of disk.old) (R.remaining input.old) (map string_bytes words.now) (effect_of result.report (O.contents out.old, O.contents out.new) (D.written disk.old, D.written disk.new)) }
-    ensures told { OnOk result.told (IsReported result.report (E.contents err.old) (E.contents err.new)) }
+    ensures done { DoesWords (D.bytes_of disk.old) (R.remaining streams.old.input) (map string_bytes words.now) (effect_of result.report (O.contents streams.old.out, O.contents streams.new.out) (D.written disk.old, D.written disk.new)) }
+    ensures told { OnOk result.told (IsReported result.report (E.contents streams.old.err) (E.contents streams.new.err)) }
 {
-    let report = report_of_words(alloc, words, disk, input, out);
-    finish(report, err)
+    let report = report_of_words(alloc, words, disk, &mut streams.input, &mut streams.out);
+    finish(report, &mut streams.err)
 }
 
 /// The command line, with the program's name first.
@@ -88,13 +94,11 @@ pub fn run_program<V: Env, D: Disk, R: Read, O: Write, E: Write>(
     alloc: Global,
     env: &V,
     disk: &mut D,
-    input: &mut R,
-    out: &mut O,
-    err: &mut E,
+    streams: &mut Streams<R, O, E>,
 ) -> Ended
-    ensures done { IsProgram (D.bytes_of disk.old) (R.remaining input.old) (effect_of result.report (O.contents out.old, O.contents out.new) (D.written disk.old, D.written disk.new)) }
-    ensures told { OnOk result.told (IsReported result.report (E.contents err.old) (E.contents err.new)) }
+    ensures done { IsProgram (D.bytes_of disk.old) (R.remaining streams.old.input) (effect_of result.report (O.contents streams.old.out, O.contents streams.new.out) (D.written disk.old, D.written disk.new)) }
+    ensures told { OnOk result.told (IsReported result.report (E.contents streams.old.err) (E.contents streams.new.err)) }
 {
-    let report = report_of_program(alloc, env, disk, input, out);
-    finish(report, err)
+    let report = report_of_program(alloc, env, disk, &mut streams.input, &mut streams.out);
+    finish(report, &mut streams.err)
 }

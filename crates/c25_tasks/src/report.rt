@@ -92,20 +92,28 @@ pub(crate) fn report_answers<D: Disk, O: Write>(
     }
 }
 
+/// How long a run is, and what is reported in addition to its end.
+#[derive(Clone, Copy)]
+pub(crate) struct RunOptions<'a> {
+    pub(crate) steps: u32,
+    /// Whether the registers after the run are reported.
+    pub(crate) regs: bool,
+    /// The notes of a fault.
+    pub(crate) notes: Notes<'a>,
+}
+
 /// Runs a program and prints the run as it goes, or answers the report of the failure.
 pub(crate) fn report_run<D: Disk, O: Write>(
     alloc: Global,
     disk: &D,
     answer: Result<Ready, Fault>,
-    steps: u32,
-    regs: bool,
-    notes: Notes<'_>,
+    options: RunOptions<'_>,
     out: &mut O,
 ) -> Report
-    ensures { IfOk answer IsOfSources → TellsRun (D.bytes_of disk.now) notes.entry steps regs answer result.ending (string_bytes result.note) (O.contents out.old, O.contents out.new) }
+    ensures { IfOk answer IsOfSources → TellsRun (D.bytes_of disk.now) options.entry.notes options.entry.steps options.entry.regs answer result.ending (string_bytes result.note) (O.contents out.old, O.contents out.new) }
 {
     match answer {
-        Ok(ready) => print_run(alloc, ready, steps, regs, out),
-        Err(fault) => report_of_fault(alloc, disk, fault, notes),
+        Ok(ready) => print_run(alloc, ready, options.steps, options.regs, out),
+        Err(fault) => report_of_fault(alloc, disk, fault, options.notes),
     }
 }

@@ -5,7 +5,8 @@ ghost use Rattle.c25_inputs.specs.Files.{ComesTo};
 ghost use Rattle.c25_tasks.specs.Running.{ReadiesInput, ReadiesText, Runs};
 
 use crate::copies::Run;
-use crate::report::report_run;
+use crate::report::{RunOptions, report_run};
+use c25_chain::RunTexts;
 use c25_chain::fault::{ChainFault, Fault};
 use c25_chain::ready::Ready;
 use c25_disk::disk::Disk;
@@ -38,9 +39,11 @@ fn ready_text<D: Disk>(alloc: Global, disk: &D, text: &str) -> Result<Ready, Fau
     let sources = names_of(alloc, &[STANDARD_INPUT])?;
     let work = Run {
         sources: sources.as_slice(),
-        command: "",
-        samples: "",
-        schedule: "",
+        texts: RunTexts {
+            command: "",
+            samples: "",
+            schedule: "",
+        },
     };
     work_over(alloc, disk, files, &work)
 }
@@ -69,6 +72,11 @@ pub(crate) fn run_standard_input<D: Disk, R: Read, O: Write>(
 ) -> Report
     ensures { Runs (D.bytes_of disk.now) (R.remaining input.old) result.ending (string_bytes result.note) (O.contents out.old, O.contents out.new) }
 {
-    let told = answer(alloc, disk, input);
-    report_run(alloc, disk, told, DEFAULT_STEPS, false, Notes::Nothing, out)
+    let ready = answer(alloc, disk, input);
+    let options = RunOptions {
+        steps: DEFAULT_STEPS,
+        regs: false,
+        notes: Notes::Nothing,
+    };
+    report_run(alloc, disk, ready, options, out)
 }

@@ -3,7 +3,7 @@
 ghost use Rattle.std.specs.Prelude.{None};
 ghost use Rattle.c25_tasks.specs.Program.{IsProgram, effect_of};
 
-use crate::program::run_program;
+use crate::program::{Streams, run_program};
 use c25_disk::system::System;
 use c25_report::ending::Ended;
 
@@ -12,12 +12,10 @@ use c25_report::ending::Ended;
 pub fn run_on(rt: &HostRuntime) -> Ended
     ensures { IsProgram (λ _. None) None (effect_of result.report (None, None) (None, None)) }
 {
-    run_program(
-        rt.alloc(),
-        rt,
-        &mut System::new(rt),
-        &mut rt.stdin(),
-        &mut rt.stdout(),
-        &mut rt.stderr(),
-    )
+    let mut streams = Streams {
+        input: rt.stdin(),
+        out: rt.stdout(),
+        err: rt.stderr(),
+    };
+    run_program(rt.alloc(), rt, &mut System::new(rt), &mut streams)
 }

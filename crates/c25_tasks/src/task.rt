@@ -10,14 +10,14 @@ ghost use Rattle.c25_tasks.specs.Program.{AreNotesUnder, Does, effect_of};
 ghost use Rattle.c25_tasks.specs.Symbols.{BuildsToDisk, WritesWithSymbols};
 ghost use Rattle.c25_tasks.specs.Tells.{Writes, WritesTexts, WritesTold};
 
-use crate::assembly::asm_outputs;
+use crate::assembly::{Assembly, asm_outputs};
 use crate::building::built;
-use crate::debugging::debug_sources;
+use crate::debugging::{DebugNames, debug_sources};
 use crate::disassembly::disassemble;
 use crate::explaining::explain_number;
 use crate::linking::linked;
-use crate::report::report_of_fault;
-use crate::running::run_sources;
+use crate::report::{RunOptions, report_of_fault};
+use crate::running::{RunNames, run_sources};
 use crate::standard_input::run_standard_input;
 use crate::symbols::{BuiltWithSymbols, built_with_symbols};
 use crate::texts::{outputs_of, texts_of};
@@ -49,15 +49,15 @@ fn write_files<D: Disk>(
 }
 
 /// Writes the output files of a task, or reports its failure.
-fn write_told<D: Disk>(
+fn write_answer<D: Disk>(
     alloc: Global,
-    told: Result<Vec<Output<'_>>, Fault>,
+    answer: Result<Vec<Output<'_>>, Fault>,
     notes: Notes<'_>,
     disk: &mut D,
 ) -> Report
-    ensures { WritesTold (D.bytes_of disk.old) notes.entry told.entry result.ending (string_bytes result.note) (D.written disk.old, D.written disk.new) }
+    ensures { WritesTold (D.bytes_of disk.old) notes.entry answer.entry result.ending (string_bytes result.note) (D.written disk.old, D.written disk.new) }
 {
-    match told {
+    match answer {
         Ok(outputs) => write_files(alloc, outputs.as_slice(), notes, disk),
         Err(fault) => report_of_fault(alloc, disk, fault, notes),
     }
@@ -66,31 +66,41 @@ fn write_told<D: Disk>(
 /// Assembles a source, and writes its object, and its listing where one is asked for.
 fn assemble_to_disk<D: Disk>(
     alloc: Global,
-    source: &str,
-    object: &str,
-    listing: Option<&str>,
+    assembly: Assembly<'_>,
     notes: Notes<'_>,
     disk: &mut D,
 ) -> Report
-    ensures { Assembles (D.bytes_of disk.old) notes.entry source.now object.now (text_of listing.entry) result.ending (string_bytes result.note) (D.written disk.old, D.written disk.new) }
+    ensures { Assembles (D.bytes_of disk.old) notes.entry assembly.entry.source.now assembly.entry.object.now (text_of assembly.entry.list) result.ending (string_bytes result.note) (D.written disk.old, D.written disk.new) }
 {
-    let told = asm_outputs(alloc, disk, source, object, listing);
-    write_told(alloc, told, notes, disk)
+    let answer = asm_outputs(alloc, disk, assembly);
+    write_answer(alloc, answer, notes, disk)
 }
 
-/// Writes the files of a program, whose names begin with `base`, and after them the file of its symbols, if
-/// there is one.
+/// The files of a program that are to be written.
+#[derive(Drop)]
+struct ProgramFiles<'a> {
+    /// What the names of the files of `texts` begin with.
+    base: &'a str,
+    texts: ProgramFileTexts,
+    /// The file of the symbols, if there is one.
+    symbols: Option<Output<'a>>,
+}
+
+/// Writes the files of a program, and after them the file of its symbols, if there is one.
 #[tactic(auto, using(crate::proofs::Quiet::stays, crate::proofs::Quiet::writes_texts))]
 fn write_texts<D: Disk>(
     alloc: Global,
-    base: &str,
-    texts: ProgramFileTexts,
-    symbols: Option<Output<'_>>,
+    files: ProgramFiles<'_>,
     notes: Notes<'_>,
     disk: &mut D,
 ) -> Report
-    ensures { WritesTexts (D.bytes_of disk.old) notes.entry (and_file (files_of base.now texts) symbols.entry) result.ending (string_bytes result.note) (D.written disk.old, D.written disk.new) }
+    ensures { WritesTexts (D.bytes_of disk.old) notes.entry (and_file (files_of files.entry.base.now files.entry.texts) files.entry.symbols) result.ending (string_bytes result.note) (D.written disk.old, D.written disk.new) }
 {
+    let ProgramFiles {
+        base,
+        texts,
+        symbols,
+    } = files;
     let names = match file_names(alloc, base, texts.listings.len()) {
         Ok(names) => names,
         Err(error) => return Report::without_note(alloc, Ending::NoMemory(error)),
@@ -106,60 +116,95 @@ fn write_texts<D: Disk>(
 fn write_program<D: Disk>(
     alloc: Global,
     base: &str,
-    told: Result<Built, Fault>,
+    answer: Result<Built, Fault>,
     notes: Notes<'_>,
     disk: &mut D,
 ) -> Report
-    ensures { WritesProgram (D.bytes_of disk.old) notes.entry base.now told result.ending (string_bytes result.note) (D.written disk.old, D.written disk.new) }
+    ensures { WritesProgram (D.bytes_of disk.old) notes.entry base.now answer result.ending (string_bytes result.note) (D.written disk.old, D.written disk.new) }
 {
-    match told {
-        Ok(built) => write_texts(alloc, base, texts_of(built), None, notes, disk),
+    match answer {
+        Ok(built) => {
+            let files = ProgramFiles {
+                base,
+                texts: texts_of(built),
+                symbols: None,
+            };
+            write_texts(alloc, files, notes, disk)
+        }
         Err(fault) => report_of_fault(alloc, disk, fault, notes),
     }
+}
+
+/// The names of the files that are written of a program with its symbols.
+#[derive(Clone, Copy)]
+struct SymbolNames<'a> {
+    /// What the names of the files begin with, but for that of the symbols.
+    base: &'a str,
+    /// The name of the file of the symbols.
+    symbols: &'a str,
 }
 
 /// Writes the files of a program and the file of its symbols, or reports why there is no program.
 #[tactic(auto, using(crate::proofs::Quiet::writes_symbols))]
 fn write_with_symbols<D: Disk>(
     alloc: Global,
-    base: &str,
-    file: &str,
-    told: Result<BuiltWithSymbols, Fault>,
+    names: SymbolNames<'_>,
+    answer: Result<BuiltWithSymbols, Fault>,
     notes: Notes<'_>,
     disk: &mut D,
 ) -> Report
-    ensures { WritesWithSymbols (D.bytes_of disk.old) notes.entry base.now file.now told result.ending (string_bytes result.note) (D.written disk.old, D.written disk.new) }
+    ensures { WritesWithSymbols (D.bytes_of disk.old) notes.entry names.entry.base.now names.entry.symbols.now answer result.ending (string_bytes result.note) (D.written disk.old, D.written disk.new) }
 {
-    match told {
+    match answer {
         Ok(BuiltWithSymbols { built, symbols }) => {
             let bytes = symbols.into_bytes();
-            let symbols = Some(Output { name: file, bytes });
-            write_texts(alloc, base, texts_of(built), symbols, notes, disk)
+            let name = names.symbols;
+            let files = ProgramFiles {
+                base: names.base,
+                texts: texts_of(built),
+                symbols: Some(Output { name, bytes }),
+            };
+            write_texts(alloc, files, notes, disk)
         }
         Err(fault) => report_of_fault(alloc, disk, fault, notes),
     }
 }
 
+/// The names of the files that are read and written for a program.
+#[derive(Clone, Copy)]
+struct BuildNames<'a> {
+    sources: &'a [&'a str],
+    /// The name of the command file, where one is named.
+    command: Option<&'a str>,
+    /// What the names of the written files begin with, but for that of the symbols.
+    base: &'a str,
+    /// The name of the file of the symbols, where one is named.
+    symbols: Option<&'a str>,
+}
+
 /// Builds sources, and writes the files of their program, and the file of its symbols where one is named.
 fn build_to_disk<D: Disk>(
     alloc: Global,
-    sources: &[&str],
-    base: &str,
-    command: Option<&str>,
-    symbols: Option<&str>,
+    names: BuildNames<'_>,
     notes: Notes<'_>,
     disk: &mut D,
 ) -> Report
-    ensures { BuildsToDisk (D.bytes_of disk.old) notes.entry (texts_of sources.now) (text_of command.entry) base.now (text_of symbols.entry) result.ending (string_bytes result.note) (D.written disk.old, D.written disk.new) }
+    ensures { BuildsToDisk (D.bytes_of disk.old) notes.entry (texts_of names.entry.sources.now) (text_of names.entry.command) names.entry.base.now (text_of names.entry.symbols) result.ending (string_bytes result.note) (D.written disk.old, D.written disk.new) }
 {
+    let BuildNames {
+        sources,
+        command,
+        base,
+        symbols,
+    } = names;
     match symbols {
         None => {
-            let told = built(alloc, disk, sources, command);
-            write_program(alloc, base, told, notes, disk)
+            let answer = built(alloc, disk, sources, command);
+            write_program(alloc, base, answer, notes, disk)
         }
-        Some(file) => {
-            let told = built_with_symbols(alloc, disk, sources, command);
-            write_with_symbols(alloc, base, file, told, notes, disk)
+        Some(symbols) => {
+            let answer = built_with_symbols(alloc, disk, sources, command);
+            write_with_symbols(alloc, SymbolNames { base, symbols }, answer, notes, disk)
         }
     }
 }
@@ -203,7 +248,12 @@ pub(crate) fn do_task<D: Disk, R: Read, O: Write>(
         } => {
             let sources = [*source];
             let notes = notes_under(*explain, None, &sources, &[]);
-            assemble_to_disk(alloc, source, object, *listing, notes, disk)
+            let assembly = Assembly {
+                source,
+                object,
+                list: *listing,
+            };
+            assemble_to_disk(alloc, assembly, notes, disk)
         }
         Task::Link {
             command,
@@ -211,9 +261,9 @@ pub(crate) fn do_task<D: Disk, R: Read, O: Write>(
             base,
             explain,
         } => {
-            let told = linked(alloc, disk, command, objects);
+            let answer = linked(alloc, disk, command, objects);
             let notes = notes_under(*explain, Some(*command), &[], objects);
-            write_program(alloc, base, told, notes, disk)
+            write_program(alloc, base, answer, notes, disk)
         }
         Task::Build {
             sources,
@@ -223,7 +273,13 @@ pub(crate) fn do_task<D: Disk, R: Read, O: Write>(
             explain,
         } => {
             let notes = notes_under(*explain, *command, sources, &[]);
-            build_to_disk(alloc, sources, base, *command, *symbols, notes, disk)
+            let names = BuildNames {
+                sources,
+                command: *command,
+                base,
+                symbols: *symbols,
+            };
+            build_to_disk(alloc, names, notes, disk)
         }
         Task::Run {
             sources,
@@ -233,7 +289,16 @@ pub(crate) fn do_task<D: Disk, R: Read, O: Write>(
             explain,
         } => {
             let notes = notes_for(*explain, *files, None, sources, &[]);
-            run_sources(alloc, sources, *steps, *regs, *files, notes, disk, out)
+            let named = RunNames {
+                sources,
+                files: *files,
+            };
+            let options = RunOptions {
+                steps: *steps,
+                regs: *regs,
+                notes,
+            };
+            run_sources(alloc, named, options, disk, out)
         }
         Task::Debug {
             sources,
@@ -242,7 +307,12 @@ pub(crate) fn do_task<D: Disk, R: Read, O: Write>(
             explain,
         } => {
             let notes = notes_for(*explain, *files, Some(*script), sources, &[]);
-            debug_sources(alloc, sources, script, *files, notes, disk, out)
+            let named = DebugNames {
+                sources,
+                script,
+                files: *files,
+            };
+            debug_sources(alloc, named, notes, disk, out)
         }
         Task::Explain { number } => {
             let ending = explain_number(alloc, *number, out);

@@ -2,7 +2,7 @@
 
 use crate::memory_reader::Reading;
 use crate::world::World;
-use c25_tasks::run_words;
+use c25_tasks::{Streams, run_words};
 use std::alloc::{AllocError, Global};
 use std::io;
 use std::process::ExitCode;
@@ -96,17 +96,20 @@ pub(crate) fn call(
     rt: &HostRuntime,
     line: &str,
     world: &mut World<'_>,
-    input: &mut Reading<'_>,
+    input: Reading<'_>,
     wanted: Wanted<'_>,
 ) -> io::Result<()> {
     let words = words_of(rt.alloc(), line)?;
-    let mut output = Vec::<u8>::new(rt.alloc());
-    let mut errors = Vec::<u8>::new(rt.alloc());
-    let status = run_words(rt.alloc(), &words, world, input, &mut output, &mut errors).status();
+    let mut streams = Streams {
+        input,
+        out: Vec::<u8>::new(rt.alloc()),
+        err: Vec::<u8>::new(rt.alloc()),
+    };
+    let status = run_words(rt.alloc(), &words, world, &mut streams).status();
     let called = Called {
         status,
-        output: &output,
-        errors: &errors,
+        output: &streams.out,
+        errors: &streams.err,
         written: &world.written,
     };
     compare(rt, line, &called, wanted)

@@ -17,12 +17,12 @@ fn refuse_behind(
     wanted: Wanted<'_>,
 ) -> io::Result<()> {
     let mut world = World::with_refusal(rt.alloc(), FILES, before);
-    let mut input = Reading {
+    let input = Reading {
         rest: b"",
         most: 1,
         end: End::Fails,
     };
-    call(rt, line, &mut world, &mut input, wanted)
+    call(rt, line, &mut world, input, wanted)
 }
 
 /// Checks a call of which the write after the first `before` is refused.

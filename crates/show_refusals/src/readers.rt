@@ -38,8 +38,8 @@ fn is_told(
 ) -> io::Result<()> {
     let errors = format!(in rt.alloc(); "{told}: 8 CannotRead\n")?;
     let mut world = World::with_reading(rt.alloc(), FILES, name, reading);
-    let mut input = if name == "stdin" { reading } else { CLOSED };
-    call(rt, line, &mut world, &mut input, refuses(errors.as_str()))
+    let input = if name == "stdin" { reading } else { CLOSED };
+    call(rt, line, &mut world, input, refuses(errors.as_str()))
 }
 
 /// The bytes of a file, or those of standard input.
@@ -114,12 +114,12 @@ fn tell_the_first(rt: &HostRuntime) -> io::Result<()> {
 /// Checks a call whose files and standard input are read one byte at a time.
 fn read_slowly(rt: &HostRuntime, line: &str, wanted: Wanted<'_>) -> io::Result<()> {
     let mut world = World::new(rt.alloc(), FILES);
-    let mut input = Reading {
+    let input = Reading {
         rest: INPUT,
         most: 1,
         end: End::Ends,
     };
-    call(rt, line, &mut world, &mut input, wanted)?;
+    call(rt, line, &mut world, input, wanted)?;
     println!(rt; "{line}: a byte a read")
 }
 

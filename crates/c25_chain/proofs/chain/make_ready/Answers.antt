@@ -5,5 +5,5 @@ use Rattle.c25_chain.proofs.chain.make_ready.Goals as goal
 
 pub returns-in-Err : goal.returns-in-Err
 returns-in-Err c =
-    let g = given_of c.args.files.now (map string_bytes c.args.sources.now) c.args.command.now c.args.samples.now c.args.schedule.now in
+    let g = given_of c.args.files.now (map string_bytes c.args.sources.now) c.args.texts.command.now c.args.texts.samples.now c.args.texts.schedule.now in
     inputs_refused g c.in_ok-built.built c.in-Err.refusal c.in_ok-built.ensures c.in-Err.ensures

@@ -12,8 +12,8 @@ returns g c =
     let begins =
     ap (λ b. point_of b session.breakpoints) c.new-session.ensures.board ∙ ap (λ (bs : List ℕ). point_of board bs) c.new-session.ensures.breakpoints
     in
-    IfOk-weaker c.tell_both.result _ _
+    IfOk-weaker c.both_answers.result _ _
     (λ text told.
     tells_where (signals session.board) (entries board) c.args.image.now session.image.now (point_of session.board session.breakpoints) (string_bytes text) (steps board) (state board)
     begins c.new-session.ensures.image told)
-    c.tell_both.ensures
+    c.both_answers.ensures

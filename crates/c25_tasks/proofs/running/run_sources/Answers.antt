@@ -8,10 +8,10 @@ use Rattle.c25_tasks.proofs.running.run_sources.Goals as goal
 pub returns : goal.returns
 returns g c =
     let held = g.D.Disk.bytes_of c.args.disk.now in
-    let names = texts_of c.args.sources.now in
-    let beside = c.args.beside in
-    let told = c.answer-told.result in
-    let tells = c.report_run.ensures (of_files held names beside told c.answer-told.ensures) in (
-      (told, c.answer-told.ensures, tells),
-      answered held c.args.notes (IsGivenFrom held names beside) c.args.steps c.args.regs told c.report_run.result.ending (string_bytes c.report_run.result.note) _ (given_from held names beside told c.answer-told.ensures) tells,
+    let names = texts_of c.args.named.sources.now in
+    let files = c.args.named.files in
+    let ready = c.answer-ready.result in
+    let tells = c.report_run.ensures (of_files held names files ready c.answer-ready.ensures) in (
+      (ready, c.answer-ready.ensures, tells),
+      answered held c.args.options.notes (IsGivenFrom held names files) c.args.options.steps c.args.options.regs ready c.report_run.result.ending (string_bytes c.report_run.result.note) _ (given_from held names files ready c.answer-ready.ensures) tells,
     )

@@ -9,8 +9,8 @@ pub returns : goal.returns
 returns g c =
     let held = g.D.Disk.bytes_of c.args.disk.now in
     let input = g.R.Read.remaining c.args.input.now in
-    let told = c.answer-told.result in
-    let tells = c.report_run.ensures (of_input held input told c.answer-told.ensures) in (
-      (told, c.answer-told.ensures, tells),
-      answered held Nothing (IsGivenInput held input) 1000 false told c.report_run.result.ending (string_bytes c.report_run.result.note) _ (given_input held input told c.answer-told.ensures) tells,
+    let ready = c.answer-ready.result in
+    let tells = c.report_run.ensures (of_input held input ready c.answer-ready.ensures) in (
+      (ready, c.answer-ready.ensures, tells),
+      answered held Nothing (IsGivenInput held input) 1000 false ready c.report_run.result.ending (string_bytes c.report_run.result.note) _ (given_input held input ready c.answer-ready.ensures) tells,
     )

@@ -10,7 +10,7 @@ returns-in-Assemble g c =
 
 pub returns-in-Link : goal.returns-in-Link
 returns-in-Link g c =
-    does_link (g.D.Disk.bytes_of c.args.disk.now) _ c.args.task.now c.in-Link.command c.in-Link.objects c.in-Link.base c.in-Link.explain c.notes_under-notes-in-Link.result c.deref-in-Link.result.now c.deref.result.now c.linked-told.result _ c.in-Link.is c.deref-in-Link.ensures.value c.notes_under-notes-in-Link.ensures c.deref.ensures.value c.linked-told.ensures c.write_program.ensures (keeps _)
+    does_link (g.D.Disk.bytes_of c.args.disk.now) _ c.args.task.now c.in-Link.command c.in-Link.objects c.in-Link.base c.in-Link.explain c.notes_under-notes-in-Link.result c.deref-in-Link.result.now c.deref.result.now c.linked-answer.result _ c.in-Link.is c.deref-in-Link.ensures.value c.notes_under-notes-in-Link.ensures c.deref.ensures.value c.linked-answer.ensures c.write_program.ensures (keeps _)
 
 pub returns-in-Build : goal.returns-in-Build
 returns-in-Build g c =

@@ -2,7 +2,7 @@ use Rattle.std.proofs.Common.{ap, rules, string_bytes}
 use Rattle.c25_board.specs.Board.{signals}
 use Rattle.c25_debug.specs.Told.{point_of}
 use Rattle.c25_chain.proofs.Standing.{tells_both}
-use Rattle.c25_chain.proofs.inspection.tell_both.Goals as goal
+use Rattle.c25_chain.proofs.inspection.both_answers.Goals as goal
 
 pub returns : goal.returns
 returns g c =
