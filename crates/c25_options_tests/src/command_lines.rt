@@ -3,7 +3,7 @@
 
 use c25_options::fault::is_want_of_memory;
 use c25_options::read::read_words;
-use c25_options::task::{RunFiles, Task};
+use c25_options::task::{FaultOptions, RunFiles, Task};
 use std::alloc::{AllocError, Global};
 use std::fmt;
 use std::fmt::{Display, Formatter, Write};
@@ -60,6 +60,18 @@ impl Display for Value<'_> {
     }
 }
 
+/// What is reported of faults, shown where it was asked for.
+#[derive(Clone, Copy)]
+struct Faults<'a>(&'a FaultOptions);
+
+impl Display for Faults<'_> {
+    fn fmt<W: Write>(&self, f: &mut Formatter<W>) -> fmt::Result {
+        let explain = Flag("explain", self.0.explain);
+        let all = Flag("all", self.0.all);
+        write!(f, "{explain}{all}")
+    }
+}
+
 /// The files of a run, shown where they were given.
 #[derive(Clone, Copy)]
 struct Files<'a>(&'a RunFiles<'a>);
@@ -80,11 +92,11 @@ fn show(alloc: Global, task: &Task<'_>) -> Result<String, AllocError> {
             source,
             object,
             listing,
-            explain,
+            faults,
         } => {
             let listing = Value("listing", *listing);
-            let explain = Flag("explain", *explain);
-            format!(in alloc; "asm {source} object={object}{listing}{explain}")
+            let faults = Faults(faults);
+            format!(in alloc; "asm {source} object={object}{listing}{faults}")
         }
         Task::Link {
             command,
@@ -100,33 +112,33 @@ fn show(alloc: Global, task: &Task<'_>) -> Result<String, AllocError> {
             base,
             command,
             symbols,
-            explain,
+            faults,
         } => {
-            let (sources, explain) = (Operands(sources), Flag("explain", *explain));
+            let (sources, faults) = (Operands(sources), Faults(faults));
             let command = Value("command", *command);
             let symbols = Value("symbols", *symbols);
-            format!(in alloc; "build{sources} base={base}{command}{symbols}{explain}")
+            format!(in alloc; "build{sources} base={base}{command}{symbols}{faults}")
         }
         Task::Run {
             sources,
             steps,
             files,
             regs,
-            explain,
+            faults,
         } => {
             let (sources, files) = (Operands(sources), Files(files));
-            let (regs, explain) = (Flag("regs", *regs), Flag("explain", *explain));
-            format!(in alloc; "run{sources} steps={steps}{files}{regs}{explain}")
+            let (regs, faults) = (Flag("regs", *regs), Faults(faults));
+            format!(in alloc; "run{sources} steps={steps}{files}{regs}{faults}")
         }
         Task::Debug {
             sources,
             script,
             files,
-            explain,
+            faults,
         } => {
             let (sources, files) = (Operands(sources), Files(files));
-            let explain = Flag("explain", *explain);
-            format!(in alloc; "debug{sources} script={script}{files}{explain}")
+            let faults = Faults(faults);
+            format!(in alloc; "debug{sources} script={script}{files}{faults}")
         }
         Task::Explain { number } => format!(in alloc; "explain {number}"),
         Task::Disassemble { file, from } => {
@@ -203,7 +215,8 @@ fn flags_and_values_are_told_apart(rt: HostRuntime) -> Result<(), Fail> {
     are_answered(&rt, REGS)?;
     are_answered(&rt, SYMBOLS)?;
     are_answered(&rt, FROM)?;
-    are_answered(&rt, EXPLAIN)
+    are_answered(&rt, EXPLAIN)?;
+    are_answered(&rt, ALL)
 }
 
 #[test]
@@ -255,6 +268,19 @@ run a steps=1000 command= | run a --command=
 run a steps=1000 samples==s | run a --samples==s
 link - : - base=- | link - - --out -
 debug a script=-- | debug a --script=--
+";
+
+const ALL: &str = "\
+asm a object=o all | asm a --obj o --all
+asm a object=o explain all | asm --all a --explain --obj o
+build a b base=b all | build a --all b --out b
+run a steps=1000 all | run a --all
+run --all steps=1000 | run -- --all
+debug a script=d explain all | debug a --explain --script d --all
+refused | link c a --out b --all
+refused | run a --all --all
+refused | run a --all=true
+refused | explain 53 --all
 ";
 
 const STEPS: &str = "\
