@@ -1,5 +1,5 @@
 -- The note of a fault after its line.
-use Rattle.std.specs.Prelude.{◌≡◌, ◌⊎◌, ℕ, ◌+◌, ◌==◌, Bool, true, false, List, [], take, count_by, Option, Some, None, String, option_map}
+use Rattle.std.specs.Prelude.{◌≡◌, ◌⊎◌, ℕ, ◌+◌, ◌==◌, Bool, true, false, List, [], ◌++◌, take, count_by, Option, Some, None, String, option_map}
 use Rattle.std.specs.Borrow.{Bor}
 use Rattle.std.specs.Str.{IsUtf8, IsValidUpTo}
 use Rattle.std.specs.String.{string_bytes}
@@ -9,25 +9,28 @@ use Rattle.c25_chain.specs.declared.fault.ChainFault.TheVariants.{Source, NoFile
 use Rattle.c25_disk.specs.Held.{Held, IsAllOf}
 use Rattle.c25_disk.specs.declared.fault.FileFault.{FileFault}
 use Rattle.c25_disk.specs.declared.fault.FileFault.TheVariants.{CannotWrite, CannotRead, FileTwice}
+use Rattle.c25_chain.specs.Refusal.{refusal_of}
+use Rattle.c25_explain.specs.AllFaults.{ShowsOthers}
 use Rattle.c25_explain.specs.Note.{IsNoteOf, line_of}
 use Rattle.c25_explain.specs.declared.fault.AnyFault.{AnyFault}
+use Rattle.c25_explain.specs.declared.named.NamedFiles.{NamedFiles}
 use Rattle.c25_explain.specs.declared.note.Shown.{Shown}
 use Rattle.c25_explain.specs.declared.note.Shown.TheVariants as shown
 use Rattle.c25_explain.specs.declared.note.Unread.{Unread}
 use Rattle.c25_explain.specs.declared.note.Unread.TheVariants.{NotOpened, NotRead, NotUtf8}
 use Rattle.c25_explain.specs.Refusals.{of_refusal}
 use Rattle.c25_options.specs.Task.{text_of, texts_of}
+use Rattle.c25_options.specs.declared.task.FaultOptions.{FaultOptions}
 use Rattle.c25_options.specs.declared.task.RunFiles.{RunFiles}
 use Rattle.c25_explain.specs.LinkNotes.{IsBehind}
 use Rattle.c25_explain.specs.declared.notes.Notes.{Notes}
-use Rattle.c25_explain.specs.declared.notes.Notes.TheVariants.{Nothing, Explanations}
+use Rattle.c25_explain.specs.declared.notes.Notes.TheVariants.{Nothing, After}
 
--- explanations, where they are asked for
-abbrev pub AreNotesFor : Bool → RunFiles → Option (Bor (List ℕ)) → (sources objects : List (List ℕ)) → Notes → Type 0
-AreNotesFor true files script sources objects (Explanations named) =
-    (named.files ≡ files) × (named.script ≡ script) × (texts_of named.sources.now ≡ sources) × (texts_of named.objects.now ≡ objects)
-AreNotesFor true files script sources objects Nothing = ⊥
-AreNotesFor false files script sources objects notes = notes ≡ Nothing
+-- the notes that options ask for, of these files
+abbrev pub AreNotesFor : FaultOptions → RunFiles → Option (Bor (List ℕ)) → (sources objects : List (List ℕ)) → Notes → Type 0
+AreNotesFor options files script sources objects (After asked named) =
+    (asked ≡ options) × (named.files ≡ files) × (named.script ≡ script) × (texts_of named.sources.now ≡ sources) × (texts_of named.objects.now ≡ objects)
+AreNotesFor options files script sources objects Nothing = ⊥
 
 -- ---- the line that is shown
 
@@ -121,8 +124,28 @@ abbrev pub IsExplained : Held → (place : Option (List ℕ × ℕ)) → (comman
 IsExplained held place command sources objects refusal note =
     (behind : List ℕ) × IsBehind held command sources objects refusal behind × IsExplainedBy held place (unread_name refusal) behind (of_refusal refusal) note
 
--- the note of a fault: its explanation where that is asked for, unless memory runs out
+-- the explanation of a fault where it is asked for, unless memory runs out
+abbrev pub IsExplanation : Held → (explain : Bool) → NamedFiles → ChainFault (String Global) → List ℕ → Type 0
+IsExplanation held true named refusal text =
+    IsExplained held (place_of named.files named.script refusal) (text_of named.files.command) (texts_of named.sources.now) (texts_of named.objects.now) refusal text ⊎ (text ≡ [])
+IsExplanation held false named refusal text = text ≡ []
+
+-- the lines of all other faults of the sources where they are asked for and the fault is of a source
+abbrev pub AreOthers : Held → (all : Bool) → NamedFiles → ChainFault (String Global) → List ℕ → Type 0
+AreOthers held true named (Source placed) text = ShowsOthers held (texts_of named.sources.now) (refusal_of (Source placed)) text
+AreOthers held true named (NoFile file line name) text = ShowsOthers held (texts_of named.sources.now) (refusal_of (NoFile file line name)) text
+AreOthers held true named (Object placed) text = text ≡ []
+AreOthers held true named (Command placed) text = text ≡ []
+AreOthers held true named (Link placed) text = text ≡ []
+AreOthers held true named (Hex placed) text = text ≡ []
+AreOthers held true named (Schedule line) text = text ≡ []
+AreOthers held true named (Samples line) text = text ≡ []
+AreOthers held true named (Script line) text = text ≡ []
+AreOthers held true named (File placed) text = text ≡ []
+AreOthers held false named refusal text = text ≡ []
+
+-- the note of a fault: its explanation, then the lines of all other faults; or nothing, where memory runs out
 abbrev pub IsNoted : Held → Notes → ChainFault (String Global) → List ℕ → Type 0
 IsNoted held Nothing refusal note = note ≡ []
-IsNoted held (Explanations named) refusal note =
-    IsExplained held (place_of named.files named.script refusal) (text_of named.files.command) (texts_of named.sources.now) (texts_of named.objects.now) refusal note ⊎ (note ≡ [])
+IsNoted held (After options named) refusal note =
+    ((explanation others : List ℕ) × IsExplanation held options.explain named refusal explanation × AreOthers held options.all named refusal others × (note ≡ explanation ++ others)) ⊎ (note ≡ [])

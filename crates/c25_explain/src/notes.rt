@@ -1,11 +1,12 @@
-//! The notes that `--explain` asks for, after the line of a fault.
+//! The notes that `--explain` and `--all` ask for, after the line of a fault.
 
 ghost use Rattle.std.specs.Option.{option_map};
-ghost use Rattle.std.specs.Prelude.{◌≡◌, IfOk, string_bytes};
+ghost use Rattle.std.specs.Prelude.{◌≡◌, ◌⊎◌, ◌++◌, [], IfOk, string_bytes};
 ghost use Rattle.c25_options.specs.Task.{text_of, texts_of};
 ghost use Rattle.c25_explain.specs.LinkNotes.{IsBehind};
-ghost use Rattle.c25_explain.specs.Notes.{AreNotesFor, IsExplained, IsExplainedAt, IsExplainedUnread, IsLineOf, IsLineOfNoText, IsNoted, IsWhy, at_line, place_of, unread_name};
+ghost use Rattle.c25_explain.specs.Notes.{AreNotesFor, AreOthers, IsExplained, IsExplainedAt, IsExplainedUnread, IsExplanation, IsLineOf, IsLineOfNoText, IsNoted, IsWhy, at_line, place_of, unread_name};
 
+use crate::all_faults::others_text;
 use crate::fault::AnyFault;
 use crate::link_notes::{link_text, standing_text};
 use crate::named::NamedFiles;
@@ -19,40 +20,38 @@ use c25_disk::{read_binary, read_file};
 use c25_meaning_common::failure::Failure;
 use c25_meaning_common::no_memory::NoMemory;
 use c25_meaning_common::placed::FileLine;
-use c25_options::task::RunFiles;
+use c25_options::task::{FaultOptions, RunFiles};
 use std::alloc::Global;
 
 /// Which notes are reported after the line of a fault.
 #[derive(Clone, Copy)]
 pub enum Notes<'a> {
     Nothing,
-    /// The explanation of the fault, after the line of the file where it is and the lines that led there. A
-    /// fault of a command file, samples, a schedule or a script has the number of its line only, so their
-    /// names are given here. The sources are expanded again to find where a line was called or copied, and
+    /// What the options ask for: the explanation of the fault, after the line of the file where it is and the
+    /// lines that led there, and the lines of all other faults of the sources. A fault of a command file,
+    /// samples, a schedule or a script has the number of its line only, so their names are given here. The
+    /// sources are expanded again to find where a line was called or copied and to find the other faults, and
     /// the sources or objects are linked again to find a field.
-    Explanations(NamedFiles<'a>),
+    After(FaultOptions, NamedFiles<'a>),
 }
 
-/// Explanations, where `explain` asks for them.
+/// The notes that options ask for.
 pub fn notes_for<'a>(
-    explain: bool,
+    options: FaultOptions,
     files: RunFiles<'a>,
     script: Option<&'a str>,
     sources: &'a [&'a str],
     objects: &'a [&'a str],
 ) -> Notes<'a>
-    ensures { AreNotesFor explain files.entry script.entry (texts_of sources.entry.now) (texts_of objects.entry.now) result }
+    ensures { AreNotesFor options files.entry script.entry (texts_of sources.entry.now) (texts_of objects.entry.now) result }
 {
-    if explain {
-        Notes::Explanations(NamedFiles {
-            files,
-            script,
-            sources,
-            objects,
-        })
-    } else {
-        Notes::Nothing
-    }
+    let named = NamedFiles {
+        files,
+        script,
+        sources,
+        objects,
+    };
+    Notes::After(options, named)
 }
 
 /// The line of this number of the named file; `None` where no file is named.
@@ -220,6 +219,64 @@ fn explanation_of<D: Disk>(
     }
 }
 
+/// The explanation of a fault, where it is asked for; empty where memory runs out.
+fn explanation_text<D: Disk>(
+    alloc: Global,
+    disk: &D,
+    explain: bool,
+    named: NamedFiles<'_>,
+    refusal: &ChainFault<String>,
+) -> String
+    ensures { IsExplanation (D.bytes_of disk.now) explain named.entry refusal.now (string_bytes result) }
+{
+    if !explain {
+        return String::new(alloc);
+    }
+    match explanation_of(alloc, disk, refusal, named) {
+        Ok(text) => text,
+        Err(_) => String::new(alloc),
+    }
+}
+
+/// The lines of all other faults of the sources, where they are asked for and the fault is of a source.
+fn other_faults<D: Disk>(
+    alloc: Global,
+    disk: &D,
+    all: bool,
+    named: NamedFiles<'_>,
+    refusal: &ChainFault<String>,
+) -> String
+    ensures { AreOthers (D.bytes_of disk.now) all named.entry refusal.now (string_bytes result) }
+{
+    if !all {
+        return String::new(alloc);
+    }
+    match refusal {
+        ChainFault::Source(_) | ChainFault::NoFile { .. } => {
+            others_text(alloc, disk, named.sources, refusal)
+        }
+        ChainFault::Command(_)
+        | ChainFault::Link(_)
+        | ChainFault::Object(_)
+        | ChainFault::Hex(_)
+        | ChainFault::Schedule { .. }
+        | ChainFault::Samples { .. }
+        | ChainFault::Script { .. }
+        | ChainFault::File(_) => String::new(alloc),
+    }
+}
+
+/// A text with another one after it; empty where memory runs out.
+fn joined(alloc: Global, first: String, second: &str) -> String
+    ensures { (string_bytes result ≡ string_bytes first.entry ++ second.now) ⊎ (string_bytes result ≡ []) }
+{
+    let mut text = first;
+    match text.push_str(second) {
+        Ok(()) => text,
+        Err(_) => String::new(alloc),
+    }
+}
+
 /// The note of a fault; empty where none is asked for, or memory runs out.
 pub fn note_of<D: Disk>(
     alloc: Global,
@@ -229,11 +286,10 @@ pub fn note_of<D: Disk>(
 ) -> String
     ensures { IsNoted (D.bytes_of disk.now) notes.entry refusal.now (string_bytes result) }
 {
-    let Notes::Explanations(named) = notes else {
+    let Notes::After(options, named) = notes else {
         return String::new(alloc);
     };
-    match explanation_of(alloc, disk, refusal, named) {
-        Ok(note) => note,
-        Err(_) => String::new(alloc),
-    }
+    let explanation = explanation_text(alloc, disk, options.explain, named, refusal);
+    let others = other_faults(alloc, disk, options.all, named, refusal);
+    joined(alloc, explanation, others.as_str())
 }

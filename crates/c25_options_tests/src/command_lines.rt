@@ -60,6 +60,18 @@ impl Display for Value<'_> {
     }
 }
 
+/// What is reported of faults, shown where it was asked for.
+#[derive(Clone, Copy)]
+struct Faults<'a>(&'a FaultOptions);
+
+impl Display for Faults<'_> {
+    fn fmt<W: Write>(&self, f: &mut Formatter<W>) -> fmt::Result {
+        let explain = Flag("explain", self.0.explain);
+        let all = Flag("all", self.0.all);
+        write!(f, "{explain}{all}")
+    }
+}
+
 /// The files of a run, shown where they were given.
 #[derive(Clone, Copy)]
 struct Files<'a>(&'a RunFiles<'a>);
@@ -268,6 +280,19 @@ run a steps=1000 command= | run a --command=
 run a steps=1000 samples==s | run a --samples==s
 link - : - base=- | link - - --out -
 debug a script=-- | debug a --script=--
+";
+
+const ALL: &str = "\
+asm a object=o all | asm a --obj o --all
+asm a object=o explain all | asm --all a --explain --obj o
+build a b base=b all | build a --all b --out b
+run a steps=1000 all | run a --all
+run --all steps=1000 | run -- --all
+debug a script=d explain all | debug a --explain --script d --all
+refused | link c a --out b --all
+refused | run a --all --all
+refused | run a --all=true
+refused | explain 53 --all
 ";
 
 const STEPS: &str = "\

@@ -1,5 +1,5 @@
 -- What is done for a task, and the endings of failures.
-use Rattle.std.proofs.Common.{◌≡◌, ◌∙◌, ap, inl, refl, sym, subst, ℕ, Bool, List, [], ◌∷◌, Bor, Option, string_bytes}
+use Rattle.std.proofs.Common.{◌≡◌, ◌∙◌, ap, inl, refl, sym, subst, ℕ, Bool, false, List, [], ◌∷◌, Bor, Option, string_bytes}
 use Rattle.std.specs.Io.KnownBytes.{Keeps}
 use Rattle.std.specs.Prelude.{Some, None, Result, String, Vec}
 use Rattle.std.specs.declared.alloc.Global.{Global}
@@ -13,6 +13,7 @@ use Rattle.c25_report.specs.declared.ending.Ending.{Ending}
 use Rattle.c25_report.specs.declared.ending.Ending.TheVariants as ending
 use Rattle.c25_report.specs.declared.ending.Report.{Report}
 use Rattle.c25_options.specs.Task.{text_of, texts_of}
+use Rattle.c25_options.specs.declared.task.FaultOptions.{FaultOptions}
 use Rattle.c25_options.specs.declared.task.RunFiles.{RunFiles}
 use Rattle.c25_options.specs.declared.task.Task.{Task}
 use Rattle.c25_options.specs.declared.task.Task.TheVariants.{Assemble, Link, Build, Run, Debug}
@@ -48,35 +49,35 @@ reported held input task ending report out written same none does =
 pub does : (held : Held) (input : Option (List ℕ)) (task given : Task) (e : Effect) → task ≡ given → Does held input given e → Does held input task e
 does held input task given e is done = subst (λ (t : Task). Does held input t e) (sym is) done
 
-pub does_assemble : (held : Held) (input : Option (List ℕ)) (task : Task) (source object : Bor (List ℕ)) (listing : Option (Bor (List ℕ))) (explain : Bool) (notes : Notes) (e : Effect)
-    → task ≡ Assemble source object listing explain → AreNotesUnder explain None (source.now ∷ []) [] notes → Assembles held notes source.now object.now (text_of listing) e.ending e.note e.written → Keeps e.out.0 e.out.1 → Does held input task e
-does_assemble held input task source object listing explain notes e is asked writes keeps =
+pub does_assemble : (held : Held) (input : Option (List ℕ)) (task : Task) (source object : Bor (List ℕ)) (listing : Option (Bor (List ℕ))) (faults : FaultOptions) (notes : Notes) (e : Effect)
+    → task ≡ Assemble source object listing faults → AreNotesUnder faults None (source.now ∷ []) [] notes → Assembles held notes source.now object.now (text_of listing) e.ending e.note e.written → Keeps e.out.0 e.out.1 → Does held input task e
+does_assemble held input task source object listing faults notes e is asked writes keeps =
     subst (λ (t : Task). Does held input t e) (sym is) ((notes, asked, writes), keeps)
 
 pub does_link : (held : Held) (input : Option (List ℕ)) (task : Task) (command : Bor (List ℕ)) (objects : Vec (Bor (List ℕ)) Global) (base : Bor (List ℕ)) (explain : Bool) (notes : Notes) (noted names : List (Bor (List ℕ))) (told : Result Built Fault) (e : Effect)
-    → task ≡ Link command objects base explain → noted ≡ objects.items → AreNotesUnder explain (Some command) [] (texts_of noted) notes → names ≡ objects.items → LinksFrom held command.now (texts_of names) told → WritesProgram held notes base.now told e.ending e.note e.written → Keeps e.out.0 e.out.1 → Does held input task e
+    → task ≡ Link command objects base explain → noted ≡ objects.items → AreNotesUnder (record { explain = explain; all = false }) (Some command) [] (texts_of noted) notes → names ≡ objects.items → LinksFrom held command.now (texts_of names) told → WritesProgram held notes base.now told e.ending e.note e.written → Keeps e.out.0 e.out.1 → Does held input task e
 does_link held input task command objects base explain notes noted names told e is of asked same comes writes keeps =
     let of_objects = subst (λ (ns : List (Bor (List ℕ))). LinksFrom held command.now (texts_of ns) told) same comes in
-    let of_noted = subst (λ (ns : List (Bor (List ℕ))). AreNotesUnder explain (Some command) [] (texts_of ns) notes) of asked in
+    let of_noted = subst (λ (ns : List (Bor (List ℕ))). AreNotesUnder (record { explain = explain; all = false }) (Some command) [] (texts_of ns) notes) of asked in
     subst (λ (t : Task). Does held input t e) (sym is) ((notes, of_noted, (told, of_objects, writes)), keeps)
 
-pub does_build : (held : Held) (input : Option (List ℕ)) (task : Task) (sources : Vec (Bor (List ℕ)) Global) (base : Bor (List ℕ)) (command symbols : Option (Bor (List ℕ))) (explain : Bool) (notes : Notes) (noted names : List (Bor (List ℕ))) (e : Effect)
-    → task ≡ Build sources base command symbols explain → noted ≡ sources.items → AreNotesUnder explain command (texts_of noted) [] notes → names ≡ sources.items → BuildsToDisk held notes (texts_of names) (text_of command) base.now (text_of symbols) e.ending e.note e.written → Keeps e.out.0 e.out.1 → Does held input task e
-does_build held input task sources base command symbols explain notes noted names e is of asked same told keeps =
+pub does_build : (held : Held) (input : Option (List ℕ)) (task : Task) (sources : Vec (Bor (List ℕ)) Global) (base : Bor (List ℕ)) (command symbols : Option (Bor (List ℕ))) (faults : FaultOptions) (notes : Notes) (noted names : List (Bor (List ℕ))) (e : Effect)
+    → task ≡ Build sources base command symbols faults → noted ≡ sources.items → AreNotesUnder faults command (texts_of noted) [] notes → names ≡ sources.items → BuildsToDisk held notes (texts_of names) (text_of command) base.now (text_of symbols) e.ending e.note e.written → Keeps e.out.0 e.out.1 → Does held input task e
+does_build held input task sources base command symbols faults notes noted names e is of asked same told keeps =
     let of_sources = subst (λ (ns : List (Bor (List ℕ))). BuildsToDisk held notes (texts_of ns) (text_of command) base.now (text_of symbols) e.ending e.note e.written) same told in
-    let of_noted = subst (λ (ns : List (Bor (List ℕ))). AreNotesUnder explain command (texts_of ns) [] notes) of asked in
+    let of_noted = subst (λ (ns : List (Bor (List ℕ))). AreNotesUnder faults command (texts_of ns) [] notes) of asked in
     subst (λ (t : Task). Does held input t e) (sym is) ((notes, of_noted, of_sources), keeps)
 
-pub does_run : (held : Held) (input : Option (List ℕ)) (task : Task) (sources : Vec (Bor (List ℕ)) Global) (steps : ℕ) (files : RunFiles) (regs explain : Bool) (notes : Notes) (noted names : List (Bor (List ℕ))) (e : Effect)
-    → task ≡ Run sources steps files regs explain → noted ≡ sources.items → AreNotesFor explain files None (texts_of noted) [] notes → names ≡ sources.items → RunsTold held notes (texts_of names) steps regs files e.ending e.note e.out → Stay e.written.0 e.written.1 → Does held input task e
-does_run held input task sources steps files regs explain notes noted names e is of asked same told stay =
+pub does_run : (held : Held) (input : Option (List ℕ)) (task : Task) (sources : Vec (Bor (List ℕ)) Global) (steps : ℕ) (files : RunFiles) (regs : Bool) (faults : FaultOptions) (notes : Notes) (noted names : List (Bor (List ℕ))) (e : Effect)
+    → task ≡ Run sources steps files regs faults → noted ≡ sources.items → AreNotesFor faults files None (texts_of noted) [] notes → names ≡ sources.items → RunsTold held notes (texts_of names) steps regs files e.ending e.note e.out → Stay e.written.0 e.written.1 → Does held input task e
+does_run held input task sources steps files regs faults notes noted names e is of asked same told stay =
     let of_sources = subst (λ (ns : List (Bor (List ℕ))). RunsTold held notes (texts_of ns) steps regs files e.ending e.note e.out) same told in
-    let of_noted = subst (λ (ns : List (Bor (List ℕ))). AreNotesFor explain files None (texts_of ns) [] notes) of asked in
+    let of_noted = subst (λ (ns : List (Bor (List ℕ))). AreNotesFor faults files None (texts_of ns) [] notes) of asked in
     subst (λ (t : Task). Does held input t e) (sym is) ((notes, of_noted, of_sources), stay)
 
-pub does_debug : (held : Held) (input : Option (List ℕ)) (task : Task) (sources : Vec (Bor (List ℕ)) Global) (script : Bor (List ℕ)) (files : RunFiles) (explain : Bool) (notes : Notes) (noted names : List (Bor (List ℕ))) (e : Effect)
-    → task ≡ Debug sources script files explain → noted ≡ sources.items → AreNotesFor explain files (Some script) (texts_of noted) [] notes → names ≡ sources.items → DebugsTold held notes (texts_of names) script.now files e.ending e.note e.out → Stay e.written.0 e.written.1 → Does held input task e
-does_debug held input task sources script files explain notes noted names e is of asked same told stay =
+pub does_debug : (held : Held) (input : Option (List ℕ)) (task : Task) (sources : Vec (Bor (List ℕ)) Global) (script : Bor (List ℕ)) (files : RunFiles) (faults : FaultOptions) (notes : Notes) (noted names : List (Bor (List ℕ))) (e : Effect)
+    → task ≡ Debug sources script files faults → noted ≡ sources.items → AreNotesFor faults files (Some script) (texts_of noted) [] notes → names ≡ sources.items → DebugsTold held notes (texts_of names) script.now files e.ending e.note e.out → Stay e.written.0 e.written.1 → Does held input task e
+does_debug held input task sources script files faults notes noted names e is of asked same told stay =
     let of_sources = subst (λ (ns : List (Bor (List ℕ))). DebugsTold held notes (texts_of ns) script.now files e.ending e.note e.out) same told in
-    let of_noted = subst (λ (ns : List (Bor (List ℕ))). AreNotesFor explain files (Some script) (texts_of ns) [] notes) of asked in
+    let of_noted = subst (λ (ns : List (Bor (List ℕ))). AreNotesFor faults files (Some script) (texts_of ns) [] notes) of asked in
     subst (λ (t : Task). Does held input t e) (sym is) ((notes, of_noted, of_sources), stay)

@@ -1,5 +1,5 @@
 -- What stays as it is, and files that are written or cannot be.
-use Rattle.std.proofs.Common.{◌≡◌, ◌∙◌, ap, inl, inr, refl, sym, subst, ◌∷◌, ◌++◌, [], ℕ, List, append-nil, map, Option, None, Some}
+use Rattle.std.proofs.Common.{◌≡◌, ◌∙◌, Bool, true, false, ap, inl, inr, refl, sym, subst, ◌∷◌, ◌++◌, [], ℕ, List, append-nil, map, Option, None, Some}
 use Rattle.std.specs.Io.KnownBytes.{Keeps}
 use Rattle.std.specs.Prelude.{Ok, Result, String, Vec}
 use Rattle.std.specs.String.{string_bytes}
@@ -23,12 +23,13 @@ use Rattle.c25_report.specs.ProgramFiles.{files_of}
 use Rattle.c25_report.specs.declared.texts.ProgramFileTexts.{ProgramFileTexts}
 use Rattle.c25_tasks.specs.Building.{WritesProgram, texts_in}
 use Rattle.c25_inputs.specs.Files.{IsToldOfFile}
-use Rattle.c25_explain.specs.Notes.{IsExplainedBy, IsNoted, name_by}
+use Rattle.c25_explain.specs.Notes.{AreOthers, IsExplainedBy, IsExplanation, IsNoted, name_by}
 use Rattle.c25_tasks.specs.Symbols.{WritesWithSymbols}
 use Rattle.c25_tasks.specs.declared.symbols.BuiltWithSymbols.{BuiltWithSymbols}
 use Rattle.c25_tasks.specs.Tells.{IsReportOf, IsUnwrittenAmong, Wrote, Writes, WritesTexts, WritesTold}
+use Rattle.c25_explain.specs.declared.named.NamedFiles.{NamedFiles}
 use Rattle.c25_explain.specs.declared.notes.Notes.{Notes}
-use Rattle.c25_explain.specs.declared.notes.Notes.TheVariants.{Nothing, Explanations}
+use Rattle.c25_explain.specs.declared.notes.Notes.TheVariants.{Nothing, After}
 
 pub stays : (files : Option Files) → Stay files files
 stays None = tt
@@ -55,10 +56,20 @@ explained_anew held other f kind trail note is explained =
     let With : Held → FileFault → Type 0 = λ h k. IsExplainedBy h None (name_by k (string_bytes f.place)) trail (any.File f.fault) note in
     subst (λ (k : FileFault). With other k) (sym is) (subst (λ (k : FileFault). With held k) is explained)
 
+explanation_anew : (held other : Held) (explain : Bool) (named : NamedFiles) (f : Placed (String Global) FileFault) (text : List ℕ) → f.fault ≡ CannotWrite → IsExplanation held explain named (File f) text → IsExplanation other explain named (File f) text
+explanation_anew held other true named f text is (inl (behind, none, explained)) = inl (behind, none, explained_anew held other f f.fault behind text is explained)
+explanation_anew held other true named f text is (inr none) = inr none
+explanation_anew held other false named f text is none = none
+
+others_anew : (held other : Held) (all : Bool) (named : NamedFiles) (f : Placed (String Global) FileFault) (text : List ℕ) → AreOthers held all named (File f) text → AreOthers other all named (File f) text
+others_anew held other true named f text none = none
+others_anew held other false named f text none = none
+
 noted_anew : (held other : Held) (notes : Notes) (f : Placed (String Global) FileFault) (note : List ℕ) → f.fault ≡ CannotWrite → IsNoted held notes (File f) note → IsNoted other notes (File f) note
 noted_anew held other Nothing f note is noted = noted
-noted_anew held other (Explanations named) f note is (inl (behind, none, explained)) = inl (behind, none, explained_anew held other f f.fault behind note is explained)
-noted_anew held other (Explanations named) f note is (inr none) = inr none
+noted_anew held other (After options named) f note is (inl (explanation, others, explained, listed, same)) =
+    inl (explanation, others, explanation_anew held other options.explain named f explanation is explained, others_anew held other options.all named f others listed, same)
+noted_anew held other (After options named) f note is (inr none) = inr none
 
 of_refusal_anew : (held other : Held) (notes : Notes) (f : Placed (String Global) FileFault) (e : Ending) (note : List ℕ) → f.fault ≡ CannotWrite → IsReportOf held notes (failure.Fault (File f)) e note → IsReportOf other notes (failure.Fault (File f)) e note
 of_refusal_anew held other notes f e note is (inl (line, noted)) = inl (line, noted_anew held other notes f note is noted)

@@ -1,5 +1,5 @@
 -- The program: what it reads, prints, writes and reports.
-use Rattle.std.specs.Prelude.{◌≡◌, ◌⊎◌, ℕ, ◌<◌, ◌≤◌, Bool, List, [], ◌∷◌, length, Option, Some, None, Result, Ok, Err}
+use Rattle.std.specs.Prelude.{◌≡◌, ◌⊎◌, ℕ, ◌<◌, ◌≤◌, false, List, [], ◌∷◌, length, Option, Some, None, Result, Ok, Err}
 use Rattle.std.specs.Borrow.{Bor}
 use Rattle.std.specs.Io.KnownBytes.{Keeps}
 use Rattle.std.specs.String.{string_bytes}
@@ -13,6 +13,7 @@ use Rattle.c25_report.specs.declared.ending.Ending.{Ending}
 use Rattle.c25_report.specs.declared.ending.Ending.TheVariants as ending
 use Rattle.c25_report.specs.declared.ending.Report.{Report}
 use Rattle.c25_options.specs.Task.{Reads, text_of, texts_of}
+use Rattle.c25_options.specs.declared.task.FaultOptions.{FaultOptions}
 use Rattle.c25_options.specs.declared.task.Task.{Task}
 use Rattle.c25_options.specs.declared.task.Task.TheVariants.{RunStandardInput, Assemble, Link, Build, Run, Debug, Explain, Disassemble}
 use Rattle.c25_tasks.specs.Assembly.{Assembles}
@@ -52,10 +53,10 @@ IsQuiet e = Keeps e.out.0 e.out.1 × Stay e.written.0 e.written.1 × (e.note ≡
 abbrev pub WritesBuilt : Held → Notes → (Result Built Fault → Type 0) → List ℕ → Effect → Type 0
 WritesBuilt held notes comes base e = (told : Result Built Fault) × comes told × WritesProgram held notes base told e.ending e.note e.written
 
--- the notes of a task that reads no samples, schedule or script: explanations, where they are asked for
-abbrev pub AreNotesUnder : Bool → (command : Option (Bor (List ℕ))) → (sources objects : List (List ℕ)) → Notes → Type 0
-AreNotesUnder explain command sources objects notes =
-    AreNotesFor explain (record { command = command; samples = None; schedule = None }) None sources objects notes
+-- the notes of a task that reads no samples, schedule or script
+abbrev pub AreNotesUnder : FaultOptions → (command : Option (Bor (List ℕ))) → (sources objects : List (List ℕ)) → Notes → Type 0
+AreNotesUnder options command sources objects notes =
+    AreNotesFor options (record { command = command; samples = None; schedule = None }) None sources objects notes
 
 -- what is done with these notes
 abbrev pub Noting : (Notes → Type 0) → (Notes → Type 0) → Type 0
@@ -64,22 +65,22 @@ Noting asked done = (notes : Notes) × asked notes × done notes
 -- what the program does for a task, with what is known of standard input and of the files on the disk
 abbrev pub Does : Held → Option (List ℕ) → Task → Effect → Type 0
 Does held input RunStandardInput e = Runs held input e.ending e.note e.out × Stay e.written.0 e.written.1
-Does held input (Assemble source object listing explain) e =
-    Noting (AreNotesUnder explain None (source.now ∷ []) []) (λ notes. Assembles held notes source.now object.now (text_of listing) e.ending e.note e.written)
+Does held input (Assemble source object listing faults) e =
+    Noting (AreNotesUnder faults None (source.now ∷ []) []) (λ notes. Assembles held notes source.now object.now (text_of listing) e.ending e.note e.written)
     × Keeps e.out.0 e.out.1
 Does held input (Link command objects base explain) e =
-    Noting (AreNotesUnder explain (Some command) [] (texts_of objects.items)) (λ notes. WritesBuilt held notes (LinksFrom held command.now (texts_of objects.items)) base.now e)
+    Noting (AreNotesUnder (record { explain = explain; all = false }) (Some command) [] (texts_of objects.items)) (λ notes. WritesBuilt held notes (LinksFrom held command.now (texts_of objects.items)) base.now e)
     × Keeps e.out.0 e.out.1
-Does held input (Build sources base command symbols explain) e =
-    Noting (AreNotesUnder explain command (texts_of sources.items) [])
+Does held input (Build sources base command symbols faults) e =
+    Noting (AreNotesUnder faults command (texts_of sources.items) [])
     (λ notes. BuildsToDisk held notes (texts_of sources.items) (text_of command) base.now (text_of symbols) e.ending e.note e.written)
     × Keeps e.out.0 e.out.1
-Does held input (Run sources steps files regs explain) e =
-    Noting (AreNotesFor explain files None (texts_of sources.items) [])
+Does held input (Run sources steps files regs faults) e =
+    Noting (AreNotesFor faults files None (texts_of sources.items) [])
     (λ notes. RunsTold held notes (texts_of sources.items) steps regs files e.ending e.note e.out)
     × Stay e.written.0 e.written.1
-Does held input (Debug sources script files explain) e =
-    Noting (AreNotesFor explain files (Some script) (texts_of sources.items) [])
+Does held input (Debug sources script files faults) e =
+    Noting (AreNotesFor faults files (Some script) (texts_of sources.items) [])
     (λ notes. DebugsTold held notes (texts_of sources.items) script.now files e.ending e.note e.out)
     × Stay e.written.0 e.written.1
 Does held input (Explain number) e = Explained number e.ending e.out × OnlyPrints e

@@ -27,7 +27,7 @@ use c25_disk::disk::Disk;
 use c25_disk::{Output, write_outputs};
 use c25_explain::notes::{Notes, notes_for};
 use c25_inputs::files::fault_of_file;
-use c25_options::task::{RunFiles, Task};
+use c25_options::task::{FaultOptions, RunFiles, Task};
 use c25_report::ending::{Ending, Report};
 use c25_report::texts::{ProgramFileTexts, file_names};
 use std::alloc::Global;
@@ -209,22 +209,22 @@ fn build_to_disk<D: Disk>(
     }
 }
 
-/// The notes of a task that reads no samples, schedule or script: explanations, where they are asked for. The
+/// The notes that options ask for, of a task that reads no samples, schedule or script. The
 /// command file, sources and objects are read again for them.
 fn notes_under<'a>(
-    explain: bool,
+    options: FaultOptions,
     command: Option<&'a str>,
     sources: &'a [&'a str],
     objects: &'a [&'a str],
 ) -> Notes<'a>
-    ensures { AreNotesUnder explain command.entry (texts_of sources.entry.now) (texts_of objects.entry.now) result }
+    ensures { AreNotesUnder options command.entry (texts_of sources.entry.now) (texts_of objects.entry.now) result }
 {
     let files = RunFiles {
         command,
         samples: None,
         schedule: None,
     };
-    notes_for(explain, files, None, sources, objects)
+    notes_for(options, files, None, sources, objects)
 }
 
 /// Runs a task: reads its files, prints or writes its results, and answers the report.
@@ -244,10 +244,10 @@ pub(crate) fn do_task<D: Disk, R: Read, O: Write>(
             source,
             object,
             listing,
-            explain,
+            faults,
         } => {
             let sources = [*source];
-            let notes = notes_under(*explain, None, &sources, &[]);
+            let notes = notes_under(*faults, None, &sources, &[]);
             let assembly = Assembly {
                 source,
                 object,
@@ -262,7 +262,11 @@ pub(crate) fn do_task<D: Disk, R: Read, O: Write>(
             explain,
         } => {
             let answer = linked(alloc, disk, command, objects);
-            let notes = notes_under(*explain, Some(*command), &[], objects);
+            let options = FaultOptions {
+                explain: *explain,
+                all: false,
+            };
+            let notes = notes_under(options, Some(*command), &[], objects);
             write_program(alloc, base, answer, notes, disk)
         }
         Task::Build {
@@ -270,9 +274,9 @@ pub(crate) fn do_task<D: Disk, R: Read, O: Write>(
             base,
             command,
             symbols,
-            explain,
+            faults,
         } => {
-            let notes = notes_under(*explain, *command, sources, &[]);
+            let notes = notes_under(*faults, *command, sources, &[]);
             let names = BuildNames {
                 sources,
                 command: *command,
@@ -286,9 +290,9 @@ pub(crate) fn do_task<D: Disk, R: Read, O: Write>(
             steps,
             files,
             regs,
-            explain,
+            faults,
         } => {
-            let notes = notes_for(*explain, *files, None, sources, &[]);
+            let notes = notes_for(*faults, *files, None, sources, &[]);
             let named = RunNames {
                 sources,
                 files: *files,
@@ -304,9 +308,9 @@ pub(crate) fn do_task<D: Disk, R: Read, O: Write>(
             sources,
             script,
             files,
-            explain,
+            faults,
         } => {
-            let notes = notes_for(*explain, *files, Some(*script), sources, &[]);
+            let notes = notes_for(*faults, *files, Some(*script), sources, &[]);
             let named = DebugNames {
                 sources,
                 script,

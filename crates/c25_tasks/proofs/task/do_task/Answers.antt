@@ -6,7 +6,7 @@ use Rattle.c25_tasks.proofs.task.do_task.Goals as goal
 
 pub returns-in-Assemble : goal.returns-in-Assemble
 returns-in-Assemble g c =
-    does_assemble (g.D.Disk.bytes_of c.args.disk.now) _ c.args.task.now c.in-Assemble.source c.in-Assemble.object c.in-Assemble.listing c.in-Assemble.explain c.notes_under-notes.result _ c.in-Assemble.is c.notes_under-notes.ensures c.assemble_to_disk.ensures (keeps _)
+    does_assemble (g.D.Disk.bytes_of c.args.disk.now) _ c.args.task.now c.in-Assemble.source c.in-Assemble.object c.in-Assemble.listing c.in-Assemble.faults c.notes_under-notes.result _ c.in-Assemble.is c.notes_under-notes.ensures c.assemble_to_disk.ensures (keeps _)
 
 pub returns-in-Link : goal.returns-in-Link
 returns-in-Link g c =
@@ -14,15 +14,15 @@ returns-in-Link g c =
 
 pub returns-in-Build : goal.returns-in-Build
 returns-in-Build g c =
-    does_build (g.D.Disk.bytes_of c.args.disk.now) _ c.args.task.now c.in-Build.sources c.in-Build.base c.in-Build.command c.in-Build.symbols c.in-Build.explain c.notes_under-notes-in-Build.result c.deref-in-Build.result.now c.deref-in-Build-2.result.now _ c.in-Build.is c.deref-in-Build.ensures.value c.notes_under-notes-in-Build.ensures c.deref-in-Build-2.ensures.value c.build_to_disk.ensures (keeps _)
+    does_build (g.D.Disk.bytes_of c.args.disk.now) _ c.args.task.now c.in-Build.sources c.in-Build.base c.in-Build.command c.in-Build.symbols c.in-Build.faults c.notes_under-notes-in-Build.result c.deref-in-Build.result.now c.deref-in-Build-2.result.now _ c.in-Build.is c.deref-in-Build.ensures.value c.notes_under-notes-in-Build.ensures c.deref-in-Build-2.ensures.value c.build_to_disk.ensures (keeps _)
 
 pub returns-in-Run : goal.returns-in-Run
 returns-in-Run g c =
-    does_run (g.D.Disk.bytes_of c.args.disk.now) _ c.args.task.now c.in-Run.sources c.in-Run.steps c.in-Run.files c.in-Run.regs c.in-Run.explain c.notes_for-notes.result c.deref-in-Run.result.now c.deref-in-Run-2.result.now _ c.in-Run.is c.deref-in-Run.ensures.value c.notes_for-notes.ensures c.deref-in-Run-2.ensures.value c.run_sources.ensures (stays _)
+    does_run (g.D.Disk.bytes_of c.args.disk.now) _ c.args.task.now c.in-Run.sources c.in-Run.steps c.in-Run.files c.in-Run.regs c.in-Run.faults c.notes_for-notes.result c.deref-in-Run.result.now c.deref-in-Run-2.result.now _ c.in-Run.is c.deref-in-Run.ensures.value c.notes_for-notes.ensures c.deref-in-Run-2.ensures.value c.run_sources.ensures (stays _)
 
 pub returns-in-Debug : goal.returns-in-Debug
 returns-in-Debug g c =
-    does_debug (g.D.Disk.bytes_of c.args.disk.now) _ c.args.task.now c.in-Debug.sources c.in-Debug.script c.in-Debug.files c.in-Debug.explain c.notes_for-notes-in-Debug.result c.deref-in-Debug.result.now c.deref-in-Debug-2.result.now _ c.in-Debug.is c.deref-in-Debug.ensures.value c.notes_for-notes-in-Debug.ensures c.deref-in-Debug-2.ensures.value c.debug_sources.ensures (stays _)
+    does_debug (g.D.Disk.bytes_of c.args.disk.now) _ c.args.task.now c.in-Debug.sources c.in-Debug.script c.in-Debug.files c.in-Debug.faults c.notes_for-notes-in-Debug.result c.deref-in-Debug.result.now c.deref-in-Debug-2.result.now _ c.in-Debug.is c.deref-in-Debug.ensures.value c.notes_for-notes-in-Debug.ensures c.deref-in-Debug-2.ensures.value c.debug_sources.ensures (stays _)
 
 pub returns-in-Explain : goal.returns-in-Explain
 returns-in-Explain g c =

@@ -1,0 +1,2 @@
+        FOO
+        .copy   "no-file.inc"

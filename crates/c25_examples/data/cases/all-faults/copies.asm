@@ -1,0 +1,3 @@
+        FOO
+        .copy   "part.inc"
+        BAR

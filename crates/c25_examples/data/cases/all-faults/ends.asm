@@ -1,0 +1,3 @@
+        FOO
+        .endif                  ; a fault of expansion: nothing is read after it
+        BAR

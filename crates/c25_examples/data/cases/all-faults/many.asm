@@ -1,0 +1,3 @@
+        .loop   101
+        FOO
+        .endloop

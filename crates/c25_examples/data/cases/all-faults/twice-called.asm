@@ -1,0 +1,6 @@
+TWO     .macro  n
+        FOO
+        LACK    n
+        .endm
+        TWO     1
+        TWO     2

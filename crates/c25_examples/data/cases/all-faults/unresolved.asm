@@ -1,0 +1,2 @@
+        .ref    X
+        CALL    X
