@@ -31,7 +31,7 @@ FIRST = [" FOO", " LACK", " LACK 1,2", " LARK 5", " LACK 2+", " .word 1F", " .wo
          "AR1 NOP", " .bss V0,200,1", " .bss L0,1", "K0 .set 5", "M%d .set N%d", " .set 5", " .usect", ' .sect ""', " .def PA1", " LAC *AR9",
          " .wrod 5", " .mmregs 1", " .space 1/0", "1X NOP", " .word ((((", " .bss W%d", "DRR .set 0", " .mmregs"]
 WORDS = [(" LACK 256", 1), (" LARK AR1,256", 1), (" LALK 70000", 2), (" B U%d", 2), (" .word 1,U%d,3", 3), (" .byte 256", 1), (" LAC L0", 1),
-         (" .word 1/0", 1), (" ADD 60h,16", 1), (" LACK L0", 1), (" .def U%d", 0), (" .word 65536", 1)]
+         (" .word 1/0", 1), (" ADD 60h,16", 1), (" LACK L0", 1), (" .def U%d", 0)]
 
 
 def run(program, folder, words):
