@@ -100,7 +100,7 @@ unfolding finished
 module_has a = on (emit_all (all_names a.progress) a.progress.sections a.progress.items) (operand_faults a.progress) (items_have (all_names a.progress) a.progress.sections a.progress.items)
   where
     on : (r : Result (List Section) ExpansionFault) (fs : List ExpansionFault) → HasFaults r fs
-        → HasFaults ((r >>= λ sections. Ok (module_with sections (all_names a.progress) a.progress.exported)) >>= λ m. Ok (record { contents = m; entries = a.entries })) fs
+        → HasFaults {A = Assembled} ((r >>= λ sections. Ok (module_with sections (all_names a.progress) a.progress.exported)) >>= λ m. Ok (record { contents = m; entries = a.entries })) fs
     on (Ok sections) fs h = h
     on (Err f) fs h = h
 

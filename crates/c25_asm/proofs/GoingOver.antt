@@ -1,15 +1,18 @@
 -- The lines of a module gone over one after another, as an expander gives them.
 use denote.Ref.{Bor}
-use Rattle.std.proofs.Common.{◌≡◌, ◌≤◌, ◌<◌, ℕ, zero, suc, Bool, true, false, cond, not, List, [], ◌∷◌, ◌++◌, length, map, Option, Some, None, Result, Ok, Err, refl, sym, ap, ◌∙◌, arith, subst}
+use Rattle.std.proofs.Common.{◌≡◌, ◌≤◌, ◌<◌, ℕ, zero, suc, Bool, true, false, cond, not, List, [], ◌∷◌, ◌++◌, length, map, take, Option, Some, None, Result, Ok, Err, refl, sym, ap, ◌∙◌, arith, subst}
 use Rattle.std.specs.Option.{option_map}
-use Rattle.c25_macro.specs.Expander.{ExpandFault, Expansion, Stage, Stands, Absent, Failed, begun_at, shown, IsNextAt, IsFailure, Tells, missing_of, left_of}
+use Rattle.std.specs.Prelude.{IfOk, OnOk, Vec}
+use Rattle.std.specs.declared.alloc.Global.{Global}
+use Rattle.c25_macro.specs.Expander.{ExpandFault, Expansion, Stage, Stands, Absent, Failed, begun, begun_at, shown, IsNextAt, IsFailure, Tells, missing_of, left_of}
 use Rattle.c25_macro.specs.declared.answer.ExpLine.{ExpLine}
-use Rattle.c25_meaning_assembly.specs.AllFaults.{LinesGoneOver, after_line, faults_by, faults_of, gone_over, gone_over_by, gone_over_from, is_last_kind, left_out, no_lines, with_fault, without_line}
+use Rattle.c25_meaning_assembly.specs.AllFaults.{LinesGoneOver, after_line, all_faults, faults_by, faults_of, gone_over, gone_over_by, gone_over_from, is_last_kind, left_out, no_lines, with_fault, without_line}
 use Rattle.c25_meaning_assembly.specs.Emission.{at_origin}
 use Rattle.c25_meaning_assembly.specs.ModuleOfSource.{origin_of, read_and_pass}
 use Rattle.c25_meaning_assembly.specs.Sections.{Progress, name_count, start as nothing, table}
 use Rattle.c25_meaning_common.specs.declared.failure.Failure.{Failure}
 use Rattle.c25_meaning_common.specs.declared.failure.Failure.TheVariants.{NoMemory, Fault}
+use Rattle.c25_meaning_common.specs.declared.no_memory.NoMemory as no_memory
 use Rattle.c25_meaning_expansion.specs.Expansion.{Config, Finishes}
 use Rattle.c25_meaning_expansion.specs.ExpansionAnswers.{ExpandedLine, given_by, fault_by}
 use Rattle.c25_meaning_expansion.specs.ExpansionRuns.{first, start, start_of}
@@ -21,7 +24,7 @@ use Rattle.c25_meaning_language.specs.declared.statement.FaultKind.{FaultKind}
 use Rattle.c25_phases.specs.Steps.{text_passed}
 use Rattle.c25_phases.specs.View.{fault_of}
 use Rattle.c25_phases.specs.declared.fault.AsmFault.{AsmFault}
-use Rattle.c25_asm.specs.GoneOver.{EndsWith, HasRoom, LeadsTo, StillComes}
+use Rattle.c25_asm.specs.GoneOver.{EndsWith, HasRoom, IsGoneOver, LeadsTo, StillComes}
 use Rattle.c25_asm.specs.Told.{IsTold}
 use Rattle.c25_asm.proofs.Coming.{no_fault, told_failure}
 
@@ -34,6 +37,29 @@ by_start files name file (Some text) = (200001, omega arith, refl)
 
 pub begins : (files : Files) (name : List ℕ) → StillComes files name (begun_at (start_of files name)) no_lines (gone_over_from files name (start_of files name))
 begins files name = by_start files name (file_number files name) (text_named files name)
+
+-- lines that were gone over from there on have all faults of the source
+pub all_told : (files : Files) (name : List ℕ) (e : Expansion) (old new : LinesGoneOver) → e ≡ begun files name → old ≡ no_lines → IsGoneOver e old new
+    → faults_of new ≡ all_faults files name
+unfolding all_faults
+all_told files name e old new first none over =
+    let meant = gone_over_from files name (start_of files name) in
+    let here = subst (λ (a : LinesGoneOver). StillComes files name (begun_at (start_of files name)) a meant) (sym none) (begins files name) in
+    sym (over meant (subst (λ (x : Expansion). StillComes x.files x.name x.stage old meant) (sym first) here))
+
+pub all_in : (result : Result (Vec AsmFault Global) no_memory.NoMemory) (fs gs : List ExpansionFault) → fs ≡ gs → IfOk result (λ v. map fault_of v.items ≡ fs)
+    → IfOk result (λ v. map fault_of v.items ≡ gs)
+all_in (Ok v) fs gs same h = h ∙ same
+all_in (Err e) fs gs same h = tt
+
+-- the first of them
+pub first_of_all : (most : ℕ) (items : List AsmFault) (all : List ExpansionFault) → map fault_of items ≡ all → map fault_of (take most items) ≡ take most all
+first_of_all most items all is = of most items ∙ ap (take most) is
+  where
+    of : (n : ℕ) (xs : List AsmFault) → map fault_of (take n xs) ≡ take n (map fault_of xs)
+    of zero xs = refl
+    of (suc n) [] = refl
+    of (suc n) (x ∷ xs) = ap (λ l. fault_of x ∷ l) (of n xs)
 
 pub room_first : (a : LinesGoneOver) → a ≡ no_lines → HasRoom a
 room_first a is = subst (λ (x : LinesGoneOver). HasRoom x) (sym is) (λ none. omega arith)
@@ -69,6 +95,7 @@ leaves_out l a b kind true more h is answer left found = subst (λ m. LeadsTo l 
   where
     f : ExpansionFault
     f = Faulty l.file l.line kind
+
     ended : LeadsTo l a b false
     ended = λ go_on.
         ap (λ (r : Result Progress FaultKind). faults_of (after_line l (at_origin (origin_of l) r) go_on a)) h
@@ -79,8 +106,7 @@ leaves_out l a b kind false more h is answer left found = subst (λ m. LeadsTo l
   where
     f : ExpansionFault
     f = Faulty l.file l.line kind
-    made : Progress → List ExpansionFault → LinesGoneOver
-    made p fs = record { progress = p; faults = fs }
+
     goes : LeadsTo l a b true
     goes = λ go_on.
         ap (λ (r : Result Progress FaultKind). after_line l (at_origin (origin_of l) r) go_on a) h
@@ -156,7 +182,7 @@ told_last (NoMemory n) a meant (NoMemory m) missing x is t same told = absurd to
 told_last (NoMemory n) a meant (Fault e) missing x is t same told = absurd t
 told_last (Fault f) a meant e missing x is t same told =
     let known : ◌≡◌ {A = Result LinesGoneOver ExpansionFault} (Err f) (Err (fault_of x)) =
-      told_failure {A = LinesGoneOver} (Fault f) (Err f) e missing (Fault x) (λ g q. let one : f ≡ g = cc in ap Err one) t same told in
+    told_failure {A = LinesGoneOver} (Fault f) (Err f) e missing (Fault x) (λ g q. let one : f ≡ g = cc in ap Err one) t same told in
     let fault : f ≡ fault_of x = cc in
     sym (is f refl) ∙ ap (λ g. with_fault g a) fault
 
@@ -186,3 +212,8 @@ expansion_fails files name (Failed failure) new s a b meant e missing g is comin
 pub moved : (files : Files) (name : List ℕ) (stage : Stage) (p q : Progress) (faults : List ExpansionFault) (meant : LinesGoneOver) → q ≡ p
     → StillComes files name stage (record { progress = p; faults = faults }) meant → StillComes files name stage (record { progress = q; faults = faults }) meant
 moved files name stage p q faults meant same coming = subst (λ (x : Progress). StillComes files name stage (record { progress = x; faults = faults }) meant) (sym same) coming
+
+-- where the fault was added that expansion ends with
+pub expansion_ended : (result : Result (Unit {0}) no_memory.NoMemory) (a b : LinesGoneOver) (g : Failure AsmFault) (Told : Type 0) → (EndsWith g a b → Told) → OnOk result (EndsWith g a b) → OnOk result Told
+expansion_ended (Ok x) a b g Told told h = told h
+expansion_ended (Err e) a b g Told told h = tt

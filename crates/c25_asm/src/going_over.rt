@@ -41,10 +41,7 @@ fn is_last(kind: FaultKind) -> bool
 }
 
 /// Goes over one line more, which passes or is left out. Whether what comes next is gone over too.
-fn go_over_line<'a>(
-    lines: &mut LinesGoneOver<'a>,
-    line: ExpLine<'a>,
-) -> Result<bool, NoMemory>
+fn go_over_line<'a>(lines: &mut LinesGoneOver<'a>, line: ExpLine<'a>) -> Result<bool, NoMemory>
     ensures leads { IfOk result (LeadsTo (shown line.entry) (gone_over_of lines.old) (gone_over_of lines.new)) }
     ensures room { OnOk result (HasRoom (gone_over_of lines.new)) }
 {

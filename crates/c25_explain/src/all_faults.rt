@@ -39,12 +39,7 @@ struct Unread {
 }
 
 /// The line of a fault in a line of a file.
-fn placed_line(
-    alloc: Global,
-    file: &str,
-    line: usize,
-    fault: FaultKind,
-) -> Result<String, NoMemory>
+fn placed_line(alloc: Global, file: &str, line: usize, fault: FaultKind) -> Result<String, NoMemory>
     ensures { IfOk result (λ text. string_bytes text ≡ placed_text file.now line (numbered_name fault) ++ codes "\n") }
 {
     let number = fault.number();

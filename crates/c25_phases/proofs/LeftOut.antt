@@ -1,15 +1,18 @@
 -- What is kept of a line that is left out: its label.
-use Rattle.std.proofs.Common.{◌≡◌, ℕ, Bool, true, false, cond, List, [], ◌∷◌, ◌++◌, drop, Option, Some, None, Result, Ok, Err, refl, sym, ap, ◌∙◌, subst}
+use Rattle.std.proofs.Common.{◌≡◌, ℕ, Bool, true, false, cond, ◌&&◌, List, [], ◌∷◌, ◌++◌, drop, Option, Some, None, Result, Ok, Err, refl, sym, ap, ◌∙◌, subst}
+use Rattle.std.specs.Prelude.{slice_index}
 use Rattle.std.specs.Str.{bytes_eq}
 use Rattle.std.proofs.lemmas.Slice.Eq.{bytes_eq-Decides}
 use Rattle.c25_meaning_assembly.specs.AllFaults.{address_label, address_label_by, is_last_kind, labelled, labelled_by}
 use Rattle.c25_meaning_assembly.specs.AssemblyLine.{AssemblyAct, Statement, act_by, directive_in, label_for, names_label, parts_for, read_statement, statement_by}
 use Rattle.c25_meaning_assembly.specs.Sections.{Progress, allowed, define, here, label, stands}
 use Rattle.c25_meaning_assembly.specs.declared.assembly.Directive.{Directive}
-use Rattle.c25_meaning_common.specs.Results.{◌>>=◌, Meets, told}
+use Rattle.c25_meaning_common.specs.Bytes.{is_blank}
+use Rattle.c25_meaning_common.specs.Results.{◌>>=◌, told}
 use Rattle.c25_meaning_common.specs.declared.failure.Failure.{Failure}
 use Rattle.c25_meaning_common.specs.declared.failure.Failure.TheVariants.{NoMemory, Fault}
-use Rattle.c25_meaning_language.specs.DirectiveOperands.{line_fault, parts_in}
+use Rattle.c25_meaning_language.specs.DirectiveOperands.{parts_in}
+use Rattle.c25_meaning_language.specs.Operands.{line_fault}
 use Rattle.c25_meaning_language.specs.Line.{Part, Parts, Scan, comment_line, first_word, is_comment_line, label_in, line_of, part_from, scan_from, statement_of, stop_of, word_end, word_in}
 use Rattle.c25_meaning_language.specs.Line as line
 use Rattle.c25_meaning_language.specs.declared.line.LineFault.{LineFault}
@@ -17,7 +20,7 @@ use Rattle.c25_meaning_language.specs.declared.statement.FaultKind.{FaultKind}
 use Rattle.c25_meaning_language.specs.declared.statement.FaultKind.TheVariants as fault
 use Rattle.c25_meaning_language.specs.declared.value.Value.{Value}
 use Rattle.c25_phases.proofs.Declared.{stands_with}
-use Rattle.c25_phases.specs.Refused.{IsKept, IsLabelled, IsUndone}
+use Rattle.c25_phases.specs.Refused.{IsLabelled, IsUndone}
 use Rattle.c25_phases.specs.Steps.{begun}
 
 -- ---- the label of a statement is that of its line
@@ -26,7 +29,7 @@ module _ (d : Option Directive) (text : List ℕ) (parts : Parts) where
   none_for : label_for d None ≡ None
   none_for = on (names_label d)
     where
-      on : (b : Bool) → cond b None None ≡ Option.None {A = List ℕ}
+      on : (b : Bool) → ◌≡◌ {A = Option (List ℕ)} (cond b None None) None
       on true = refl
       on false = refl
 
@@ -73,7 +76,7 @@ by_act label s (Err f) h = absurd (cc)
 by_parts : (d : Option Directive) (text : List ℕ) (s : Statement) (r : Result Parts FaultKind) → parts_for d text ≡ r
     → (r >>= λ parts. act_by d parts >>= λ a. Ok (record { label = label_for d parts.label; act = a })) ≡ Ok s
     → s.label ≡ cond (is_comment_line text) None (address_label_by d (label_in text))
-by_parts d text s (Ok parts) is h = by_act (label_for d parts.label) s (act_by d parts) h ∙ of_parts d text parts _ is
+by_parts d text s (Ok parts) is h = by_act (label_for d parts.label) s (act_by d parts) h ∙ of_parts d text parts (names_label d && is_blank (slice_index text 0)) is
 by_parts d text s (Err f) is h = absurd (cc)
 
 -- the label of what a line says is the one that the line has whatever else is wrong with it
@@ -114,24 +117,7 @@ twice None p q h = let same : p ≡ q = cc in sym same
 twice (Some name) p q h =
     ap (λ r. labelled_by r q) (not_again name (here q) q (stands_then name (here p) p q h)) ∙ sym (ap (λ r. labelled_by r p) h)
 
--- what a call for a label leads to is the state with the label, where it can be defined
-pub label_led : {T : Type 0} (name : Option (List ℕ)) (old new : Progress) (r : Result T (Failure FaultKind)) → Meets (λ _. new) (label name old) r → IsKept old r new
-    → ((n : _) → r ≡ Err (NoMemory n) → ⊥) → new ≡ labelled name old
-label_led name old new (Ok x) led kept there = sym (ap (λ r. labelled_by r old) led)
-label_led name old new (Err (NoMemory n)) led kept there = absurd (there n refl)
-label_led name old new (Err (Fault kind)) led kept there = kept ∙ sym (ap (λ r. labelled_by r old) led)
-
 -- ---- a line that is refused
-
--- nothing is changed
-pub nothing_done : {T : Type 0} (name : Option (List ℕ)) (old : Progress) (f : Failure FaultKind) → IsLabelled {T = T} name old (Err f) old
-nothing_done name old (NoMemory n) = tt
-nothing_done name old (Fault kind) = λ _. refl
-
--- what came before its act has changed nothing
-pub before_act : {S T : Type 0} (name : Option (List ℕ)) (old new : Progress) (f : Failure FaultKind) → IsKept {T = S} old (Err f) new → IsLabelled {T = T} name old (Err f) new
-before_act name old new (NoMemory n) kept = tt
-before_act name old new (Fault kind) kept = λ _. ap (labelled name) kept
 
 by_check : (name : Option (List ℕ)) (p q : Progress) (r : Result (Unit {0}) FaultKind) → (r >>= λ _. label name p) ≡ Ok q → label name p ≡ Ok q
 by_check name p q (Ok u) h = h

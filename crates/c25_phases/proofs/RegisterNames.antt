@@ -18,28 +18,29 @@ use Rattle.c25_phases.specs.Refused.{IsFull, IsUndone}
 abbrev pub some_stand : Definitions → Definitions → Bool
 some_stand names pairs = list_any (λ (pair : List ℕ × Value). stands names pair.0) pairs
 
+or_true : (a b : Bool) → b ≡ true → (a || b) ≡ true
+or_true true b h = refl
+or_true false b h = h
+
 still : (names more pairs : Definitions) → some_stand names pairs ≡ true → some_stand (names ++ more) pairs ≡ true
 still names more [] h = absurd (cc)
-still names more (x ∷ xs) h = on (stands names x.0) refl h
+still names more (x ∷ xs) h = on (stands names x.0) refl (still names more xs) h
   where
-    on : (b : Bool) → stands names x.0 ≡ b → (b || some_stand names xs) ≡ true → (stands (names ++ more) x.0 || some_stand (names ++ more) xs) ≡ true
-    on true is h = ap (λ b. b || some_stand (names ++ more) xs) (stands_still names more x.0 is)
-    on false is h = or_true (stands (names ++ more) x.0) (some_stand (names ++ more) xs) (still names more xs h)
-      where
-        or_true : (a b : Bool) → b ≡ true → (a || b) ≡ true
-        or_true true b h = refl
-        or_true false b h = h
+    on : (b : Bool) → stands names x.0 ≡ b → (some_stand names xs ≡ true → some_stand (names ++ more) xs ≡ true) → (b || some_stand names xs) ≡ true
+        → (stands (names ++ more) x.0 || some_stand (names ++ more) xs) ≡ true
+    on true is rest h = ap (λ b. b || some_stand (names ++ more) xs) (stands_still names more x.0 is)
+    on false is rest h = or_true (stands (names ++ more) x.0) (some_stand (names ++ more) xs) (rest h)
 
 -- names of which one stands for something are not all defined
 pub refused : (pairs : Definitions) (p : Progress) → some_stand p.names pairs ≡ true → fold_ok define_pair p pairs ≡ Err fault.Defined
 refused [] p h = absurd (cc)
-refused (x ∷ xs) p h = on (stands p.names x.0) refl h
+refused (x ∷ xs) p h = on (stands p.names x.0) refl (refused xs (record p { names = p.names ++ x ∷ [] })) h
   where
-    on : (b : Bool) → stands p.names x.0 ≡ b → (b || some_stand p.names xs) ≡ true → (define_pair p x >>= λ q. fold_ok define_pair q xs) ≡ Err fault.Defined
-    on true is h = ap (λ r. r >>= λ q. fold_ok define_pair q xs) (not_again x.0 x.1 p is)
-    on false is h =
-        ap (λ r. r >>= λ q. fold_ok define_pair q xs) (defined_anew x.0 x.1 p is)
-        ∙ refused xs (record p { names = p.names ++ x ∷ [] }) (still p.names (x ∷ []) xs h)
+    on : (b : Bool) → stands p.names x.0 ≡ b
+        → (some_stand (p.names ++ x ∷ []) xs ≡ true → fold_ok define_pair (record p { names = p.names ++ x ∷ [] }) xs ≡ Err fault.Defined)
+        → (b || some_stand p.names xs) ≡ true → (define_pair p x >>= λ q. fold_ok define_pair q xs) ≡ Err fault.Defined
+    on true is rest h = ap (λ r. r >>= λ q. fold_ok define_pair q xs) (not_again x.0 x.1 p is)
+    on false is rest h = ap (λ r. r >>= λ q. fold_ok define_pair q xs) (defined_anew x.0 x.1 p is) ∙ rest (still p.names (x ∷ []) xs h)
 
 -- names that stand for nothing still do once another one is defined
 pub one_less : (names after : Definitions) (x : List ℕ × Value) (rest : Definitions) → some_stand names (x ∷ rest) ≡ false → is_in (map (λ (pair : List ℕ × Value). pair.0) rest) x.0 ≡ false
@@ -65,10 +66,7 @@ registers_refused p new some =
     ap (λ b. cond b (Ok p) (fold_ok define_pair (record p { registers = true }) register_names)) new ∙ refused register_names (record p { registers = true }) some
 
 -- a call that is refused for want of room alone may have changed anything
-pub full_undone : {S T : Type 0} (old new : Progress) (e : Failure FaultKind) → IsFull {T = S} (Err e) → IsUndone {T = T} old (Err e) new
-full_undone old new (NoMemory n) full = tt
-full_undone old new (Fault kind) full = λ more. absurd (cc)
-
-pub full_undone_by : (old new : Progress) (r : Result (Unit {0}) (Failure FaultKind)) → IsFull r → IsUndone old r new
-full_undone_by old new (Ok x) full = tt
-full_undone_by old new (Err e) full = full_undone {S = Unit {0}} {T = Unit {0}} old new e full
+pub full_undone : (old new : Progress) (r : Result (Unit {0}) (Failure FaultKind)) → IsFull r → IsUndone old r new
+full_undone old new (Ok x) full = tt
+full_undone old new (Err (NoMemory n)) full = tt
+full_undone old new (Err (Fault kind)) full = λ more. absurd (cc)
