@@ -27,8 +27,11 @@ pub fn at_origin<'a>(
 }
 
 /// The fault of a line as the fault of its source.
-pub fn line_fault<'a>(place: FileLine<&'a str>, fault: FaultKind) -> AsmFault<'a>
-    ensures { fault_of result ≡ Faulty place.entry.file.now place.entry.line fault }
+pub fn line_fault<'a>(origin: FileLine<&'a str>, fault: FaultKind) -> AsmFault<'a>
+    ensures { fault_of result ≡ Faulty origin.entry.file.now origin.entry.line fault }
 {
-    AsmFault::Line(Placed { place, fault })
+    AsmFault::Line(Placed {
+        place: origin,
+        fault,
+    })
 }
