@@ -1,5 +1,6 @@
 -- All faults of sources, as `--all` shows them.
-use Rattle.std.specs.Prelude.{◌≡◌, ◌⊎◌, ℕ, nat_lt, if◌then◌else◌, List, [], ◌∷◌, ◌++◌, length, take, codes, Ok}
+use Rattle.std.specs.Prelude.{◌≡◌, ◌⊎◌, ℕ, nat_lt, if◌then◌else◌, List, [], ◌∷◌, ◌++◌, length, take, codes, Option, Some, Ok}
+use Rattle.std.specs.String.{string_bytes}
 use Rattle.c25_chain.specs.FaultText.{refusal_text}
 use Rattle.c25_chain.specs.Modules.{asm_refusal}
 use Rattle.c25_chain.specs.declared.fault.ChainFault.{ChainFault}
@@ -8,6 +9,7 @@ use Rattle.c25_disk.specs.Held.{Held, ReadsSources}
 use Rattle.c25_meaning_assembly.specs.AllFaults.{all_faults}
 use Rattle.c25_meaning_expansion.specs.Files.{Files}
 use Rattle.c25_meaning_language.specs.ExpansionFault.{ExpansionFault}
+use Rattle.c25_explain.specs.declared.all_faults.MissingFile.{MissingFile}
 
 -- the line of a fault of a source
 abbrev pub fault_line : ExpansionFault → List ℕ
@@ -40,3 +42,7 @@ Follows refusal all rest = refusal_text refusal ++ codes "\n" ++ rest ≡ all
 abbrev pub ShowsOthers : Held → (sources : List (List ℕ)) → ChainFault (List ℕ) → List ℕ → Type 0
 ShowsOthers held sources refusal text =
     ((given : Files) × ReadsSources held [] sources (Ok given) × (files : Files) × HasCopied held given 256 files × Follows refusal (sources_lines files sources) text) ⊎ (text ≡ [])
+
+-- the name of the file that is asked for
+abbrev pub wanted_by : MissingFile → Option (List ℕ)
+wanted_by fault = Some (string_bytes fault.name)

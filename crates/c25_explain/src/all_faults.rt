@@ -8,7 +8,8 @@ ghost use Rattle.c25_meaning_common.specs.Faults.{placed_text};
 ghost use Rattle.c25_meaning_language.specs.Faults.{numbered_name};
 ghost use Rattle.c25_options.specs.Task.{texts_of};
 ghost use Rattle.c25_phases.specs.View.{fault_of};
-ghost use Rattle.c25_explain.specs.AllFaults.{Follows, ShowsOthers, fault_line, fault_lines, more_line, source_lines, sources_lines};
+ghost use Rattle.c25_explain.specs.AllFaults.{Follows, ShowsOthers, fault_line, fault_lines, more_line, source_lines, sources_lines, wanted_by};
+ghost use Rattle.std.specs.Option.{option_map};
 
 use c25_asm::all_faults;
 use c25_asm::fault::AsmFault;
@@ -34,7 +35,7 @@ struct AllFaults<'a> {
 
 /// A source copies the file of this name, which has not been read.
 #[derive(Drop)]
-struct Unread {
+struct MissingFile {
     name: String,
 }
 
@@ -98,11 +99,11 @@ fn push_faults(
 
 /// The name of the file that is copied and has not been read, where the last of all faults is that it is not
 /// there.
-fn unread_among(alloc: Global, faults: &[AsmFault<'_>]) -> Result<(), Failure<Unread>> {
+fn unread_among(alloc: Global, faults: &[AsmFault<'_>]) -> Result<(), Failure<MissingFile>> {
     match faults.last() {
         Some(AsmFault::NoFile { name, .. }) => {
             let name = String::from_str(alloc, name.as_str())?;
-            Err(Failure::Fault(Unread { name }))
+            Err(Failure::Fault(MissingFile { name }))
         }
         _ => Ok(()),
     }
@@ -114,7 +115,7 @@ fn push_source(
     text: &mut String,
     files: &Files,
     source: &str,
-) -> Result<(), Failure<Unread>>
+) -> Result<(), Failure<MissingFile>>
     ensures { OnOk result (string_bytes text.new ≡ string_bytes text.old ++ source_lines source.now (meaning.all_faults files.now source.now)) }
 {
     let faults = all_faults(alloc, files, source, MOST + 1)?;
@@ -124,7 +125,7 @@ fn push_source(
 }
 
 /// The lines of all faults of sources.
-fn lines_of(alloc: Global, files: &Files, sources: &[&str]) -> Result<String, Failure<Unread>>
+fn lines_of(alloc: Global, files: &Files, sources: &[&str]) -> Result<String, Failure<MissingFile>>
     ensures { IfOk result (λ text. string_bytes text ≡ sources_lines files.now (texts_of sources.now)) }
 {
     let mut text = String::new(alloc);
@@ -135,23 +136,25 @@ fn lines_of(alloc: Global, files: &Files, sources: &[&str]) -> Result<String, Fa
 }
 
 impl Work for AllFaults<'_> {
-    ghost use Rattle.std.specs.Prelude.{◌≡◌, IfOk, Some, string_bytes};
+    ghost use Rattle.std.specs.Prelude.{◌≡◌, IfOk, string_bytes};
     ghost use Rattle.c25_options.specs.Task.{texts_of};
-    ghost use Rattle.c25_explain.specs.AllFaults.{sources_lines};
+    ghost use Rattle.c25_explain.specs.AllFaults.{sources_lines, wanted_by};
 
     type Answer = String;
 
-    type Fault = Unread;
+    type Fault = MissingFile;
 
     ghost comes_to = { λ work files result. IfOk result (λ text. string_bytes text ≡ sources_lines files (texts_of work.sources.now)) };
 
-    ghost missing_of = { λ fault. Some (string_bytes fault.name) };
+    ghost missing_of = { wanted_by };
 
-    fn answer(&self, alloc: Global, files: &Files) -> Result<String, Failure<Unread>> {
+    fn answer(&self, alloc: Global, files: &Files) -> Result<String, Failure<MissingFile>> {
         lines_of(alloc, files, self.sources)
     }
 
-    fn missing(fault: &Unread) -> Option<&str> {
+    fn missing(fault: &MissingFile) -> Option<&str>
+        ensures { option_map (λ name. name.now) result ≡ wanted_by fault.now }
+    {
         Some(fault.name.as_str())
     }
 }
