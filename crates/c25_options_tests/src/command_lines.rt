@@ -85,18 +85,6 @@ impl Display for Files<'_> {
     }
 }
 
-/// What is reported of faults, shown where it was asked for.
-#[derive(Clone, Copy)]
-struct Faults<'a>(&'a FaultOptions);
-
-impl Display for Faults<'_> {
-    fn fmt<W: Write>(&self, f: &mut Formatter<W>) -> fmt::Result {
-        let explain = Flag("explain", self.0.explain);
-        let all = Flag("all", self.0.all);
-        write!(f, "{explain}{all}")
-    }
-}
-
 fn show(alloc: Global, task: &Task<'_>) -> Result<String, AllocError> {
     match task {
         Task::RunStandardInput => String::from_str(alloc, "standard input"),
@@ -422,19 +410,6 @@ refused | run a --expl
 refused | dis a --explain
 refused | explain 53 --explain
 refused | --explain run a
-";
-
-const ALL: &str = "\
-asm a object=o all | asm a -o o --all
-build a b base=d explain all | build --all a --out d b --explain
-run a steps=1000 regs all | run --regs --all a
-debug a script=d explain all | debug a --explain --script d --all
-asm --all object=o | asm -o o -- --all
-refused | asm a -o o --all --all
-refused | run a --all=true
-refused | link c a -o d --all
-refused | dis a --all
-refused | explain 50 --all
 ";
 
 const REFUSED: &str = "\
