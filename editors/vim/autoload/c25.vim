@@ -1,0 +1,93 @@
+" Places of faults that are printed without a file: command:LINE, schedule:LINE, samples:LINE, script:LINE, hex:LINE, stdin:LINE,
+" link:NAME and FILE: 8 CannotRead.
+
+" The words of the commands that were run before a line of the list: those of the lines that call c25, and of 'makeprg'.
+function! s:Words(items, index) abort
+  let commands = [expandcmd(&makeprg)]
+  for item in a:items[:a:index]
+    if !item.valid && item.text =~# '\<c25\S*\s'
+      call add(commands, item.text)
+    endif
+  endfor
+  return map(split(join(commands)), {_, word -> substitute(word, '^[''"]\|[''"]$', '', 'g')})
+endfunction
+
+" The last argument of an option, of the word of a subcommand, or of '<'.
+function! s:Argument(words, names) abort
+  for index in reverse(range(len(a:words)))
+    let [name; rest] = split(a:words[index], '=', 1)
+    if index(a:names, name) >= 0
+      return empty(rest) ? get(a:words, index + 1, '') : join(rest, '=')
+    endif
+  endfor
+  return ''
+endfunction
+
+" The words before which the file of a fault without a file stands on the command line, by the number of the fault.
+function! s:Names(number) abort
+  if a:number >= 60 && a:number < 80
+    return ['--command', 'link']
+  elseif a:number >= 80 && a:number < 90
+    return ['dis']
+  endif
+  return get({90: ['--schedule'], 91: ['--samples'], 95: ['--script']}, a:number, ['<'])
+endfunction
+
+" The first line that has a name outside comments, in the command file and then in the other files of the command line.
+function! s:Naming(name, words) abort
+  let pattern = '\C\%(^\|[^0-9A-Za-z_$.]\)\V' . escape(a:name, '\') . '\m\%([^0-9A-Za-z_$]\|$\)'
+  for file in [s:Argument(a:words, ['--command', 'link'])] + a:words
+    if filereadable(file) && file !=# a:name
+      let lines = readfile(file)
+      for number in range(1, len(lines))
+        if lines[number - 1] !~# '^[*;]' && substitute(lines[number - 1], ';.*', '', '') =~# pattern
+          return {'filename': file, 'lnum': number}
+        endif
+      endfor
+    endif
+  endfor
+  return {}
+endfunction
+
+" What --explain prints in the line after the fault: its file and line; and the column, in the line after that.
+function! s:Explained(items, index) abort
+  let line = matchlist(get(a:items, a:index + 1, {'text': ''}).text, '^\(.\{-1,}\):\(\d\+\): ')
+  if empty(line) || !filereadable(line[1])
+    return {}
+  endif
+  let column = matchstr(get(a:items, a:index + 2, {'text': ''}).text, '^\V' . escape(line[1], '\') . '\m:\d\+: column \zs\d\+')
+  return extend({'filename': line[1], 'lnum': str2nr(line[2])}, empty(column) ? {} : {'col': str2nr(column)})
+endfunction
+
+function! s:Place(items, index) abort
+  let item = a:items[a:index]
+  let place = s:Explained(a:items, a:index)
+  if !empty(place)
+    return place
+  endif
+  let words = s:Words(a:items, a:index)
+  if item.module !=# ''
+    return s:Naming(item.module, words)
+  endif
+  let file = s:Argument(words, s:Names(item.nr))
+  return item.lnum && filereadable(file) ? {'filename': file} : {}
+endfunction
+
+" Gives a place to each fault of the quickfix list that has none.
+function! c25#AddPlaces() abort
+  if get(b:, 'current_compiler', '') !=# 'c25'
+    return
+  endif
+  let items = getqflist()
+  for index in range(len(items))
+    if items[index].valid && !items[index].bufnr
+      call extend(items[index], s:Place(items, index))
+    endif
+  endfor
+  for item in items
+    if has_key(item, 'filename')
+      call remove(item, 'bufnr')
+    endif
+  endfor
+  call setqflist(items, 'r')
+endfunction
