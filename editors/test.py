@@ -202,7 +202,7 @@ def colours(folder):
     found["grammar"] = [[grammar_mask(patterns, line) for line in text] for text in texts]
     for editor, masks in found.items():
         if isinstance(masks, str):
-            report(f"colours {editor}", False, masks[-2000:])
+            report(f"colours {editor}", False, masks[:600])
             continue
         for name, text, right, seen in zip(files, texts, wanted, masks):
             for number, (line, one, other) in enumerate(zip(text, right, seen), 1):
@@ -369,7 +369,7 @@ def places(folder):
         found["emacs"] = emacs_places(commands, folder)
     for editor, answers in found.items():
         if isinstance(answers, str):
-            report(f"places {editor}", False, answers[-2000:])
+            report(f"places {editor}", False, answers[:600])
             continue
         for (command, first, *more), answer in zip(CASES, answers):
             wanted = ([":".join(first.split(":")[:2])] if first else []) + (more[0] if more else [])
@@ -388,20 +388,21 @@ def places(folder):
 # The rest.
 
 def settings(folder):
-    with open(f"{folder}/new.inc", "w", encoding="utf-8") as file:
-        file.write(" NOP\n")
-    for name, command in VIMS.items():
+    for source in ("new.inc", "new.asm"):
+        with open(f"{folder}/{source}", "w", encoding="utf-8") as file:
+            file.write(" NOP\n")
+    for name, source, command in ((name, source, command) for name, command in VIMS.items() for source in ("new.inc", "new.asm")):
         if is_there(name):
             script = f"""set runtimepath^={HERE}/vim
 filetype plugin on
 syntax on
 cd {folder}
-edit new.inc
+edit {source}
 call writefile([json_encode([&filetype, &commentstring, &makeprg, b:current_compiler, b:current_syntax])], '{folder}/masks')
 qall!
 """
             found = masks_of(command, script, folder)
-            report(f"settings {name}", found == ["c25", "; %s", "c25 asm %:S --obj /dev/null --explain", "c25", "c25"], found)
+            report(f"settings {name} {source}", found == ["c25", "; %s", "c25 asm %:S --obj /dev/null --explain", "c25", "c25"], found)
     if is_there("emacs"):
         script = """(require 'json)
 (require 'imenu)

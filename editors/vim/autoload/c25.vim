@@ -79,15 +79,17 @@ function! c25#AddPlaces() abort
     return
   endif
   let items = getqflist()
+  let placed = 0
   for index in range(len(items))
-    if items[index].valid && !items[index].bufnr
-      call extend(items[index], s:Place(items, index))
+    let place = items[index].valid && !items[index].bufnr ? s:Place(items, index) : {}
+    if !empty(place)
+      call remove(items[index], 'bufnr')
+      call extend(items[index], place)
+      let placed = 1
     endif
   endfor
-  for item in items
-    if has_key(item, 'filename')
-      call remove(item, 'bufnr')
-    endif
-  endfor
-  call setqflist(items, 'r')
+  if placed
+    call setqflist([], 'r', {'items': items})
+    call setqflist([], 'r', {'idx': index(map(copy(items), 'v:val.valid'), 1) + 1})
+  endif
 endfunction

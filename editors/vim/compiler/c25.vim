@@ -17,7 +17,8 @@ else
 endif
 
 " The faults without a file of their own; those of a line; what --explain prints of how a line was reached; the faults of
-" a file; the instructions of `run --regs` and of a debugger's answers.
+" a file; the instructions of `run --regs` and of a debugger's answers. The name of a fault is a capital and small letters,
+" which a line that --explain shows is not.
 CompilerSet errorformat=
       \%Ecommand:%l:\ %n\ %m,
       \%Eschedule:%l:\ %n\ %m,
@@ -28,10 +29,12 @@ CompilerSet errorformat=
       \%Elink:%o:\ %n\ %m,
       \%Ememory:\ %n\ %m,
       \%Estdout:\ %n\ %m,
-      \%E%f:%l:\ %n\ %m,
+      \%E%f:%l:\ %n\ %\\%%(%\\u%\\l%\\)%\\@=%m,
       \%I\ \ from\ %f:%l:\ %m,
-      \%E%o:\ %n\ %m,
+      \%E%o:\ %n\ %\\%%(%\\u%\\l%\\)%\\@=%m,
       \%I%*\\x\ %.%#\ %f:%l,
+      \%D%*\\a:\ Entering\ directory\ %*[`']%f',
+      \%X%*\\a:\ Leaving\ directory\ %*[`']%f',
       \%D%*\\a[%*\\d]:\ Entering\ directory\ %*[`']%f',
       \%X%*\\a[%*\\d]:\ Leaving\ directory\ %*[`']%f'
 
