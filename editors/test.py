@@ -42,8 +42,8 @@ def report(what, is_right, detail=""):
         print(f"WRONG {what}: {detail}")
 
 
-def run(command, folder=None, text=None, seconds=120):
-    found = subprocess.run(command, cwd=folder, input=text, capture_output=True, text=True, timeout=seconds)
+def run(command, folder=None, seconds=120):
+    found = subprocess.run(command, cwd=folder, stdin=subprocess.DEVNULL, capture_output=True, text=True, errors="replace", timeout=seconds)
     return found.stdout + found.stderr
 
 
@@ -274,7 +274,7 @@ CASES = [
     ("c25 run good.asm --command entry.cmd --explain", "entry.cmd:2", [], None),
     ("c25 run copy.asm --explain", "copy.asm:2", [], None),
     ("c25 run latin.asm --explain", "latin.asm:2"),
-    ("c25 run latin.asm", None),
+    ("c25 run latin.asm", "latin.asm:1", [], None),
     ("c25 run none.asm --explain", None),
     ("c25 run good.asm good.asm", None),
     ("c25 link small.cmd good.asm --out b", None),
@@ -319,9 +319,9 @@ def emacs_places(cases, folder):
           (while (not (eobp))
             (let ((message (get-text-property (point) 'compilation-message)))
               (when (and message (not (eq message last)))
-                (let ((place (compilation--message->loc message)))
-                  (push (list (expand-file-name (caar (compilation--loc->file-struct place)) (or (cadar (compilation--loc->file-struct place)) default-directory))
-                              (compilation--loc->line place)) list)))
+                (let* ((place (compilation--message->loc message)) (file (car (compilation--loc->file-struct place))))
+                  (when (car file)
+                    (push (list (expand-file-name (car file) (or (cadr file) default-directory)) (compilation--loc->line place)) list))))
               (setq last message))
             (goto-char (next-single-property-change (point) 'compilation-message nil (point-max))))))
       (condition-case fault
@@ -329,7 +329,9 @@ def emacs_places(cases, folder):
             (with-current-buffer buffer (goto-char (point-min)))
             (setq next-error-last-buffer buffer)
             (first-error)
-            (setq at (list (buffer-file-name) (line-number-at-pos) (1+ (current-column)))))
+            (with-current-buffer (window-buffer (selected-window))
+              (goto-char (window-point (selected-window)))
+              (setq at (list (buffer-file-name) (line-number-at-pos) (1+ (current-column))))))
         (error (setq at (list (error-message-string fault) 0 0))))
       (push (list (cons 'at at) (cons 'list (vconcat (nreverse list)))) found)))
   (with-temp-file "FOLDER/masks" (insert (json-encode (vconcat (nreverse found))))))
@@ -373,7 +375,9 @@ def places(folder):
             continue
         for (command, first, *more), answer in zip(CASES, answers):
             wanted = ([":".join(first.split(":")[:2])] if first else []) + (more[0] if more else [])
-            seen = [short(folder, it) for it in answer["list"]]
+            seen = [short(folder, it) for it in answer["list"] if os.path.exists(it[0]) and os.path.basename(it[0]) != "Makefile"]
+            if editor == "emacs":
+                seen = [place for place, before in zip(seen, [None] + seen) if place != before]
             report(f"places {editor} `{command}`", seen == wanted, f"the list has {seen}, not {wanted}")
             at = short(folder, answer["at"]) + (f":{answer['at'][2]}" if first and first.count(":") == 2 else "") if os.path.isabs(answer["at"][0]) else None
             right = first or ("good.asm:1" if editor != "emacs" else None)

@@ -160,25 +160,30 @@
   (let ((where (match-string-no-properties 1)) (what (match-string-no-properties 2)))
     (save-match-data
       (save-excursion
-        (beginning-of-line)
+        (goto-char (match-beginning 0))
         (or (c25--explained)
             (let* ((words (c25--words)) (names (cdr (assoc where c25--names))) (file (and names (c25--argument words names))))
               (cond ((c25--readable file) (cons file (string-to-number what)))
                     ((not names) (c25--naming (or what where) words)))))))))
 
-(defun c25--file () "The file of a fault." (car (c25--place)))
-(defun c25--line () "The line of a fault." (cdr (c25--place)))
+(defun c25--file ()
+  "The file of a fault.  Where there is no place it is what stands for a file, and Emacs asks where that is if it is not there."
+  (or (car (c25--place)) (match-string-no-properties 1)))
+
+(defun c25--line ()
+  "The line of a fault."
+  (or (cdr (c25--place)) 1))
 
 ;; The rules cover the lines that --explain prints after a fault's line, so that each fault is one place to go to.  The last rule is
 ;; the first one that is tried.
 (dolist (rule
          `((c25-at "^[0-9A-F]\\{4\\} .* \\([^ \n]+\\):\\([0-9]+\\)$" 1 2 nil 1)
            (c25-from "^  from \\(.+?\\):\\([0-9]+\\): " 1 2 nil 0)
-           (c25-unread "^\\(.+\\): 8 CannotRead$\\(?:\n\\1:[0-9]+: .*\\)?" c25--file c25--line nil 2)
-           (c25-link "^\\(link\\):\\(.+\\): 7[0-9] [A-Z][A-Za-z]+$\\(?:\n[^ :\n]+:[0-9]+: .*\\)?" c25--file c25--line nil 2)
-           (c25 "^\\(.+?\\):\\([0-9]+\\): [0-9]+ [A-Z][A-Za-z]+$\\(?:\n\\1:\\2: .*\\)?" 1 2 nil 2)
-           (c25-named ,(concat "^\\(command\\|schedule\\|samples\\|script\\|hex\\|stdin\\):\\([0-9]+\\): [0-9]+ [A-Z][A-Za-z]+$"
-                               "\\(?:\n.+?:\\2: .*\\(?:\n.+?:\\2: \\(?:column \\([0-9]+\\): \\)?.*\\)?\\)?")
+           (c25-unread "^\\(.+\\): 8 CannotRead\\(?:\n\\1:[0-9]+: .*\\)?$" c25--file c25--line nil 2)
+           (c25-link "^\\(link\\):\\(.+\\): 7[0-9] [A-Z][A-Za-z]+\\(?:\n[^ :\n]+:[0-9]+: .*\\)?$" c25--file c25--line nil 2)
+           (c25 "^\\(.+?\\):\\([0-9]+\\): [0-9]+ [A-Z][A-Za-z]+\\(?:\n\\1:\\2: .*\\)?$" 1 2 nil 2)
+           (c25-named ,(concat "^\\(command\\|schedule\\|samples\\|script\\|hex\\|stdin\\):\\([0-9]+\\): [0-9]+ [A-Z][A-Za-z]+"
+                               "\\(?:\n.+?:\\2: .*\\(?:\n.+?:\\2: \\(?:column \\([0-9]+\\): \\)?.*\\)?\\)?$")
                       c25--file c25--line 3 2)))
   (setf (alist-get (car rule) compilation-error-regexp-alist-alist) (cdr rule))
   (setq compilation-error-regexp-alist (cons (car rule) (delq (car rule) compilation-error-regexp-alist))))

@@ -66,7 +66,9 @@ function! s:Place(items, index) abort
     return place
   endif
   let words = s:Words(a:items, a:index)
-  if item.module !=# ''
+  if item.nr == 8 && filereadable(item.module)
+    return {'filename': item.module, 'lnum': 1}
+  elseif item.module !=# ''
     return s:Naming(item.module, words)
   endif
   let file = s:Argument(words, s:Names(item.nr))
