@@ -242,6 +242,11 @@ FILES = {
     "Makefile": "all:\n\tc25 build far.asm --command octal.cmd --out far\n",
     "sub/Makefile": "all:\n\tc25 asm deep.asm --obj deep.obj --explain\n",
     "sub/deep.asm": "\n\n NOP 5\n",
+    "under/Makefile": "all:\n\tc25 run low.asm --command low.cmd\nlink:\n\tc25 run low.asm\nread:\n\tc25 run high.asm --samples low.samples --explain\n",
+    "under/low.asm": " NOP\n .ref FAR\n B FAR\n",
+    "under/high.asm": " NOP\n",
+    "under/low.cmd": "\n-o\n",
+    "under/low.samples": "0 0001\n\n0\n",
 }
 # A command, where the first fault is, the other places in the list, and where VS Code finds it if that differs: `None` is nowhere.
 SAME = "the same"
@@ -283,6 +288,9 @@ CASES = [
     ("c25 run dry.asm", None),
     ("make", "octal.cmd:2", [], None),
     ("make -C sub", "sub/deep.asm:3", [], "deep.asm:3"),
+    ("make -C under", "under/low.cmd:2", [], None),
+    ("make -C under link", "under/low.asm:2", [], None),
+    ("make -C under read", "under/low.samples:3", [], "low.samples:3"),
 ]
 
 
@@ -407,6 +415,23 @@ qall!
 """
             found = masks_of(command, script, folder)
             report(f"settings {name} {source}", found == ["c25", "; %s", "c25 asm %:S --obj /dev/null --explain", "c25", "c25"], found)
+    for name, command in VIMS.items():
+        if is_there(name):
+            script = f"""set runtimepath^={HERE}/vim
+filetype plugin on
+let g:c25make = 'build a|b.asm --out x'
+cd {folder}
+edit new.asm
+let found = [&makeprg]
+unlet g:c25make
+call writefile([''], 'Makefile')
+compiler c25
+call writefile([json_encode(found + [&makeprg])], '{folder}/masks')
+call delete('Makefile')
+qall!
+"""
+            found = masks_of(command, script, folder)
+            report(f"settings {name} g:c25make", found == ["c25 build a|b.asm --out x", "make"], found)
     if is_there("emacs"):
         script = """(require 'json)
 (require 'imenu)
@@ -466,7 +491,36 @@ def efm(folder):
         report(f"efm {text!r}", len(found) == len(wanted) and all(line == at and name in words for (line, words), (at, name) in zip(found, wanted)), found)
     server.kill()
     server.wait()
+    neovim_and_efm(folder)
     print("efm: looked at")
+
+
+def neovim_and_efm(folder):
+    """Neovim with the two files of editors/efm in a home of its own: the fault of a text as it is typed, and none once it is mended."""
+    if not (is_there("nvim") and is_there("efm-langserver")):
+        return
+    for source, target in (("efm/config.yaml", "efm-langserver/config.yaml"), ("efm/nvim.lua", "nvim/after/ftplugin/c25.lua")):
+        os.makedirs(os.path.dirname(f"{folder}/.config/{target}"), exist_ok=True)
+        shutil.copy(f"{HERE}/{source}", f"{folder}/.config/{target}")
+    shutil.copytree(f"{HERE}/vim", f"{folder}/.config/nvim", dirs_exist_ok=True)
+    with open(f"{folder}/typed.asm", "w", encoding="utf-8") as file:
+        file.write(" NOP\n LACK 256\n")
+    with open(f"{folder}/drive.lua", "w", encoding="utf-8") as file:
+        file.write(f"""vim.cmd('edit typed.asm')
+local function told() return vim.diagnostic.get(0) end
+vim.wait(20000, function() return #told() > 0 end, 20)
+local found = {{ #told(), told()[1] and told()[1].lnum, told()[1] and told()[1].message }}
+vim.api.nvim_buf_set_lines(0, 1, 2, false, {{ ' LACK 255' }})
+vim.wait(20000, function() return #told() == 0 end, 20)
+table.insert(found, #told())
+vim.fn.writefile({{ vim.fn.json_encode(found) }}, '{folder}/masks')
+vim.cmd('qall!')
+""")
+    environment = {**os.environ, "HOME": folder, "XDG_CONFIG_HOME": f"{folder}/.config"}
+    subprocess.run(["nvim", "--headless", "-n", "-i", "NONE", "-c", "luafile drive.lua"], cwd=folder, env=environment, stdin=subprocess.DEVNULL, capture_output=True, timeout=100)
+    with open(f"{folder}/masks", encoding="utf-8") as file:
+        found = json.load(file)
+    report("efm nvim", found[:2] == [1, 1] and "53 FieldRange" in found[2] and found[3] == 0, found)
 
 
 def bash(folder):

@@ -117,8 +117,14 @@
       (setq before (pop words)))
     found))
 
+(defun c25--directory ()
+  "The folder that make entered last before point, or that of this buffer."
+  (let* ((at (compilation--previous-directory (point)))
+         (found (and at (or (get-text-property (1- at) 'compilation-directory) (get-text-property at 'compilation-directory)))))
+    (if found (file-name-as-directory (expand-file-name (car found))) default-directory)))
+
 (defun c25--readable (file)
-  "FILE, if it is one that can be read, from the folder of this buffer."
+  "FILE, if it is one that can be read."
   (and file (not (equal file "")) (file-regular-p file) (file-readable-p file) file))
 
 (defun c25--line-with (name file)
@@ -161,10 +167,11 @@
     (save-match-data
       (save-excursion
         (goto-char (match-beginning 0))
-        (or (c25--explained)
-            (let* ((words (c25--words)) (names (cdr (assoc where c25--names))) (file (and names (c25--argument words names))))
-              (cond ((c25--readable file) (cons file (string-to-number what)))
-                    ((not names) (c25--naming (or what where) words)))))))))
+        (let ((default-directory (c25--directory)))
+          (or (c25--explained)
+              (let* ((words (c25--words)) (names (cdr (assoc where c25--names))) (file (and names (c25--argument words names))))
+                (cond ((c25--readable file) (cons file (string-to-number what)))
+                      ((not names) (c25--naming (or what where) words))))))))))
 
 (defun c25--file ()
   "The file of a fault.  Where there is no place it is what stands for a file, and Emacs asks where that is if it is not there."

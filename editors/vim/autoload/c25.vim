@@ -33,11 +33,23 @@ function! s:Names(number) abort
   return get({90: ['--schedule'], 91: ['--samples'], 95: ['--script']}, a:number, ['<'])
 endfunction
 
+" A file as make sees it in the folder that it entered last before a line of the list, if there is one.
+function! s:Seen(items, index, file) abort
+  let folder = ''
+  for item in a:items[:a:index]
+    let entered = matchstr(item.text, "Entering directory [`']\\zs.*\\ze'$")
+    let folder = empty(entered) ? folder : entered . '/'
+  endfor
+  return a:file =~# '^/' ? a:file : folder . a:file
+endfunction
+
 " The first line that has a name outside comments, in the command file and then in the other files of the command line.
-function! s:Naming(name, words) abort
-  let pattern = '\C\%(^\|[^0-9A-Za-z_$.]\)\V' . escape(a:name, '\') . '\m\%([^0-9A-Za-z_$]\|$\)'
-  for file in [s:Argument(a:words, ['--command', 'link'])] + a:words
-    if filereadable(file) && file !=# a:name
+function! s:Naming(items, index, words) abort
+  let name = a:items[a:index].module
+  let pattern = '\C\%(^\|[^0-9A-Za-z_$.]\)\V' . escape(name, '\') . '\m\%([^0-9A-Za-z_$]\|$\)'
+  for word in [s:Argument(a:words, ['--command', 'link'])] + a:words
+    let file = s:Seen(a:items, a:index, word)
+    if filereadable(file) && word !=# name
       let lines = readfile(file)
       for number in range(1, len(lines))
         if lines[number - 1] !~# '^[*;]' && substitute(lines[number - 1], ';.*', '', '') =~# pattern
@@ -52,11 +64,12 @@ endfunction
 " What --explain prints in the line after the fault: its file and line; and the column, in the line after that.
 function! s:Explained(items, index) abort
   let line = matchlist(get(a:items, a:index + 1, {'text': ''}).text, '^\(.\{-1,}\):\(\d\+\): ')
-  if empty(line) || !filereadable(line[1])
+  if empty(line) || !filereadable(s:Seen(a:items, a:index, line[1]))
     return {}
   endif
   let column = matchstr(get(a:items, a:index + 2, {'text': ''}).text, '^\V' . escape(line[1], '\') . '\m:\d\+: column \zs\d\+')
-  return extend({'filename': line[1], 'lnum': str2nr(line[2])}, empty(column) ? {} : {'col': str2nr(column)})
+  let place = {'filename': s:Seen(a:items, a:index, line[1]), 'lnum': str2nr(line[2])}
+  return extend(place, empty(column) ? {} : {'col': str2nr(column)})
 endfunction
 
 function! s:Place(items, index) abort
@@ -66,12 +79,12 @@ function! s:Place(items, index) abort
     return place
   endif
   let words = s:Words(a:items, a:index)
-  if item.nr == 8 && filereadable(item.module)
-    return {'filename': item.module, 'lnum': 1}
+  let file = s:Seen(a:items, a:index, item.module !=# '' ? item.module : s:Argument(words, s:Names(item.nr)))
+  if item.nr == 8 && filereadable(file)
+    return {'filename': file, 'lnum': 1}
   elseif item.module !=# ''
-    return s:Naming(item.module, words)
+    return s:Naming(a:items, a:index, words)
   endif
-  let file = s:Argument(words, s:Names(item.nr))
   return item.lnum && filereadable(file) ? {'filename': file} : {}
 endfunction
 

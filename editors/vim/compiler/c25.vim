@@ -1,5 +1,5 @@
-" :make for c25. It runs make where there is a Makefile, what g:c25_make says where that is set, as
-" let g:c25_make = 'build main.asm fir.asm --command fir.cmd --out fir --explain', and else assembles this file alone.
+" :make for c25. It runs make where there is a Makefile, what g:c25make says where that is set, as
+" let g:c25make = 'build main.asm fir.asm --command fir.cmd --out fir --explain', and else assembles this file alone.
 if exists('current_compiler')
   finish
 endif
@@ -8,8 +8,8 @@ let current_compiler = 'c25'
 let s:cpo_save = &cpo
 set cpo&vim
 
-if exists('g:c25_make')
-  execute 'CompilerSet makeprg=' . escape('c25 ' . g:c25_make, ' |"\')
+if exists('g:c25make')
+  execute 'CompilerSet makeprg=' . escape('c25 ' . g:c25make, ' |"\')
 elseif filereadable('Makefile') || filereadable('makefile')
   CompilerSet makeprg=make
 else

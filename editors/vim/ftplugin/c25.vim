@@ -6,7 +6,6 @@ let b:did_ftplugin = 1
 
 setlocal comments=:;,:* commentstring=;\ %s
 setlocal iskeyword=@,48-57,_,$
-setlocal omnifunc=syntaxcomplete#Complete
 compiler c25
 
-let b:undo_ftplugin = 'setlocal comments< commentstring< iskeyword< omnifunc< makeprg< errorformat<'
+let b:undo_ftplugin = 'setlocal comments< commentstring< iskeyword< makeprg< errorformat<'
