@@ -384,8 +384,6 @@ def places(folder):
         for (command, first, *more), answer in zip(CASES, answers):
             wanted = ([":".join(first.split(":")[:2])] if first else []) + (more[0] if more else [])
             seen = [short(folder, it) for it in answer["list"] if os.path.exists(it[0]) and os.path.basename(it[0]) != "Makefile"]
-            if editor == "emacs":
-                seen = [place for place, before in zip(seen, [None] + seen) if place != before]
             report(f"places {editor} `{command}`", seen == wanted, f"the list has {seen}, not {wanted}")
             at = short(folder, answer["at"]) + (f":{answer['at'][2]}" if first and first.count(":") == 2 else "") if os.path.isabs(answer["at"][0]) else None
             right = first or ("good.asm:1" if editor != "emacs" else None)

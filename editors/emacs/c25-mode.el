@@ -150,12 +150,15 @@
         (let ((line (c25--line-with name file)))
           (when line (setq place (cons file line))))))))
 
-(defun c25--explained ()
-  "The file and line that --explain prints in the line after the fault."
+(defun c25--explained (where what)
+  "The file and line that --explain prints in the line after the fault, which may also be one of make.
+So the line is WHAT or the file is WHERE, as the fault has them, or the fault is 75, which has neither."
   (save-excursion
-    (forward-line 1)
-    (when (and (looking-at "\\(.+?\\):\\([0-9]+\\): ") (c25--readable (match-string-no-properties 1)))
-      (cons (match-string-no-properties 1) (string-to-number (match-string 2))))))
+    (let ((is-field (looking-at-p "link:.*: 75 ")))
+      (forward-line 1)
+      (when (and (looking-at "\\(.+?\\):\\([0-9]+\\): ") (c25--readable (match-string-no-properties 1))
+                 (or is-field (equal (match-string-no-properties 2) what) (equal (match-string-no-properties 1) where)))
+        (cons (match-string-no-properties 1) (string-to-number (match-string 2)))))))
 
 (defconst c25--names
   '(("command" "--command" "link") ("schedule" "--schedule") ("samples" "--samples") ("script" "--script") ("hex" "dis") ("stdin" "<"))
@@ -168,7 +171,7 @@
       (save-excursion
         (goto-char (match-beginning 0))
         (let ((default-directory (c25--directory)))
-          (or (c25--explained)
+          (or (c25--explained where what)
               (let* ((words (c25--words)) (names (cdr (assoc where c25--names))) (file (and names (c25--argument words names))))
                 (cond ((c25--readable file) (cons file (string-to-number what)))
                       ((not names) (c25--naming (or what where) words))))))))))
@@ -180,6 +183,18 @@
 (defun c25--line ()
   "The line of a fault."
   (or (cdr (c25--place)) 1))
+
+(defun c25--parse-again (buffer _status)
+  "Read the output of BUFFER anew at its end: what --explain prints may have come after the fault was read."
+  (with-current-buffer buffer
+    (save-excursion
+      (goto-char (point-min))
+      (when (re-search-forward "\\<c25\\>" nil t)
+        (setq compilation-num-errors-found 0 compilation-num-warnings-found 0 compilation-num-infos-found 0)
+        (compilation--flush-parse (point-min) (point-max))
+        (compilation--ensure-parse (point-max))))))
+
+(add-hook 'compilation-finish-functions #'c25--parse-again)
 
 ;; The rules cover the lines that --explain prints after a fault's line, so that each fault is one place to go to.  The last rule is
 ;; the first one that is tried.
