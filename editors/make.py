@@ -101,6 +101,8 @@ class Body:
     def __init__(self, program, text, names):
         self.program, self.names, self.at = program, dict(names), 0
         self.tokens = [it for it in TOKEN.findall(text) if it.strip() and not it.startswith("//")]
+        if TOKEN.sub("", text):
+            sys.exit(f"c25_options/src: this script does not read `{TOKEN.sub('', text)[:200]}` in {text[:200]}")
 
     def next(self, wanted=None):
         token = self.tokens[self.at] if self.at < len(self.tokens) else ""

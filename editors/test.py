@@ -248,8 +248,7 @@ FILES = {
     "under/low.cmd": "\n-o\n",
     "under/low.samples": "0 0001\n\n0\n",
 }
-# A command, where the first fault is, the other places in the list, and where VS Code finds it if that differs: `None` is nowhere.
-SAME = "the same"
+# A command, where the first fault is, the other places in the list, and where VS Code finds it if that differs (`None`: nowhere).
 CASES = [
     ("c25 asm a.asm --obj /dev/null", "a.asm:2"),
     ("c25 asm a.asm --obj /dev/null --explain", "a.asm:2"),
@@ -364,7 +363,7 @@ def matched(output):
 
 def short(folder, place):
     """A place as a case has it, or `None` where there is none."""
-    name, line, *column = place
+    name, line = place[:2]
     return f"{os.path.relpath(name, folder)}:{line}" if os.path.isabs(name) else None
 
 
@@ -505,12 +504,12 @@ def neovim_and_efm(folder):
         file.write(" NOP\n LACK 256\n")
     with open(f"{folder}/drive.lua", "w", encoding="utf-8") as file:
         file.write(f"""vim.cmd('edit typed.asm')
-local function told() return vim.diagnostic.get(0) end
-vim.wait(20000, function() return #told() > 0 end, 20)
-local found = {{ #told(), told()[1] and told()[1].lnum, told()[1] and told()[1].message }}
+local function faults() return vim.diagnostic.get(0) end
+vim.wait(20000, function() return #faults() > 0 end, 20)
+local found = {{ #faults(), faults()[1] and faults()[1].lnum, faults()[1] and faults()[1].message }}
 vim.api.nvim_buf_set_lines(0, 1, 2, false, {{ ' LACK 255' }})
-vim.wait(20000, function() return #told() == 0 end, 20)
-table.insert(found, #told())
+vim.wait(20000, function() return #faults() == 0 end, 20)
+table.insert(found, #faults())
 vim.fn.writefile({{ vim.fn.json_encode(found) }}, '{folder}/masks')
 vim.cmd('qall!')
 """)
@@ -524,11 +523,12 @@ vim.cmd('qall!')
 def bash(folder):
     with open(f"{folder}/one.asm", "w", encoding="utf-8") as file:
         file.write(" NOP\n")
-    cases = [("c25 ", {"asm", "build", "debug", "dis", "explain", "link", "run"}), ("c25 d", {"debug", "dis"}), ("c25 --v", {"--version"}),
-             ("c25 run --s", {"--steps", "--samples", "--schedule"}), ("c25 run one", {"one.asm"}), ("c25 run one.asm --steps ", set()), ("c25 explain 5", {"50", "51", "52", "53", "54", "55", "56"}),
-             ("c25 run one.asm --command on", {"one.asm"}), ("c25 run one.asm --command = on", {"one.asm"}), ("c25 asm --", {"--obj", "--list", "--explain", "--help"})]
-    if make.command_line().get("version") != "1.6.0":
-        cases = [it for it in cases if it[0] not in ("c25 ", "c25 asm --")]
+    program = make.command_line()
+    names = {it.name for it in program.subcommand}
+    options = {it.name: {name for names, _, _ in make.options(it) for name in names if name.startswith("--")} | {"--help"} for it in program.subcommand}
+    cases = [("c25 ", names), ("c25 d", {it for it in names if it.startswith("d")}), ("c25 --v", {"--version"}), ("c25 run --s", {it for it in options["run"] if it.startswith("--s")}),
+             ("c25 run one", {"one.asm"}), ("c25 run one.asm --steps ", set()), ("c25 explain 5", {it for it in make.fault_numbers() if it.startswith("5")}),
+             ("c25 run one.asm --command on", {"one.asm"}), ("c25 run one.asm --command = on", {"one.asm"}), ("c25 asm --", options["asm"])]
     for line, wanted in cases:
         words = line.split() + [""] * line.endswith(" ")
         script = f"source {shlex.quote(HERE)}/bash/c25; COMP_WORDS=({' '.join(map(shlex.quote, words))}); COMP_CWORD={len(words) - 1}; _c25; printf '%s\\n' \"${{COMPREPLY[@]}}\""

@@ -60,7 +60,7 @@
      . font-lock-type-face)
     ("\\_<\\(?:[0-9]+\\|[0-9][0-9A-Fa-f]*[Hh]\\|[0-7]+[Qq]\\|[01]+[Bb]\\)\\_>" . font-lock-constant-face)
     (":[A-Za-z_][0-9A-Za-z_$]*:" . 'c25-substitution))
-  "What is coloured besides comments and strings.")
+  "What is coloured in addition to comments and strings.")
 
 (defconst c25-syntax-propertize
   (syntax-propertize-rules
