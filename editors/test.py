@@ -428,6 +428,18 @@ call delete('Makefile')
 qall!
 """
             found = masks_of(command, script, folder)
+            script = f"""set runtimepath^={HERE}/vim
+filetype plugin on
+let g:c25make = 'build new.asm --command new.cmd --out x'
+compiler! c25
+cd {folder}
+call writefile(['', '-o'], 'new.cmd')
+edit new.txt
+silent make
+call writefile([json_encode([expand('%'), line('.')])], '{folder}/masks')
+qall!
+"""
+            report(f"settings {name} compiler!", masks_of(command, script, folder) == ["new.cmd", 2], "another place")
             report(f"settings {name} g:c25make", found == ["c25 build a|b.asm --out x", "make"], found)
     if is_there("emacs"):
         script = """(require 'json)

@@ -93,7 +93,7 @@ endfunction
 
 " Gives a place to each fault of the quickfix list that has none.
 function! c25#AddPlaces() abort
-  if get(b:, 'current_compiler', '') !=# 'c25'
+  if get(b:, 'current_compiler', get(g:, 'current_compiler', '')) !=# 'c25'
     return
   endif
   let items = getqflist()
