@@ -2,3 +2,4 @@ pub mod NoteTexts
 pub mod Misfitted
 pub mod Noted
 pub mod Openings
+pub mod ShownFaults

@@ -90,7 +90,8 @@ fn push_faults(
     ensures { OnOk result (string_bytes text.new ≡ string_bytes text.old ++ source_lines name.now (map fault_of faults.now)) }
 {
     if faults.len() > MOST {
-        push_lines(alloc, text, &faults[..MOST])?;
+        let (shown, _) = faults.split_at(MOST);
+        push_lines(alloc, text, shown)?;
         push_more(alloc, text, name)
     } else {
         push_lines(alloc, text, faults)

@@ -268,7 +268,7 @@ fn other_faults<D: Disk>(
 
 /// A text with another one after it; empty where memory runs out.
 fn joined(alloc: Global, first: String, second: &str) -> String
-    ensures { (string_bytes result ≡ string_bytes first.entry ++ second.now) ⊎ (string_bytes result ≡ []) }
+    ensures { (string_bytes result ≡ string_bytes first ++ second.now) ⊎ (string_bytes result ≡ []) }
 {
     let mut text = first;
     match text.push_str(second) {
