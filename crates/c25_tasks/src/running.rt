@@ -35,13 +35,14 @@ fn answer<D: Disk>(alloc: Global, disk: &D, named: RunNames<'_>) -> Result<Ready
         names,
         beside,
     } = inputs;
+    let texts = RunTexts {
+        command: beside.command.as_str(),
+        samples: beside.samples.as_str(),
+        schedule: beside.schedule.as_str(),
+    };
     let work = Run {
         sources: names.as_slice(),
-        texts: RunTexts {
-            command: beside.command.as_str(),
-            samples: beside.samples.as_str(),
-            schedule: beside.schedule.as_str(),
-        },
+        texts,
     };
     work_over(alloc, disk, files, &work)
 }
