@@ -1,0 +1,223 @@
+"""Turns a WebAssembly module whose memory has 64-bit addresses into one of 32-bit addresses, which every engine takes.
+
+Pointers stay 64 bits wide in the program; each address is cut to 32 bits where memory or the table is reached. An address
+of 2^32 or more, at which the first module stops, is another one in the second: it is for modules that reach no such address.
+An instruction or a section that is not known here is refused.
+"""
+
+I32, I64, F32, F64 = 0x7F, 0x7E, 0x7D, 0x7C
+WRAP, EXTEND_SIGNED, EXTEND_UNSIGNED, SET, GET = b"\xA7", b"\xAC", b"\xAD", b"\x21", b"\x20"
+# The type of what each store puts into memory.
+STORES = {0x36: I32, 0x37: I64, 0x38: F32, 0x39: F64, 0x3A: I32, 0x3B: I32, 0x3C: I64, 0x3D: I64, 0x3E: I64}
+# How many numbers stand after an opcode: blocks, branches, calls, locals, globals, constants.
+NUMBERS_AFTER = dict.fromkeys((0x02, 0x03, 0x04, 0x0C, 0x0D, 0x10, 0x20, 0x21, 0x22, 0x23, 0x24, 0x41, 0x42, 0xD2), 1)
+BRANCH_TABLE, CALL_INDIRECT, SELECT, MEMORY_SIZE, MEMORY_GROW, CONST_F32, CONST_F64, PREFIX = 0x0E, 0x11, 0x1C, 0x3F, 0x40, 0x43, 0x44, 0xFC
+MEMORY_COPY, MEMORY_FILL, LAST_CONVERSION = 10, 11, 7
+UNKNOWN = (0x06, 0x12, 0x13, 0x1F, 0x25, 0x26, 0xFD, 0xFE)
+
+
+class Unknown(Exception):
+    """Something in a module that cannot be turned."""
+
+
+def number(value):
+    """A whole number as WebAssembly writes it (LEB128)."""
+    out = bytearray()
+    while value > 127:
+        out.append(value & 127 | 128)
+        value >>= 7
+    out.append(value)
+    return bytes(out)
+
+
+class Reader:
+    def __init__(self, data, at=0):
+        self.data, self.at = data, at
+
+    def more(self):
+        return self.at < len(self.data)
+
+    def byte(self):
+        self.at += 1
+        return self.data[self.at - 1]
+
+    def number(self):
+        value = shift = 0
+        while True:
+            byte = self.byte()
+            value |= (byte & 127) << shift
+            shift += 7
+            if byte < 128:
+                return value
+
+    def skip_number(self):
+        while self.byte() > 127:
+            pass
+
+    def bytes(self, count):
+        self.at += count
+        return self.data[self.at - count:self.at]
+
+    def vector(self, read):
+        return [read() for _ in range(self.number())]
+
+
+class Body:
+    """A function's body: its instructions are copied, with others before and after those that reach memory."""
+
+    def __init__(self, data, parameters):
+        self.reader, self.out, self.copied = Reader(data), bytearray(), 0
+        self.groups = self.reader.vector(lambda: (self.reader.number(), self.reader.byte()))
+        self.first_new = parameters + sum(count for count, _ in self.groups)
+        self.new = {}
+
+    def local(self, kind, which=0):
+        """The number of a new local of this type."""
+        return number(self.new.setdefault((kind, which), self.first_new + len(self.new)))
+
+    def copy(self, end):
+        self.out += self.reader.data[self.copied:end]
+        self.copied = end
+
+    def put_before(self, start, *parts):
+        self.copy(start)
+        self.out += b"".join(parts)
+
+    def put_after(self, *parts):
+        self.copy(self.reader.at)
+        self.out += b"".join(parts)
+
+    def access(self, start, opcode):
+        align, offset = self.reader.number(), self.reader.number()
+        if align > 63 or offset >= 1 << 32:
+            raise Unknown("an offset of %d bytes" % offset)
+        if opcode in STORES:
+            value = self.local(STORES[opcode])
+            self.put_before(start, SET, value, WRAP, GET, value)
+        else:
+            self.put_before(start, WRAP)
+
+    def prefixed(self, start):
+        opcode = self.reader.number()
+        if opcode == MEMORY_COPY:
+            self.reader.bytes(2)
+            count, source = self.local(I64), self.local(I64, 1)
+            self.put_before(start, SET, count, SET, source, WRAP, GET, source, WRAP, GET, count, WRAP)
+        elif opcode == MEMORY_FILL:
+            self.reader.bytes(1)
+            count, value = self.local(I64), self.local(I32)
+            self.put_before(start, SET, count, SET, value, WRAP, GET, value, GET, count, WRAP)
+        elif opcode > LAST_CONVERSION:
+            raise Unknown("the instruction FC %d" % opcode)
+
+    def instruction(self):
+        reader = self.reader
+        start, opcode = reader.at, reader.byte()
+        if opcode in NUMBERS_AFTER:
+            reader.skip_number()
+        elif 0x28 <= opcode <= 0x3E:
+            self.access(start, opcode)
+        elif opcode == BRANCH_TABLE:
+            for _ in range(reader.number() + 1):
+                reader.skip_number()
+        elif opcode == CALL_INDIRECT:
+            reader.skip_number()
+            reader.skip_number()
+            self.put_before(start, WRAP)
+        elif opcode == SELECT:
+            reader.vector(reader.byte)
+        elif opcode == MEMORY_SIZE:
+            reader.byte()
+            self.put_after(EXTEND_UNSIGNED)
+        elif opcode == MEMORY_GROW:
+            reader.byte()
+            self.put_before(start, WRAP)
+            self.put_after(EXTEND_SIGNED)
+        elif opcode in (CONST_F32, CONST_F64):
+            reader.bytes(4 if opcode == CONST_F32 else 8)
+        elif opcode == PREFIX:
+            self.prefixed(start)
+        elif opcode in UNKNOWN:
+            raise Unknown("the instruction %02X" % opcode)
+
+    def lowered(self):
+        self.copied = self.reader.at
+        while self.reader.more():
+            self.instruction()
+        self.copy(self.reader.at)
+        groups = self.groups + [(1, kind) for kind, _ in self.new]
+        return number(len(groups)) + b"".join(number(count) + bytes([kind]) for count, kind in groups) + bytes(self.out)
+
+
+def vector(items):
+    return number(len(items)) + b"".join(items)
+
+
+def limits(reader):
+    """The limits of a memory or table, without the flag of 64-bit addresses."""
+    flags, least = reader.byte(), reader.number()
+    most = number(reader.number()) if flags & 1 else b""
+    return bytes([flags & ~4]) + number(least) + most
+
+
+def table(reader):
+    return bytes([reader.byte()]) + limits(reader)
+
+
+def place(reader):
+    """The place of a segment, `i64.const N; end`, with 32 bits."""
+    if reader.number() != 0:
+        raise Unknown("a segment of another kind")
+    if reader.byte() not in (0x41, 0x42):
+        raise Unknown("a place that is no constant")
+    start = reader.at
+    reader.skip_number()
+    value = reader.data[start:reader.at]
+    if reader.byte() != 0x0B:
+        raise Unknown("a place that is no constant")
+    return b"\x00\x41" + value + b"\x0B"
+
+
+def element(reader):
+    return place(reader) + vector(reader.vector(lambda: number(reader.number())))
+
+
+def data(reader):
+    at, size = place(reader), reader.number()
+    return at + number(size) + reader.bytes(size)
+
+
+def parameters(reader):
+    """How many parameters a type of functions has."""
+    if reader.byte() != 0x60:
+        raise Unknown("a type that is no function's")
+    count = reader.number()
+    reader.bytes(count)
+    reader.bytes(reader.number())
+    return count
+
+
+SECTIONS = {4: table, 5: limits, 9: element, 11: data}
+
+
+def lowered(module):
+    """The module with a memory of 32-bit addresses."""
+    reader, out, counts, types = Reader(module, 8), bytearray(module[:8]), [], []
+    while reader.more():
+        kind = reader.byte()
+        content = reader.bytes(reader.number())
+        section = Reader(content)
+        if kind == 0:
+            continue
+        if kind == 1:
+            counts = section.vector(lambda: parameters(section))
+        elif kind == 3:
+            types = section.vector(section.number)
+        elif kind == 10:
+            bodies = section.vector(lambda: section.bytes(section.number()))
+            made = [Body(body, counts[types[at]]).lowered() for at, body in enumerate(bodies)]
+            content = vector([number(len(body)) + body for body in made])
+        elif kind in SECTIONS:
+            content = vector(section.vector(lambda: SECTIONS[kind](section)))
+        out += bytes([kind]) + number(len(content)) + content
+    return bytes(out)

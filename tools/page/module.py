@@ -1,0 +1,88 @@
+"""Keeps the module that `rt` hands to clang when it builds a program crate, and holds it against the program's object.
+
+`rt` removes the module when clang has read it, so it is linked under another name while `rt` runs.
+"""
+import os
+import subprocess
+import time
+
+BITCODE = b"BC\xc0\xde"
+MODULE, OBJECT = "module.bc", "module.o"
+# What `rt` has clang do with the module of a proved program.
+FOR_CLANG = ["-no-trap-after-noreturn", "-trap-unreachable", "-no-x86-call-frame-opt", "-disable-machine-licm",
+             "-disable-postra-machine-licm", "-sink-common-insts=false"]
+AS_RT = (["--target=x86_64-unknown-linux-gnu", "-march=x86-64"] + [word for flag in FOR_CLANG for word in ("-mllvm", flag)]
+         + ["-ffunction-sections", "-fdata-sections", "--no-default-config", "-no-canonical-prefixes", "-fintegrated-cc1",
+            "-fno-crash-diagnostics", "-Werror", "-c", "-x", "ir", MODULE, "-o", OBJECT, "-fPIE", "-O3", "-Xclang",
+            "-fmerge-functions", "-mllvm", "-mergefunc-use-aliases"])
+
+
+class Failed(Exception):
+    """Why there is no module."""
+
+
+def bytes_of(path):
+    with open(path, "rb") as file:
+        return file.read()
+
+
+def link_modules(made, kept):
+    """Links each module below the folder `made` into the folder `kept`."""
+    for folder, _, files in os.walk(made):
+        if MODULE in files:
+            path = os.path.join(folder, MODULE)
+            try:
+                os.link(path, os.path.join(kept, "%d.bc" % os.stat(path).st_ino))
+            except OSError:
+                pass        # it is kept already, or gone meanwhile
+
+
+def run_keeping(words, crate, folder):
+    """Runs `rt` in the crate's folder, and returns the module that it made, or None, and what it printed."""
+    made, kept = os.path.join(folder, "made"), os.path.join(folder, "kept")
+    os.makedirs(made)
+    os.makedirs(kept)
+    with open(os.path.join(folder, "printed"), "w+", encoding="utf-8", errors="replace") as printed:
+        running = subprocess.Popen(words, cwd=crate, env={**os.environ, "TMPDIR": made}, stdin=subprocess.DEVNULL,
+                                   stdout=printed, stderr=printed)
+        while running.poll() is None:
+            link_modules(made, kept)
+            time.sleep(0.003)
+        printed.seek(0)
+        text = printed.read()
+    modules = [os.path.join(kept, name) for name in os.listdir(kept)]
+    modules = [path for path in modules if bytes_of(path)[:4] == BITCODE]
+    return max(modules, key=os.path.getsize, default=None), text
+
+
+def unproved(crate, folder):
+    """The module of `rt try`, with its checks; nothing of it is proved."""
+    module, text = run_keeping(["rt", "try", "--steps", "1"], crate, folder)
+    if module is None:
+        raise Failed(text + "`rt try` made no module")
+    return module
+
+
+def built_again(crate, folder):
+    """Has `rt run` build the crate's program again, which proves it first where that is not done yet."""
+    program = os.path.join(crate, "out", os.path.basename(crate))
+    aside = program + ".aside"
+    if os.path.exists(program):
+        os.replace(program, aside)
+    module, text = run_keeping(["rt", "run"], crate, folder)
+    if os.path.exists(aside):
+        if os.path.exists(program):
+            os.remove(aside)
+        else:
+            os.replace(aside, program)
+    verdicts = [line for line in text.splitlines() if line.startswith("logic=proved")]
+    if module is None or not verdicts:
+        raise Failed(text + "`rt run` made no proved program")
+    return module, verdicts[-1]
+
+
+def same_object(module, crate, folder, toolchain):
+    """Whether clang makes the program's own object of the module, byte for byte."""
+    os.link(module, os.path.join(folder, MODULE))
+    subprocess.run([toolchain + "/bin/clang", "--sysroot=" + toolchain] + AS_RT, cwd=folder, check=True)
+    return bytes_of(os.path.join(folder, OBJECT)) == bytes_of(os.path.join(crate, "out", os.path.basename(crate) + ".o"))
