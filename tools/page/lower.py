@@ -160,6 +160,11 @@ def limits(reader):
     return bytes([flags & ~4]) + number(least) + most
 
 
+def memory(reader, most_pages):
+    made = limits(reader)
+    return made if most_pages is None else b"\x01" + number(Reader(made, 1).number()) + number(most_pages)
+
+
 def table(reader):
     return bytes([reader.byte()]) + limits(reader)
 
@@ -197,11 +202,11 @@ def parameters(reader):
     return count
 
 
-SECTIONS = {4: table, 5: limits, 9: element, 11: data}
+SECTIONS = {4: table, 9: element, 11: data}
 
 
-def lowered(module):
-    """The module with a memory of 32-bit addresses."""
+def lowered(module, most_pages=None):
+    """The module with a memory of 32-bit addresses; it has at most so many pages, if that is said."""
     reader, out, counts, types = Reader(module, 8), bytearray(module[:8]), [], []
     while reader.more():
         kind = reader.byte()
@@ -217,6 +222,8 @@ def lowered(module):
             bodies = section.vector(lambda: section.bytes(section.number()))
             made = [Body(body, counts[types[at]]).lowered() for at, body in enumerate(bodies)]
             content = vector([number(len(body)) + body for body in made])
+        elif kind == 5:
+            content = vector(section.vector(lambda: memory(section, most_pages)))
         elif kind in SECTIONS:
             content = vector(section.vector(lambda: SECTIONS[kind](section)))
         out += bytes([kind]) + number(len(content)) + content

@@ -1,0 +1,165 @@
+#!/usr/bin/env python3
+"""Runs the larger programs of examples/ and the gate's packed cases by node in the modules that tools/page.py made.
+
+    python3 tools/page/test_node.py [MODULE..]      (without modules: tools/out/c25-32.wasm and tools/out/c25-64.wasm)
+
+Status, standard output, standard error and written files have to be those of the cases. Of the module of 64-bit addresses it says
+where this node cannot run it.
+"""
+import base64
+import glob
+import json
+import os
+import shlex
+import shutil
+import subprocess
+import sys
+import tempfile
+
+HERE = os.path.dirname(os.path.abspath(__file__))
+TOP = os.path.dirname(os.path.dirname(HERE))
+DATA = os.path.join(TOP, "crates", "c25_examples", "data")
+sys.path.insert(0, HERE)
+sys.dont_write_bytecode = True
+import lower  # noqa: E402
+
+SMALL_MEMORY = 512      # pages of 64 KiB
+MANY_LABELS = 60000
+
+
+class Case:
+    """A call, and what it must give; what is None may be anything."""
+
+    def __init__(self, name):
+        self.name, self.words, self.given, self.files = name, [], b"", {}
+        self.status, self.output, self.errors, self.written = 0, b"", None, {}
+
+    def sent(self):
+        return json.dumps({"words": self.words, "given": coded(self.given), "files": {name: coded(it) for name, it in self.files.items()}})
+
+    def difference(self, answer):
+        if "trap" in answer:
+            return "trap: " + answer["trap"]
+        wanted = {"status": self.status, "output": coded(self.output), "errors": self.errors and coded(self.errors)}
+        for key, value in wanted.items():
+            if value is not None and answer[key] != value:
+                return "another %s: %r" % (key, answer[key] if key == "status" else base64.b64decode(answer[key])[:200])
+        return next(("another file " + name for name, it in self.written.items() if answer["written"].get(name) != coded(it)), None)
+
+
+def coded(data):
+    return base64.b64encode(data).decode("ascii")
+
+
+def bytes_of(*path):
+    with open(os.path.join(*path), "rb") as file:
+        return file.read()
+
+
+def larger_programs():
+    for session in sorted(glob.glob(os.path.join(TOP, "examples", "*", "session"))):
+        folder = os.path.dirname(session)
+        case = Case("examples/" + os.path.basename(folder))
+        case.words = shlex.split(bytes_of(session).decode().splitlines()[0])[1:]
+        case.files = {word: bytes_of(folder, word) for word in case.words if os.path.isfile(os.path.join(folder, word))}
+        case.output, case.status = bytes_of(folder, "output.txt"), None
+        yield case
+
+
+def packed(path):
+    """The cases of a file; crates/c25_examples/src/packed.rt describes its form."""
+    rest, cases = bytes_of(path), []
+    while rest:
+        line, _, rest = rest.partition(b"\n")
+        kind, _, more = line.decode().partition(" ")
+        if kind == "case":
+            cases.append(Case("%s: %s" % (os.path.basename(path), more)))
+        elif kind == "word":
+            cases[-1].words.append(more)
+        elif kind == "status":
+            cases[-1].status = int(more)
+        else:
+            length, _, name = more.partition(" ")
+            size, _, copies = length.partition("*")
+            content, rest = rest[:int(size)] * int(copies or 1), rest[int(size) + 1:]
+            put(cases[-1], kind, name, content)
+    return cases
+
+
+def put(case, kind, name, content):
+    if kind == "input":
+        case.given += content
+    elif kind == "output":
+        case.output += content
+    elif kind == "errors":
+        case.errors = (case.errors or b"") + content
+    else:
+        files = case.files if kind == "given" else case.written
+        files[name] = files.get(name, b"") + content
+
+
+def all_cases():
+    found = list(larger_programs())
+    for pattern in ("*.cases", os.path.join("cases", "*.cases"), os.path.join("random", "*.cases")):
+        for path in sorted(glob.glob(os.path.join(DATA, pattern))):
+            found += packed(path)
+    return found
+
+
+def out_of_memory():
+    """A source that 32 MiB do not suffice for."""
+    case = Case("out of memory")
+    case.words, case.files = ["build", "a.asm", "--out", "a"], {"a.asm": "".join("L%d NOP\n" % i for i in range(MANY_LABELS)).encode()}
+    case.status, case.errors = 1, b"memory: 9 NoMemory\n"
+    return case
+
+
+def answers(node, module, cases):
+    """What the module answers to the cases, or None where this node cannot run it."""
+    words = [node] + (["--experimental-wasm-memory64"] if "-64" in os.path.basename(module) else [])
+    sent = "".join(case.sent() + "\n" for case in cases)
+    done = subprocess.run(words + [os.path.join(HERE, "run_cases.js"), module], input=sent, stdout=subprocess.PIPE, stderr=subprocess.PIPE,
+                          universal_newlines=True)
+    if "CompileError" in done.stderr or "bad option" in done.stderr:
+        return None
+    if done.returncode:
+        sys.exit(done.stderr)
+    return [json.loads(line) for line in done.stdout.splitlines()]
+
+
+def differences(node, module, cases):
+    got = answers(node, module, cases)
+    if got is None:
+        print("%s: this node cannot run it" % os.path.basename(module))
+        return 0
+    bad = [(case.name, case.difference(answer)) for case, answer in zip(cases, got) if case.difference(answer)]
+    for name, difference in bad:
+        print("%s: %s: %s" % (os.path.basename(module), name, difference))
+    print("%s: %d cases the same, %d others" % (os.path.basename(module), len(cases) - len(bad), len(bad)))
+    return len(bad)
+
+
+def in_small_memory(node, module):
+    with tempfile.TemporaryDirectory() as folder:
+        small = os.path.join(folder, "small-32.wasm")
+        with open(small, "wb") as file:
+            file.write(lower.lowered(bytes_of(module), SMALL_MEMORY))
+        return differences(node, small, [out_of_memory()])
+
+
+def main(modules):
+    node = shutil.which("node") or shutil.which("nodejs")
+    if node is None:
+        print("test_node.py: node is not installed: nothing was tested")
+        return 0
+    wide = os.path.join(TOP, "tools", "out", "c25-64.wasm")
+    modules = modules or [os.path.join(TOP, "tools", "out", "c25-32.wasm"), wide]
+    cases = all_cases()
+    bad = sum(differences(node, module, cases) for module in modules)
+    if wide in modules:
+        bad += in_small_memory(node, wide)
+    return 1 if bad else 0
+
+
+if __name__ == "__main__":
+    sys.exit(main(sys.argv[1:]))
