@@ -91,11 +91,13 @@ class Body:
         align, offset = self.reader.number(), self.reader.number()
         if align > 63 or offset >= 1 << 32:
             raise Unknown("an offset of %d bytes" % offset)
+        cut = WRAP
         if opcode in STORES:
             value = self.local(STORES[opcode])
-            self.put_before(start, SET, value, WRAP, GET, value)
-        else:
-            self.put_before(start, WRAP)
+            cut = SET + value + WRAP + GET + value
+        # (the offset is written anew, since the linker gave it the room of 64 bits)
+        self.put_before(start, cut, bytes([opcode, align]), number(offset))
+        self.copied = self.reader.at
 
     def prefixed(self, start):
         opcode = self.reader.number()
