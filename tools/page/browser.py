@@ -26,7 +26,7 @@ class Browser:
         self.folder = tempfile.mkdtemp(prefix="c25page")
         self.number, self.rest = 0, b""
 
-    def until(self, condition, seconds=60):
+    def until(self, condition, seconds=180):
         """Waits until the script's expression holds, and returns its value."""
         end = time.monotonic() + seconds
         while time.monotonic() < end:
