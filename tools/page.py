@@ -71,8 +71,7 @@ def said(words, folder=TOP):
 def kit_folder():
     if shutil.which("rt") is None:
         raise Missing("rt is not in the path: it is in the folder bin of the kit")
-    folder = os.path.dirname(said(["rt", "doc"]))
-    return folder if os.path.isdir(os.path.join(folder, "toolchain")) else os.path.dirname(folder)
+    return os.path.dirname(said(["rt", "doc"]))
 
 
 def toolchain_of(kit):

@@ -116,11 +116,12 @@ def out_of_memory():
 
 def answers(node, module, cases):
     """What the module answers to the cases, or None where this node cannot run it."""
-    words = [node] + (["--experimental-wasm-memory64"] if "-64" in os.path.basename(module) else [])
+    wide = "-64" in os.path.basename(module)
+    words = [node] + (["--experimental-wasm-memory64"] if wide else [])
     sent = "".join(case.sent() + "\n" for case in cases)
     done = subprocess.run(words + [os.path.join(HERE, "run_cases.js"), module], input=sent, stdout=subprocess.PIPE, stderr=subprocess.PIPE,
                           universal_newlines=True)
-    if "CompileError" in done.stderr or "bad option" in done.stderr:
+    if wide and ("CompileError" in done.stderr or "bad option" in done.stderr):
         return None
     if done.returncode:
         sys.exit(done.stderr)
