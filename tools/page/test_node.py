@@ -40,7 +40,7 @@ class Case:
     def difference(self, answer):
         if "trap" in answer:
             return "trap: " + answer["trap"]
-        wanted = {"status": self.status, "output": coded(self.output), "errors": self.errors and coded(self.errors)}
+        wanted = {"status": self.status, "output": coded(self.output), "errors": None if self.errors is None else coded(self.errors)}
         for key, value in wanted.items():
             if value is not None and answer[key] != value:
                 return "another %s: %r" % (key, answer[key] if key == "status" else base64.b64decode(answer[key])[:200])

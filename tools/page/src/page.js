@@ -69,18 +69,18 @@ function show_running(outputs) {
 async function run() {
     if (waiting !== null) keep();
     if (!(await build())) return;
-    const outputs = new Outputs(), tick = show_running(outputs);
-    views.ran = { outputs };
+    const outputs = new Outputs(), tick = show_running(outputs), ran = views.ran = { outputs };
     element("stop").disabled = false;
     say("runs..");
     const answer = await program.run([...project.command_line(), "--regs", "--explain"], project.files, (part) => outputs.add(part));
     clearInterval(tick);
     element("stop").disabled = true;
+    if (views.ran !== ran) return;      // another run took its place
     if (answer.stopped) {
-        views.ran.stopped = true;
+        ran.stopped = true;
         say("stopped");
     } else if (fault_shown(answer)) {
-        views.ran.registers = text_of(answer.errors);
+        ran.registers = text_of(answer.errors);
         say(`${outputs.end} in ${answer.milliseconds.toFixed(0)} ms`);
     } else say("refused");
     views.show("Outputs");
@@ -235,4 +235,6 @@ async function begin() {
     document.body.dataset.begun = Math.round(performance.now());
 }
 
+// What the tests of tools/page reach.
+Object.assign(window, { element, program, project, editor, inspector, views });
 begin();
