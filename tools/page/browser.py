@@ -156,7 +156,7 @@ class Firefox(Browser):
         with open(os.path.join(self.folder, "user.js"), "w", encoding="ascii") as file:
             file.write('user_pref("marionette.port", %d);\n' % port)
         self.process = subprocess.Popen(
-            [self.command, "--headless", "--marionette", "--no-remote", "--profile", self.folder, "--width", str(WIDTH), "--height", str(HEIGHT)],
+            [self.command, "--headless", "--marionette", "--remote-allow-system-access", "--no-remote", "--profile", self.folder, "--width", str(WIDTH), "--height", str(HEIGHT)],
             stdout=subprocess.DEVNULL, stderr=subprocess.DEVNULL, env={**os.environ, "HOME": self.folder})
         self.socket = self.connected(port)
         self.read()
