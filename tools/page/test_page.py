@@ -74,7 +74,7 @@ class Tests:
         self.driven.until('element("fault").textContent')
         self.hold("a fault while typing", self.driven.do('return element("fault").firstChild.textContent'), "fir.asm:27: 22 Undefined")
         self.driven.do('element("fault").firstChild.click()')
-        self.hold("its line is marked", self.driven.do('return document.querySelector("#gutter .bad").textContent'), "27")
+        self.hold("its line is marked", self.driven.until('(document.querySelector("#gutter .bad") || {}).textContent'), "27")
         self.hold("its line has the cursor", self.driven.do("return editor.line()"), 27)
         self.picture("fault")
         self.driven.do(EDIT % 'area.value.replace("XNEWS", "XNEW")')
