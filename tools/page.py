@@ -12,9 +12,7 @@ tools/out/c25-32.wasm what the page has: the same over a memory of 32-bit addres
 The kit is all that is needed; where node is there, the script is tried. tools/page/README.md says what each part does.
 """
 import argparse
-import hashlib
 import os
-import shutil
 import subprocess
 import sys
 import tempfile
@@ -25,79 +23,32 @@ OUT = os.path.join(TOP, "tools", "out")
 CRATE = os.path.join(TOP, "crates", "c25")
 sys.path.insert(0, os.path.join(TOP, "tools", "page"))
 sys.dont_write_bytecode = True
+import claim  # noqa: E402
+import kit  # noqa: E402
 import lower  # noqa: E402
 import module  # noqa: E402
 import one_file  # noqa: E402
 import wasm  # noqa: E402
 
 MEBIBYTE = 1 << 20
+# What node tries the script on, and what it must print.
 TRIED = ["run", os.path.join("examples", "port.asm")]
-TRIED_PRINTS = "1 0041\nran 1000\n"
-PROVED = "made of the proved program's module"
-UNPROVED = "NOT PROVED: made of rt try's module"
-ABOUT = """%(claim)s
-
-%(meaning)s
-
-revision  %(revision)s
-kit       %(kit)s
-verdict   %(verdict)s
-module    WebAssembly, %(size)d bytes, SHA-256
-          %(digest)s
-"""
-MEANING = {
-    PROVED: """Each answer is one of the program whose contracts README.md lists, as far as these are
-right: clang for WebAssembly instead of for x86-64, the changes of tools/page (target, heap
-and calls of C, addresses of 32 bits), this browser's engine, and the page's own script, which
-shows answers and computes none. No verdict of rt covers the module.""",
-    UNPROVED: """Nothing of what this page answers is proved. It stops at an index out of bounds and a sum
-that overflows.""",
-}
-
-
-class Missing(Exception):
-    """What is needed and is not there."""
+TRIED_PRINTS = "1 0041\nran 1000"
+BEGAN = time.time()
 
 
 def part(text):
-    """Prints which part begins, and after how many seconds."""
+    """Prints which part begins or is done, after how many seconds."""
     print("%4.0f s  %s" % (time.time() - BEGAN, text), flush=True)
 
 
-def said(words, folder=TOP):
-    return subprocess.run(words, cwd=folder, stdout=subprocess.PIPE, universal_newlines=True, check=True).stdout.strip()
-
-
-def kit_folder():
-    if shutil.which("rt") is None:
-        raise Missing("rt is not in the path: it is in the folder bin of the kit")
-    return os.path.dirname(said(["rt", "doc"]))
-
-
-def toolchain_of(kit):
-    toolchain = os.path.join(kit, "toolchain")
-    for name in ("clang", "ld.lld"):
-        if not os.access(os.path.join(toolchain, "bin", name), os.X_OK):
-            raise Missing("the kit has no %s in %s/bin" % (name, toolchain))
-    if not wasm.has_target(toolchain):
-        raise Missing("the kit's clang has no target wasm64")
-    return toolchain
-
-
-def revision():
-    try:
-        return said(["git", "describe", "--always", "--dirty", "--abbrev=12"])
-    except (OSError, subprocess.CalledProcessError):
-        return "unknown"
-
-
 def proved_module(folder, toolchain):
-    part("rt run: builds crates/c25, and proves it where it is not proved yet")
+    part("rt run: builds crates/c25, and proves it where it is not proved yet (hours, where no library is)")
     made, verdict = module.built_again(CRATE, folder)
-    part("compiles the kept module as rt does")
+    part("compiles the module that rt handed to clang, as rt does")
     if not module.same_object(made, CRATE, folder, toolchain):
-        raise module.Failed("the kept module is not the one of %s/out/c25.o: nothing was made" % CRATE)
-    part("it is the proved program's: clang makes its object of it, byte for byte")
+        raise module.Failed("the kept module is not the one of %s: nothing was made" % module.object_of(CRATE))
+    part("it is the proved program's: clang makes the program's object of it, byte for byte")
     return made, verdict
 
 
@@ -106,59 +57,63 @@ def unproved_module(folder):
     return module.unproved(CRATE, folder), "none: nothing is proved"
 
 
-def written(name, content):
-    path = os.path.join(OUT, name)
-    with open(path, "wb") as file:
-        file.write(content if isinstance(content, bytes) else content.encode("utf-8"))
-    part("tools/out/%s has %d bytes" % (name, len(content)))
-    return path
-
-
-def try_script(path):
-    node = shutil.which("node") or shutil.which("nodejs")
+def try_script(script, folder):
+    """Has node run the script on an example."""
+    node, path = kit.node(), os.path.join(folder, "c25.js")
     if node is None:
-        part("node is not installed, so c25.js was not tried")
+        part("node is missing, so c25.js was not tried")
         return
-    printed = subprocess.run([node, path] + TRIED, cwd=TOP, stdout=subprocess.PIPE, universal_newlines=True).stdout
+    with open(path, "w", encoding="utf-8") as file:
+        file.write(script)
+    printed = kit.printed([node, path] + TRIED, TOP)
     if printed != TRIED_PRINTS:
-        raise module.Failed("node %s prints for %s:\n%s" % (path, " ".join(TRIED), printed))
-    part("node runs it: examples/port.asm prints what it must")
+        raise module.Failed("%s %s %s printed:\n%s" % (node, path, " ".join(TRIED), printed))
+    part("node runs the script: %s prints what it must" % TRIED[-1])
 
 
-def make(words, folder):
-    kit = kit_folder()
-    toolchain = toolchain_of(kit)
-    made, verdict = unproved_module(folder) if words.unproved else proved_module(folder, toolchain)
-    part("compiles it for WebAssembly, in one or two minutes")
-    wide = wasm.linked(toolchain, wasm.compiled(toolchain, made, folder), folder, words.memory * MEBIBYTE)
-    written("c25-64.wasm", wide)
+def write(files):
+    """Writes the files that are made, all at the end, so that they belong together."""
+    for name, content in files.items():
+        path = os.path.join(OUT, name)
+        with open(path, "wb") as file:
+            file.write(content if isinstance(content, bytes) else content.encode("utf-8"))
+        part("%s has %d bytes" % (os.path.relpath(path, TOP), len(content)))
+    os.chmod(os.path.join(OUT, "c25.js"), 0o755)
+
+
+def make(options, folder):
+    toolchain = kit.toolchain()
+    made, verdict = unproved_module(folder) if options.unproved else proved_module(folder, toolchain)
+    part("compiles it for WebAssembly, in one to three minutes")
+    wide = wasm.linked(toolchain, wasm.compiled(toolchain, made, folder), folder, options.memory * MEBIBYTE)
+    part("turns its addresses into ones of 32 bits")
     small = lower.lowered(wide)
-    written("c25-32.wasm", small)
-    claim = UNPROVED if words.unproved else PROVED
-    about = ABOUT % {"claim": claim, "meaning": MEANING[claim], "revision": revision(), "kit": said(["rt", "version"]), "verdict": verdict,
-                     "size": len(small), "digest": hashlib.sha256(small).hexdigest()}
-    script = written("c25.js", one_file.node_script(small))
-    os.chmod(script, 0o755)
-    try_script(script)
-    written("c25.html", one_file.page(small, TOP, claim, about))
+    script = one_file.node_script(small)
+    try_script(script, folder)
+    said = claim.UNPROVED if options.unproved else claim.PROVED
+    revision = kit.printed(["git", "describe", "--always", "--dirty", "--abbrev=12"], TOP) or "unknown"
+    about = claim.about(said, revision, kit.printed(["rt", "version"]), verdict, small)
+    write({"c25-64.wasm": wide, "c25-32.wasm": small, "c25.js": script, "c25.html": one_file.page(small, TOP, said, about)})
 
 
 def main():
     parser = argparse.ArgumentParser(description=__doc__, formatter_class=argparse.RawDescriptionHelpFormatter)
     parser.add_argument("--unproved", action="store_true", help="of what `rt try` builds")
     parser.add_argument("--memory", type=int, default=4096, metavar="MIB", help="how many MiB the program may take at most (4096)")
-    words = parser.parse_args()
+    options = parser.parse_args()
     os.makedirs(OUT, exist_ok=True)
     with tempfile.TemporaryDirectory(dir=OUT) as folder:
         try:
-            make(words, folder)
-        except (Missing, module.Failed, wasm.Refused, lower.Unknown) as error:
+            make(options, folder)
+        except kit.Missing as error:
+            sys.exit("\n".join("page.py: " + sentence for sentence in error.sentences))
+        except (module.Failed, wasm.Refused, lower.Unknown) as error:
             sys.exit("page.py: %s" % error)
         except subprocess.CalledProcessError as error:
             sys.exit("page.py: %s ended with status %d" % (error.cmd[0], error.returncode))
+        except KeyboardInterrupt:
+            sys.exit("page.py: ended by the keyboard: nothing was made")
 
-
-BEGAN = time.time()
 
 if __name__ == "__main__":
     main()

@@ -13,7 +13,8 @@ STORES = {0x36: I32, 0x37: I64, 0x38: F32, 0x39: F64, 0x3A: I32, 0x3B: I32, 0x3C
 NUMBERS_AFTER = dict.fromkeys((0x02, 0x03, 0x04, 0x0C, 0x0D, 0x10, 0x20, 0x21, 0x22, 0x23, 0x24, 0x41, 0x42, 0xD2), 1)
 BRANCH_TABLE, CALL_INDIRECT, SELECT, MEMORY_SIZE, MEMORY_GROW, CONST_F32, CONST_F64, PREFIX = 0x0E, 0x11, 0x1C, 0x3F, 0x40, 0x43, 0x44, 0xFC
 MEMORY_COPY, MEMORY_FILL, LAST_CONVERSION = 10, 11, 7
-UNKNOWN = (0x06, 0x12, 0x13, 0x1F, 0x25, 0x26, 0xFD, 0xFE)
+# Opcodes that nothing stands after: unreachable, nop, else, end, return, drop, select, comparisons, arithmetic, conversions.
+ALONE = frozenset((0x00, 0x01, 0x05, 0x0B, 0x0F, 0x1A, 0x1B, *range(0x45, 0xC5)))
 
 
 class Unknown(Exception):
@@ -139,7 +140,7 @@ class Body:
             reader.bytes(4 if opcode == CONST_F32 else 8)
         elif opcode == PREFIX:
             self.prefixed(start)
-        elif opcode in UNKNOWN:
+        elif opcode not in ALONE:
             raise Unknown("the instruction %02X" % opcode)
 
     def lowered(self):
@@ -205,6 +206,9 @@ def parameters(reader):
 
 
 SECTIONS = {4: table, 9: element, 11: data}
+CUSTOM, TYPES, FUNCTIONS, MEMORIES, BODIES = 0, 1, 3, 5, 10
+# Sections that have no address: imports, globals, exports, the function to begin with, the number of data segments.
+COPIED = (2, 6, 7, 8, 12)
 
 
 def lowered(module, most_pages=None):
@@ -214,19 +218,21 @@ def lowered(module, most_pages=None):
         kind = reader.byte()
         content = reader.bytes(reader.number())
         section = Reader(content)
-        if kind == 0:
+        if kind == CUSTOM:
             continue
-        if kind == 1:
+        if kind == TYPES:
             counts = section.vector(lambda: parameters(section))
-        elif kind == 3:
+        elif kind == FUNCTIONS:
             types = section.vector(section.number)
-        elif kind == 10:
+        elif kind == BODIES:
             bodies = section.vector(lambda: section.bytes(section.number()))
             made = [Body(body, counts[types[at]]).lowered() for at, body in enumerate(bodies)]
             content = vector([number(len(body)) + body for body in made])
-        elif kind == 5:
+        elif kind == MEMORIES:
             content = vector(section.vector(lambda: memory(section, most_pages)))
         elif kind in SECTIONS:
             content = vector(section.vector(lambda: SECTIONS[kind](section)))
+        elif kind not in COPIED:
+            raise Unknown("a section of the kind %d" % kind)
         out += bytes([kind]) + number(len(content)) + content
     return bytes(out)

@@ -37,19 +37,20 @@ def link_modules(made, kept):
                 pass        # it is kept already, or gone meanwhile
 
 
-def run_keeping(words, crate, folder):
+def run_keeping(command_line, crate, folder):
     """Runs `rt` in the crate's folder, and returns the module that it made, or None, and what it printed."""
     made, kept = os.path.join(folder, "made"), os.path.join(folder, "kept")
     os.makedirs(made)
     os.makedirs(kept)
     with open(os.path.join(folder, "printed"), "w+", encoding="utf-8", errors="replace") as printed:
-        running = subprocess.Popen(words, cwd=crate, env={**os.environ, "TMPDIR": made}, stdin=subprocess.DEVNULL,
+        running = subprocess.Popen(command_line, cwd=crate, env={**os.environ, "TMPDIR": made}, stdin=subprocess.DEVNULL,
                                    stdout=printed, stderr=printed)
         while running.poll() is None:
             link_modules(made, kept)
             time.sleep(0.003)
         printed.seek(0)
         text = printed.read()
+    # (of several modules the program's is the largest: it has the libraries in it)
     modules = [os.path.join(kept, name) for name in os.listdir(kept)]
     modules = [path for path in modules if bytes_of(path)[:4] == BITCODE]
     return max(modules, key=os.path.getsize, default=None), text
@@ -63,18 +64,25 @@ def unproved(crate, folder):
     return module
 
 
+def program_of(crate):
+    return os.path.join(crate, "out", os.path.basename(crate))
+
+
+def object_of(crate):
+    return program_of(crate) + ".o"
+
+
 def built_again(crate, folder):
     """Has `rt run` build the crate's program again, which proves it first where that is not done yet."""
-    program = os.path.join(crate, "out", os.path.basename(crate))
-    aside = program + ".aside"
-    if os.path.exists(program):
-        os.replace(program, aside)
-    module, text = run_keeping(["rt", "run"], crate, folder)
-    if os.path.exists(aside):
-        if os.path.exists(program):
-            os.remove(aside)
-        else:
-            os.replace(aside, program)
+    # (a program that is there would only be run; it comes back where no other is made)
+    aside = {path: path + ".aside" for path in (program_of(crate), object_of(crate)) if os.path.exists(path)}
+    for path, other in aside.items():
+        os.replace(path, other)
+    try:
+        module, text = run_keeping(["rt", "run"], crate, folder)
+    finally:
+        for path, other in aside.items():
+            os.remove(other) if os.path.exists(path) else os.replace(other, path)
     verdicts = [line for line in text.splitlines() if line.startswith("logic=proved")]
     if module is None or not verdicts:
         raise Failed(text + "`rt run` made no proved program")
@@ -85,4 +93,4 @@ def same_object(module, crate, folder, toolchain):
     """Whether clang makes the program's own object of the module, byte for byte."""
     os.link(module, os.path.join(folder, MODULE))
     subprocess.run([toolchain + "/bin/clang", "--sysroot=" + toolchain] + AS_RT, cwd=folder, check=True)
-    return bytes_of(os.path.join(folder, OBJECT)) == bytes_of(os.path.join(crate, "out", os.path.basename(crate) + ".o"))
+    return bytes_of(os.path.join(folder, OBJECT)) == bytes_of(object_of(crate))

@@ -19,7 +19,7 @@ sys.path.insert(0, HERE)
 sys.dont_write_bytecode = True
 import browser  # noqa: E402
 
-EDIT = """const area = element("area"); area.focus(); area.value = %s; area.dispatchEvent(new Event("input"));"""
+EDIT = """const area = editor.area(); area.focus(); area.value = %s; area.dispatchEvent(new Event("input"));"""
 LOOP = "HERE B HERE\n"
 
 
@@ -121,9 +121,9 @@ class Tests:
         self.driven.do("document.body.dataset.begun = ''")
         self.driven.open(page)
         self.driven.until("document.body && document.body.dataset.begun")
-        self.hold("kept in the browser", self.driven.do('return [project.name, element("area").value.startsWith("* edited")]'), ["count", True])
+        self.hold("kept in the browser", self.driven.do('return [project.name, editor.area().value.startsWith("* edited")]'), ["count", True])
         self.driven.do('element("restore").click()')
-        self.hold("restored", self.driven.do('return element("area").value.startsWith("* edited")'), False)
+        self.hold("restored", self.driven.do('return editor.area().value.startsWith("* edited")'), False)
 
     def keys(self):
         self.choose("count")
@@ -133,7 +133,7 @@ class Tests:
         self.driven.press("Home")
         self.driven.do(EDIT % '"X"' + "area.setSelectionRange(1, 1);")
         self.driven.press("Tab")
-        self.hold("Tab goes to the next column", self.driven.do('return element("area").value'), "X" + 7 * " ")
+        self.hold("Tab goes to the next column", self.driven.do('return editor.area().value'), "X" + 7 * " ")
         self.driven.press("Escape")
         self.hold("Escape leaves the editor", self.driven.do("return document.activeElement.role"), "tab")
 

@@ -1,4 +1,4 @@
-// What all parts of the page use: elements, numbers, texts, saving.
+// What all parts of the page use: elements, numbers, texts, saving, tabs.
 "use strict";
 
 const element = (id) => document.getElementById(id);
@@ -14,7 +14,20 @@ function put(made, more, inside) {
 
 const make = (tag, more = {}, ...inside) => put(document.createElement(tag), more, inside);
 const button = (text, title, onclick) => make("button", { type: "button", textContent: text, title, onclick });
+const note = (text) => make("p", { className: "note", textContent: text });
+const bar = (...inside) => make("div", { className: "bar" }, ...inside);
+const heading = (text, ...inside) => make("h2", {}, text + " ", ...inside);
+const table = (caption, ...rows) => make("table", {}, make("caption", { textContent: caption }), ...rows);
+
 const text_of = (bytes) => new TextDecoder().decode(bytes);
+// The text of a file that is opened; what is not UTF-8 is no text.
+function exact_text(bytes) {
+    try {
+        return new TextDecoder("utf-8", { fatal: true, ignoreBOM: true }).decode(bytes);
+    } catch {
+        throw new Error("it is not a text in UTF-8");
+    }
+}
 const hex4 = (number) => number.toString(16).toUpperCase().padStart(4, "0");
 const signed = (word) => (word > 32767 ? word - 65536 : word);
 const escaped = (text) => text.replace(/&/g, "&amp;").replace(/</g, "&lt;");
@@ -27,6 +40,11 @@ function save(name, content) {
     setTimeout(() => URL.revokeObjectURL(link.href), 1000);
 }
 
+// Where an arrow, Home or End leads from the tab `at` of `count` tabs; undefined for other keys.
+function tab_after(key, at, count) {
+    return { ArrowRight: (at + 1) % count, ArrowLeft: (at + count - 1) % count, Home: 0, End: count - 1 }[key];
+}
+
 // Shows tabs of which one is chosen: one stop of the Tab key, and arrows, Home and End go from tab to tab.
 function show_tabs(list, names, chosen, choose, more = () => ({})) {
     const had_focus = list.contains(document.activeElement);
@@ -35,8 +53,7 @@ function show_tabs(list, names, chosen, choose, more = () => ({})) {
         onclick: () => choose(name), ...more(name),
     })));
     list.onkeydown = (event) => {
-        const at = names.indexOf(chosen);
-        const to = { ArrowRight: (at + 1) % names.length, ArrowLeft: (at + names.length - 1) % names.length, Home: 0, End: names.length - 1 }[event.key];
+        const to = tab_after(event.key, names.indexOf(chosen), names.length);
         if (to === undefined) return;
         event.preventDefault();
         choose(names[to]);

@@ -7,7 +7,7 @@ const CALLS = { CALL: 1, CALA: 1, TRAP: 1, RPT: 2, RPTK: 2 };
 const LISTED = /^([0-9A-F]{4}) (.*) (\S+:\d+)$/;
 
 const inspector = {
-    script: [], seen: null, before: null,
+    script: [], seen: null, before: null, turn: Promise.resolve(),
     places: null,       // addresses of instructions by their places, `file:line`
     memory: "data", from: "0060",
 
@@ -19,8 +19,10 @@ const inspector = {
     },
 
     async call(script) {
-        const words = ["debug", ...project.modules, "--script", "script", "--explain", ...project.options(...ROLES)];
-        const answer = await program.run(words, { ...project.files, script: script.join("\n") + "\n" });
+        const command_line = ["debug", ...project.modules, "--script", SCRIPT, "--explain", ...project.options(...ROLES)];
+        const files = { ...project.files, [SCRIPT]: script.join("\n") + "\n" };
+        const answer = project.modules.length ? await program.run(command_line, files) : NO_MODULE;
+        if (answer.stopped) say("stopped");
         if (answer.stopped || !fault_shown(answer)) return null;
         return { lines: text_of(answer.out).trimEnd().split("\n"), milliseconds: answer.milliseconds };
     },
@@ -39,7 +41,18 @@ const inspector = {
 
     addresses() { return [...editor.marks].map((place) => this.places.get(place)).filter((address) => address); },
 
-    async from_reset() {
+    // ---- buttons and keys: each has its turn when those before it are done ----
+    in_turn(action) { return (this.turn = this.turn.then(action, action)); },
+    from_reset() { return this.in_turn(() => this.begin()); },
+    step(count = 1) { return this.in_turn(() => this.go(`step ${count}`)); },
+    run() { return this.in_turn(() => this.go(`run ${project.steps}`)); },
+    over() { return this.in_turn(() => this.go_over()); },
+    to_cursor() { return this.in_turn(() => this.go_to(`${editor.open}:${editor.line()}`)); },
+    breakpoint(place) { return this.in_turn(() => this.toggle(place)); },
+    look(memory, from) { return this.in_turn(() => (Object.assign(this, { memory, from }), this.show())); },
+
+    // ---- what they do ----
+    async begin() {
         this.script = [];
         this.seen = this.before = null;
         if (!(await this.know_places())) return;
@@ -48,10 +61,11 @@ const inspector = {
     },
 
     async go(...commands) {
-        if (!this.seen) await this.from_reset();
+        if (!this.seen) await this.begin();
         if (!this.seen) return;
+        const before = [...this.script];
         for (const command of commands) this.add(command);
-        await this.show();
+        if (!(await this.show())) this.script = before;
     },
 
     // Steps after steps are one command, so that a script stays short.
@@ -61,13 +75,9 @@ const inspector = {
         else this.script.push(command);
     },
 
-    step(count = 1) { return this.go(`step ${count}`); },
-    run() { return this.go(`run ${project.steps}`); },
-
-    async over() {
-        if (!this.seen) return this.step();
-        const next = this.seen.instructions[CALLS[mnemonic_of(this.seen.where)]];
-        return next ? this.run_to(next.slice(0, 4)) : this.step();
+    go_over() {
+        const next = this.seen && this.seen.instructions[CALLS[mnemonic_of(this.seen.where)]];
+        return next ? this.run_to(next.slice(0, 4)) : this.go("step 1");
     },
 
     run_to(address) {
@@ -75,64 +85,58 @@ const inspector = {
         return this.addresses().includes(address) ? this.go(run) : this.go("break " + address, run, "clear " + address);
     },
 
-    async to_cursor() {
+    async go_to(place) {
         if (!(await this.know_places())) return;
-        const address = this.places.get(`${editor.open}:${editor.line()}`);
-        if (address) return this.run_to(address);
-        say("no instruction stands at the cursor's line");
+        const address = this.places.get(place);
+        if (address) await this.run_to(address);
+        else say("there is no instruction at the line of the cursor");
     },
 
+    async toggle(place) {
+        if (!(await this.know_places())) return;
+        const address = this.places.get(place);
+        if (!address) return say("there is no instruction at that line");
+        const on = !editor.marks.delete(place);
+        if (on) editor.marks.add(place);
+        editor.paint_rows();
+        say(`${on ? "breakpoint" : "no breakpoint"} at ${place}, address ${address}`);
+        if (this.seen) await this.go(`${on ? "break" : "clear"} ${address}`);
+    },
+
+    // Shows where the script leads; answers whether the program said so.
     async show() {
         const asked = ["where", "regs", "stack", `${this.memory} ${this.from} ${SHOWN_WORDS}`, `list ${SHOWN_INSTRUCTIONS}`];
         const answer = await this.call([...this.script, ...asked]);
-        if (!answer) return;
-        const count = this.script.length, rows = memory_rows(this.from), [where, first, second, stack, ...rest] = answer.lines.slice(count);
-        const ended = answer.lines.slice(0, count).reverse().find((line) => /^(ran|left|break)/.test(line)) || "at reset";
+        if (!answer) return false;
         this.before = this.seen;
-        this.seen = { ended, where, registers: registers_of(first, second), stack, memory: rest.slice(0, rows), instructions: rest.slice(rows) };
-        const [, , , place] = LISTED.exec(where) || [];
+        this.seen = seen_in(answer.lines, this.script.length, memory_rows(this.from));
+        const [, , , place] = LISTED.exec(this.seen.where) || [];
         editor.now = place ? { file: place.replace(/:\d+$/, ""), line: Number(/\d+$/.exec(place)) } : null;
-        say(`${ended} (${answer.milliseconds.toFixed(0)} ms)`);
+        say(`${this.seen.ended} (${answer.milliseconds.toFixed(0)} ms)`);
         if (editor.now && editor.now.file in project.files) editor.show(editor.now.file, editor.now.line);
         else editor.paint();
         views.show("Debugger");
+        return true;
     },
 };
+
+// What the answers to a script of `count` commands and then to those of `show` say.
+function seen_in(lines, count, rows) {
+    const [where, first, second, stack, ...rest] = lines.slice(count);
+    const ended = lines.slice(0, count).reverse().find((line) => /^(ran|left|break)/.test(line)) || "at reset";
+    const registers = registers_of(first, second);
+    return { ended, where, registers, stack, memory: rest.slice(0, rows), instructions: rest.slice(rows) };
+}
 
 const mnemonic_of = (line) => line.split(" ")[1];
 
 // How many lines the shown words of memory have: fewer at its end.
 function memory_rows(from) { return Math.ceil(Math.min(SHOWN_WORDS, 0x10000 - parseInt(from, 16)) / WORDS_A_LINE); }
 
+// The registers in the two lines of `regs`, by their names.
 function registers_of(first, second) {
-    const found = {}, words = first.split(" ");
-    for (let i = 0; i < words.length; i += 2) found[words[i]] = words[i + 1];
+    const found = {}, parts = first.split(" ");
+    for (let i = 0; i < parts.length; i += 2) found[parts[i]] = parts[i + 1];
     second.split(" ").slice(1).forEach((word, i) => (found["AR" + i] = word));
     return found;
-}
-
-// Fields of the status words: name, word, lowest bit, bits, and what the values mean.
-const FIELDS = [
-    ["ARP", "ST0", 13, 3, (n) => `AR${n} is current`], ["OV", "ST0", 12, 1, (n) => (n ? "overflow" : "no overflow")],
-    ["OVM", "ST0", 11, 1, (n) => (n ? "sums are limited" : "sums go round")], ["INTM", "ST0", 9, 1, (n) => (n ? "interrupts off" : "interrupts on")],
-    ["DP", "ST0", 0, 9, (n) => `direct addresses from ${hex4(n * 128)}h`], ["ARB", "ST1", 13, 3, (n) => `AR${n} was current`],
-    ["CNF", "ST1", 12, 1, (n) => (n ? "B0 is program memory" : "B0 is data memory")], ["TC", "ST1", 11, 1, (n) => (n ? "true" : "false")],
-    ["SXM", "ST1", 10, 1, (n) => (n ? "signs are extended" : "no signs")], ["C", "ST1", 9, 1, (n) => (n ? "carry" : "no carry")],
-    ["HM", "ST1", 6, 1, (n) => (n ? "stops on hold" : "runs on hold")], ["FSM", "ST1", 5, 1, (n) => (n ? "frame pulses" : "no frame pulses")],
-    ["XF", "ST1", 4, 1, (n) => (n ? "pin XF high" : "pin XF low")], ["FO", "ST1", 3, 1, (n) => (n ? "8 bits" : "16 bits")],
-    ["TXM", "ST1", 2, 1, (n) => (n ? "frames go out" : "frames come in")],
-    ["PM", "ST1", 0, 2, (n) => ["P as it is", "P shifted left by 1", "P shifted left by 4", "P shifted right by 6"][n]],
-];
-
-function field_of([, word, low, bits], registers) { return (parseInt(registers[word], 16) >> low) & ((1 << bits) - 1); }
-
-async function toggle_breakpoint(place) {
-    if (!(await inspector.know_places())) return;
-    const address = inspector.places.get(place);
-    if (!address) return say("no instruction stands at that line");
-    const on = !editor.marks.delete(place);
-    if (on) editor.marks.add(place);
-    editor.paint_rows();
-    say(`${on ? "breakpoint" : "no breakpoint"} at ${place}, address ${address}`);
-    if (inspector.seen) await inspector.go(`${on ? "break" : "clear"} ${address}`);
 }

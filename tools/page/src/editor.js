@@ -1,63 +1,105 @@
-// The editor: a text area over lines that are painted below it, of which only those in view are there.
+// The editor: a text area for each file, so that each has its own undo, over lines that are painted below it; only those in view are there.
 "use strict";
 
 const ROW = 18, COLUMN = 8;
 const editor = {
     open: null,         // the file's name
+    areas: new Map(),   // the text areas of the files that were shown, by their names
     lines: [""],
     fault: null,        // { file, line }
     now: null,          // where the debugger's PC is, { file, line }
     marks: new Set(),   // breakpoints, `file:line`
 
     begin() {
-        const area = element("area");
-        area.oninput = () => {
-            project.files[this.open] = area.value;
-            this.paint();
-            edited();
+        element("gutter").onclick = (event) => {
+            const { line } = event.target.dataset;
+            if (line) inspector.breakpoint(`${this.open}:${line}`);
         };
-        area.onscroll = () => requestAnimationFrame(() => this.paint_rows());
-        area.onkeydown = (event) => this.key(event);
-        element("gutter").onclick = (event) => event.target.dataset.line && toggle_breakpoint(`${this.open}:${event.target.dataset.line}`);
-        new ResizeObserver(() => this.paint_rows()).observe(area);
+        new ResizeObserver(() => this.paint_rows()).observe(element("text"));
+    },
+
+    area() { return this.areas.get(this.open); },
+
+    area_of(name) {
+        if (!this.areas.has(name)) this.areas.set(name, this.new_area(name));
+        return this.areas.get(name);
+    },
+
+    new_area(name) {
+        const area = make("textarea", {
+            className: "area", value: project.files[name], spellcheck: false, wrap: "off", autocapitalize: "off", autocomplete: "off",
+            "aria-label": "Text of " + name, "aria-describedby": "hint",
+            oninput: () => this.typed(area), onscroll: () => requestAnimationFrame(() => this.paint_rows()),
+            onkeydown: (event) => this.key(event, area),
+        });
+        element("text").append(area);
+        return area;
+    },
+
+    // (chromium's Ctrl+Z undoes the last edit of any area, which is shown then)
+    typed(area) {
+        const [name] = [...this.areas].find(([, other]) => other === area);
+        project.files[name] = area.value;
+        if (name !== this.open) this.show(name);
+        this.paint();
+        edited();
+    },
+
+    // Forgets the text area of a file that is gone or has another text, or of all files, and with it what could be undone there.
+    forget(...names) {
+        for (const name of names.length ? names : [...this.areas.keys()]) {
+            if (this.areas.has(name)) this.areas.get(name).remove();
+            this.areas.delete(name);
+        }
+    },
+
+    rename(name, other) {
+        const area = this.areas.get(name);
+        this.areas.delete(name);
+        this.areas.set(other, area);
+        area.setAttribute("aria-label", "Text of " + other);
     },
 
     // Tab goes to the next column; Escape leaves the editor, so that Tab goes on from there.
-    key(event) {
-        const area = element("area");
-        if (event.key === "Escape") element("files").querySelector("[aria-selected=true]").focus();
+    key(event, area) {
+        if (event.key === "Escape") {
+            event.stopPropagation();
+            element("files").querySelector("[aria-selected=true]").focus();
+        }
         if (event.key !== "Tab" || event.shiftKey || event.ctrlKey || event.altKey || event.metaKey) return;
         event.preventDefault();
         const column = area.selectionStart - area.value.lastIndexOf("\n", area.selectionStart - 1) - 1;
+        // (the one way to put a text in that can be undone)
         document.execCommand("insertText", false, " ".repeat(COLUMN - (column % COLUMN)));
     },
 
     show(name, line) {
-        const area = element("area"), other = this.open !== name;
+        const had_focus = element("text").contains(document.activeElement), shown = this.area_of(name);
         this.open = name;
-        if (area.value !== project.files[name]) area.value = project.files[name];
-        if (other && !line) area.scrollTop = area.scrollLeft = 0;
+        for (const area of this.areas.values()) area.hidden = area !== shown;
+        if (had_focus) shown.focus();
         if (line) this.bring(line);
         this.paint();
         this.show_names();
     },
 
     bring(line) {
-        const area = element("area"), rows = Math.floor(area.clientHeight / ROW), first = Math.floor(area.scrollTop / ROW);
+        const area = this.area(), rows = Math.floor(area.clientHeight / ROW), first = Math.floor(area.scrollTop / ROW);
         if (line <= first + 2 || line > first + rows - 3) area.scrollTop = Math.max(0, (line - Math.floor(rows / 2)) * ROW);
     },
 
-    line() { return element("area").value.slice(0, element("area").selectionStart).split("\n").length; },
+    line() { return this.area().value.slice(0, this.area().selectionStart).split("\n").length; },
 
     go_to(line) {
-        const area = element("area"), at = this.lines.slice(0, line - 1).reduce((sum, text) => sum + text.length + 1, 0);
+        const area = this.area(), at = this.lines.slice(0, line - 1).reduce((sum, text) => sum + text.length + 1, 0);
         area.focus();
         area.setSelectionRange(at, at);
         this.bring(line);
+        this.paint_rows();
     },
 
     paint() {
-        this.lines = element("area").value.split("\n");
+        this.lines = this.area().value.split("\n");
         this.paint_rows();
     },
 
@@ -67,38 +109,30 @@ const editor = {
     },
 
     paint_rows() {
-        const area = element("area"), first = Math.floor(area.scrollTop / ROW), some = this.lines.slice(first, first + Math.ceil(area.clientHeight / ROW) + 1);
-        const paint = this.open && !project.role_of(this.open) ? painted : escaped;
+        const area = this.area();
+        if (!area) return;
+        const first = Math.floor(area.scrollTop / ROW), some = this.lines.slice(first, first + Math.ceil(area.clientHeight / ROW) + 1);
+        const paint = project.role_of(this.open) ? escaped : painted;
         element("paint").innerHTML = some.map((line, i) => `<span class="row ${this.kind(first + i + 1)}">${paint(line)}</span>`).join("");
-        element("gutter").replaceChildren(...some.map((_, i) => make("div", { className: this.kind(first + i + 1), textContent: first + i + 1, "data-line": first + i + 1 })));
+        element("gutter").replaceChildren(...some.map((_, i) => this.number(first + i + 1)));
         const down = first * ROW - area.scrollTop;
         element("paint").style.transform = `translate(${-area.scrollLeft}px, ${down}px)`;
         element("gutter").style.transform = `translateY(${down}px)`;
     },
 
+    number(line) { return make("div", { className: this.kind(line), textContent: line, "data-line": line }); },
+
     show_names() {
-        const role = project.role_of(this.open), label = (name) => {
-            const its = project.role_of(name);
-            return its ? { textContent: its, title: name } : {};
-        };
-        show_tabs(element("files"), project.names(), this.open, (name) => this.show(name), (name) => ({
-            id: "tab of " + name, "aria-controls": "editor", className: this.fault && this.fault.file === name ? "bad" : "", ...label(name),
-        }));
-        element("area").setAttribute("aria-label", "Text of " + this.open);
+        show_tabs(element("files"), project.names(), this.open, (name) => this.show(name), (name) => this.tab(name));
         element("name").value = this.open;
         element("module").checked = project.modules.includes(this.open);
-        element("module").disabled = !!role;
-        element("remove").disabled = !role && project.sources().length === 1;
+        element("module").disabled = !!project.role_of(this.open);
+        element("remove").disabled = !project.role_of(this.open) && project.sources().length === 1;
+    },
+
+    tab(name) {
+        const role = project.role_of(name), label = role ? { textContent: role, title: name } : {};
+        const className = this.fault && this.fault.file === name ? "bad" : "";
+        return { id: "tab of " + name, "aria-controls": "editor", className, ...label };
     },
 };
-
-// A line of a source with its parts in colours.
-function painted(line) {
-    if (/^\s*[*;]/.test(line)) return `<span class="comment">${escaped(line)}</span>`;
-    const [, label, blanks, mnemonic, operands, comment] = /^(\S*)(\s*)([^\s;]*)((?:"[^"]*"|'[^']*'|[^;])*)(;.*)?$/.exec(line) || [];
-    if (label === undefined) return escaped(line);
-    const colours = (text) => escaped(text).replace(/("[^"]*"|'[^']*')|\b([0-9][0-9A-Fa-f]*[hHbBqQ]?)\b/g,
-        (word, string) => `<span class="${string ? "string" : "number"}">${word}</span>`);
-    return escaped(label) + blanks + `<span class="${mnemonic.startsWith(".") ? "directive" : "mnemonic"}">${escaped(mnemonic)}</span>`
-        + colours(operands) + (comment ? `<span class="comment">${escaped(comment)}</span>` : "");
-}

@@ -3,6 +3,7 @@
 // (host.js stands before this in the file that tools/page.py makes)
 
 const fs = require("fs");
+const STOPPED_BY_ITSELF = 70;       // the status where the engine ended the program; its own are 0 to 3
 
 function waiting(transfer) {
     for (;;) {
@@ -29,4 +30,9 @@ const disk = {
 };
 
 const packed = Buffer.from(MODULE, "base64");
-process.exitCode = c25(new WebAssembly.Module(require("zlib").gunzipSync(packed)), process.argv.slice(2), disk);
+try {
+    process.exitCode = c25(new WebAssembly.Module(require("zlib").gunzipSync(packed)), process.argv.slice(2), disk);
+} catch (error) {
+    fs.writeSync(2, `c25: the program stopped by itself: ${error}\n`);
+    process.exitCode = STOPPED_BY_ITSELF;
+}

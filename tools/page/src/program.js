@@ -2,6 +2,8 @@
 // is compiled already.
 "use strict";
 
+const STOP_SHOWN = 100;     // after so many milliseconds of a call the page can be asked to stop it
+
 const program = {
     module: null, worker: null, ready: null, call: null, count: 0,
 
@@ -30,26 +32,39 @@ const program = {
     answered(data) {
         const call = this.call;
         if (!call || data.id !== call.id) return;
-        if (data.part) return call.part(data.part);
+        if (data.part) call.part(data.part);
+        else this.end(data);
+    },
+
+    end(answer) {
+        const call = this.call;
         this.call = null;
-        call.yes(data);
+        clearTimeout(call.shown);
+        stop_shown(false);
+        call.yes(answer);
     },
 
     stop() {
-        const call = this.call;
-        if (!call) return;
-        this.call = null;
+        if (!this.call) return;
         this.worker.terminate();
         this.begin();
-        call.yes({ stopped: true });
+        this.end({ stopped: true });
     },
 
     // Runs a command line over files, { name: text }; `part` gets what it prints while it runs.
-    run(words, files, part) {
+    run(command_line, files, part) {
         this.stop();
         return new Promise((yes) => {
-            const call = this.call = { id: ++this.count, yes, part };
-            this.ready.then(() => this.call === call && this.worker.postMessage({ id: call.id, words, files, stream: !!part }));
+            const call = this.call = { id: ++this.count, yes, part, shown: setTimeout(() => stop_shown(true), STOP_SHOWN) };
+            const message = { id: call.id, command_line, files, stream: !!part };
+            this.ready.then(() => this.call === call && this.worker.postMessage(message),
+                (error) => this.call === call && this.end({ trap: error.message }));
         });
     },
 };
+
+// Whether the button Stop can be pressed. The focus does not stay on a button that cannot.
+function stop_shown(on) {
+    if (!on && document.activeElement === element("stop")) element("run").focus();
+    element("stop").disabled = !on;
+}

@@ -1,10 +1,22 @@
-// What is edited: sources, a command file, samples and a schedule, and how many steps are run. It is kept and saved as the files of a
-// folder and a file `session`, which has the command line, as the folders of examples/ are.
+// What is edited, a project: sources, a command file, samples and a schedule, and how many steps are run. It is kept and saved as the files
+// of a folder and a file `session`, which has the command line, as the folders of examples/ are.
 "use strict";
 
 const ROLES = ["command", "samples", "schedule"];
 const ROLE_FILES = { command: "board.cmd", samples: "samples.txt", schedule: "schedule.txt" };
-const SESSION = "session", OWN = "your own", KEPT = "c25 ";
+const SESSION = "session", SCRIPT = "script", OWN = "your own";
+// What a program of one's own begins with.
+const BEGINNING = {
+    "main.asm": `* Your program. It begins at address 0.
+        LACK    41h             ; the accumulator becomes 41h,
+        SACL    60h             ; which goes to 60h of data memory
+        OUT     60h,PA1         ; and from there to port 1
+WAIT    IDLE                    ; sleeps until an interrupt comes
+        B       WAIT
+`,
+    session: "c25 run main.asm\n",
+};
+const as_it_was = (name) => DATA.examples[name] || BEGINNING;
 
 const project = {
     name: OWN,          // an example's, or OWN
@@ -17,15 +29,27 @@ const project = {
     take(name, files) {
         const { [SESSION]: session, ...rest } = files;
         Object.assign(this, { name, files: rest, modules: [], roles: { ...ROLE_FILES }, steps: 1000 });
-        const words = (session || "").trim().split("\n")[0].split(/\s+/).slice(2);
-        while (words.length) {
-            const word = words.shift(), role = word.slice(2);
-            if (word === "--steps") this.steps = Number(words.shift());
-            else if (ROLES.includes(role)) this.roles[role] = words.shift();
-            else if (word in rest) this.modules.push(word);
-        }
         if (session === undefined) this.modules = Object.keys(rest).filter(is_source);
+        else this.take_session(session.trim().split("\n")[0].split(/\s+/).slice(2));
         for (const role of ROLES) this.files[this.roles[role]] ||= "";
+        this.put_in_order([...this.modules, ...this.sources().filter((key) => !this.modules.includes(key))]);
+    },
+
+    // Takes what stands after `c25 run` in a command line.
+    take_session(parts) {
+        while (parts.length) {
+            const part = parts.shift(), role = part.replace(/^--/, "");
+            if (part === "--steps") this.steps = Number(parts.shift()) || 0;
+            else if (ROLES.includes(role)) this.roles[role] = parts.shift();
+            else if (part in this.files) this.modules.push(part);
+        }
+    },
+
+    // Puts the sources in this order, and the modules with them.
+    put_in_order(sources) {
+        const names = [...sources, ...ROLES.map((role) => this.roles[role])];
+        this.files = Object.fromEntries(names.map((name) => [name, this.files[name]]));
+        this.modules = sources.filter((name) => this.modules.includes(name));
     },
 
     role_of(name) { return ROLES.find((role) => this.roles[role] === name); },
@@ -45,6 +69,7 @@ const project = {
         return { ...files, [SESSION]: "c25 " + this.command_line().join(" ") + "\n" };
     },
 
+    // ---- changes of files ----
     rename(name, other) {
         this.files = Object.fromEntries(Object.entries(this.files).map(([key, text]) => [key === name ? other : key, text]));
         this.modules = this.modules.map((key) => (key === name ? other : key));
@@ -62,66 +87,25 @@ const project = {
         this.modules = this.sources().filter((key) => (key === name ? on : this.modules.includes(key)));
     },
 
+    // Moves a source one place to the front.
+    move_earlier(name) {
+        const sources = this.sources(), at = sources.indexOf(name);
+        if (at > 0) this.put_in_order([...sources.slice(0, at - 1), name, sources[at - 1], ...sources.slice(at + 1)]);
+    },
+
     // ---- the browser's storage: each example that was edited, and what is one's own ----
-    keep() {
-        try {
-            localStorage.setItem(KEPT + this.name, JSON.stringify(this.folder()));
-            localStorage.setItem(KEPT, this.name);
-        } catch {
-            say("too large to be kept in this browser: save it");
-        }
-    },
-    kept(name) {
-        try {
-            return JSON.parse(localStorage.getItem(KEPT + name));
-        } catch {
-            return null;
-        }
-    },
-    last_name() {
-        try {
-            return localStorage.getItem(KEPT);
-        } catch {
-            return null;
-        }
-    },
-    is_edited() { return this.name in DATA.examples && JSON.stringify(this.folder()) !== JSON.stringify(folder_again(DATA.examples[this.name])); },
+    keep() { return keep_folder(this.name, this.is_edited() ? this.folder() : null) && keep_text(LAST, this.name); },
+    is_edited() { return JSON.stringify(this.folder()) !== JSON.stringify(folder_again(as_it_was(this.name))); },
 };
 
 const is_source = (name) => /\.asm$/i.test(name);
+// The name of a file that is opened, as a command line can have it.
+const file_name = (name) => name.replace(/^.*[\\/]/, "").replace(/\s+/g, "_").replace(/^-+/, "");
+// Whether a file may have this name: one word of a command line, and none of the two names that the page uses itself.
+const is_file_name = (name) => name !== "" && name === file_name(name) && ![SESSION, SCRIPT].includes(name) && is_short(name);
 
 function folder_again(files) {
     const other = Object.create(project);
     other.take("", files);
     return other.folder();
-}
-
-// ---- one file: a tar archive, so that `tar xf` makes the folder ----
-const BLOCK = 512;
-
-function tar_of(files) {
-    const blocks = [];
-    for (const [name, text] of Object.entries(files)) {
-        const content = new TextEncoder().encode(text), head = new Uint8Array(BLOCK);
-        const field = (at, value) => head.set(new TextEncoder().encode(value), at);
-        field(0, name);
-        field(100, "0000644\0" + "0000000\0" + "0000000\0" + content.length.toString(8).padStart(11, "0") + "\0" + "00000000000\0" + "        0");
-        field(257, "ustar\0" + "00");
-        field(148, head.reduce((sum, byte) => sum + byte, 0).toString(8).padStart(6, "0") + "\0 ");
-        blocks.push(head, content, new Uint8Array((BLOCK - (content.length % BLOCK)) % BLOCK));
-    }
-    return new Blob([...blocks, new Uint8Array(2 * BLOCK)]);
-}
-
-function files_of_tar(buffer) {
-    const files = {};
-    for (let at = 0; at + BLOCK <= buffer.byteLength && new Uint8Array(buffer, at, 1)[0];) {
-        const field = (from, count) => text_of(new Uint8Array(buffer, at + from, count)).replace(/\0.*$/s, "");
-        const size = parseInt(field(124, 12), 8), name = field(0, 100);
-        if (field(257, 5) !== "ustar" || !(size >= 0)) throw new Error("it is no archive");
-        if (/^[0\0]?$/.test(field(156, 1))) files[name.replace(/^.*\//, "")] = text_of(new Uint8Array(buffer, at + BLOCK, size));
-        at += BLOCK + Math.ceil(size / BLOCK) * BLOCK;
-    }
-    if (!Object.keys(files).length) throw new Error("it has no files");
-    return files;
 }

@@ -34,6 +34,12 @@ function wav_of(words, rate) {
     return view.buffer;
 }
 
+function first_channel(view, from, size, channels, bits) {
+    const step = (bits / 8) * channels, length = Math.floor(Math.min(size, view.byteLength - from) / step);
+    const word = (at) => (bits === 16 ? view.getUint16(at, true) : ((view.getUint8(at) - 128) << 8) & 0xffff);
+    return Array.from({ length }, (_, i) => word(from + i * step));
+}
+
 // The first channel of a recording of 8 or 16 bits: { words, rate, channels }.
 function words_of_wav(buffer) {
     const view = new DataView(buffer), letters = (at) => String.fromCharCode(...new Uint8Array(buffer, at, 4));
@@ -46,10 +52,8 @@ function words_of_wav(buffer) {
             rate = view.getUint32(from + 4, true);
             bits = view.getUint16(from + 14, true);
         } else if (kind === "data") {
-            if (!channels || (bits !== 8 && bits !== 16)) throw new Error(`it has ${bits} bits a sample; recordings of 8 and 16 bits can be read`);
-            const step = (bits / 8) * channels, count = Math.floor(Math.min(size, view.byteLength - from) / step);
-            const word = (i) => (bits === 16 ? view.getUint16(from + i * step, true) : ((view.getUint8(from + i * step) - 128) << 8) & 0xffff);
-            return { words: Array.from({ length: count }, (_, i) => word(i)), rate, channels };
+            if (!channels || (bits !== 8 && bits !== 16)) throw new Error(`it has ${bits} bits a sample; 8 and 16 can be read`);
+            return { words: first_channel(view, from, size, channels, bits), rate, channels };
         }
         at = from + size + (size & 1);
     }
@@ -62,27 +66,23 @@ function rounded(number) {
     return Math.abs(number % 1) === 0.5 && near % 2 ? near - 1 : near;
 }
 
+// The numbers of a table's last column, as they are written.
+function cells_of_csv(text) {
+    const cells = text.split("\n").map((line) => line.split(",").pop().trim());
+    return cells.filter((cell) => cell !== "" && Number.isFinite(Number(cell)));
+}
+
 // The last column of a table: fractions in Q15 where one of its numbers has a point, else whole numbers.
 function words_of_csv(text) {
-    const cells = text.split("\n").map((line) => line.split(",").pop().trim()).filter((cell) => cell !== "" && Number.isFinite(Number(cell)));
-    const fractions = cells.some((cell) => cell.includes("."));
-    const [low, high] = fractions ? [-1, 1] : [-32768, 65535];
-    const bad = cells.find((cell) => Number(cell) < low || Number(cell) > high || (!fractions && !Number.isInteger(Number(cell))));
+    const cells = cells_of_csv(text), fractions = cells.some((cell) => cell.includes(".")), [low, high] = fractions ? [-1, 1] : [-32768, 65535];
+    const fits = (number) => number >= low && number <= high && (fractions || Number.isInteger(number));
+    const bad = cells.find((cell) => !fits(Number(cell)));
     if (!cells.length) throw new Error("its last column has no number");
     if (bad !== undefined) throw new Error(`${bad} is not ${fractions ? "a fraction" : "a whole number"} from ${low} to ${high}`);
     return cells.map((cell) => (fractions ? Math.min(rounded(32768 * Number(cell)), 32767) : Number(cell)));
 }
 
-const csv_of = (port, words, rate) => `second,port ${port}\n` + Array.from(words, (word, i) => `${(i / rate).toFixed(6)},${signed(word)}\n`).join("");
-
-function hear(words, rate) {
-    try {
-        const context = new AudioContext(), sound = context.createBuffer(1, Math.max(1, words.length), rate), player = context.createBufferSource();
-        sound.copyToChannel(Float32Array.from(words, (word) => signed(word) / 32768), 0);
-        player.buffer = sound;
-        player.connect(context.destination);
-        player.start();
-    } catch (error) {
-        say("no sound: " + error.message);
-    }
+function csv_of(port, words, rate) {
+    const line = (word, i) => `${(i / rate).toFixed(6)},${signed(word)}\n`;
+    return `second,port ${port}\n` + Array.from(words, line).join("");
 }

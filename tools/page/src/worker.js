@@ -1,5 +1,5 @@
 // The page's worker: runs the program on the command line and the files that it is sent.
-// In:  { module }, a WebAssembly.Module, then { id, words: [..], files: { name: text or bytes }, stream }
+// In:  { module }, a WebAssembly.Module, then { id, command_line: [..], files: { name: text or bytes }, stream }
 // Out: { ready }, then { id, part: { text, ports, end } } while it runs (with stream), and { id, status, out, errors, files, milliseconds }
 //      or { id, trap }
 "use strict";
@@ -37,24 +37,25 @@ class OutputLines {
     }
 }
 
-function perform(job) {
-    const given = new Map(Object.entries(job.files).map(([name, held]) => [name, typeof held === "string" ? new TextEncoder().encode(held) : held]));
-    const lines = new OutputLines();
+const bytes_of = (held) => (typeof held === "string" ? new TextEncoder().encode(held) : held);
+
+function perform({ id, command_line, files, stream }) {
+    const given = new Map(Object.entries(files).map(([name, held]) => [name, bytes_of(held)])), lines = new OutputLines();
     let out = new Pieces();
     const send = () => {
         const text = out.whole();
         out = new Pieces();
         const ports = lines.read(text);
-        postMessage({ id: job.id, part: { text, ports, end: lines.end } }, [text.buffer]);
+        postMessage({ id, part: { text, ports, end: lines.end } }, [text.buffer]);
     };
     const system = new HeldFiles(given, new Uint8Array(0), (bytes) => {
         out.add(bytes);
-        if (job.stream && out.size > PIECE) send();
+        if (stream && out.size > PIECE) send();
     });
-    const begin = performance.now(), status = c25(compiled, job.words, system), milliseconds = performance.now() - begin;
-    if (job.stream && out.size) send();
-    const files = Object.fromEntries([...system.written].map(([name, pieces]) => [name, pieces.whole()]));
-    return { id: job.id, status, out: out.whole(), errors: system.errors.whole(), files, milliseconds };
+    const begin = performance.now(), status = c25(compiled, command_line, system), milliseconds = performance.now() - begin;
+    if (stream && out.size) send();
+    const written = Object.fromEntries([...system.written].map(([name, pieces]) => [name, pieces.whole()]));
+    return { id, status, out: out.whole(), errors: system.errors.whole(), files: written, milliseconds };
 }
 
 onmessage = ({ data }) => {
