@@ -15,6 +15,10 @@ KEYS = {"Tab": (9, "\uE004"), "Enter": (13, "\uE007"), "Escape": (27, "\uE00C"),
         "ArrowLeft": (37, "\uE012"), "ArrowRight": (39, "\uE014"), "F8": (119, "\uE038"), "F9": (120, "\uE039"), "F10": (121, "\uE03A")}
 
 
+# How files end that are not saved in full yet.
+PARTS = (".crdownload", ".part")
+
+
 class Failed(Exception):
     """What a browser answered instead of what was asked for."""
 
@@ -24,6 +28,8 @@ class Browser:
 
     def __init__(self):
         self.folder = tempfile.mkdtemp(prefix="c25page")
+        self.downloads = os.path.join(self.folder, "downloads")
+        os.makedirs(self.downloads)
         self.number, self.rest = 0, b""
 
     def until(self, condition, seconds=180):
@@ -35,6 +41,16 @@ class Browser:
                 return value
             time.sleep(0.05)
         raise Failed("%s did not come in %d seconds" % (condition, seconds))
+
+    def saved(self, name, seconds=30):
+        """The path of a file that the page saved, once it is there in full."""
+        path, end = os.path.join(self.downloads, name), time.monotonic() + seconds
+        while time.monotonic() < end:
+            parts = [it for it in os.listdir(self.downloads) if it.endswith(PARTS)]
+            if not parts and os.path.exists(path) and os.path.getsize(path):
+                return path
+            time.sleep(0.05)
+        raise Failed("%s was not saved: %s" % (name, os.listdir(self.downloads)))
 
     def end(self):
         try:
@@ -65,6 +81,7 @@ class Chromium(Browser):
         os.close(given)
         os.close(taken)
         self.session, self.events = None, []
+        self.ask("Browser.setDownloadBehavior", behavior="allow", downloadPath=self.downloads)
         target = [it for it in self.ask("Target.getTargets")["targetInfos"] if it["type"] == "page"][0]
         self.session = self.ask("Target.attachToTarget", targetId=target["targetId"], flatten=True)["sessionId"]
         for domain in ("Page", "Runtime", "Log", "Accessibility"):
@@ -154,9 +171,11 @@ class Firefox(Browser):
             free.bind(("127.0.0.1", 0))
             port = free.getsockname()[1]
         with open(os.path.join(self.folder, "user.js"), "w", encoding="ascii") as file:
-            file.write('user_pref("marionette.port", %d);\n' % port)
+            for name, value in {"marionette.port": port, "browser.download.folderList": 2, "browser.download.dir": self.downloads}.items():
+                file.write("user_pref(%s, %s);\n" % (json.dumps(name), json.dumps(value)))
         self.process = subprocess.Popen(
-            [self.command, "--headless", "--marionette", "--remote-allow-system-access", "--no-remote", "--profile", self.folder, "--width", str(WIDTH), "--height", str(HEIGHT)],
+            [self.command, "--headless", "--marionette", "--remote-allow-system-access", "--no-remote", "--profile", self.folder,
+             "--width", str(WIDTH), "--height", str(HEIGHT)],
             stdout=subprocess.DEVNULL, stderr=subprocess.DEVNULL, env={**os.environ, "HOME": self.folder})
         self.socket = self.connected(port)
         self.read()
@@ -206,8 +225,9 @@ class Firefox(Browser):
 
     def console(self):
         self.ask("Marionette:SetContext", value="chrome")
-        found = self.ask("WebDriver:ExecuteScript", args=[], script="""
-            return Services.console.getMessageArray().filter((it) => it.sourceName && it.sourceName.includes("c25")).map((it) => it.errorMessage)""")
+        of_page = 'filter((it) => it.sourceName && it.sourceName.includes("c25"))'
+        script = "return Services.console.getMessageArray().%s.map((it) => it.errorMessage)" % of_page
+        found = self.ask("WebDriver:ExecuteScript", args=[], script=script)
         self.ask("Marionette:SetContext", value="content")
         return found["value"]
 

@@ -14,7 +14,7 @@ PAGE = ("basics.js", "program.js", "storage.js", "archive.js", "project.js", "co
         "debugger.js", "debugger_view.js", "outputs.js", "help.js", "views.js", "running.js", "opening.js", "page.js")
 FIRST_EXAMPLE = "fir"
 SMALL_EXAMPLES = ("count", "port")
-POLICY = ("default-src 'none'; script-src %s 'wasm-unsafe-eval' blob:; style-src %s; worker-src blob:; base-uri 'none'; "
+POLICY = ("default-src 'none'; script-src %s 'wasm-unsafe-eval'; style-src %s; worker-src blob:; base-uri 'none'; "
           "form-action 'none'")
 
 

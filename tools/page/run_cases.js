@@ -8,12 +8,12 @@ const bytes_of = (text) => new Uint8Array(Buffer.from(text, "base64"));
 const text_of = (bytes) => Buffer.from(bytes).toString("base64");
 const compiled = new WebAssembly.Module(fs.readFileSync(process.argv[2]));
 
-function answer({ words, given, files }) {
+function answer({ command_line, given, files }) {
     const held = new Map(Object.entries(files).map(([name, text]) => [name, bytes_of(text)])), out = new Pieces();
     held.set("/dev/stdin", bytes_of(given));
     const system = new HeldFiles(held, bytes_of(given), (bytes) => out.add(bytes));
     try {
-        const status = c25(compiled, words, system);
+        const status = c25(compiled, command_line, system);
         const written = [...system.written].map(([name, pieces]) => [name, text_of(pieces.whole())]);
         return { status, output: text_of(out.whole()), errors: text_of(system.errors.whole()), written: Object.fromEntries(written) };
     } catch (error) {

@@ -30,12 +30,12 @@ MANY_LABELS = 60000
 class Case:
     """A call, and what it must give; what is None may be anything."""
 
-    def __init__(self, name):
-        self.name, self.words, self.given, self.files = name, [], b"", {}
+    def __init__(self, name, command_line=None, given=b"", files=None):
+        self.name, self.command_line, self.given, self.files = name, command_line or [], given, files or {}
         self.status, self.output, self.errors, self.written = 0, b"", None, {}
 
     def sent(self):
-        return json.dumps({"words": self.words, "given": coded(self.given), "files": {name: coded(it) for name, it in self.files.items()}})
+        return json.dumps({"command_line": self.command_line, "given": coded(self.given), "files": {name: coded(it) for name, it in self.files.items()}})
 
     def difference(self, answer):
         if "trap" in answer:
@@ -60,8 +60,8 @@ def larger_programs():
     for session in sorted(glob.glob(os.path.join(TOP, "examples", "*", "session"))):
         folder = os.path.dirname(session)
         case = Case("examples/" + os.path.basename(folder))
-        case.words = shlex.split(bytes_of(session).decode().splitlines()[0])[1:]
-        case.files = {word: bytes_of(folder, word) for word in case.words if os.path.isfile(os.path.join(folder, word))}
+        case.command_line = shlex.split(bytes_of(session).decode().splitlines()[0])[1:]
+        case.files = {word: bytes_of(folder, word) for word in case.command_line if os.path.isfile(os.path.join(folder, word))}
         case.output, case.status = bytes_of(folder, "output.txt"), None
         yield case
 
@@ -75,7 +75,7 @@ def packed(path):
         if kind == "case":
             cases.append(Case("%s: %s" % (os.path.basename(path), more)))
         elif kind == "word":
-            cases[-1].words.append(more)
+            cases[-1].command_line.append(more)
         elif kind == "status":
             cases[-1].status = int(more)
         else:
@@ -109,7 +109,7 @@ def all_cases():
 def out_of_memory():
     """A source that 32 MiB do not suffice for."""
     case = Case("out of memory")
-    case.words, case.files = ["build", "a.asm", "--out", "a"], {"a.asm": "".join("L%d NOP\n" % i for i in range(MANY_LABELS)).encode()}
+    case.command_line, case.files = ["build", "a.asm", "--out", "a"], {"a.asm": "".join("L%d NOP\n" % i for i in range(MANY_LABELS)).encode()}
     case.status, case.errors = 1, b"memory: 9 NoMemory\n"
     return case
 
@@ -117,10 +117,9 @@ def out_of_memory():
 def answers(node, module, cases):
     """What the module answers to the cases, or None where this node cannot run it."""
     wide = "-64" in os.path.basename(module)
-    words = [node] + (["--experimental-wasm-memory64"] if wide else [])
+    started = [node] + (["--experimental-wasm-memory64"] if wide else []) + [os.path.join(HERE, "run_cases.js"), module]
     sent = "".join(case.sent() + "\n" for case in cases)
-    done = subprocess.run(words + [os.path.join(HERE, "run_cases.js"), module], input=sent, stdout=subprocess.PIPE, stderr=subprocess.PIPE,
-                          universal_newlines=True)
+    done = subprocess.run(started, input=sent, stdout=subprocess.PIPE, stderr=subprocess.PIPE, universal_newlines=True)
     if wide and ("CompileError" in done.stderr or "bad option" in done.stderr):
         return None
     if done.returncode:

@@ -14,7 +14,7 @@ FLAGS = ["--target=" + TARGET, "-mcpu=lime1", "-O3", "-ffunction-sections", "-fd
          "-mllvm", "-expand-div-rem-bits=64", "-mllvm", "-expand-fp-convert-bits=64"]
 FOR_RUNTIME = ["-ffreestanding", "-nostdinc", "-fwrapv", "-x", "c"]
 OF_X86 = re.compile(r' ?"(?:target-cpu|target-features|tune-cpu|frame-pointer|probe-stack|stack-probe-size)"="[^"]*"')
-ASSEMBLY = re.compile(r"\s+(?:%\S+ = )?(?:tail )?call .* asm ")
+ASSEMBLY = re.compile(r"module asm |\s+(?:%\S+ = )?(?:\w+ )?(?:call|callbr|invoke) .* asm ")
 STACK = 8 << 20
 
 
