@@ -9,9 +9,10 @@ I32, I64, F32, F64 = 0x7F, 0x7E, 0x7D, 0x7C
 WRAP, EXTEND_SIGNED, EXTEND_UNSIGNED, SET, GET = b"\xA7", b"\xAC", b"\xAD", b"\x21", b"\x20"
 # The type of what each store puts into memory.
 STORES = {0x36: I32, 0x37: I64, 0x38: F32, 0x39: F64, 0x3A: I32, 0x3B: I32, 0x3C: I64, 0x3D: I64, 0x3E: I64}
-# How many numbers stand after an opcode: blocks, branches, calls, locals, globals, constants.
-NUMBERS_AFTER = dict.fromkeys((0x02, 0x03, 0x04, 0x0C, 0x0D, 0x10, 0x20, 0x21, 0x22, 0x23, 0x24, 0x41, 0x42, 0xD2), 1)
-BRANCH_TABLE, CALL_INDIRECT, SELECT, MEMORY_SIZE, MEMORY_GROW, CONST_F32, CONST_F64, PREFIX = 0x0E, 0x11, 0x1C, 0x3F, 0x40, 0x43, 0x44, 0xFC
+# Opcodes that one number stands after: blocks, branches, calls, locals, globals, constants.
+WITH_NUMBER = frozenset((0x02, 0x03, 0x04, 0x0C, 0x0D, 0x10, 0x20, 0x21, 0x22, 0x23, 0x24, 0x41, 0x42, 0xD2))
+BRANCH_TABLE, CALL_INDIRECT, SELECT, MEMORY_SIZE, MEMORY_GROW = 0x0E, 0x11, 0x1C, 0x3F, 0x40
+CONST_F32, CONST_F64, PREFIX = 0x43, 0x44, 0xFC
 MEMORY_COPY, MEMORY_FILL, LAST_CONVERSION = 10, 11, 7
 # Opcodes that nothing stands after: unreachable, nop, else, end, return, drop, select, comparisons, arithmetic, conversions.
 ALONE = frozenset((0x00, 0x01, 0x05, 0x0B, 0x0F, 0x1A, 0x1B, *range(0x45, 0xC5)))
@@ -116,7 +117,7 @@ class Body:
     def instruction(self):
         reader = self.reader
         start, opcode = reader.at, reader.byte()
-        if opcode in NUMBERS_AFTER:
+        if opcode in WITH_NUMBER:
             reader.skip_number()
         elif 0x28 <= opcode <= 0x3E:
             self.access(start, opcode)

@@ -74,7 +74,13 @@ static Head *head_of(void *block) { return (Head *)((char *)block - HEAD); }
 
 static Tried tried(void *block) { return (Tried){block != 0, block ? block : (void *)nothing}; }
 
-Tried rattle_alloc(u64 count, u64 align) { return tried(get(count ? count : align)); }
+// (blocks begin at multiples of 16: the program asks for no more, and one that did would stop here)
+static u64 wanted(u64 count, u64 align) {
+    if (align > HEAD) __builtin_trap();
+    return count ? count : align;
+}
+
+Tried rattle_alloc(u64 count, u64 align) { return tried(get(wanted(count, align))); }
 
 void rattle_dealloc(void *block) {
     Head *head = head_of(block);
@@ -84,9 +90,9 @@ void rattle_dealloc(void *block) {
 }
 
 Tried rattle_realloc(void *block, u64 kept, u64 count, u64 align) {
-    u64 room = head_of(block)->room, wanted = count ? count : align;
-    if (wanted <= room) return tried(block);
-    void *wider = get(wanted);
+    u64 room = head_of(block)->room, needed = wanted(count, align);
+    if (needed <= room) return tried(block);
+    void *wider = get(needed);
     if (!wider) return tried(0);
     __builtin_memcpy(wider, block, room);
     rattle_dealloc(block);
@@ -119,7 +125,7 @@ i64 read(int file, void *to, u64 count) { return transferred(host_read(file, to,
 i64 write(int file, const void *from, u64 count) { return transferred(host_write(file, from, count)); }
 i64 __write(int file, const void *from, u64 count) { return write(file, from, count); }
 
-// A program for x86-64-v2 asks first whether the processor has what its code needs: the answer is yes, as none of that code is here.
+// A program for x86-64-v2 asks first whether the processor has what its code needs. The answer is yes: none of that code is here.
 static unsigned yes[16] = {-1u, -1u, -1u, -1u, -1u, -1u, -1u, -1u, -1u, -1u, -1u, -1u, -1u, -1u, -1u, -1u};
 void *__x86_get_cpuid_feature_leaf(int leaf) { return yes; }
 

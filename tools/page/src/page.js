@@ -71,6 +71,7 @@ function last_project() {
 
 async function begin() {
     element("claim").textContent = DATA.claim;
+    element("claim").classList.toggle("bad", DATA.claim.startsWith("NOT PROVED"));
     editor.begin();
     listen();
     try {
