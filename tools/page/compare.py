@@ -52,8 +52,9 @@ def schedule(rng):
 
 
 def script(rng):
-    commands = ("step %d" % rng.randrange(200), "run %d" % rng.randrange(500), "break %X" % rng.randrange(0x100), "clear %X" % rng.randrange(0x100),
-                "regs", "stack", "where", "symbols", "list %d" % rng.randrange(40), "data %X 16" % rng.randrange(0x400), "prog %X 9" % rng.randrange(0x200))
+    commands = ("step %d" % rng.randrange(200), "run %d" % rng.randrange(500), "break %X" % rng.randrange(0x100),
+                "clear %X" % rng.randrange(0x100), "regs", "stack", "where", "symbols", "list %d" % rng.randrange(40),
+                "data %X 16" % rng.randrange(0x400), "prog %X 9" % rng.randrange(0x200))
     return "".join(rng.choice(commands) + "\n" for _ in range(rng.randrange(1, 20)))
 
 
@@ -79,7 +80,8 @@ def calls_of(seed, numbers):
 def by_program(program, call):
     with tempfile.TemporaryDirectory() as folder:
         altered.write_files(folder, call.files)
-        done = subprocess.run([program] + call.words, cwd=folder, input=call.given, stdout=subprocess.PIPE, stderr=subprocess.PIPE, timeout=SECONDS)
+        done = subprocess.run([program] + call.words, cwd=folder, input=call.given, stdout=subprocess.PIPE, stderr=subprocess.PIPE,
+                              timeout=SECONDS)
         return done.returncode, done.stdout, done.stderr, cases.files_in(folder)
 
 
@@ -117,7 +119,7 @@ def difference(wanted, answer):
     """What differs first, or None."""
     for name, one, other in zip(("status", "standard output", "standard error"), wanted, answer):
         if one != other:
-            return "%s: %r, not %r" % (name, other[:200] if isinstance(other, bytes) else other, one[:200] if isinstance(one, bytes) else one)
+            return "%s: %.200r, not %.200r" % (name, other, one)
     names = sorted(name for name in {**wanted[3], **answer[3]} if wanted[3].get(name) != answer[3].get(name))
     return "the files " + " ".join(names) if names else None
 

@@ -10,10 +10,11 @@ import shlex
 HERE = os.path.dirname(os.path.abspath(__file__))
 SOURCES = os.path.join(HERE, "src")
 WORKER = ("host.js", "files.js", "worker.js")
-PAGE = ("basics.js", "program.js", "storage.js", "archive.js", "project.js", "colours.js", "editor.js", "pictures.js", "signals.js", "sound.js",
-        "debugger.js", "debugger_view.js", "outputs.js", "help.js", "views.js", "running.js", "opening.js", "page.js")
+PAGE = ("basics.js", "program.js", "storage.js", "archive.js", "project.js", "colours.js", "editor.js", "pictures.js", "signals.js",
+        "sound.js", "debugger.js", "debugger_view.js", "outputs.js", "help.js", "views.js", "running.js", "opening.js", "page.js")
 FIRST_EXAMPLE = "fir"
 SMALL_EXAMPLES = ("count", "port")
+# No network and no eval: the page's scripts by their digests, the worker that they make, and WebAssembly.
 POLICY = ("default-src 'none'; script-src %s 'wasm-unsafe-eval'; style-src %s; worker-src blob:; base-uri 'none'; "
           "form-action 'none'")
 

@@ -35,7 +35,8 @@ class Case:
         self.status, self.output, self.errors, self.written = 0, b"", None, {}
 
     def sent(self):
-        return json.dumps({"command_line": self.command_line, "given": coded(self.given), "files": {name: coded(it) for name, it in self.files.items()}})
+        files = {name: coded(it) for name, it in self.files.items()}
+        return json.dumps({"command_line": self.command_line, "given": coded(self.given), "files": files})
 
     def difference(self, answer):
         if "trap" in answer:
@@ -61,7 +62,8 @@ def larger_programs():
         folder = os.path.dirname(session)
         case = Case("examples/" + os.path.basename(folder))
         case.command_line = shlex.split(bytes_of(session).decode().splitlines()[0])[1:]
-        case.files = {word: bytes_of(folder, word) for word in case.command_line if os.path.isfile(os.path.join(folder, word))}
+        names = [name for name in case.command_line if os.path.isfile(os.path.join(folder, name))]
+        case.files = {name: bytes_of(folder, name) for name in names}
         case.output, case.status = bytes_of(folder, "output.txt"), None
         yield case
 
@@ -109,7 +111,8 @@ def all_cases():
 def out_of_memory():
     """A source that 32 MiB do not suffice for."""
     case = Case("out of memory")
-    case.command_line, case.files = ["build", "a.asm", "--out", "a"], {"a.asm": "".join("L%d NOP\n" % i for i in range(MANY_LABELS)).encode()}
+    source = "".join("L%d NOP\n" % number for number in range(MANY_LABELS))
+    case.command_line, case.files = ["build", "a.asm", "--out", "a"], {"a.asm": source.encode()}
     case.status, case.errors = 1, b"memory: 9 NoMemory\n"
     return case
 

@@ -95,7 +95,8 @@ function registers_part({ registers }, old) {
 
 function instructions_part(seen) {
     const lines = seen.instructions.map((line) => instruction_line(line, seen));
-    return make("section", { "aria-label": "Instructions" }, heading("Instructions from PC on"), make("pre", { className: "code" }, ...lines));
+    return make("section", { "aria-label": "Instructions" }, heading("Instructions from PC on"),
+        make("pre", { className: "code" }, ...lines));
 }
 
 function memory_part({ memory }, old) {

@@ -6,7 +6,8 @@ const ANSWERS = {
         + "Faults are shown while you type.",
     Stop: "Stop, or Escape outside the text, ends a run or the debugger at once; what was printed until then stays. "
         + "Hear again ends a sound.",
-    Undo: "Ctrl+Z and Ctrl+Shift+Z in a text. The buttons Undo and Redo are for what Open, New, Remove, Restore, Earlier or a new name did.",
+    Undo: "Ctrl+Z and Ctrl+Shift+Z in a text. The buttons Undo and Redo are for what Open, New, Remove, Restore, Earlier "
+        + "or a new name did.",
     Keep: "What you edit is kept in this browser, under the example's name, and is there when you open the page again. "
         + "Restore brings the example back as it was.",
     Save: "Save saves the file that is shown, Save all the files with the command line as one file (.tar). "

@@ -126,7 +126,8 @@ async function picked(files) {
 
 // ---- files of the project ----
 function new_file() {
-    const names = ["new.asm", ...Array.from({ length: 99 }, (_, i) => `new${i + 2}.asm`)], name = names.find((it) => !(it in project.files));
+    const names = ["new.asm", ...Array.from({ length: 99 }, (_, i) => `new${i + 2}.asm`)];
+    const name = names.find((it) => !(it in project.files));
     remember();
     project.files[name] = "";
     project.set_module(name, true);

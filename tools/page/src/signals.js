@@ -74,7 +74,8 @@ function cells_of_csv(text) {
 
 // The last column of a table: fractions in Q15 where one of its numbers has a point, else whole numbers.
 function words_of_csv(text) {
-    const cells = cells_of_csv(text), fractions = cells.some((cell) => cell.includes(".")), [low, high] = fractions ? [-1, 1] : [-32768, 65535];
+    const cells = cells_of_csv(text), fractions = cells.some((cell) => cell.includes("."));
+    const [low, high] = fractions ? [-1, 1] : [-32768, 65535];
     const fits = (number) => number >= low && number <= high && (fractions || Number.isInteger(number));
     const bad = cells.find((cell) => !fits(Number(cell)));
     if (!cells.length) throw new Error("its last column has no number");
