@@ -44,7 +44,7 @@ def part(text):
 
 def proved_module(folder, toolchain):
     part("rt run: builds crates/c25, and proves it where it is not proved yet (hours, where no library is)")
-    made, verdict = module.built_again(CRATE, folder)
+    made, verdict = module.built_again(CRATE, folder, lambda name: part("rt run: %s is proved" % name))
     part("compiles the module that rt handed to clang, as rt does")
     if not module.same_object(made, CRATE, folder, toolchain):
         raise module.Failed("the kept module is not the one of %s: nothing was made" % module.object_of(CRATE))

@@ -3,11 +3,15 @@
 `rt` removes the module when clang has read it, so it is linked under another name while `rt` runs.
 """
 import os
+import re
 import subprocess
 import time
 
 BITCODE = b"BC\xc0\xde"
 MODULE, OBJECT = "module.bc", "module.o"
+MADE, PRINTED = "made", "printed"
+# The line that `rt` prints when a crate is proved.
+PROVED_CRATE = re.compile(r"^crate (\w+): .*\n", re.MULTILINE)
 # What `rt` has clang do with the module of a proved program.
 FOR_CLANG = ["-no-trap-after-noreturn", "-trap-unreachable", "-no-x86-call-frame-opt", "-disable-machine-licm",
              "-disable-postra-machine-licm", "-sink-common-insts=false"]
@@ -37,28 +41,44 @@ def link_modules(made, kept):
                 pass        # it is kept already, or gone meanwhile
 
 
-def run_keeping(command_line, crate, folder):
-    """Runs `rt` in the crate's folder, and returns the module that it made, or None, and what it printed."""
-    made, kept = os.path.join(folder, "made"), os.path.join(folder, "kept")
+def begin(command_line, crate, folder):
+    """Begins `rt` in the crate's folder; what it prints goes to the file `printed` of the other folder."""
+    with open(os.path.join(folder, PRINTED), "w", encoding="utf-8") as printed:
+        return subprocess.Popen(command_line, cwd=crate, env={**os.environ, "TMPDIR": os.path.join(folder, MADE)}, stdin=subprocess.DEVNULL,
+                                stdout=printed, stderr=printed)
+
+
+def run_keeping(command_line, crate, folder, progress):
+    """Runs `rt` in the crate's folder, and returns the module that it made, or None, and what it printed.
+
+    `progress` is called with the name of each crate that is proved."""
+    made, kept, text, proved = os.path.join(folder, MADE), os.path.join(folder, "kept"), "", []
     os.makedirs(made)
     os.makedirs(kept)
-    with open(os.path.join(folder, "printed"), "w+", encoding="utf-8", errors="replace") as printed:
-        running = subprocess.Popen(command_line, cwd=crate, env={**os.environ, "TMPDIR": made}, stdin=subprocess.DEVNULL,
-                                   stdout=printed, stderr=printed)
+    running = begin(command_line, crate, folder)
+    with open(os.path.join(folder, PRINTED), encoding="utf-8", errors="replace") as printed:
         while running.poll() is None:
             link_modules(made, kept)
+            more = printed.read()
+            text += more
+            for name in PROVED_CRATE.findall(text)[len(proved):] if more else ():
+                proved.append(name)
+                progress(name)
             time.sleep(0.003)
-        printed.seek(0)
-        text = printed.read()
-    # (of several modules the program's is the largest: it has the libraries in it)
-    modules = [os.path.join(kept, name) for name in os.listdir(kept)]
+        text += printed.read()
+    return largest_module(kept), text
+
+
+def largest_module(folder):
+    """The largest of the modules in a folder, or None: the program's has the libraries in it."""
+    modules = [os.path.join(folder, name) for name in os.listdir(folder)]
     modules = [path for path in modules if bytes_of(path)[:4] == BITCODE]
-    return max(modules, key=os.path.getsize, default=None), text
+    return max(modules, key=os.path.getsize, default=None)
 
 
 def unproved(crate, folder):
     """The module of `rt try`, with its checks; nothing of it is proved."""
-    module, text = run_keeping(["rt", "try", "--steps", "1"], crate, folder)
+    module, text = run_keeping(["rt", "try", "--steps", "1"], crate, folder, lambda name: None)
     if module is None:
         raise Failed(text + "`rt try` made no module")
     return module
@@ -72,17 +92,20 @@ def object_of(crate):
     return program_of(crate) + ".o"
 
 
-def built_again(crate, folder):
+def built_again(crate, folder, progress):
     """Has `rt run` build the crate's program again, which proves it first where that is not done yet."""
     # (a program that is there would only be run; it comes back where no other is made)
     aside = {path: path + ".aside" for path in (program_of(crate), object_of(crate)) if os.path.exists(path)}
     for path, other in aside.items():
         os.replace(path, other)
     try:
-        module, text = run_keeping(["rt", "run"], crate, folder)
+        module, text = run_keeping(["rt", "run"], crate, folder, progress)
     finally:
         for path, other in aside.items():
-            os.remove(other) if os.path.exists(path) else os.replace(other, path)
+            if os.path.exists(path):
+                os.remove(other)
+            else:
+                os.replace(other, path)
     verdicts = [line for line in text.splitlines() if line.startswith("logic=proved")]
     if module is None or not verdicts:
         raise Failed(text + "`rt run` made no proved program")

@@ -132,7 +132,7 @@ class Compared(InFolder):
         os.remove(self.path(module.MODULE))
 
     def proved_module(self):
-        built = mock.patch.object(module, "built_again", lambda crate, folder: (self.path("kept.bc"), "logic=proved"))
+        built = mock.patch.object(module, "built_again", lambda *of: (self.path("kept.bc"), "logic=proved"))
         with built, mock.patch.object(page, "CRATE", self.crate), mock.patch.object(page, "part"):
             return page.proved_module(self.folder, self.toolchain)
 
@@ -167,7 +167,9 @@ class Proved(InFolder):
                 os.remove(os.path.join(crate, name))
         toolchain, work = kit.toolchain(), self.path("work")
         os.makedirs(work)
-        made, verdict = module.built_again(crate, work)
+        proved = []
+        made, verdict = module.built_again(crate, work, proved.append)
+        self.assertEqual(proved, ["hello"])
         self.assertIn("logic=proved", verdict)
         self.assertTrue(module.same_object(made, crate, work, toolchain))
         wide = wasm.linked(toolchain, wasm.compiled(toolchain, made, work), work, 1 << 30)
