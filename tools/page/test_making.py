@@ -4,7 +4,7 @@ program's makes no page.
 
     python3 tools/page/test_making.py [--proved]      (seconds; with --proved a minute or more)
 
---proved has `rt run` prove and build a small program, and makes a module for WebAssembly of it as of c25, which node runs.
+--proved has `rt run` prove and build a small program, and holds the module that it kept against its object.
 """
 import os
 import shutil
@@ -26,10 +26,33 @@ import wasm  # noqa: E402
 
 PROVED = "--proved" in sys.argv
 PROGRAM = "int main(void) { return 7; }\n"
-LINES = "tea 95\n", "tea 1:35\n"
-RUN_HELLO = """const fs = require("fs"), c25 = new Function(fs.readFileSync(%r, "utf8") + "; return c25;")();
-const system = { open: () => -1, close: () => 0, read: (file, bytes) => fs.readSync(file, bytes), write: (file, bytes) => fs.writeSync(file, bytes) };
-process.exitCode = c25(new WebAssembly.Module(fs.readFileSync(%r)), [], system);"""
+# Takes, widens and gives back blocks of all sizes: each has to begin at a multiple of 16 and to keep what was put into it.
+HEAP = """typedef struct { unsigned long ok; unsigned char *block; } Tried;
+Tried rattle_alloc(unsigned long, unsigned long);
+Tried rattle_realloc(void *, unsigned long, unsigned long, unsigned long);
+void rattle_dealloc(void *);
+static struct { unsigned char *at; unsigned long count; unsigned char mark; } held[500];
+static unsigned seed = 1;
+static unsigned any(unsigned count) { return (seed = seed * 1103515245 + 12345) / 65536 % count; }
+int main(void) {
+    for (int turn = 0; turn < 200000; turn++) {
+        int k = any(500);
+        for (unsigned long i = 0; i < held[k].count; i++)
+            if (held[k].at[i] != held[k].mark) return 1;
+        unsigned long count = any(any(9) ? 100 : 30000);
+        if (held[k].at && any(2)) { rattle_dealloc(held[k].at); held[k].at = 0; held[k].count = 0; continue; }
+        Tried it = held[k].at ? rattle_realloc(held[k].at, held[k].count, count, 8) : rattle_alloc(count, 8);
+        if (!it.ok || (unsigned long)it.block % 16) return 2;
+        unsigned long kept = held[k].count < count ? held[k].count : count;
+        for (unsigned long i = 0; i < kept; i++) if (it.block[i] != held[k].mark) return 3;
+        held[k].at = it.block; held[k].count = count; held[k].mark = any(256);
+        for (unsigned long i = 0; i < count; i++) it.block[i] = held[k].mark;
+    }
+    return 7;
+}
+"""
+RUN = """const fs = require("fs"), c25 = new Function(fs.readFileSync(%r, "utf8") + "; return c25;")();
+process.exitCode = c25(new WebAssembly.Module(fs.readFileSync(%r)), [], {});"""
 
 
 def write(path, text):
@@ -122,22 +145,27 @@ class Compared(InFolder):
     def setUp(self):
         super().setUp()
         self.toolchain, self.crate = kit.toolchain(), self.path("crates", "c25")
-        write(self.path("c25.c"), PROGRAM)
+        self.kept = self.module_of(PROGRAM)
         os.makedirs(os.path.join(self.crate, "out"))
-        clang = [self.toolchain + "/bin/clang", "--sysroot=" + self.toolchain]
-        subprocess.run(clang + ["--target=x86_64-unknown-linux-gnu", "-c", "-O2", "-emit-llvm", self.path("c25.c"), "-o", self.path("kept.bc")], check=True)
-        shutil.copy(self.path("kept.bc"), self.path(module.MODULE))
-        subprocess.run(clang + module.AS_RT, cwd=self.folder, check=True)
+        shutil.copy(self.kept, self.path(module.MODULE))
+        subprocess.run([self.toolchain + "/bin/clang", "--sysroot=" + self.toolchain] + module.AS_RT, cwd=self.folder, check=True)
         os.rename(self.path(module.OBJECT), module.object_of(self.crate))
         os.remove(self.path(module.MODULE))
 
+    def module_of(self, text):
+        source, made = self.path("c25.c"), self.path("kept.bc")
+        write(source, text)
+        for_x86 = ["--target=x86_64-unknown-linux-gnu", "-c", "-O2", "-emit-llvm"]
+        subprocess.run([self.toolchain + "/bin/clang"] + for_x86 + [source, "-o", made], check=True)
+        return made
+
     def proved_module(self):
-        built = mock.patch.object(module, "built_again", lambda *of: (self.path("kept.bc"), "logic=proved"))
+        built = mock.patch.object(module, "built_again", lambda *of: (self.kept, "logic=proved"))
         with built, mock.patch.object(page, "CRATE", self.crate), mock.patch.object(page, "part"):
             return page.proved_module(self.folder, self.toolchain)
 
     def test_the_same(self):
-        self.assertEqual(self.proved_module(), (self.path("kept.bc"), "logic=proved"))
+        self.assertEqual(self.proved_module(), (self.kept, "logic=proved"))
 
     def test_one_byte_of_the_object(self):
         change_a_byte(module.object_of(self.crate))
@@ -145,11 +173,19 @@ class Compared(InFolder):
             self.proved_module()
 
     def test_another_module(self):
-        write(self.path("c25.c"), PROGRAM.replace("7", "8"))
-        clang = [self.toolchain + "/bin/clang", "--target=x86_64-unknown-linux-gnu", "-c", "-O2", "-emit-llvm"]
-        subprocess.run(clang + [self.path("c25.c"), "-o", self.path("kept.bc")], check=True)
+        self.module_of(PROGRAM.replace("7", "8"))
         with self.assertRaisesRegex(module.Failed, "nothing was made"):
             self.proved_module()
+
+    def test_by_node(self):
+        if kit.node() is None:
+            self.skipTest("node is missing")
+        for text in (PROGRAM, HEAP):
+            wide = wasm.linked(self.toolchain, wasm.compiled(self.toolchain, self.module_of(text), self.folder), self.folder, 1 << 30)
+            with open(self.path("small.wasm"), "wb") as file:
+                file.write(lower.lowered(wide))
+            script = RUN % (os.path.join(HERE, "src", "host.js"), self.path("small.wasm"))
+            self.assertEqual(subprocess.run([kit.node(), "-e", script]).returncode, 7)
 
 
 @unittest.skipUnless(PROVED, "with --proved alone")
@@ -172,20 +208,9 @@ class Proved(InFolder):
         self.assertEqual(proved, ["hello"])
         self.assertIn("logic=proved", verdict)
         self.assertTrue(module.same_object(made, crate, work, toolchain))
-        wide = wasm.linked(toolchain, wasm.compiled(toolchain, made, work), work, 1 << 30)
-        self.runs(lower.lowered(wide))
         change_a_byte(module.object_of(crate))
         os.remove(os.path.join(work, module.MODULE))
         self.assertFalse(module.same_object(made, crate, work, toolchain))
-
-    def runs(self, small):
-        if kit.node() is None:
-            self.skipTest("node is missing")
-        with open(self.path("small.wasm"), "wb") as file:
-            file.write(small)
-        script = RUN_HELLO % (os.path.join(HERE, "src", "host.js"), self.path("small.wasm"))
-        done = subprocess.run([kit.node(), "-e", script], input=LINES[0], stdout=subprocess.PIPE, universal_newlines=True)
-        self.assertEqual((done.returncode, done.stdout), (0, LINES[1]))
 
 
 if __name__ == "__main__":

@@ -38,8 +38,8 @@ def retargeted(lines):
             line = 'target triple = "%s"\n' % TARGET
         elif line.startswith("attributes "):
             line = OF_X86.sub("", line).replace(" sanitize_address", "").replace("{ }", "{ nounwind }")
-        elif line.startswith("define i32 @main("):
-            line = line.replace("@main(", "@c25_main(")
+        elif line.startswith("define ") and " @main(" in line:
+            line = line.replace(" @main(", " @c25_main(", 1)
         yield line
 
 
