@@ -15,6 +15,9 @@ KEYS = {"Tab": (9, "\uE004"), "Enter": (13, "\uE007"), "Escape": (27, "\uE00C"),
         "ArrowLeft": (37, "\uE012"), "ArrowRight": (39, "\uE014"), "F8": (119, "\uE038"), "F9": (120, "\uE039"), "F10": (121, "\uE03A")}
 
 
+# What firefox is set to: downloads go to a folder, and pages may read as little as without Marionette, which would let a page of a disk
+# read other files.
+FIREFOX = {"browser.download.folderList": 2, "remote.prefs.recommended": False}
 # How files end that are not saved in full yet.
 PARTS = (".crdownload", ".part")
 
@@ -171,7 +174,7 @@ class Firefox(Browser):
             free.bind(("127.0.0.1", 0))
             port = free.getsockname()[1]
         with open(os.path.join(self.folder, "user.js"), "w", encoding="ascii") as file:
-            for name, value in {"marionette.port": port, "browser.download.folderList": 2, "browser.download.dir": self.downloads}.items():
+            for name, value in {**FIREFOX, "marionette.port": port, "browser.download.dir": self.downloads}.items():
                 file.write("user_pref(%s, %s);\n" % (json.dumps(name), json.dumps(value)))
         self.process = subprocess.Popen(
             [self.command, "--headless", "--marionette", "--remote-allow-system-access", "--no-remote", "--profile", self.folder,

@@ -27,7 +27,7 @@ function show_projects() {
 }
 
 function open_project(name) {
-    if (waiting !== null) keep();
+    keep_waiting();
     project.take(name, kept_folder(name) || as_it_was(name));
     keep_text(LAST, name);
     show_project();
@@ -48,14 +48,14 @@ const as_it_is = (name) => ({ open: project.name, name, files: kept_folder(name)
 
 // Remembers a project as it is, so that Undo brings it back.
 function remember(name = project.name) {
-    if (waiting !== null) keep();
+    keep_waiting();
     past.push(as_it_is(name));
     future.length = 0;
 }
 
 // Goes back to the last of the projects of one list, so that the other list leads to what is there now.
 function go_back(from, to) {
-    if (waiting !== null) keep();
+    keep_waiting();
     const { open, name, files } = from.pop();
     to.push(as_it_is(name));
     keep_folder(name, files);

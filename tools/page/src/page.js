@@ -57,7 +57,7 @@ function listen() {
     };
     for (const [id, does] of Object.entries(clicks)) element(id).onclick = () => does();
     for (const [id, does] of Object.entries(changes)) element(id).onchange = does;
-    onpagehide = () => waiting !== null && keep();
+    onpagehide = () => keep_waiting();
     document.onkeydown = key_pressed;
     document.ondragover = (event) => event.preventDefault();
     document.ondrop = dropped;

@@ -45,6 +45,11 @@ function keep() {
     show_projects();
 }
 
+// Keeps what was edited a moment ago.
+function keep_waiting() {
+    if (waiting !== null) keep();
+}
+
 // Assembles and links; answers whether that, and what the run reads, has no fault.
 async function build() {
     inspector.forget();
@@ -84,7 +89,7 @@ function add_outputs(outputs, part) {
 }
 
 async function run() {
-    if (waiting !== null) keep();
+    keep_waiting();
     if (!(await build())) return;
     const outputs = new Outputs(), tick = show_running(outputs), ran = views.ran = { outputs };
     say("runs..");

@@ -26,7 +26,7 @@ function kept_text(name) {
     }
 }
 
-const keep_folder = (name, files) => keep_text(name, files && JSON.stringify(files));
+function keep_folder(name, files) { return keep_text(name, files && JSON.stringify(files)); }
 
 // The files that are kept under a project's name, or null.
 function kept_folder(name) {
