@@ -22,9 +22,14 @@ class HeldFiles {
         this.opened = new Map([[0, { bytes: input, at: 0 }]]);
         this.next = 3;
     }
+    // A file can be written into a folder that has a file already, or into none.
+    has_folder_of(name) {
+        const folder = name.slice(0, name.lastIndexOf("/") + 1);
+        return folder === "" || [...this.given.keys()].some((other) => other.startsWith(folder));
+    }
     open(name, writes) {
+        if (writes ? !this.has_folder_of(name) : !this.given.has(name)) return -1;
         if (writes) this.written.set(name, new Pieces());
-        else if (!this.given.has(name)) return -1;
         this.opened.set(this.next, writes ? { pieces: this.written.get(name) } : { bytes: this.given.get(name), at: 0 });
         return this.next++;
     }
