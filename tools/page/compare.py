@@ -23,22 +23,14 @@ OUT = os.path.join(TOP, "tools", "out")
 sys.path[:0] = [HERE, os.path.join(TOP, "tools"), os.path.join(TOP, "tools", "mame")]
 sys.dont_write_bytecode = True
 import altered  # noqa: E402
-import browser  # noqa: E402
 import cases  # noqa: E402
+import in_page  # noqa: E402
 import kit  # noqa: E402
 import programs  # noqa: E402
 import test_node  # noqa: E402
 
 SECONDS = 120
 EVENTS = ("INT0", "INT1", "INT2", "BIO0", "BIO1")
-IN_PAGE = """const files = Object.fromEntries(%s.map(([name, text]) => [name, Uint8Array.from(atob(text), (it) => it.charCodeAt(0))]));
-const coded = (bytes) => { let text = ""; for (const byte of bytes) text += String.fromCharCode(byte); return btoa(text); };
-const it = await program.run(%s, files);
-return it.trap ? { trap: it.trap } : { status: it.status, output: coded(it.out), errors: coded(it.errors),
-    written: Object.fromEntries(Object.entries(it.files).map(([name, bytes]) => [name, coded(bytes)])) };"""
-
-OTHER_MODULE = """program.module = await WebAssembly.compile(Uint8Array.from(atob(%s), (it) => it.charCodeAt(0)));
-program.worker.terminate(); program.begin(); await program.ready;"""
 
 
 # ---- calls ----
@@ -102,18 +94,8 @@ def by_node(module, calls):
 
 
 def by_page(page, calls, module=None):
-    """The page's answers in chromium, with another module in the place of its own where one is given."""
-    driven = browser.Chromium()
-    try:
-        driven.open(page)
-        driven.until("document.body && document.body.dataset.begun")
-        if module:
-            driven.do(OTHER_MODULE % json.dumps(test_node.coded(test_node.bytes_of(module))))
-        for call in calls:
-            files = json.dumps([[name, test_node.coded(data)] for name, data in call.files.items()])
-            yield decoded(driven.do(IN_PAGE % (files, json.dumps(call.words))), call)
-    finally:
-        driven.close()
+    sent = [test_node.Case(call.name, call.words, call.given, call.files) for call in calls]
+    return (decoded(answer, call) for answer, call in zip(in_page.answers(page, sent, module), calls))
 
 
 def difference(wanted, answer):
@@ -145,7 +127,7 @@ def main():
     parser.add_argument("--first", type=int, default=0)
     parser.add_argument("--count", type=int, default=300)
     parser.add_argument("--page", nargs="?", const=os.path.join(OUT, "c25.html"))
-    options = parser.parse_args()
+    options = parser.parse_intermixed_args()
     calls, wanted = [], []
     for call in calls_of(options.seed, range(options.first, options.first + options.count)):
         # (the page has no /dev)

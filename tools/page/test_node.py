@@ -1,17 +1,17 @@
 #!/usr/bin/env python3
 """Runs the larger programs of examples/ and the gate's packed cases by node in the modules that tools/page.py made.
 
-    python3 tools/page/test_node.py [MODULE..]      (without modules: tools/out/c25-32.wasm and tools/out/c25-64.wasm)
+    python3 tools/page/test_node.py [--page HTML] [MODULE..]    (without modules: tools/out/c25-32.wasm and tools/out/c25-64.wasm)
 
 Status, standard output, standard error and written files have to be those of the cases. Of the module of 64-bit addresses it says
-where this node cannot run it.
+where this node cannot run it; with --page chromium does, in this page, on the cases that have no standard input.
 """
+import argparse
 import base64
 import glob
 import json
 import os
 import shlex
-import shutil
 import subprocess
 import sys
 import tempfile
@@ -21,8 +21,13 @@ TOP = os.path.dirname(os.path.dirname(HERE))
 DATA = os.path.join(TOP, "crates", "c25_examples", "data")
 sys.path.insert(0, HERE)
 sys.dont_write_bytecode = True
+from in_page import coded  # noqa: E402
+import in_page  # noqa: E402
+import kit  # noqa: E402
 import lower  # noqa: E402
 
+OUT = os.path.join(TOP, "tools", "out")
+SMALL, WIDE = "c25-32.wasm", "c25-64.wasm"
 SMALL_MEMORY = 512      # pages of 64 KiB
 MANY_LABELS = 60000
 
@@ -46,10 +51,6 @@ class Case:
             if value is not None and answer[key] != value:
                 return "another %s: %r" % (key, answer[key] if key == "status" else base64.b64decode(answer[key])[:200])
         return next(("another file " + name for name, it in self.written.items() if answer["written"].get(name) != coded(it)), None)
-
-
-def coded(data):
-    return base64.b64encode(data).decode("ascii")
 
 
 def bytes_of(*path):
@@ -130,16 +131,22 @@ def answers(node, module, cases):
     return [json.loads(line) for line in done.stdout.splitlines()]
 
 
-def differences(node, module, cases):
-    got = answers(node, module, cases)
+def differences(node, module, cases, page=None):
+    """Prints where the module answers something else, and returns in how many cases it does."""
+    name, got = os.path.basename(module), answers(node, module, cases)
     if got is None:
-        print("%s: this node cannot run it" % os.path.basename(module))
-        return 0
-    bad = [(case.name, case.difference(answer)) for case, answer in zip(cases, got) if case.difference(answer)]
-    for name, difference in bad:
-        print("%s: %s: %s" % (os.path.basename(module), name, difference))
-    print("%s: %d cases the same, %d others" % (os.path.basename(module), len(cases) - len(bad), len(bad)))
-    return len(bad)
+        print("%s: this node cannot run it%s" % (name, ", so chromium does" if page else ""))
+        cases = [case for case in cases if page and not case.given]
+        got = in_page.answers(page, cases, module) if page else []
+    bad = 0
+    for case, answer in zip(cases, got):
+        difference = case.difference(answer)
+        if difference:
+            bad += 1
+            print("%s: %s: %s" % (name, case.name, difference))
+    if cases:
+        print("%s: %d cases the same, %d others" % (name, len(cases) - bad, bad), flush=True)
+    return bad
 
 
 def in_small_memory(node, module):
@@ -150,19 +157,20 @@ def in_small_memory(node, module):
         return differences(node, small, [out_of_memory()])
 
 
-def main(modules):
-    node = shutil.which("node") or shutil.which("nodejs")
+def main():
+    parser = argparse.ArgumentParser(description=__doc__, formatter_class=argparse.RawDescriptionHelpFormatter)
+    parser.add_argument("modules", nargs="*", default=[os.path.join(OUT, name) for name in (SMALL, WIDE)])
+    parser.add_argument("--page", metavar="HTML")
+    options = parser.parse_intermixed_args()
+    node = kit.node()
     if node is None:
-        print("test_node.py: node is not installed: nothing was tested")
+        print("test_node.py: node is missing: nothing was tested")
         return 0
-    wide = os.path.join(TOP, "tools", "out", "c25-64.wasm")
-    modules = modules or [os.path.join(TOP, "tools", "out", "c25-32.wasm"), wide]
-    cases = all_cases()
-    bad = sum(differences(node, module, cases) for module in modules)
-    if wide in modules:
-        bad += in_small_memory(node, wide)
+    cases, page = all_cases(), options.page and os.path.abspath(options.page)
+    bad = sum(differences(node, module, cases, page) for module in options.modules)
+    bad += sum(in_small_memory(node, module) for module in options.modules if os.path.basename(module) == WIDE)
     return 1 if bad else 0
 
 
 if __name__ == "__main__":
-    sys.exit(main(sys.argv[1:]))
+    sys.exit(main())
