@@ -35,6 +35,11 @@ FETCHED_BY_WORKER = """const script = new Blob(["fetch('%s').then(() => postMess
 const worker = new Worker(URL.createObjectURL(script)); return await new Promise((yes) => { worker.onmessage = (it) => yes(it.data); });"""
 IMAGE = """const image = new Image(); image.src = "%s";
 return await new Promise((yes) => { image.onload = () => yes("got"); image.onerror = () => yes("refused"); });"""
+# A module whose program the engine ends: a memory, and `start` with the instruction `unreachable`.
+TRAP = (b"\0asm\1\0\0\0" b"\1\5\1\x60\0\1\x7f" b"\3\2\1\0" b"\5\3\1\0\1" b"\7\x12\2\6memory\2\0\5start\0\0"
+        b"\x0a\5\1\3\0\0\x0b")
+BEGIN = """program.own = program.own || program.module; program.module = %s; program.worker.terminate(); program.begin();
+await program.ready; await run();"""
 OPENED = "[new File([Uint8Array.from(atob(%s), (it) => it.charCodeAt(0))], %s)]"
 
 
@@ -225,6 +230,13 @@ class Tests:
         self.choose("count")
         self.hold("runs again", self.value('element("state").textContent').startswith("ran 1000"))
 
+    def trap(self):
+        self.choose("count")
+        self.driven.do(BEGIN % ("await WebAssembly.compile(Uint8Array.from(%s))" % list(TRAP)))
+        self.holds("a program that the engine ends", 'element("fault").textContent.startsWith("the program stopped by itself")')
+        self.driven.do(BEGIN % "program.own")
+        self.holds("and goes on", '[element("fault").textContent, element("state").textContent.startsWith("ran 1000")]', ["", True])
+
     def many_outputs(self):
         self.choose("port")
         self.driven.do('views.show("Outputs");' + EDIT % json.dumps(OUTPUTS) + MANY_STEPS + "run();")
@@ -288,7 +300,7 @@ class Tests:
 
     def all(self, only):
         parts = (self.begun, self.examples, self.signals, self.faults, self.files, self.saving, self.undoing, self.debugger, self.stop,
-                 self.many_outputs, self.storage, self.keys, self.looks, self.quiet, self.policy)
+                 self.trap, self.many_outputs, self.storage, self.keys, self.looks, self.quiet, self.policy)
         for part in [part for part in parts if only in (None, part.__name__) or part == self.begun]:
             began = time.monotonic()
             try:
