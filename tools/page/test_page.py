@@ -230,6 +230,11 @@ class Tests:
         self.choose("count")
         self.hold("runs again", self.value('element("state").textContent').startswith("ran 1000"))
 
+    def waits(self):
+        self.choose("count")
+        self.driven.do("views.ran = null; program.worker.terminate(); program.worker = program.loading = null; await run()")
+        self.holds("a run waits until the program is compiled", "views.ran.registers.startsWith('PC')")
+
     def trap(self):
         self.choose("count")
         self.driven.do(BEGIN % ("await WebAssembly.compile(Uint8Array.from(%s))" % list(TRAP)))
@@ -300,7 +305,7 @@ class Tests:
 
     def all(self, only):
         parts = (self.begun, self.examples, self.signals, self.faults, self.files, self.saving, self.undoing, self.debugger, self.stop,
-                 self.trap, self.many_outputs, self.storage, self.keys, self.looks, self.quiet, self.policy)
+                 self.waits, self.trap, self.many_outputs, self.storage, self.keys, self.looks, self.quiet, self.policy)
         for part in [part for part in parts if only in (None, part.__name__) or part == self.begun]:
             began = time.monotonic()
             try:

@@ -5,9 +5,12 @@
 const STOP_SHOWN = 100;     // after so many milliseconds of a call the page can be asked to stop it
 
 const program = {
-    module: null, worker: null, ready: null, call: null, count: 0,
+    loading: null, module: null, worker: null, ready: null, call: null, count: 0,
 
-    async load() {
+    // Compiles the module once; calls wait for that.
+    load() { return this.loading || (this.loading = this.compile()); },
+
+    async compile() {
         this.address = URL.createObjectURL(new Blob([DATA.worker], { type: "text/javascript" }));
         const packed = Uint8Array.from(atob(DATA.module), (letter) => letter.charCodeAt(0));
         const stream = new Blob([packed]).stream().pipeThrough(new DecompressionStream("gzip"));
@@ -46,8 +49,10 @@ const program = {
 
     stop() {
         if (!this.call) return;
-        this.worker.terminate();
-        this.begin();
+        if (this.worker) {
+            this.worker.terminate();
+            this.begin();
+        }
         this.end({ stopped: true });
     },
 
@@ -57,7 +62,7 @@ const program = {
         return new Promise((yes) => {
             const call = this.call = { id: ++this.count, yes, part, shown: setTimeout(() => stop_shown(true), STOP_SHOWN) };
             const message = { id: call.id, command_line, files, stream: !!part };
-            this.ready.then(() => this.call === call && this.worker.postMessage(message),
+            this.load().then(() => this.ready).then(() => this.call === call && this.worker.postMessage(message),
                 (error) => this.call === call && this.end({ trap: error.message }));
         });
     },
