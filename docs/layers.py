@@ -30,7 +30,7 @@ PAGE, BEGIN, END = "docs/PROVING.md", "<!-- what a change costs: docs/layers.py 
 ARCHITECTURE, LIBRARIES = "docs/ARCHITECTURE.md", "crates.txt"
 SUBJECT = "c25_meaning_"
 CRATE = r"(?:c25|show_)\w*"
-DOCUMENTS = ("README.md", "CHANGELOG.md", "docs/*.md", "docs/manual/*.md", "tools/README.md", "editors/README.md")
+DOCUMENTS = ("README.md", "CHANGELOG.md", "docs/*.md", "docs/manual/*.md", "tools/README.md", "editors/README.md", "tools/page/README.md")
 COMMENTS = (("crates/*/src/**/*.rt", "//"), ("crates/*/specs/**/*.antt", "--"))
 # What docs/WORDS.md lists as not to be used, as far as a pattern finds no right use of it; and what to write.
 WORDS = {

@@ -1,0 +1,38 @@
+#!/usr/bin/env node
+// The program c25 on the files of this folder: node c25.js run fir.asm ..
+// (host.js stands before this in the file that tools/page.py makes)
+
+const fs = require("fs");
+const STOPPED_BY_ITSELF = 70;       // the status where the engine ended the program; its own are 0 to 3
+
+function waiting(transfer) {
+    for (;;) {
+        try {
+            return transfer();
+        } catch (error) {
+            if (error.code === "EOF") return 0;
+            if (error.code !== "EAGAIN") return -1;
+        }
+    }
+}
+
+const disk = {
+    open(name, writes) {
+        try {
+            return fs.openSync(name, writes ? "w" : "r");
+        } catch {
+            return -1;
+        }
+    },
+    read: (file, bytes) => waiting(() => fs.readSync(file, bytes)),
+    write: (file, bytes) => waiting(() => fs.writeSync(file, bytes)),
+    close: (file) => waiting(() => (fs.closeSync(file), 0)),
+};
+
+const packed = Buffer.from(MODULE, "base64");
+try {
+    process.exitCode = c25(new WebAssembly.Module(require("zlib").gunzipSync(packed)), process.argv.slice(2), disk);
+} catch (error) {
+    fs.writeSync(2, `c25: the program stopped by itself: ${error}\n`);
+    process.exitCode = STOPPED_BY_ITSELF;
+}

@@ -1,0 +1,217 @@
+#!/usr/bin/env python3
+"""Tests how tools/page.py makes the page: what is missing is said, what cannot be turned is refused, and a module that is not the proved
+program's makes no page.
+
+    python3 tools/page/test_making.py [--proved]      (seconds; with --proved a minute or more)
+
+--proved has `rt run` prove and build a small program, and holds the module that it kept against its object.
+"""
+import os
+import shutil
+import subprocess
+import sys
+import tempfile
+import unittest
+from unittest import mock
+
+HERE = os.path.dirname(os.path.abspath(__file__))
+TOOLS = os.path.dirname(HERE)
+sys.path[:0] = [HERE, TOOLS]
+sys.dont_write_bytecode = True
+import kit  # noqa: E402
+import lower  # noqa: E402
+import module  # noqa: E402
+import page  # noqa: E402
+import wasm  # noqa: E402
+
+PROVED = "--proved" in sys.argv
+PROGRAM = "int main(void) { return 7; }\n"
+# Takes, widens and gives back blocks of all sizes: each has to begin at a multiple of 16 and to keep what was put into it.
+HEAP = """typedef struct { unsigned long ok; unsigned char *block; } Tried;
+Tried rattle_alloc(unsigned long, unsigned long);
+Tried rattle_realloc(void *, unsigned long, unsigned long, unsigned long);
+void rattle_dealloc(void *);
+static struct { unsigned char *at; unsigned long count; unsigned char mark; } held[500];
+static unsigned seed = 1;
+static unsigned any(unsigned count) { return (seed = seed * 1103515245 + 12345) / 65536 % count; }
+int main(void) {
+    for (int turn = 0; turn < 200000; turn++) {
+        int k = any(500);
+        for (unsigned long i = 0; i < held[k].count; i++)
+            if (held[k].at[i] != held[k].mark) return 1;
+        unsigned long count = any(any(9) ? 100 : 30000);
+        if (held[k].at && any(2)) { rattle_dealloc(held[k].at); held[k].at = 0; held[k].count = 0; continue; }
+        Tried it = held[k].at ? rattle_realloc(held[k].at, held[k].count, count, 8) : rattle_alloc(count, 8);
+        if (!it.ok || (unsigned long)it.block % 16) return 2;
+        unsigned long kept = held[k].count < count ? held[k].count : count;
+        for (unsigned long i = 0; i < kept; i++) if (it.block[i] != held[k].mark) return 3;
+        held[k].at = it.block; held[k].count = count; held[k].mark = any(256);
+        for (unsigned long i = 0; i < count; i++) it.block[i] = held[k].mark;
+    }
+    return 7;
+}
+"""
+RUN = """const fs = require("fs"), c25 = new Function(fs.readFileSync(%r, "utf8") + "; return c25;")();
+process.exitCode = c25(new WebAssembly.Module(fs.readFileSync(%r)), [], {});"""
+
+
+def write(path, text):
+    os.makedirs(os.path.dirname(path), exist_ok=True)
+    with open(path, "w", encoding="ascii") as file:
+        file.write(text)
+    os.chmod(path, 0o755)
+
+
+def change_a_byte(path):
+    data = bytearray(module.bytes_of(path))
+    data[len(data) // 2] ^= 1
+    with open(path, "wb") as file:
+        file.write(data)
+
+
+class InFolder(unittest.TestCase):
+    def setUp(self):
+        self.folder = tempfile.mkdtemp(prefix="c25making")
+        self.addCleanup(shutil.rmtree, self.folder, ignore_errors=True)
+
+    def path(self, *names):
+        return os.path.join(self.folder, *names)
+
+
+class Missing(InFolder):
+    """What page.py says in a kit that lacks something; it begins to build nothing."""
+
+    def said(self, **tools):
+        for name, text in tools.items():
+            write(self.path("kit", *name.split("__")), "#!/bin/sh\n%s\n" % text)
+        os.makedirs(self.path("kit", "bin"), exist_ok=True)
+        done = subprocess.run([sys.executable, os.path.join(TOOLS, "page.py"), "--unproved"], stdout=subprocess.PIPE, stderr=subprocess.PIPE,
+                              env={"PATH": self.path("kit", "bin")}, universal_newlines=True)
+        self.assertEqual((done.returncode, done.stdout), (1, ""))
+        return done.stderr.replace(self.path("kit"), "KIT").splitlines()
+
+    def rt(self):
+        return "echo %s" % self.path("kit", "START-HERE.md")
+
+    def test_no_kit(self):
+        self.assertEqual(self.said(), ["page.py: rt is missing: put the folder bin of the kit into PATH"])
+
+    def test_no_tools(self):
+        self.assertEqual(self.said(bin__rt=self.rt()), [
+            "page.py: clang is missing: the kit has no KIT/toolchain/bin/clang",
+            "page.py: ld.lld is missing: the kit has no KIT/toolchain/bin/ld.lld"])
+
+    def test_no_target(self):
+        tools = {"toolchain__bin__clang": "echo '    x86-64 - 64-bit X86'", "toolchain__bin__ld.lld": "exit 1"}
+        self.assertEqual(self.said(bin__rt=self.rt(), **tools), [
+            "page.py: the target wasm64 is missing: KIT/toolchain/bin/clang compiles for other processors alone",
+            "page.py: the linker for WebAssembly is missing: KIT/toolchain/bin/ld.lld has no flavor wasm"])
+
+    def test_no_node(self):
+        with mock.patch.object(kit, "node", lambda: None), mock.patch.object(page, "part") as part:
+            page.try_script("", self.folder)
+        part.assert_called_once_with("node is missing, so c25.js was not tried")
+
+
+class Refused(unittest.TestCase):
+    """Modules that cannot be turned."""
+
+    def test_instructions_of_x86(self):
+        for line in ("  %1 = call i64 @llvm.x86.rdtsc()\n", '  %1 = call i64 asm "nop", "=r"()\n', '  tail call void asm sideeffect "nop", ""()\n',
+                     'module asm "nop"\n', '  invoke void asm "nop", ""() to label %1 unwind label %2\n'):
+            with self.assertRaises(wasm.Refused):
+                list(wasm.retargeted([line]))
+
+    def test_what_is_changed(self):
+        given = ['target triple = "x86_64-unknown-linux-gnu"\n', "define i32 @main() #0 {\n", '  ret i32 7 ; " asm "\n',
+                 'attributes #0 = { "target-cpu"="x86-64" "tune-cpu"="generic" }\n']
+        self.assertEqual(list(wasm.retargeted(given)), ['target triple = "wasm64-unknown-unknown"\n', "define i32 @c25_main() #0 {\n", given[2],
+                                                        "attributes #0 = { nounwind }\n"])
+
+    def test_unknown_instructions(self):
+        self.assertEqual(lower.Body(b"\x00\x41\x07\x0B", 0).lowered(), b"\x00\x41\x07\x0B")
+        for opcode in (0x06, 0x12, 0x25, 0xD0, 0xFB, 0xFD, 0xFE):
+            with self.assertRaises(lower.Unknown):
+                lower.Body(bytes([0, opcode, 0, 0x0B]), 0).lowered()
+
+    def test_unknown_sections(self):
+        with self.assertRaises(lower.Unknown):
+            lower.lowered(b"\0asm\1\0\0\0" + bytes([13, 1, 0]))
+
+
+class Compared(InFolder):
+    """The comparison with the program's object, on a program that clang makes."""
+
+    def setUp(self):
+        super().setUp()
+        self.toolchain, self.crate = kit.toolchain(), self.path("crates", "c25")
+        self.kept = self.module_of(PROGRAM)
+        os.makedirs(os.path.join(self.crate, "out"))
+        shutil.copy(self.kept, self.path(module.MODULE))
+        subprocess.run([self.toolchain + "/bin/clang", "--sysroot=" + self.toolchain] + module.AS_RT, cwd=self.folder, check=True)
+        os.rename(self.path(module.OBJECT), module.object_of(self.crate))
+        os.remove(self.path(module.MODULE))
+
+    def module_of(self, text):
+        source, made = self.path("c25.c"), self.path("kept.bc")
+        write(source, text)
+        for_x86 = ["--target=x86_64-unknown-linux-gnu", "-c", "-O2", "-emit-llvm"]
+        subprocess.run([self.toolchain + "/bin/clang"] + for_x86 + [source, "-o", made], check=True)
+        return made
+
+    def proved_module(self):
+        built = mock.patch.object(module, "built_again", lambda *of: (self.kept, "logic=proved"))
+        with built, mock.patch.object(page, "CRATE", self.crate), mock.patch.object(page, "part"):
+            return page.proved_module(self.folder, self.toolchain)
+
+    def test_the_same(self):
+        self.assertEqual(self.proved_module(), (self.kept, "logic=proved"))
+
+    def test_one_byte_of_the_object(self):
+        change_a_byte(module.object_of(self.crate))
+        with self.assertRaisesRegex(module.Failed, "nothing was made"):
+            self.proved_module()
+
+    def test_another_module(self):
+        self.module_of(PROGRAM.replace("7", "8"))
+        with self.assertRaisesRegex(module.Failed, "nothing was made"):
+            self.proved_module()
+
+    def test_by_node(self):
+        if kit.node() is None:
+            self.skipTest("node is missing")
+        for text in (PROGRAM, HEAP):
+            wide = wasm.linked(self.toolchain, wasm.compiled(self.toolchain, self.module_of(text), self.folder), self.folder, 1 << 30)
+            with open(self.path("small.wasm"), "wb") as file:
+                file.write(lower.lowered(wide))
+            script = RUN % (os.path.join(HERE, "src", "host.js"), self.path("small.wasm"))
+            self.assertEqual(subprocess.run([kit.node(), "-e", script]).returncode, 7)
+
+
+@unittest.skipUnless(PROVED, "with --proved alone")
+class Proved(InFolder):
+    """A small program, proved and built by `rt run`, in the place of c25."""
+
+    def test_a_proved_program(self):
+        crate = self.path("crates", "hello")
+        subprocess.run(["git", "init", "-q", self.folder], check=True)
+        os.makedirs(self.path("crates"))
+        subprocess.run(["rt", "new", "crates/hello", "start_io"], cwd=self.folder, check=True, stdout=subprocess.DEVNULL)
+        write(self.path("crates.txt"), "hello:\n")
+        for name in ("BUILD.bazel", "stdin"):
+            if os.path.exists(os.path.join(crate, name)):
+                os.remove(os.path.join(crate, name))
+        toolchain, work = kit.toolchain(), self.path("work")
+        os.makedirs(work)
+        proved = []
+        made, verdict = module.built_again(crate, work, proved.append)
+        self.assertEqual(proved, ["hello"])
+        self.assertIn("logic=proved", verdict)
+        self.assertTrue(module.same_object(made, crate, work, toolchain))
+        change_a_byte(module.object_of(crate))
+        os.remove(os.path.join(work, module.MODULE))
+        self.assertFalse(module.same_object(made, crate, work, toolchain))
+
+
+if __name__ == "__main__":
+    unittest.main(argv=[word for word in sys.argv if word != "--proved"])
