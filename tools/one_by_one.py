@@ -6,7 +6,8 @@ usage: python3 tools/one_by_one.py PROGRAM [--seed S] [--count N] [--sources FOL
 Each source is plain lines with faulty ones among them, put there at random; the sources of FOLDER (*.asm) are taken too, each
 alone. One by one means: the source is assembled without `--all`, the faulty line is left out but for its label (a line of the
 second phase is made a line of as many zeros, so that no address moves), and so on until no fault is left. A fault of expansion
-and 54 end both lists. With `--all` the first line on standard error must be the line without it, the lines must be those found
+and 54 end both lists. A source of which a line is refused again after that is left out: its label is wrong each time that a loop
+reaches it. With `--all` the first line on standard error must be the line without it, the lines must be those found
 one by one, and the status must be the same. The status is 1 where they differ anywhere.
 """
 import argparse
@@ -20,18 +21,21 @@ import tempfile
 
 LINE = re.compile(r"([^\n:]*):([0-9]+): ([0-9]+) ([A-Za-z]+)$")
 LABEL = re.compile(r"([A-Za-z_][A-Za-z_0-9$?]*):?(?=[ \t;]|$)")
-# Those of the second phase, where a line is refused for its operands.
+# Those of the second phase, where they are of the operands of an instruction or of these directives.
 SECOND = {22, 23, 24, 25, 53, 55}
+DATA = {".word", ".int", ".byte", ".def"}
+# The instructions of two words.
+LONG = set("ADLK ANDK B BANZ BBNZ BBZ BC BGEZ BGZ BIOZ BLEZ BLKD BLKP BLZ BNC BNV BNZ BV BZ CALL LALK LRLK MAC MACD ORK SBLK XORK".split())
 # Faults after which nothing is read.
 LAST = {30, 31, 32, 33, 34, 35, 36, 38, 54}
 GOOD = [" NOP", " LACK 5", " ADD 60h", " LALK 1234h", " B L0", " .word 1,2,3", " .byte 1", ' .string "ab"', " .space 32", " LARK AR1,2",
         " .bss V%d,1", "K%d .set 5", " .text", " .data", ' .sect "s%d"', " .global G%d", " IN 60h,PA1", "; a comment", "", " SACL 61h,1"]
-# Faulty lines of the first phase, and of the second one with how many words they make.
+# Faulty lines of the first phase and of the second.
 FIRST = [" FOO", " LACK", " LACK 1,2", " LARK 5", " LACK 2+", " .word 1F", " .word 'ab", " LAC \x01", " .space -1", " .space L0", "L0 NOP",
          "AR1 NOP", " .bss V0,200,1", " .bss L0,1", "K0 .set 5", "M%d .set N%d", " .set 5", " .usect", ' .sect ""', " .def PA1", " LAC *AR9",
          " .wrod 5", " .mmregs 1", " .space 1/0", "1X NOP", " .word ((((", " .bss W%d", "DRR .set 0", " .mmregs"]
-WORDS = [(" LACK 256", 1), (" LARK AR1,256", 1), (" LALK 70000", 2), (" B U%d", 2), (" .word 1,U%d,3", 3), (" .byte 256", 1), (" LAC L0", 1),
-         (" .word 1/0", 1), (" ADD 60h,16", 1), (" LACK L0", 1), (" .def U%d", 0)]
+WORDS = [" LACK 256", " LARK AR1,256", " LALK U%d", " B U%d", " .word 1,U%d,3", " .byte 256", " LAC L0", " .word 1/0", " LACK L0",
+         " .def U%d"]
 
 
 def run(program, folder, words):
@@ -48,13 +52,27 @@ def label_of(line):
     return found.group(1)
 
 
+def zeros_for(line):
+    """The zeros that a line of the second phase makes room for, or None where its operands are read in the first phase."""
+    words = line.split(";")[0].split()
+    words = words[1:] if label_of(line) or not line[:1].isspace() else words
+    word = words[0] if words else ""
+    if word.lower() in DATA:
+        count = len("".join(words[1:]).split(",")) if word.lower() != ".def" else 0
+    elif word.startswith("."):
+        return None
+    else:
+        count = 2 if word.upper() in LONG else 1
+    return " .word " + ",".join(["0"] * count) if count else ""
+
+
 def write(folder, name, lines):
     with open(os.path.join(folder, name), "w", encoding="utf-8", newline="\n") as file:
         file.write("".join(line + "\n" for line in lines))
 
 
-def one_by_one(program, folder, name, lines, sizes):
-    """The lines of all faults, found by mending one after another."""
+def one_by_one(program, folder, name, lines):
+    """The lines of all faults, found by mending one after another; None where a line is refused for its label alone, and again."""
     told = []
     first_phase = False
     while True:
@@ -66,9 +84,12 @@ def one_by_one(program, folder, name, lines, sizes):
         if at is None or at.group(1) != name:
             return told + said[:1]
         number, kind = int(at.group(2)), int(at.group(3))
-        second = kind in SECOND and sizes.get(number) is not None
+        zeros = zeros_for(lines[number - 1]) if kind in SECOND else None
+        second = zeros is not None
         if second and first_phase:
             return told
+        if said[0] in told:
+            return None
         told.append(said[0])
         if kind in LAST or len(told) > 100:
             return told
@@ -78,8 +99,7 @@ def one_by_one(program, folder, name, lines, sizes):
             label = "" if lines.index(lines[number - 1]) != number - 1 or any(label_of(l) == label for l in lines[:number - 1]) else label
         if label.upper() in ("AR1",):
             label = ""
-        rest = " .word " + ",".join(["0"] * sizes[number]) if second and sizes[number] else ""
-        lines = lines[:number - 1] + [label + rest] + lines[number:]
+        lines = lines[:number - 1] + [label + (zeros or "")] + lines[number:]
 
 
 def with_all(told, name):
@@ -88,8 +108,8 @@ def with_all(told, name):
 
 
 def source_of(rng, first, most):
-    """The lines of a source, and the sizes of its faulty lines of the second phase."""
-    lines, sizes = ["L0 NOP", "K0 .set 4", " .bss V0,1"], {}
+    """The lines of a source, with faulty ones of the first phase only where `first` says so."""
+    lines = ["L0 NOP", "K0 .set 4", " .bss V0,1"]
     for k in range(1, rng.randrange(5, most)):
         kind = rng.random()
         if kind < 0.75:
@@ -97,16 +117,19 @@ def source_of(rng, first, most):
         elif first and kind < 0.9:
             text = rng.choice(FIRST)
         else:
-            text, sizes[len(lines) + 1] = rng.choice(WORDS)
+            text = rng.choice(WORDS)
         text = text.replace("%d", str(k))
         if rng.random() < 0.2 and text.startswith(" ") and not text.strip().startswith("."):
             text = "T%d" % k + text
         lines.append(text)
-    return lines, sizes
+    return lines
 
 
-def differs(program, folder, name, lines, sizes):
-    told = one_by_one(program, folder, name, list(lines), sizes)
+def differs(program, folder, name, lines):
+    told = one_by_one(program, folder, name, list(lines))
+    if told is None:
+        print("left out:", name)
+        return 0, 0
     write(folder, name, lines)
     status, alone = run(program, folder, ["asm", name, "--obj", "o"])
     again, said = run(program, folder, ["asm", name, "--obj", "o", "--all"])
@@ -131,13 +154,13 @@ def main():
     wrong = faults = count = 0
     with tempfile.TemporaryDirectory() as folder:
         for k in range(given.count):
-            lines, sizes = source_of(rng, k % 3 != 0, rng.choice((10, 60, 400)))
-            one, more = differs(program, folder, "a.asm", lines, sizes)
+            lines = source_of(rng, k % 3 != 0, rng.choice((10, 60, 400)))
+            one, more = differs(program, folder, "a.asm", lines)
             wrong, faults, count = wrong + one, faults + more, count + 1
         for path in sorted(glob.glob(os.path.join(given.sources, "*.asm"))) if given.sources else []:
             with open(path, encoding="utf-8", errors="replace") as file:
-                lines = file.read().split("\n")
-            one, more = differs(program, folder, os.path.basename(path), lines, {})
+                lines = file.read().splitlines()
+            one, more = differs(program, folder, os.path.basename(path), lines)
             wrong, faults, count = wrong + one, faults + more, count + 1
     print("%d sources, %d lines of faults, %d differ" % (count, faults, wrong))
     return 1 if wrong else 0
