@@ -16,7 +16,8 @@ folder its commands, each followed by what a terminal shows, and for packed case
   and its comment is the fault that must be reported for it.
 - `faults.cases` has the examples of docs/FAULTS.md that a command line can give; that page describes the form of its
   blocks. `explained.cases` has those of these examples that take `--explain`, with the note of each fault, made of the
-  same page. `pages/faults` has the other examples: calls of a library on a file, which a session has too.
+  same page and of `parts.txt` here, which has for each example the line as it is read and the carets below its part that
+  is refused. `pages/faults` has the other examples: calls of a library on a file, which a session has too.
 - `cases/NAME` is used as it is, with its files, its `session` and its `output.txt`: what a terminal shows, where a line
   `{NUMBER}` stands for what `--explain` prints about the fault of that number after the line that it shows.
 - `cases/*.cases` and `random/*.cases` are used as they are.
@@ -293,9 +294,21 @@ def beside(name):
     return "".join(line + "\n" for line in KNOWN.get(name, []))
 
 
-def note_of(files, name, told):
-    """What `--explain` prints for an example's fault: its line, where the file has it, or that the file cannot be opened; what led to
-    the line or is printed in addition; and what the fault means."""
+def parts():
+    """For the examples of which `--explain` shows the part that is refused: the line as it is read, and what stands below it."""
+    rows = lines_of(os.path.join(TOP, "examples", "parts.txt"))
+    return {rows[at]: rows[at + 1:at + 3] for at in range(0, len(rows), 4)}
+
+
+def marked(number, part):
+    """The two lines that show the part of a line that is refused."""
+    text, below = part
+    return "  %s | %s\n  %s | %s\n" % (number, text, " " * len(number), below)
+
+
+def note_of(files, name, told, part):
+    """What `--explain` prints for an example's fault: its line, where the file has it, or that the file cannot be opened; the part of
+    the line that is refused, what led to the line or is printed in addition; and what the fault means."""
     place, fault = told.rsplit(": ", 1)
     file, _, number = place.rpartition(":")
     lines, shown = files.get(file, []), ""
@@ -303,6 +316,8 @@ def note_of(files, name, told):
         shown = "%s: %s\n" % (place, lines[int(number) - 1])
     elif fault == "8 CannotRead" and place not in files:
         shown = "%s: it cannot be opened\n" % place
+    if part is not None:
+        shown += marked(number, part)
     return shown + led(files, name) + beside(name) + notes()[fault.split()[0]]
 
 
@@ -381,9 +396,12 @@ def faults(data):
 
 def explained(data):
     """The file of packed cases with `--explain`."""
-    return write_packed(data, "explained.cases", (
-        (name, files, words + ["--explain"], told, note_of(files, name, told))
-        for name, files, words, told in program_faults() if words[0] in EXPLAINING and not is_run(told)))
+    shown = parts()
+    cases = [(name, files, words + ["--explain"], told, note_of(files, name, told, shown.pop(name, None)))
+             for name, files, words, told in program_faults() if words[0] in EXPLAINING and not is_run(told)]
+    if shown:
+        sys.exit("examples/parts.txt: %s has no such example" % FAULTS)
+    return write_packed(data, "explained.cases", cases)
 
 
 def recorded():

@@ -47,11 +47,12 @@ class Answer:
         return (self.status, self.output, self.errors, self.written) == (other.status, other.output, other.errors, other.written)
 
     def explains_less(self, other):
-        """Whether it is the other answer, a fault, but without its note, or with a note that lacks the line or the lines that led to it."""
+        """Whether it is the other answer, a fault, but without its note, or with a note that lacks the line, or the part of it that is
+        refused and the lines that led to it."""
         line, _, note = other.errors.partition(b"\n")
         shown, _, after = note.partition(b"\n")
         rows = after.splitlines(keepends=True)
-        led = sum(1 for _ in itertools.takewhile(lambda row: row.startswith(b"  from "), rows))
+        led = sum(1 for _ in itertools.takewhile(lambda row: row.startswith(b"  "), rows))
         meant = b"".join(rows[led:])
         less = (line + b"\n", line + b"\n" + after, line + b"\n" + shown + b"\n" + meant, line + b"\n" + meant)
         return (self.status, self.output, self.written) == (1, b"", {}) and other.status == 1 and self.errors in less

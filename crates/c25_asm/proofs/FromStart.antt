@@ -1,5 +1,6 @@
 -- A walk from the first line on, and the item that is wrong.
 use Rattle.std.proofs.Common.{◌≡◌, ℕ, ◌<◌, ◌≤◌, false, nat_lt, List, Option, Some, None, arith, inl, inr, length, refl, ap, sym, ◌∙◌, subst}
+use Rattle.std.specs.Option.{option_map}
 use Rattle.std.specs.Prelude.{Box}
 use Rattle.std.specs.declared.alloc.Global.{Global}
 use Rattle.std.proofs.lemmas.Bool.Decides.{nat_tests}
@@ -11,11 +12,14 @@ use Rattle.c25_meaning_expansion.specs.Files.{Files}
 use Rattle.c25_meaning_common.specs.declared.placed.FileLine.{FileLine}
 use Rattle.c25_meaning_language.specs.ExpansionFault.{Faulty}
 use Rattle.c25_phases.specs.View.{progress_of}
-use Rattle.c25_phases.specs.Wrong.{Wrong, first_wrong}
+use Rattle.c25_meaning_language.specs.Value.{Table}
+use Rattle.c25_phases.specs.Wrong.{Wrong, first_wrong, table_of}
 use Rattle.c25_phases.specs.declared.progress.Progress as code
+use Rattle.c25_asm.specs.Seen.{seen_of}
 use Rattle.c25_asm.specs.Traces.{HasWrongItem}
 use Rattle.c25_asm.specs.Trails.{begins, ComesWith, IsTrail, IsWhole}
 use Rattle.c25_asm.specs.Walks.{Ends, EndsWalk, HasFewNames, has_come}
+use Rattle.c25_asm.specs.declared.seen_line.SeenLine.{SeenLine}
 use Rattle.c25_asm.specs.declared.walk.End.{End}
 use Rattle.c25_asm.specs.declared.walk.End.TheVariants as end
 use Rattle.c25_asm.proofs.Refusals.{is_there, made_once, none_refused, wrong_within}
@@ -38,10 +42,10 @@ from_start files name t new p sought e h none ends =
 -- ---- the end of a walk
 
 -- a line is refused
-pub refused : (files : Files) (name : List ℕ) (sought : Option ℕ) (trail shown : List (FileLine ℕ)) (f : StepFault) → shown ≡ trail → Ends files name sought trail (end.Refused f)
-    → IsTrail files name (fault_in f) shown
-refused files name sought trail shown f same (inl h) = subst (λ (t : List (FileLine ℕ)). IsTrail files name (fault_in f) t) (sym same) (inl h)
-refused files name sought trail shown f same (inr h) = subst (λ (t : List (FileLine ℕ)). IsTrail files name (fault_in f) t) (sym same) (inr (inl h))
+pub refused : (files : Files) (name : List ℕ) (sought : Option ℕ) (trail shown : List (FileLine ℕ)) (f : StepFault) (seen : Option SeenLine) → shown ≡ trail
+    → Ends files name sought trail (end.Refused f seen) → IsTrail files name (fault_in f) shown (option_map seen_of seen)
+refused files name sought trail shown f seen same (inl h) = subst (λ (t : List (FileLine ℕ)). IsTrail files name (fault_in f) t (option_map seen_of seen)) (sym same) (inl h)
+refused files name sought trail shown f seen same (inr h) = subst (λ (t : List (FileLine ℕ)). IsTrail files name (fault_in f) t (option_map seen_of seen)) (sym same) (inr (inl h))
 
 -- all lines pass, and no item is wrong
 pub whole : (files : Files) (name : List ℕ) (sought : Option ℕ) (trail : List (FileLine ℕ)) (p : Box code.Progress Global) → Ends files name sought trail (end.Passed p)
@@ -49,23 +53,33 @@ pub whole : (files : Files) (name : List ℕ) (sought : Option ℕ) (trail : Lis
 whole files name sought trail p h none = (progress_of p.value, h.0, sym none)
 
 -- all lines pass, and an item is wrong
-pub wrong : (files : Files) (name : List ℕ) (sought : Option ℕ) (trail : List (FileLine ℕ)) (p : Box code.Progress Global) (w : Wrong) → Ends files name sought trail (end.Passed p)
-    → Some w ≡ first_wrong (progress_of p.value) → HasWrongItem files name w
-wrong files name sought trail p w h is = record { made = progress_of p.value; passes = h.0; refused = sym is }
+pub wrong : (files : Files) (name : List ℕ) (sought : Option ℕ) (trail : List (FileLine ℕ)) (p : Box code.Progress Global) (w : Wrong) (table : Table) → Ends files name sought trail (end.Passed p)
+    → Some w ≡ first_wrong (progress_of p.value) → table ≡ table_of (progress_of p.value) w → HasWrongItem files name w table
+wrong files name sought trail p w table h is names = record { made = progress_of p.value; passes = h.0; refused = sym is; names = names }
 
 -- ---- the lines once more, up to that item
 
-module _ (files : Files) (name : List ℕ) (w : Wrong) (has : HasWrongItem files name w) where
-  pub item : (trail shown : List (FileLine ℕ)) → shown ≡ trail → ComesWith files name w.number trail
-      → IsTrail files name (Faulty w.origin.file w.origin.line w.kind) shown
-  item trail shown same came = subst (λ (t : List (FileLine ℕ)). IsTrail files name (Faulty w.origin.file w.origin.line w.kind) t) (sym same)
-      (inr (inr (record { made = has.made; passes = has.passes; wrong = w; refused = has.refused; told = refl; line = came })))
+module _ (files : Files) (name : List ℕ) (w : Wrong) (table : Table) (has : HasWrongItem files name w table) where
+  pub item : (trail shown : List (FileLine ℕ)) (text : List ℕ) → shown ≡ trail → ComesWith files name w.number trail text
+      → IsTrail files name (Faulty w.origin.file w.origin.line w.kind) shown (Some (record { text = text; table = table }))
+  item trail shown text same came =
+      subst (λ (t : List (FileLine ℕ)). IsTrail files name (Faulty w.origin.file w.origin.line w.kind) t (Some (record { text = text; table = table }))) (sym same)
+      (inr (inr (record {
+        made = has.made;
+        passes = has.passes;
+        wrong = w;
+        refused = has.refused;
+        told = refl;
+        text = text;
+        line = came;
+        with_all = ap (λ (t : Table). Some (record { text = text; table = t })) has.names;
+      })))
 
   pub absent : start_of files name ≡ None → ⊥
   absent nothing = is_there files name has.passes.at has.made has.passes.trail has.passes.reaches nothing
 
-  pub not_refused : (trail : List (FileLine ℕ)) (f : StepFault) → Ends files name (Some w.number) trail (end.Refused f) → ⊥
-  not_refused trail f h = none_refused files name has.made (fault_in f) trail has.passes h
+  pub not_refused : (trail : List (FileLine ℕ)) (f : StepFault) (seen : Option SeenLine) → Ends files name (Some w.number) trail (end.Refused f seen) → ⊥
+  not_refused trail f seen h = none_refused files name has.made (fault_in f) trail (option_map seen_of seen) has.passes h
 
   pub not_passed : (trail : List (FileLine ℕ)) (p : Box code.Progress Global) → Ends files name (Some w.number) trail (end.Passed p) → ⊥
   not_passed trail p h =

@@ -19,6 +19,7 @@ use Rattle.c25_meaning_language.specs.declared.statement.FaultKind.{FaultKind}
 use Rattle.c25_meaning_objects.specs.Module.{Contents}
 use Rattle.c25_meaning_assembly.specs.ModuleOfSource.{LinesSoFar, assembled, completed, entry_of, no_lines, pass_line, passed, passed_by, passed_from, read_and_pass}
 use Rattle.c25_phases.specs.Wrong.{Wrong, first_wrong, wrong_from}
+use Rattle.c25_asm.specs.Seen.{Seen}
 use Rattle.c25_asm.specs.Trails.{Reaches, begins, goes, passes, IsTrail, IsUnexpanded, IsWrongItem, IsWrongLine, PassesAll}
 
 same : {A : Type 0} (x y : A) → Some x ≡ Some y → x ≡ y
@@ -172,7 +173,7 @@ wrong_by : (n : ℕ) (names : Definitions) (sections : List Section) (item : Pen
 wrong_by n names sections item items w (Ok next) h more e =
     ap (λ (r : Result (List Section) FaultKind). at_origin item.origin r >>= λ x. emit_all names x items) h ∙ more next (rw (h, wrong_from) at e)
 wrong_by n names sections item items w (Err kind) h more e =
-    let told : Some (record { number = n; origin = item.origin; kind = kind }) ≡ Some w = rw (h, wrong_from) at e in
+    let told : Some (record { number = n; origin = item.origin; kind = kind; section = item.section; offset = item.offset }) ≡ Some w = rw (h, wrong_from) at e in
     ap (λ (r : Result (List Section) FaultKind). at_origin item.origin r >>= λ x. emit_all names x items) h
     ∙ ap (λ (x : Wrong). Err (Faulty x.origin.file x.origin.line x.kind)) (same _ _ told)
 
@@ -194,17 +195,17 @@ refused_in : (files : Files) (name : List ℕ) (f : ExpansionFault) → passed_f
 unfolding assembled
 refused_in files name f e = ap (λ (r : Result LinesSoFar ExpansionFault). r >>= λ a. completed a) e
 
-unexpanded : (files : Files) (name : List ℕ) (f : ExpansionFault) (trail : List (FileLine ℕ)) → IsUnexpanded files name f trail
+unexpanded : (files : Files) (name : List ℕ) (f : ExpansionFault) (trail : List (FileLine ℕ)) (seen : Option Seen) → IsUnexpanded files name f trail seen
     → passed_from files name (start_of files name) ≡ Err f
-unexpanded files name f trail h =
+unexpanded files name f trail seen h =
     let r = rest_of files name h.at h.made _ h.reaches in
     let here : fault_by files (rewrite files (table r.behind.progress) h.at) ≡ Some f =
     subst (λ (x : Progress). fault_by files (rewrite files (table x) h.at) ≡ Some f) (sym r.made) h.refused in
     r.rest ∙ over_fault files r.behind r.count h.at f here
 
-wrong_line : (files : Files) (name : List ℕ) (f : ExpansionFault) (trail : List (FileLine ℕ)) → IsWrongLine files name f trail
+wrong_line : (files : Files) (name : List ℕ) (f : ExpansionFault) (trail : List (FileLine ℕ)) (seen : Option Seen) → IsWrongLine files name f trail seen
     → passed_from files name (start_of files name) ≡ Err f
-wrong_line files name f trail h =
+wrong_line files name f trail seen h =
     let at = line_at files name h.gives.at h.gives.next h.made h.line (rest_of files name h.gives.at h.made _ h.gives.reaches) h.gives.given in
     let here : read_and_pass h.line at.behind.progress ≡ Err f = subst (λ (x : Progress). read_and_pass h.line x ≡ Err f) (sym at.made) h.refused in
     at.rest ∙ ap (λ (x : Result LinesSoFar ExpansionFault). x >>= λ b. passed files at.count h.gives.next b) (line_passes at.behind h.line (Err f) here)
@@ -225,32 +226,32 @@ made_of files name p h =
 incomplete : (a : LinesSoFar) (f : ExpansionFault) → finished a.progress ≡ Err f → completed a ≡ Err f
 incomplete a f e = ap (λ (r : Result Contents ExpansionFault). r >>= λ m. Ok (record { contents = m; entries = a.entries })) e
 
-wrong_item_told : (files : Files) (name : List ℕ) (f : ExpansionFault) (trail : List (FileLine ℕ)) → IsWrongItem files name f trail → assembled files name ≡ Err f
+wrong_item_told : (files : Files) (name : List ℕ) (f : ExpansionFault) (trail : List (FileLine ℕ)) (seen : Option Seen) → IsWrongItem files name f trail seen → assembled files name ≡ Err f
 unfolding assembled
-wrong_item_told files name f trail h =
+wrong_item_told files name f trail seen h =
     let made = made_of files name h.made h.passes in
     let fails : finished made.all.progress ≡ Err f =
     subst (λ (x : Progress). finished x ≡ Err f) (sym made.progress) (not_finished h.made h.wrong h.refused ∙ ap Err (sym h.told)) in
     ap (λ (r : Result LinesSoFar ExpansionFault). r >>= λ a. completed a) made.passes ∙ incomplete made.all f fails
 
 -- The source is refused with the fault of its trail.
-pub refused : (files : Files) (name : List ℕ) (f : ExpansionFault) (trail : List (FileLine ℕ)) → IsTrail files name f trail → assembled files name ≡ Err f
-refused files name f trail (inl h) = refused_in files name f (unexpanded files name f trail h)
-refused files name f trail (inr (inl h)) = refused_in files name f (wrong_line files name f trail h)
-refused files name f trail (inr (inr h)) = wrong_item_told files name f trail h
+pub refused : (files : Files) (name : List ℕ) (f : ExpansionFault) (trail : List (FileLine ℕ)) (seen : Option Seen) → IsTrail files name f trail seen → assembled files name ≡ Err f
+refused files name f trail seen (inl h) = refused_in files name f (unexpanded files name f trail seen h)
+refused files name f trail seen (inr (inl h)) = refused_in files name f (wrong_line files name f trail seen h)
+refused files name f trail seen (inr (inr h)) = wrong_item_told files name f trail seen h
 
 -- ---- what comes again when the lines are passed once more
 
 -- where all lines pass, none is refused
-pub none_refused : (files : Files) (name : List ℕ) (p : Progress) (f : ExpansionFault) (trail : List (FileLine ℕ)) → PassesAll files name p
-    → IsUnexpanded files name f trail ⊎ IsWrongLine files name f trail → ⊥
-none_refused files name p f trail h (inl u) =
+pub none_refused : (files : Files) (name : List ℕ) (p : Progress) (f : ExpansionFault) (trail : List (FileLine ℕ)) (seen : Option Seen) → PassesAll files name p
+    → IsUnexpanded files name f trail seen ⊎ IsWrongLine files name f trail seen → ⊥
+none_refused files name p f trail seen h (inl u) =
     let made = made_of files name p h in
-    let both : ◌≡◌ {A = Result LinesSoFar ExpansionFault} (Ok made.all) (Err f) = sym made.passes ∙ unexpanded files name f trail u in
+    let both : ◌≡◌ {A = Result LinesSoFar ExpansionFault} (Ok made.all) (Err f) = sym made.passes ∙ unexpanded files name f trail seen u in
     absurd (cc)
-none_refused files name p f trail h (inr w) =
+none_refused files name p f trail seen h (inr w) =
     let made = made_of files name p h in
-    let both : ◌≡◌ {A = Result LinesSoFar ExpansionFault} (Ok made.all) (Err f) = sym made.passes ∙ wrong_line files name f trail w in
+    let both : ◌≡◌ {A = Result LinesSoFar ExpansionFault} (Ok made.all) (Err f) = sym made.passes ∙ wrong_line files name f trail seen w in
     absurd (cc)
 
 same_ok : (a b : LinesSoFar) → ◌≡◌ {A = Result LinesSoFar ExpansionFault} (Ok a) (Ok b) → a ≡ b
@@ -270,7 +271,7 @@ within_by : (n : ℕ) (names : Definitions) (sections : List Section) (item : Pe
     → wrong_from n names sections (item ∷ items) ≡ Some w → w.number < n + length (item ∷ items)
 within_by n names sections item items w (Ok next) h more e = omega (arith, more next (rw (h, wrong_from) at e))
 within_by n names sections item items w (Err kind) h more e =
-    let told : Some (record { number = n; origin = item.origin; kind = kind }) ≡ Some w = rw (h, wrong_from) at e in
+    let told : Some (record { number = n; origin = item.origin; kind = kind; section = item.section; offset = item.offset }) ≡ Some w = rw (h, wrong_from) at e in
     let first : n ≡ w.number = ap (λ (x : Wrong). x.number) (same _ _ told) in
     omega (arith, first)
 

@@ -1,6 +1,8 @@
 -- What one rewriting of a walk leads to.
-use Rattle.std.proofs.Common.{◌≡◌, ℕ, true, false, List, Option, Some, None, Result, Ok, Err, IfOk, arith, inr, sym, ◌∙◌, subst}
+use Rattle.std.proofs.Common.{◌≡◌, ℕ, true, false, List, Option, Some, None, Result, Ok, Err, IfOk, ap, arith, inr, sym, ◌∙◌, subst}
 use Rattle.std.proofs.lemmas.Bool.Decides.{nat_tests}
+use Rattle.std.specs.Cow.{cow_str_bytes}
+use Rattle.std.specs.Option.{option_map}
 use Rattle.c25_macro.specs.Expander.{shown}
 use Rattle.c25_macro.specs.Tracers.{Trace, Steps, fault_in}
 use Rattle.c25_macro.specs.declared.answer.ExpLine.{ExpLine}
@@ -13,6 +15,7 @@ use Rattle.c25_meaning_language.specs.ExpansionFault.{ExpansionFault}
 use Rattle.c25_meaning_language.specs.Value.{Table}
 use Rattle.c25_meaning_assembly.specs.ModuleOfSource.{read_and_pass}
 use Rattle.c25_phases.specs.View.{progress_of}
+use Rattle.c25_asm.specs.Seen.{Seen, seen_by, seen_of}
 use Rattle.c25_asm.specs.Trails.{Reaches, goes, passes, Gives, IsWrongLine}
 use Rattle.c25_asm.specs.Walks.{Advances, ComesSought, HasFewNames, LeadsOn, Passes, has_come}
 use Rattle.c25_asm.specs.declared.walk.End.TheVariants as end
@@ -35,15 +38,17 @@ module _ (old new : Trace) (s : Table) (p : Progress) (here : s ≡ table p) (na
   gave : (line : ExpLine) (q : Progress) → Steps s old (Ok (step.Given line)) new → read_and_pass (shown line) p ≡ Ok q → Reaches old.files name new.at q new.trail
   gave line q h e = passes (shown line) reached (given line h) e h.1.trail
 
-  wrong : (line : ExpLine) (f : ExpansionFault) → Steps s old (Ok (step.Given line)) new → read_and_pass (shown line) p ≡ Err f → IsWrongLine old.files name f new.trail
-  wrong line f h e = record { made = p; line = shown line; gives = gives line h; refused = e }
+  wrong : (line : ExpLine) (f : ExpansionFault) (seen : Option Seen) → Steps s old (Ok (step.Given line)) new → read_and_pass (shown line) p ≡ Err f → seen ≡ seen_by f (shown line) p
+      → IsWrongLine old.files name f new.trail seen
+  wrong line f seen h e so_far = record { made = p; line = shown line; gives = gives line h; refused = e; so_far = so_far }
 
-  came : (line : ExpLine) (q : Progress) (sought : Option ℕ) → Steps s old (Ok (step.Given line)) new → read_and_pass (shown line) p ≡ Ok q
-      → has_come sought p.items ≡ false → has_come sought q.items ≡ true → ComesSought old.files name sought new.trail
-  came line q None h e before then = absurd (cc)
-  came line q (Some number) h e before then = record {
+  came : (line : ExpLine) (text : List ℕ) (q : Progress) (sought : Option ℕ) → Steps s old (Ok (step.Given line)) new → read_and_pass (shown line) p ≡ Ok q
+      → has_come sought p.items ≡ false → has_come sought q.items ≡ true → text ≡ (shown line).text → ComesSought old.files name sought new.trail text
+  came line text q None h e before then written = absurd (cc)
+  came line text q (Some number) h e before then written = record {
     made = p;
     line = shown line;
+    written = written;
     gives = gives line h;
     after = q;
     passes = e;
@@ -69,8 +74,10 @@ module _ (old new : Trace) (s : Table) (p : Progress) (sought : Option ℕ) (her
     leads = λ name reached. gave old new s p here name reached line (progress_of q.value) h passed.0;
   }
   by_turn line (turn.Ended (end.Passed q)) h passed = absurd passed
-  by_turn line (turn.Ended end.Reached) h (q, passed, then) = λ name reached. came old new s p here name reached line q sought h passed before then
-  by_turn line (turn.Ended (end.Refused f)) h passed = λ name reached. inr (wrong old new s p here name reached line (fault_in f) h passed)
+  by_turn line (turn.Ended (end.Reached text)) h (q, passed, then, same) = λ name reached.
+      came old new s p here name reached line (cow_str_bytes text) q sought h passed before then (ap cow_str_bytes same)
+  by_turn line (turn.Ended (end.Refused f seen)) h (refused, so_far) = λ name reached.
+      inr (wrong old new s p here name reached line (fault_in f) (option_map seen_of seen) h refused so_far)
 
   -- a line is given
   pub gives_line : (q : Progress) → q ≡ p → (line : ExpLine) (result : Result Turn NoMemory) → Steps s old (Ok (step.Given line)) new

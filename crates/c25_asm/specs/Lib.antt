@@ -1,6 +1,7 @@
 pub mod Coming
 pub mod GoneOver
 pub mod Listed
+pub mod Seen
 pub mod Told
 pub mod Traces
 pub mod Trails

@@ -1,5 +1,7 @@
 -- How a walk through the lines of a source ends.
 use Rattle.std.specs.Prelude.{◌≡◌, ◌⊎◌, ℕ, ◌≤◌, Bool, true, false, nat_lt, List, length, Option, Some, None, Ok, Err}
+use Rattle.std.specs.Cow.{cow_str_bytes}
+use Rattle.std.specs.Option.{option_map}
 use Rattle.c25_macro.specs.Expander.{shown}
 use Rattle.c25_macro.specs.Tracers.{Moved, Trace, fault_in}
 use Rattle.c25_macro.specs.declared.answer.ExpLine.{ExpLine}
@@ -8,6 +10,7 @@ use Rattle.c25_meaning_expansion.specs.Files.{Files}
 use Rattle.c25_meaning_common.specs.declared.placed.FileLine.{FileLine}
 use Rattle.c25_meaning_assembly.specs.ModuleOfSource.{read_and_pass}
 use Rattle.c25_phases.specs.View.{progress_of}
+use Rattle.c25_asm.specs.Seen.{seen_by, seen_of}
 use Rattle.c25_asm.specs.Trails.{Reaches, PassesAll, IsUnexpanded, IsWrongLine, ComesWith}
 use Rattle.c25_asm.specs.declared.walk.End.{End}
 use Rattle.c25_asm.specs.declared.walk.End.TheVariants as end
@@ -28,20 +31,23 @@ abbrev pub Passes : ExpLine → Progress → (sought : Option ℕ) → Turn → 
 Passes line p sought (turn.On q) =
     (read_and_pass (shown line) p ≡ Ok (progress_of q.value)) × HasFewNames (progress_of q.value) × (has_come sought (progress_of q.value).items ≡ false)
 Passes line p sought (turn.Ended (end.Passed q)) = ⊥
-Passes line p sought (turn.Ended end.Reached) = (q : Progress) × (read_and_pass (shown line) p ≡ Ok q) × (has_come sought q.items ≡ true)
-Passes line p sought (turn.Ended (end.Refused f)) = read_and_pass (shown line) p ≡ Err (fault_in f)
+Passes line p sought (turn.Ended (end.Reached text)) =
+    (q : Progress) × (read_and_pass (shown line) p ≡ Ok q) × (has_come sought q.items ≡ true) × (text ≡ line.text)
+Passes line p sought (turn.Ended (end.Refused f seen)) =
+    (read_and_pass (shown line) p ≡ Err (fault_in f)) × (option_map seen_of seen ≡ seen_by (fault_in f) (shown line) p)
 
--- the sought item comes with a line, after these lines that opened what is open
-abbrev pub ComesSought : Files → (name : List ℕ) → (sought : Option ℕ) → List (FileLine ℕ) → Type 0
-ComesSought files name None trail = ⊥
-ComesSought files name (Some number) trail = ComesWith files name number trail
+-- the sought item comes with a line of this text, after these lines that opened what is open
+abbrev pub ComesSought : Files → (name : List ℕ) → (sought : Option ℕ) → List (FileLine ℕ) → (text : List ℕ) → Type 0
+ComesSought files name None trail text = ⊥
+ComesSought files name (Some number) trail text = ComesWith files name number trail text
 
 -- how a walk through the lines of the module of a name ends, with these lines that opened what is open
 abbrev pub Ends : Files → (name : List ℕ) → (sought : Option ℕ) → List (FileLine ℕ) → End → Type 0
 Ends files name sought trail (end.Passed p) =
     PassesAll files name (progress_of p.value) × HasFewNames (progress_of p.value) × (has_come sought (progress_of p.value).items ≡ false)
-Ends files name sought trail end.Reached = ComesSought files name sought trail
-Ends files name sought trail (end.Refused f) = IsUnexpanded files name (fault_in f) trail ⊎ IsWrongLine files name (fault_in f) trail
+Ends files name sought trail (end.Reached text) = ComesSought files name sought trail (cow_str_bytes text)
+Ends files name sought trail (end.Refused f seen) =
+    IsUnexpanded files name (fault_in f) trail (option_map seen_of seen) ⊎ IsWrongLine files name (fault_in f) trail (option_map seen_of seen)
 
 -- how a walk ends that begins after some lines
 abbrev pub EndsWalk : Trace → Progress → (sought : Option ℕ) → Trace → End → Type 0

@@ -8,20 +8,24 @@ ghost use Rattle.c25_phases.specs.Wrong.{wrong_of};
 ghost use Rattle.c25_asm.specs.Traces.{HasWrongItem, IsRefused, IsTraced};
 ghost use Rattle.c25_asm.specs.Walks.{EndsWalk};
 
+use crate::seen_line::SeenLine;
 use crate::walk::{End, walk};
 use c25_macro::files::Files;
 use c25_macro::tracer::{StepFault, Tracer};
 use c25_meaning_common::no_memory::NoMemory;
 use c25_meaning_common::placed::{FileLine, Placed};
-use c25_phases::{Progress, WrongItem, first_wrong};
+use c25_phases::{FirstWrong, Progress, first_wrong};
 use std::alloc::Global;
 
-/// The fault of a source, and what is open at its line.
+/// The fault of a source, what is open at its line, and that line.
 #[derive(Drop)]
 pub struct Refused<'a> {
     pub fault: StepFault<'a>,
     /// The lines that opened the copied files, expansions and turns that are open, the innermost first.
     pub trail: Vec<FileLine<usize>>,
+    /// The line that is refused, as it was read; `None` where its expansion is refused, or there is no room for
+    /// it (54).
+    pub seen: Option<SeenLine<'a>>,
 }
 
 /// Whether a source is assembled or refused.
@@ -49,38 +53,40 @@ fn walk_all<'a>(
     walk(tracer, progress, sought)
 }
 
-/// The fault of the first item that is wrong, and what is open at the line that brought the item.
+/// The fault of the first item that is wrong, what is open at the line that brought the item, and that line.
 fn trace_item<'a>(
     alloc: Global,
     files: &'a Files,
     name: &str,
-    wrong: WrongItem<'a>,
+    found: FirstWrong<'a>,
 ) -> Result<Refused<'a>, NoMemory>
-    requires { HasWrongItem files.now name.now (wrong_of wrong) }
+    requires { HasWrongItem files.now name.now (wrong_of found.item) found.symbols }
     ensures { IfOk result (IsRefused files.now name.now) }
 {
+    let FirstWrong {
+        item: wrong,
+        symbols,
+    } = found;
     let Some(mut tracer) = Tracer::new(alloc, files, name)? else {
         unreachable!();
     };
     match walk_all(alloc, &mut tracer, Some(wrong.number))? {
-        End::Reached => {
-            let place = FileLine {
-                file: wrong.origin.file,
-                line: wrong.origin.line,
-            };
+        End::Reached(text) => {
             let fault = StepFault::Faulty(Placed {
-                place,
+                place: wrong.origin,
                 fault: wrong.kind,
             });
             let trail = tracer.into_trail();
-            Ok(Refused { fault, trail })
+            let seen = Some(SeenLine { text, symbols });
+            Ok(Refused { fault, trail, seen })
         }
         End::Passed(_) => unreachable!(),
-        End::Refused(_) => unreachable!(),
+        End::Refused(_, _) => unreachable!(),
     }
 }
 
-/// Whether the source of a name is assembled; and if it is refused, what is open at the line of its fault.
+/// Whether the source of a name is assembled; and if it is refused, what is open at the line of its fault, and
+/// that line as it was read.
 ///
 /// `NoMemory` where memory runs out.
 pub fn trace<'a>(alloc: Global, files: &'a Files, name: &str) -> Result<Traced<'a>, NoMemory>
@@ -90,13 +96,13 @@ pub fn trace<'a>(alloc: Global, files: &'a Files, name: &str) -> Result<Traced<'
         return Ok(Traced::Absent);
     };
     match walk_all(alloc, &mut tracer, None)? {
-        End::Reached => unreachable!(),
-        End::Refused(fault) => {
+        End::Reached(_) => unreachable!(),
+        End::Refused(fault, seen) => {
             let trail = tracer.into_trail();
-            Ok(Traced::Refused(Refused { fault, trail }))
+            Ok(Traced::Refused(Refused { fault, trail, seen }))
         }
         End::Passed(progress) => match first_wrong(Box::into_inner(progress))? {
-            Some(wrong) => trace_item(alloc, files, name, wrong).map(Traced::Refused),
+            Some(found) => trace_item(alloc, files, name, found).map(Traced::Refused),
             None => Ok(Traced::Whole),
         },
     }

@@ -1,3 +1,4 @@
+pub mod Columns
 pub mod NoteTexts
 pub mod Misfitted
 pub mod Noted

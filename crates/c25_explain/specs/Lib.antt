@@ -5,5 +5,6 @@ pub mod Details
 pub mod LinkNotes
 pub mod Misfits
 pub mod Notes
+pub mod Places
 pub mod Refusals
 pub mod Trails

@@ -1,13 +1,16 @@
--- The trail of a fault: the lines that led to a faulty line of a source, as they are shown.
+-- What is shown of a faulty line of a source: the part of it that is refused, and its trail, the lines that led
+-- there.
 use Rattle.std.specs.Prelude.{◌≡◌, ◌⊎◌, ℕ, List, [], ◌∷◌, ◌++◌, codes, Option, Some, None, option_and_then, unwrap_or, Ok, String}
 use Rattle.std.specs.String.{string_bytes}
 use Rattle.std.specs.declared.alloc.Global.{Global}
+use Rattle.c25_asm.specs.Seen.{Seen}
 use Rattle.c25_asm.specs.Trails.{IsTrail, IsWhole}
 use Rattle.c25_chain.specs.declared.fault.ChainFault.{ChainFault}
 use Rattle.c25_chain.specs.declared.fault.ChainFault.TheVariants.{Source, NoFile, Object, Command, Link, Hex, Schedule, Samples, Script, File}
 use Rattle.c25_disk.specs.Copies.{HasCopied}
 use Rattle.c25_disk.specs.Held.{Held, ReadsSources}
 use Rattle.c25_explain.specs.Note.{line_of}
+use Rattle.c25_explain.specs.Places.{place_text}
 use Rattle.c25_meaning_common.specs.Faults.{placed_text}
 use Rattle.c25_meaning_expansion.specs.Files.{Files, file_name, text_named}
 use Rattle.c25_meaning_common.specs.declared.placed.FileLine.{FileLine}
@@ -28,17 +31,20 @@ abbrev pub openings_text : Files → List (FileLine ℕ) → List ℕ
 openings_text files [] = []
 openings_text files (place ∷ places) = opening_text files place ++ openings_text files places
 
--- the first fault among the sources of these names is this one, and these lines opened what is open there
-abbrev pub IsFirstTrail : Files → (sources : List (List ℕ)) → ExpansionFault → List (FileLine ℕ) → Type 0
-IsFirstTrail files [] fault trail = ⊥
-IsFirstTrail files (name ∷ names) fault trail = IsTrail files name fault trail ⊎ IsWhole files name × IsFirstTrail files names fault trail
+-- the first fault among the sources of these names is this one, these lines opened what is open there, and the
+-- line that is refused is seen so, if it is read at all
+abbrev pub IsFirstTrail : Files → (sources : List (List ℕ)) → ExpansionFault → List (FileLine ℕ) → Option Seen → Type 0
+IsFirstTrail files [] fault trail seen = ⊥
+IsFirstTrail files (name ∷ names) fault trail seen = IsTrail files name fault trail seen ⊎ IsWhole files name × IsFirstTrail files names fault trail seen
 
--- a text shows the trail of this fault
+-- a text shows the part of the line with this fault that is refused, if it is known, and then the trail of the
+-- fault
 abbrev pub ShowsTrail : Files → (sources : List (List ℕ)) → ExpansionFault → List ℕ → Type 0
-ShowsTrail files sources fault text = (trail : List (FileLine ℕ)) × IsFirstTrail files sources fault trail × (text ≡ openings_text files trail)
+ShowsTrail files sources fault text =
+    (trail : List (FileLine ℕ)) × (seen : Option Seen) × IsFirstTrail files sources fault trail seen × (text ≡ place_text fault seen ++ openings_text files trail)
 
--- a text shows the trail of this fault in sources on a disk, over their files and at most 256 others that
--- they copy, or is empty
+-- a text shows that part and that trail in sources on a disk, over their files and at most 256 others that they
+-- copy, or is empty
 abbrev pub ShowsTrailOver : Held → (sources : List (List ℕ)) → ExpansionFault → List ℕ → Type 0
 ShowsTrailOver held sources fault text =
     ((given : Files) × ReadsSources held [] sources (Ok given) × (files : Files) × HasCopied held given 256 files × ShowsTrail files sources fault text) ⊎ (text ≡ [])
@@ -48,7 +54,7 @@ abbrev pub wanted_by : NoTrail → Option (List ℕ)
 wanted_by (Missing name) = Some (string_bytes name)
 wanted_by Other = None
 
--- what is shown of a fault: of a line of a source its trail, and of all else nothing
+-- what is shown of a fault: of a line of a source the part that is refused and the trail, of all else nothing
 abbrev pub IsTrailText : Held → (sources : List (List ℕ)) → ChainFault (String Global) → List ℕ → Type 0
 IsTrailText held sources (Source placed) text = ShowsTrailOver held sources (Faulty (string_bytes placed.place.file) placed.place.line placed.fault) text
 IsTrailText held sources (NoFile file line name) text = text ≡ []

@@ -17,6 +17,7 @@ pub mod notes;
 mod numbers;
 mod objects;
 pub mod parts;
+mod places;
 mod ranges;
 mod refusals;
 mod run_files;

@@ -27,11 +27,11 @@ use std::alloc::Global;
 #[derive(Clone, Copy)]
 pub enum Notes<'a> {
     Nothing,
-    /// What the options ask for: the explanation of the fault, after the line of the file where it is and the
-    /// lines that led there, and the lines of all other faults of the sources. A fault of a command file,
-    /// samples, a schedule or a script has the number of its line only, so their names are given here. The
-    /// sources are expanded again to find where a line was called or copied and to find the other faults, and
-    /// the sources or objects are linked again to find a field.
+    /// What the options ask for: the explanation of the fault, after the line of the file where it is, its part
+    /// that is refused and the lines that led there, and the lines of all other faults of the sources. A fault
+    /// of a command file, samples, a schedule or a script has the number of its line only, so their names are
+    /// given here. The sources are expanded again to find where a line was called or copied and to find the
+    /// other faults, and the sources or objects are linked again to find a field.
     After(FaultOptions, NamedFiles<'a>),
 }
 
@@ -171,8 +171,8 @@ fn explained_unread<D: Disk>(
     }
 }
 
-/// The lines that are shown after the line of a fault: for a line of a source the lines that led there, for
-/// the command file what stands at the fault, for linking the range or the field.
+/// The lines that are shown after the line of a fault: for a line of a source the part of it that is refused and
+/// the lines that led there, for the command file what stands at the fault, for linking the range or the field.
 fn text_after<D: Disk>(
     alloc: Global,
     disk: &D,

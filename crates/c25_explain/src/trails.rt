@@ -1,13 +1,16 @@
-//! The trail of a fault: the lines that led to a faulty line of a source.
+//! What is shown of a faulty line of a source: the part of it that is refused, and its trail, the lines that led
+//! there.
 
 ghost use Rattle.std.specs.Option.{option_map};
 ghost use Rattle.std.specs.Prelude.{◌≡◌, IfOk, IsTrue, string_bytes};
+ghost use Rattle.c25_asm.specs.Seen.{seen_of};
 ghost use Rattle.c25_macro.specs.Tracers.{fault_in};
 ghost use Rattle.c25_meaning_language.specs.ExpansionFault.{Faulty};
 ghost use Rattle.c25_options.specs.Task.{texts_of};
 ghost use Rattle.c25_explain.specs.Trails.{IsFirstTrail, ShowsTrailOver, openings_text, opening_text, text_at, wanted_by};
 
 use crate::note::line_of;
+use crate::places::part_text;
 use c25_asm::{Refused, Traced, trace};
 use c25_disk::disk::Disk;
 use c25_disk::work::Work;
@@ -28,7 +31,7 @@ struct FaultyLine<'a> {
     kind: FaultKind,
 }
 
-/// A task: the trail of this fault in these sources.
+/// A task: the part that is refused and the trail of this fault in these sources.
 #[derive(Clone, Copy)]
 struct Trace<'a> {
     sources: &'a [&'a str],
@@ -97,36 +100,37 @@ fn is_same(fault: &StepFault<'_>, refused: &FaultyLine<'_>) -> bool
     }
 }
 
-/// The trail of a source's fault, if it is the fault of the line `refused`.
-fn trail_of<'a>(
+/// What was found where a source is refused, if that is the fault of the line `refused`.
+fn same_refused<'a>(
     source: Refused<'a>,
     refused: &FaultyLine<'_>,
-) -> Result<Vec<FileLine<usize>>, Failure<NoTrail>>
-    ensures { IfOk result (λ trail. (fault_in source.entry.fault ≡ Faulty refused.now.file.now refused.now.line refused.now.kind) × (trail.items ≡ source.entry.trail.items)) }
+) -> Result<Refused<'a>, Failure<NoTrail>>
+    ensures { IfOk result (λ found. (fault_in source.entry.fault ≡ Faulty refused.now.file.now refused.now.line refused.now.kind) × (found ≡ source.entry)) }
 {
-    let Refused { fault, trail } = source;
-    if is_same(&fault, refused) {
-        return Ok(trail);
+    if is_same(&source.fault, refused) {
+        return Ok(source);
     }
+    let Refused { fault, .. } = source;
     match fault {
         StepFault::Missing { name, .. } => Err(Failure::Fault(NoTrail::Missing(name))),
         StepFault::Faulty(_) => Err(Failure::Fault(NoTrail::Other)),
     }
 }
 
-/// The trail of the first fault among some sources, if it is the fault of the line `refused`.
-fn trail_among(
+/// What is found where the first of some sources that is refused is refused, if that is the fault of the line
+/// `refused`.
+fn first_refused<'a>(
     alloc: Global,
-    files: &Files,
+    files: &'a Files,
     sources: &[&str],
     refused: &FaultyLine<'_>,
-) -> Result<Vec<FileLine<usize>>, Failure<NoTrail>>
-    ensures { IfOk result (λ trail. IsFirstTrail files.now (texts_of sources.now) (Faulty refused.now.file.now refused.now.line refused.now.kind) trail.items) }
+) -> Result<Refused<'a>, Failure<NoTrail>>
+    ensures { IfOk result (λ found. IsFirstTrail files.now (texts_of sources.now) (Faulty refused.now.file.now refused.now.line refused.now.kind) found.trail.items (option_map seen_of found.seen)) }
 {
     for source in sources {
         match trace(alloc, files, source)? {
             Traced::Whole => {}
-            Traced::Refused(found) => return trail_of(found, refused),
+            Traced::Refused(found) => return same_refused(found, refused),
             Traced::Absent => return Err(Failure::Fault(NoTrail::Other)),
         }
     }
@@ -139,7 +143,7 @@ impl Work for Trace<'_> {
     ghost use Rattle.c25_options.specs.Task.{texts_of};
     ghost use Rattle.c25_explain.specs.Trails.{ShowsTrail, wanted_by};
 
-    /// The trail as it is shown.
+    /// The part of the line and the trail, as they are shown.
     type Answer = String;
 
     type Fault = NoTrail;
@@ -149,8 +153,10 @@ impl Work for Trace<'_> {
     ghost missing_of = { wanted_by };
 
     fn answer(&self, alloc: Global, files: &Files) -> Result<String, Failure<NoTrail>> {
-        let trail = trail_among(alloc, files, self.sources, &self.refused)?;
-        Ok(openings_text(alloc, files, trail.as_slice())?)
+        let Refused { trail, seen, .. } = first_refused(alloc, files, self.sources, &self.refused)?;
+        let mut text = part_text(alloc, self.refused.line, self.refused.kind, &seen)?;
+        text.push_str(openings_text(alloc, files, trail.as_slice())?.as_str())?;
+        Ok(text)
     }
 
     fn missing(fault: &NoTrail) -> Option<&str>
@@ -163,9 +169,9 @@ impl Work for Trace<'_> {
     }
 }
 
-/// The trail of a faulty line of a source, as it is shown: the lines that called, copied or repeated it. The
-/// sources are read again. The text is empty where they cannot be read, their first fault is another, or
-/// memory runs out.
+/// What is shown of a faulty line of a source: the part of it that is refused, where that is known, and its
+/// trail, the lines that called, copied or repeated it. The sources are read again. The text is empty where they
+/// cannot be read, their first fault is another, or memory runs out.
 pub(crate) fn trail_text<D: Disk>(
     alloc: Global,
     disk: &D,

@@ -19,6 +19,7 @@ use crate::item::{Content, PendingItem};
 use crate::names::DistinctNames;
 use crate::operand_values::valued;
 use crate::progress::Progress;
+use crate::second_phase::SecondPhase;
 use crate::section::Section;
 use crate::sections::Sections;
 use c25_expr::symbols::{Defined, Symbols};
@@ -122,6 +123,13 @@ impl<'a> Progress<'a> {
         ensures { result.now ≡ symbols_of self.now }
     {
         &self.symbols
+    }
+
+    /// The values of names so far, and of `$`, alone.
+    pub fn into_symbols(self) -> Symbols
+        ensures { result ≡ symbols_of self.entry }
+    {
+        SecondPhase::of(self).into_symbols()
     }
 
     /// Defines a name, or reports that it is defined already (26).

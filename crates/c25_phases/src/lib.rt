@@ -34,4 +34,4 @@ pub use line_reader::{pass_or_leave_out, read_and_pass};
 pub use making::finish;
 pub use progress::Progress;
 pub use refusal::{at_origin, line_fault};
-pub use wrong::{WrongItem, first_wrong, operand_faults};
+pub use wrong::{FirstWrong, WrongItem, first_wrong, operand_faults};

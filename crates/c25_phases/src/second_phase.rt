@@ -53,4 +53,23 @@ impl<'a> SecondPhase<'a> {
             items,
         }
     }
+
+    /// The symbols alone.
+    pub(crate) fn into_symbols(self) -> Symbols
+        ensures { result ≡ self.entry.symbols }
+    {
+        let SecondPhase {
+            sections,
+            symbols,
+            declared,
+            exported,
+            items,
+            ..
+        } = self;
+        mem::drop(sections);
+        mem::drop(declared);
+        mem::drop(exported);
+        mem::drop(items);
+        symbols
+    }
 }

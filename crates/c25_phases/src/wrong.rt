@@ -1,15 +1,16 @@
 //! Finding the first item that the second phase refuses, and the faults of all.
 
 ghost use Rattle.std.specs.Option.{option_map};
-ghost use Rattle.std.specs.Prelude.{◌≡◌, ◌≤◌, IfOk, length, map};
+ghost use Rattle.std.specs.Prelude.{◌≡◌, ◌≤◌, IfOk, IfSome, length, map};
 ghost use Rattle.c25_meaning_assembly.specs.AllFaults.{item_faults, operand_faults};
-ghost use Rattle.c25_meaning_assembly.specs.Emission.{names_with};
+ghost use Rattle.c25_meaning_assembly.specs.Emission.{names_with, table_at};
 ghost use Rattle.c25_meaning_assembly.specs.Sections.{name_count};
 ghost use Rattle.c25_phases.specs.View.{fault_of, item_of, progress_of};
-ghost use Rattle.c25_phases.specs.Wrong.{first_wrong, wrong_from, wrong_of};
+ghost use Rattle.c25_phases.specs.Wrong.{first_wrong, table_of, wrong_from, wrong_of};
 
 use crate::emission::{emit, import_all};
 use crate::fault::AsmFault;
+use crate::first_phase::place;
 use crate::item::PendingItem;
 use crate::operand_values::OperandValues;
 use crate::progress::Progress;
@@ -31,9 +32,19 @@ pub struct WrongItem<'a> {
     pub number: usize,
     pub origin: FileLine<&'a str>,
     pub kind: FaultKind,
+    /// The section of the item, and the offset where it begins.
+    pub section: u16,
+    pub offset: u32,
 }
 
-/// The first wrong one of some items.
+/// The first item that the second phase refuses, and what names and `$` stand for at its place.
+#[derive(Drop)]
+pub struct FirstWrong<'a> {
+    pub item: WrongItem<'a>,
+    pub symbols: Symbols,
+}
+
+/// The first wrong one of some items. `$` then stands for the place where that item begins.
 fn wrong_among<'a>(
     alloc: Global,
     symbols: &mut Symbols,
@@ -41,7 +52,8 @@ fn wrong_among<'a>(
     sheet: &mut OperandValues,
     items: &[PendingItem<'a>],
 ) -> Result<Option<WrongItem<'a>>, NoMemory>
-    ensures { IfOk result (λ wrong. option_map wrong_of wrong ≡ wrong_from 0 symbols.old.entries sections.old (map item_of items.now)) }
+    ensures first { IfOk result (λ wrong. option_map wrong_of wrong ≡ wrong_from 0 symbols.old.entries sections.old (map item_of items.now)) }
+    ensures here { IfOk result (λ wrong. IfSome wrong (λ w. symbols.new ≡ table_at symbols.old.entries w.section w.offset)) }
 {
     let mut number = 0;
     for item in items {
@@ -49,11 +61,13 @@ fn wrong_among<'a>(
             Ok(()) => number += 1,
             Err(Failure::NoMemory(error)) => return Err(error),
             Err(Failure::Fault(kind)) => {
-                let origin = item.origin;
+                symbols.set_here(place(item.section, item.offset));
                 return Ok(Some(WrongItem {
                     number,
-                    origin,
+                    origin: item.origin,
                     kind,
+                    section: item.section,
+                    offset: item.offset,
                 }));
             }
         }
@@ -62,10 +76,11 @@ fn wrong_among<'a>(
 }
 
 impl<'a> SecondPhase<'a> {
-    /// The first item that is wrong when all names are known.
+    /// The first item that is wrong when all names are known. `$` then stands for the place where it begins.
     fn wrong_item(&mut self) -> Result<Option<WrongItem<'a>>, NoMemory>
         requires { name_count self.old.symbols.entries self.old.declared ≤ 65535 }
-        ensures { IfOk result (λ wrong. option_map wrong_of wrong ≡ wrong_from 0 (names_with self.old.symbols.entries self.old.declared) self.old.sections (map item_of self.old.items.items)) }
+        ensures first { IfOk result (λ wrong. option_map wrong_of wrong ≡ wrong_from 0 (names_with self.old.symbols.entries self.old.declared) self.old.sections (map item_of self.old.items.items)) }
+        ensures here { IfOk result (λ wrong. IfSome wrong (λ w. self.new.symbols ≡ table_at (names_with self.old.symbols.entries self.old.declared) w.section w.offset)) }
     {
         import_all(&mut self.symbols, &self.declared)?;
         let mut sheet = OperandValues::new(self.alloc);
@@ -79,17 +94,21 @@ impl<'a> SecondPhase<'a> {
     }
 }
 
-/// The first item of the lines that the second phase refuses, if there is one; `NoMemory` where memory runs
-/// out.
-pub fn first_wrong(progress: Progress<'_>) -> Result<Option<WrongItem<'_>>, NoMemory>
+/// The first item of the lines that the second phase refuses, if there is one, and what names stand for at its
+/// place; `NoMemory` where memory runs out.
+pub fn first_wrong(progress: Progress<'_>) -> Result<Option<FirstWrong<'_>>, NoMemory>
     requires { name_count (progress_of progress).names (progress_of progress).declared ≤ 65535 }
-    ensures { IfOk result (λ wrong. option_map wrong_of wrong ≡ first_wrong (progress_of progress.entry)) }
+    ensures first { IfOk result (λ found. option_map (λ w. wrong_of w.item) found ≡ first_wrong (progress_of progress.entry)) }
+    ensures symbols { IfOk result (λ found. IfSome found (λ w. w.symbols ≡ table_of (progress_of progress.entry) (wrong_of w.item))) }
 {
     let mut laid = SecondPhase::of(progress);
     let wrong = laid.wrong_item();
-    // Only the answer is kept of what the lines have made.
-    mem::drop(laid);
-    wrong
+    let symbols = laid.into_symbols();
+    match wrong {
+        Ok(Some(item)) => Ok(Some(FirstWrong { item, symbols })),
+        Ok(None) => Ok(None),
+        Err(error) => Err(error),
+    }
 }
 
 /// The faults of those of some items that are refused, in their order.

@@ -16,5 +16,7 @@ mod statement_reader;
 mod strings;
 mod trees;
 
+pub use names::directive_in;
 pub use operations::{operation_of, spelled};
-pub use statement_reader::{address_label, read_statement};
+pub use sections::section_in;
+pub use statement_reader::{address_label, names_label, read_statement};

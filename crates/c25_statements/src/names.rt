@@ -86,7 +86,7 @@ fn directive_of(word: &str) -> Option<Directive>
 }
 
 /// The directive that a line's first word names, if any.
-pub(crate) fn directive_in(text: &str) -> Option<Directive>
+pub fn directive_in(text: &str) -> Option<Directive>
     ensures { result ≡ directive_in (first_word text.now) }
 {
     match first_word(text) {

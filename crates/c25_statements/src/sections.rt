@@ -52,7 +52,7 @@ fn said_in(alloc: Global, operand: &[Token<'_>]) -> Result<String, Failure<Fault
 }
 
 /// The section that an operand names; `OperandForm` (52) where the operand is no section's name.
-pub(crate) fn section_in(alloc: Global, operand: &[Token<'_>]) -> Result<String, Failure<FaultKind>>
+pub fn section_in(alloc: Global, operand: &[Token<'_>]) -> Result<String, Failure<FaultKind>>
     ensures { Meets string_bytes (says.section_in (pieces_of operand.now)) result }
 {
     let name = said_in(alloc, operand)?;

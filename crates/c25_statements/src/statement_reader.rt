@@ -72,7 +72,7 @@ fn act_by<'a>(
 }
 
 /// Whether a directive itself defines the name in the label's place, after its operands are read.
-fn names_label(directive: Option<Directive>) -> bool
+pub fn names_label(directive: Option<Directive>) -> bool
     ensures { result ≡ says.names_label directive }
 {
     match directive {

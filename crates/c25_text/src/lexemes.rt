@@ -196,7 +196,7 @@ fn sign_of(b: u8, c: u8) -> Lexeme
 
 /// The lexeme at the front of a text that is not empty.
 #[tactic(auto, unfolding(c25_meaning_language::specs::Lexeme::lexeme))]
-pub(crate) fn lexeme(text: &[u8]) -> Lexeme
+pub fn lexeme(text: &[u8]) -> Lexeme
     requires { 0 < length text.now }
     ensures value { result ≡ lexeme text.now }
     ensures comment { result ≡ Lexeme.Comment → slice_index text.now 0 ≡ 59 }

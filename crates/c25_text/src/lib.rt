@@ -9,5 +9,5 @@ pub mod line;
 pub mod tokens;
 
 pub use fields::{past_blanks, past_field};
-pub use lexemes::{constant_value, quoted_len};
+pub use lexemes::{constant_value, lexeme, quoted_len};
 pub use line::{Line, first_word, is_comment_line, label_in, split_line};

@@ -113,7 +113,7 @@ pub fn label_in(text: &str) -> Result<Option<&str>, LineFault>
 
 /// The label in the field of column 1, without the colon that may end it; none in an empty field, and
 /// `BadLabel` (10) where the field is no label.
-fn label_of(field: &str) -> Result<Option<&str>, LineFault>
+pub fn label_of(field: &str) -> Result<Option<&str>, LineFault>
     ensures { MatchResult result (λ o. label_of field.now ≡ Ok (option_map (λ s. s.now) o)) (λ f. label_of field.now ≡ Err f) }
 {
     if field.is_empty() {
@@ -161,7 +161,7 @@ fn all_visible(text: &[u8]) -> bool
 
 /// The mnemonic, directive or macro name in a field; none in an empty field, and `StrayText` (13) where a
 /// byte is not one of 21h to 7Eh.
-fn word_of(start: usize, text: &str) -> Result<Option<Word<'_>>, LineFault>
+pub fn word_of(start: usize, text: &str) -> Result<Option<Word<'_>>, LineFault>
     ensures { MatchResult result (λ o. word_of start text.now ≡ Ok (option_map part_of o)) (λ f. word_of start text.now ≡ Err f) }
 {
     if text.is_empty() {

@@ -1,0 +1,2 @@
+ NOP
+X: .space X+16 ; X is this line's own label

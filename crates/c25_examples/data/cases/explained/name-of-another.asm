@@ -1,0 +1,3 @@
+ .ref Y
+X NOP
+ LARK AR0,Y

@@ -1,0 +1,154 @@
+-- Remarks on the operands of a line: their expressions (20), how many they are (51) and what they are (52).
+use Rattle.std.specs.Prelude.{ℕ, ◌-◌, Bool, true, false, not, ◌&&◌, if◌then◌else◌, List, [], ◌∷◌, length, slice_get, Option, Some, None, is_some, unwrap_or, codes}
+use Rattle.std.specs.Option.{option_map, option_and_then, option_or}
+use Rattle.c25_meaning_instructions.specs.Spellings.{spelling_of}
+use Rattle.c25_meaning_instructions.specs.declared.mnemonic.Mnemonic.{Mnemonic}
+use Rattle.c25_meaning_instructions.specs.declared.mnemonic.Mnemonic.TheVariants as family
+use Rattle.c25_meaning_instructions.specs.declared.mnemonic.LongMemName.{LongMemName}
+use Rattle.c25_meaning_instructions.specs.declared.mnemonic.LongMemName.TheVariants as long_mem
+use Rattle.c25_meaning_instructions.specs.declared.mnemonic.LongName.{LongName}
+use Rattle.c25_meaning_instructions.specs.declared.mnemonic.LongName.TheVariants as long
+use Rattle.c25_meaning_instructions.specs.declared.mnemonic.PlainName.{PlainName}
+use Rattle.c25_meaning_instructions.specs.declared.mnemonic.PlainName.TheVariants as plain_name
+use Rattle.c25_meaning_instructions.specs.declared.mnemonic.ShortName.{ShortName}
+use Rattle.c25_meaning_instructions.specs.declared.mnemonic.ShortName.TheVariants as short
+use Rattle.c25_meaning_instructions.specs.declared.mnemonic.Spelling.{Spelling}
+use Rattle.c25_meaning_instructions.specs.declared.mnemonic.Spelling.TheVariants as spelling
+use Rattle.c25_meaning_language.specs.DirectiveOperands.{is_name}
+use Rattle.c25_meaning_language.specs.Forms.{is_expression}
+use Rattle.c25_meaning_language.specs.Line.{Piece, Part}
+use Rattle.c25_meaning_language.specs.Operands.{operands_of, written_of}
+use Rattle.c25_meaning_language.specs.Value.{predefined}
+use Rattle.c25_meaning_language.specs.declared.line.Sign.TheVariants as sign
+use Rattle.c25_meaning_language.specs.declared.line.TokenKind.{TokenKind}
+use Rattle.c25_meaning_language.specs.declared.line.TokenKind.TheVariants as kind
+use Rattle.c25_hints.specs.Remark.{Remark, about, plain}
+use Rattle.c25_hints.specs.Tables.{directive_forms, text_in}
+use Rattle.c25_hints.specs.declared.cause.Cause.TheVariants as cause
+
+-- ---- tokens side by side
+
+-- whether an operand of an operator may end with a token
+abbrev pub ends_operand : TokenKind → Bool
+ends_operand (kind.Sign sign.Dollar) = true
+ends_operand (kind.Sign sign.CloseParenthesis) = true
+ends_operand (kind.Sign s) = false
+ends_operand _ = true
+
+-- whether one may begin with a token
+abbrev pub begins_operand : TokenKind → Bool
+begins_operand (kind.Sign sign.Dollar) = true
+begins_operand (kind.Sign sign.OpenParenthesis) = true
+begins_operand (kind.Sign s) = false
+begins_operand _ = true
+
+-- the first token that begins an operand where one ends; `ends` says whether one ends before the first token
+unfoldable pub second_operand : Bool → List Piece → Option Piece
+second_operand ends [] = None
+second_operand ends (p ∷ ps) = if ends && begins_operand p.kind then Some p else second_operand (ends_operand p.kind) ps
+
+-- ---- expressions (20)
+
+abbrev pub is_constant : TokenKind → Bool
+is_constant kind.Constant = true
+is_constant _ = false
+
+-- the remark on a sign with which an expression begins, by the token after it
+abbrev pub of_sign : TokenKind → Piece → Option Remark
+of_sign (kind.Sign sign.Dollar) p = if is_constant p.kind then Some (plain cause.LocalLabel) else None
+of_sign (kind.Sign sign.Greater) p = Some (plain cause.HexadecimalByGreater)
+of_sign (kind.Sign sign.Star) p =
+    if is_name p.kind && is_some (predefined p.text) then Some (about cause.RegisterInExpression p.text) else None
+of_sign _ p = None
+
+abbrev pub of_front : List Piece → Option Remark
+of_front (p ∷ q ∷ ps) = of_sign p.kind q
+of_front _ = None
+
+-- the remark on a token that begins an operand where one ends: a name is mostly one of a comment
+abbrev pub of_second : Piece → Remark
+of_second p = if is_name p.kind then about cause.CommentInExpression p.text else about cause.NoOperator p.text
+
+-- the remark on the last token: an operator or an open parenthesis
+abbrev pub of_last : Piece → Option Remark
+of_last p = if not (ends_operand p.kind) then Some (about cause.NothingAfter p.text) else None
+
+-- the remark on an operand that is written as an expression
+abbrev pub of_expression : List Piece → Option Remark
+of_expression [] = Some (plain cause.NoOperand)
+of_expression (p ∷ ps) =
+    option_or (option_or (of_front (p ∷ ps)) (option_map of_second (second_operand false (p ∷ ps))))
+    (option_and_then of_last (slice_get (p ∷ ps) (length (p ∷ ps) - 1)))
+
+abbrev pub of_operand : List Piece → Option Remark
+of_operand operand = if is_expression (written_of operand) then of_expression operand else None
+
+-- the remark on the first operand that has one
+unfoldable pub of_operands : List (List Piece) → Option Remark
+of_operands [] = None
+of_operands (o ∷ os) = option_or (of_operand o) (of_operands os)
+
+-- ---- forms (51, 52)
+
+abbrev pub short_form : ShortName → List ℕ
+short_form short.Lark = codes "ar,constant"
+short_form _ = codes "constant"
+
+abbrev pub long_form : LongName → List ℕ
+long_form long.Lrlk = codes "ar,constant"
+long_form _ = codes "constant[,shift]"
+
+abbrev pub long_mem_form : LongMemName → List ℕ
+long_mem_form long_mem.Blkd = codes "dma,dma | dma,ind[,next]"
+long_mem_form _ = codes "pma,dma | pma,ind[,next]"
+
+abbrev pub plain_form : PlainName → List ℕ
+plain_form plain_name.Norm = codes "[ind]"
+plain_form plain_name.Spm = codes "constant"
+plain_form plain_name.Fort = codes "constant"
+plain_form plain_name.Cmpr = codes "constant"
+plain_form _ = []
+
+-- the operands of a row of the opcode table, in the words of SPRU014: `dma` and `pma` are addresses of data and
+-- of program memory, `ind` is an indirect operand, `next` the next auxiliary register
+abbrev pub row_form : Mnemonic → List ℕ
+row_form (family.Mem name) = codes "dma | ind[,next]"
+row_form (family.Shifted name) = codes "dma[,shift] | ind[,shift[,next]]"
+row_form (family.ArMem name) = codes "ar,dma | ar,ind[,next]"
+row_form (family.Port name) = codes "dma,port | ind,port[,next]"
+row_form (family.Bit name) = codes "dma,bit | ind,bit[,next]"
+row_form (family.Short name) = short_form name
+row_form (family.Long name) = long_form name
+row_form (family.LongMem name) = long_mem_form name
+row_form (family.Jump name) = codes "pma[,ind[,next]]"
+row_form (family.Plain name) = plain_form name
+
+-- the operands of an instruction
+abbrev pub spelling_form : Spelling → List ℕ
+spelling_form (spelling.Row mnemonic) = row_form mnemonic
+spelling_form spelling.Larp = codes "ar"
+spelling_form _ = []
+
+-- the operands of a directive or an instruction
+abbrev pub form_of : List ℕ → Option (List ℕ)
+form_of word = option_or (text_in directive_forms word) (option_map spelling_form (spelling_of word))
+
+-- the remark that shows a form
+abbrev pub of_form : List ℕ → List ℕ → Remark
+of_form word [] = about cause.TakesNothing word
+of_form word (b ∷ rest) = record { cause = cause.Form; word = word; more = b ∷ rest }
+
+-- the remark on too few operands or too many, where two stand side by side or else
+abbrev pub of_count : List ℕ → List Piece → List ℕ → Remark
+of_count word pieces [] = about cause.TakesNothing word
+of_count word pieces (b ∷ rest) = unwrap_or (option_map (λ p. about cause.NoComma p.text) (second_operand false pieces)) (of_form word (b ∷ rest))
+
+-- the remark on operands of another number
+abbrev pub counted : Option Part → List Piece → Option Remark
+counted None pieces = None
+counted (Some word) pieces = option_map (of_count word.text pieces) (form_of word.text)
+
+-- the remark on an operand of another form
+abbrev pub formed : Option Part → Option Remark
+formed None = None
+formed (Some word) = option_map (of_form word.text) (form_of word.text)

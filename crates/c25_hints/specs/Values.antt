@@ -1,0 +1,83 @@
+-- Remarks on a name that stands for nothing (22) and on a number that is too large (53).
+use Rattle.std.specs.Prelude.{ℕ, ◌-◌, ◌==◌, ◌||◌, ◌&&◌, Bool, true, false, if◌then◌else◌, pos, ℤ, List, [], ◌∷◌, length, slice_index, take, map, Option, Some, None, Result, Ok, Err}
+use Rattle.std.specs.List.{find}
+use Rattle.std.specs.Ordering.{int_eq}
+use Rattle.std.specs.Option.{option_map, option_and_then, option_or}
+use Rattle.c25_meaning_assembly.specs.Sections.{register_names}
+use Rattle.c25_meaning_common.specs.Digits.{are_digits}
+use Rattle.c25_meaning_language.specs.DirectiveOperands.{is_name}
+use Rattle.c25_meaning_language.specs.Line.{Parts, Piece, first_word, line_of}
+use Rattle.c25_meaning_language.specs.Value.{Table}
+use Rattle.c25_meaning_language.specs.declared.line.LineFault.{LineFault}
+use Rattle.c25_meaning_language.specs.declared.statement.FaultKind.TheVariants as fault
+use Rattle.c25_meaning_language.specs.declared.value.Value.{Value}
+use Rattle.c25_places.specs.Values.{refused_value}
+use Rattle.c25_places.specs.declared.value_parts.Misfit.{Misfit}
+use Rattle.c25_places.specs.declared.value_parts.RefusedValue.{RefusedValue}
+use Rattle.c25_hints.specs.Remark.{Remark, about}
+use Rattle.c25_hints.specs.Tables.{is_spelled, longer, text_in}
+use Rattle.c25_hints.specs.declared.cause.Cause.TheVariants as cause
+
+-- ---- names (22)
+
+-- the first of these names with the letters of this one, in either case
+unfoldable pub same_letters : List (List ℕ) → List ℕ → Option (List ℕ)
+same_letters [] name = None
+same_letters (n ∷ names) name = if is_spelled n name then Some n else same_letters names name
+
+-- the names of a symbol table, in order of definition
+abbrev pub defined_names : Table → List (List ℕ)
+defined_names table = map (λ e. e.0) table.entries
+
+-- a name that is defined in other case
+abbrev pub of_case : List (List ℕ) → List ℕ → Option Remark
+of_case names name = option_map (about cause.OtherCase) (same_letters names name)
+
+-- whether a name is hexadecimal digits with an `h` after them
+abbrev pub is_hexadecimal : List ℕ → Bool
+is_hexadecimal name =
+    (slice_index name (length name - 1) == 104 || slice_index name (length name - 1) == 72) && are_digits 16 (take (length name - 1) name)
+
+abbrev pub of_digits : List ℕ → Option Remark
+of_digits name = if is_hexadecimal name then Some (about cause.HexadecimalName name) else None
+
+-- a name that `.mmregs` defines
+abbrev pub of_register : List ℕ → Option Remark
+of_register name = option_map (about cause.RegisterName) (same_letters (map (λ r. r.0) register_names) name)
+
+-- the remark on a name that stands for nothing, where these are defined
+abbrev pub of_name : List (List ℕ) → List ℕ → Option Remark
+of_name names name = option_or (option_or (of_case names name) (of_digits name)) (of_register name)
+
+-- the name that begins at a place, among tokens
+unfoldable pub name_at : ℕ → List Piece → Option (List ℕ)
+name_at start [] = None
+name_at start (p ∷ ps) = if is_name p.kind && p.start == start then Some p.text else name_at start ps
+
+-- the same in a line
+abbrev pub name_in : ℕ → Result Parts LineFault → Option (List ℕ)
+name_in start (Err f) = None
+name_in start (Ok parts) = name_at start parts.pieces
+
+-- the name of a line that stands for nothing
+abbrev pub refused_name : List ℕ → Table → Option (List ℕ)
+refused_name text table = option_and_then (λ r. name_in r.part.start (line_of text)) (refused_value text fault.Undefined table)
+
+-- the remark on a line of which a name is refused (22)
+abbrev pub undefined : List ℕ → Table → Option Remark
+undefined text table = option_and_then (of_name (defined_names table)) (refused_name text table)
+
+-- ---- numbers (53)
+
+-- what takes a longer number than eight bits
+abbrev pub of_word : List ℕ → Option Remark
+of_word word = option_map (about cause.Longer) (text_in longer word)
+
+-- the remark on a number that does not go into eight bits
+abbrev pub of_misfit : Option (List ℕ) → Misfit → Option Remark
+of_misfit word m = if int_eq m.most (pos 255) then option_and_then of_word word else None
+
+-- the remark on a line of which a number is refused (53)
+abbrev pub out_of_range : List ℕ → Table → Option Remark
+out_of_range text table =
+    option_and_then (of_misfit (first_word text)) (option_and_then (λ r. r.misfit) (refused_value text fault.FieldRange table))

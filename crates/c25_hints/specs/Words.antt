@@ -1,0 +1,57 @@
+-- Remarks on a word that is no mnemonic, directive or macro (50).
+use Rattle.std.specs.Prelude.{ℕ, Bool, true, false, ◌&&◌, if◌then◌else◌, List, [], ◌∷◌, slice_index, Option, Some, None, is_ok}
+use Rattle.std.specs.Option.{option_map, option_or}
+use Rattle.c25_meaning_assembly.specs.StatementLine.{spelled}
+use Rattle.c25_meaning_common.specs.Bytes.{begins_name}
+use Rattle.c25_meaning_language.specs.Line.{Piece, Part}
+use Rattle.c25_meaning_language.specs.declared.line.TokenKind.{TokenKind}
+use Rattle.c25_meaning_language.specs.declared.line.TokenKind.TheVariants as kind
+use Rattle.c25_hints.specs.Remark.{Remark, about}
+use Rattle.c25_hints.specs.Tables.{Rows, directive_forms, instead, is_without_dot, text_in}
+use Rattle.c25_hints.specs.declared.cause.Cause.TheVariants as cause
+
+abbrev pub is_mnemonic : List ℕ → Bool
+is_mnemonic word = is_ok (spelled word)
+
+abbrev pub is_name : List ℕ → Bool
+is_name word = begins_name (slice_index word 0)
+
+-- a mnemonic in column 1, where it is a label
+abbrev pub of_label : Option (List ℕ) → Option Remark
+of_label None = None
+of_label (Some label) = if is_mnemonic label then Some (about cause.MnemonicAsLabel label) else None
+
+-- whether a token is a mnemonic, or begins with a dot as a directive does
+abbrev pub begins_statement : TokenKind → List ℕ → Bool
+begins_statement kind.DottedName text = true
+begins_statement kind.Name text = is_mnemonic text
+begins_statement _ text = false
+
+-- a name with a mnemonic or a directive after it: a label that does not begin in column 1
+abbrev pub of_statement : List ℕ → List Piece → Option Remark
+of_statement word [] = None
+of_statement word (p ∷ ps) =
+    if is_name word && begins_statement p.kind p.text then Some (about cause.LabelAsMnemonic word) else None
+
+-- a word of another assembler, with what is written here
+abbrev pub of_other : List ℕ → Option Remark
+of_other word = option_map (λ text. record { cause = cause.Instead; word = word; more = text }) (text_in instead word)
+
+-- whether there are operands
+abbrev pub has_some : List Piece → Bool
+has_some [] = false
+has_some (p ∷ ps) = true
+
+-- a directive without its dot, by whether operands follow
+abbrev pub of_directive : Bool → List ℕ → Option Remark
+of_directive operands word = if is_without_dot directive_forms operands word then Some (about cause.DirectiveWithoutDot word) else None
+
+-- the first of these remarks on a word that there is
+abbrev pub of_text : Option (List ℕ) → List ℕ → List Piece → Option Remark
+of_text label word pieces =
+    option_or (option_or (option_or (of_label label) (of_statement word pieces)) (of_other word)) (of_directive (has_some pieces) word)
+
+-- the remark on the mnemonic field
+abbrev pub of_word : Option (List ℕ) → Option Part → List Piece → Option Remark
+of_word label None pieces = None
+of_word label (Some word) pieces = of_text label word.text pieces

@@ -1,0 +1,220 @@
+//! Remarks on the operands of a line: their expressions (20), how many they are (51) and what they are (52).
+
+ghost use Rattle.std.specs.Prelude.{◌≡◌, IfOk, false, not, ◌&&◌, is_some};
+ghost use Rattle.std.specs.Option.{option_map};
+ghost use Rattle.c25_meaning_language.specs.DirectiveOperands as directive;
+ghost use Rattle.c25_meaning_language.specs.Forms as forms;
+ghost use Rattle.c25_meaning_language.specs.Operands as lists;
+ghost use Rattle.c25_meaning_language.specs.Value.{predefined};
+ghost use Rattle.c25_text.specs.View.{part_of, piece_of};
+ghost use Rattle.c25_expr.specs.Pieces.{pieces_of, operands_view};
+ghost use Rattle.c25_hints.specs.Operands as says;
+ghost use Rattle.c25_hints.specs.Remark.{remark_of};
+
+use crate::cause::Cause;
+use crate::forms::form_of;
+use crate::hint::Hint;
+use c25_expr::operands::{operands_of, written_of};
+use c25_expr::symbols::is_predefined;
+use c25_meaning_common::no_memory::NoMemory;
+use c25_meaning_language::line::{Sign, TokenKind};
+use c25_meaning_language::statement::Written;
+use c25_text::line::Word;
+use c25_text::tokens::Token;
+use std::alloc::Global;
+
+/// Whether an operand of an operator may end with a token.
+fn ends_operand(kind: TokenKind) -> bool
+    ensures { result ≡ says.ends_operand kind }
+{
+    match kind {
+        TokenKind::Sign(Sign::Dollar | Sign::CloseParenthesis) => true,
+        TokenKind::Sign(_) => false,
+        _ => true,
+    }
+}
+
+/// Whether an operand of an operator may begin with a token.
+fn begins_operand(kind: TokenKind) -> bool
+    ensures { result ≡ says.begins_operand kind }
+{
+    match kind {
+        TokenKind::Sign(Sign::Dollar | Sign::OpenParenthesis) => true,
+        TokenKind::Sign(_) => false,
+        _ => true,
+    }
+}
+
+/// The first token that begins an operand where one ends.
+#[tactic(auto, unfolding(crate::specs::Operands::second_operand))]
+fn second_operand<'a>(tokens: &[Token<'a>]) -> Option<Token<'a>>
+    ensures { option_map piece_of result ≡ says.second_operand false (pieces_of tokens.now) }
+{
+    let mut ends = false;
+    for token in tokens {
+        if ends && begins_operand(token.kind) {
+            return Some(*token);
+        }
+        ends = ends_operand(token.kind);
+    }
+    None
+}
+
+pub(crate) fn is_name(kind: TokenKind) -> bool
+    ensures { result ≡ directive.is_name kind }
+{
+    match kind {
+        TokenKind::Name => true,
+        _ => false,
+    }
+}
+
+fn is_constant(kind: TokenKind) -> bool
+    ensures { result ≡ says.is_constant kind }
+{
+    match kind {
+        TokenKind::Constant => true,
+        _ => false,
+    }
+}
+
+fn is_register(token: &Token<'_>) -> bool
+    ensures { result ≡ (directive.is_name token.now.kind && is_some (predefined token.now.text.now)) }
+{
+    is_name(token.kind) && is_predefined(token.text)
+}
+
+/// The remark on a sign with which an expression begins, by the token after it.
+fn of_sign<'a>(kind: TokenKind, next: &Token<'a>) -> Option<Hint<'a>>
+    ensures { option_map remark_of result ≡ says.of_sign kind (piece_of next.now) }
+{
+    match kind {
+        TokenKind::Sign(Sign::Dollar) if is_constant(next.kind) => {
+            Some(Hint::plain(Cause::LocalLabel))
+        }
+        TokenKind::Sign(Sign::Greater) => Some(Hint::plain(Cause::HexadecimalByGreater)),
+        TokenKind::Sign(Sign::Star) if is_register(next) => {
+            Some(Hint::about(Cause::RegisterInExpression, next.text))
+        }
+        _ => None,
+    }
+}
+
+fn of_front<'a>(operand: &[Token<'a>]) -> Option<Hint<'a>>
+    ensures { option_map remark_of result ≡ says.of_front (pieces_of operand.now) }
+{
+    match operand {
+        [first, next, ..] => of_sign(first.kind, next),
+        _ => None,
+    }
+}
+
+/// The remark on a token that begins an operand where one ends: a name is mostly one of a comment.
+fn of_second<'a>(operand: &[Token<'a>]) -> Option<Hint<'a>>
+    ensures { option_map remark_of result ≡ option_map says.of_second (says.second_operand false (pieces_of operand.now)) }
+{
+    match second_operand(operand) {
+        Some(token) if is_name(token.kind) => {
+            Some(Hint::about(Cause::CommentInExpression, token.text))
+        }
+        Some(token) => Some(Hint::about(Cause::NoOperator, token.text)),
+        None => None,
+    }
+}
+
+/// The remark on the last token: an operator or an open parenthesis.
+fn of_last<'a>(token: &Token<'a>) -> Option<Hint<'a>>
+    ensures { option_map remark_of result ≡ says.of_last (piece_of token.now) }
+{
+    if ends_operand(token.kind) {
+        None
+    } else {
+        Some(Hint::about(Cause::NothingAfter, token.text))
+    }
+}
+
+/// The remark on an operand that is written as an expression.
+fn of_expression<'a>(operand: &[Token<'a>]) -> Option<Hint<'a>>
+    ensures { option_map remark_of result ≡ says.of_expression (pieces_of operand.now) }
+{
+    match operand.last() {
+        Some(last) => of_front(operand).or(of_second(operand)).or(of_last(last)),
+        None => Some(Hint::plain(Cause::NoOperand)),
+    }
+}
+
+fn of_operand<'a>(operand: &[Token<'a>]) -> Option<Hint<'a>>
+    ensures { option_map remark_of result ≡ says.of_operand (pieces_of operand.now) }
+{
+    match written_of(operand) {
+        Written::Expression => of_expression(operand),
+        _ => None,
+    }
+}
+
+/// The remark on the first operand that has one.
+#[tactic(auto, unfolding(crate::specs::Operands::of_operands))]
+fn first_of<'a>(operands: &[&[Token<'a>]]) -> Option<Hint<'a>>
+    ensures { option_map remark_of result ≡ says.of_operands (operands_view operands.now) }
+{
+    for operand in operands {
+        if let Some(hint) = of_operand(operand) {
+            return Some(hint);
+        }
+    }
+    None
+}
+
+/// The remark on the first operand that has one, of the tokens of a line.
+pub(crate) fn of_operands<'a>(
+    alloc: Global,
+    tokens: &[Token<'a>],
+) -> Result<Option<Hint<'a>>, NoMemory>
+    ensures { IfOk result (λ o. option_map remark_of o ≡ says.of_operands (lists.operands_of (pieces_of tokens.now))) }
+{
+    let operands = operands_of(alloc, tokens)?;
+    Ok(first_of(operands.as_slice()))
+}
+
+/// The remark that shows a form.
+fn of_form<'a>(word: &'a str, form: &'static str) -> Hint<'a>
+    ensures { remark_of result ≡ says.of_form word.now form.now }
+{
+    if form.is_empty() {
+        Hint::about(Cause::TakesNothing, word)
+    } else {
+        Hint {
+            cause: Cause::Form,
+            word,
+            more: form,
+        }
+    }
+}
+
+/// The remark on too few operands or too many, where two stand side by side or else.
+fn of_count<'a>(word: &'a str, tokens: &[Token<'a>], form: &'static str) -> Hint<'a>
+    ensures { remark_of result ≡ says.of_count word.now (pieces_of tokens.now) form.now }
+{
+    match second_operand(tokens) {
+        Some(token) if !form.is_empty() => Hint::about(Cause::NoComma, token.text),
+        _ => of_form(word, form),
+    }
+}
+
+/// The remark on operands of another number.
+pub(crate) fn counted<'a>(word: Option<Word<'a>>, tokens: &[Token<'a>]) -> Option<Hint<'a>>
+    ensures { option_map remark_of result ≡ says.counted (option_map part_of word.entry) (pieces_of tokens.now) }
+{
+    let word = word?.text;
+    let form = form_of(word)?;
+    Some(of_count(word, tokens, form))
+}
+
+/// The remark on an operand of another form.
+pub(crate) fn formed<'a>(word: Option<Word<'a>>) -> Option<Hint<'a>>
+    ensures { option_map remark_of result ≡ says.formed (option_map part_of word.entry) }
+{
+    let word = word?.text;
+    let form = form_of(word)?;
+    Some(of_form(word, form))
+}

@@ -1,0 +1,93 @@
+//! The remark on a line that is refused.
+
+ghost use Rattle.std.specs.Prelude.{◌≡◌, IfOk, Ok, string_bytes};
+ghost use Rattle.std.specs.Option.{option_map};
+ghost use Rattle.c25_meaning_language.specs.Line.{line_of};
+ghost use Rattle.c25_text.specs.View.{parts_of};
+ghost use Rattle.c25_hints.specs.Hints as hints;
+ghost use Rattle.c25_hints.specs.Remark.{remark_of};
+ghost use Rattle.c25_hints.specs.Similar.{remark_text};
+
+use crate::hint::Hint;
+use crate::operands::{counted, formed, of_operands};
+use crate::similar;
+use crate::texts::of_text;
+use crate::values::{out_of_range, undefined};
+use crate::words::of_word;
+use c25_expr::Symbols;
+use c25_expr::operands::tokens_of;
+use c25_meaning_common::no_memory::NoMemory;
+use c25_meaning_language::statement::FaultKind;
+use c25_text::line::{Line, split_line};
+use std::alloc::Global;
+
+/// The remark on a line in parts that its statement is refused with this fault.
+fn of_parts<'a>(
+    alloc: Global,
+    kind: FaultKind,
+    line: &Line<'a>,
+) -> Result<Option<Hint<'a>>, NoMemory>
+    ensures { IfOk result (λ o. option_map remark_of o ≡ hints.of_parts kind (parts_of line.now)) }
+{
+    let tokens = tokens_of(alloc, line)?;
+    match kind {
+        FaultKind::UnknownMnemonic => Ok(of_word(line.label, line.word, tokens.as_slice())),
+        FaultKind::BadExpression => of_operands(alloc, tokens.as_slice()),
+        FaultKind::OperandCount => Ok(counted(line.word, tokens.as_slice())),
+        FaultKind::OperandForm => Ok(formed(line.word)),
+        _ => Ok(None),
+    }
+}
+
+fn of_statement<'a>(
+    alloc: Global,
+    text: &'a str,
+    kind: FaultKind,
+) -> Result<Option<Hint<'a>>, NoMemory>
+    ensures { IfOk result (λ o. option_map remark_of o ≡ hints.of_statement kind (line_of text.now)) }
+{
+    match split_line(text) {
+        Ok(line) => of_parts(alloc, kind, &line),
+        Err(_) => Ok(None),
+    }
+}
+
+/// Why an expanded line is refused with this fault, where `read_statement` or a value refuses it so, under
+/// these symbols: those so far, where the line needs a value at once, as `.space` does; else all symbols.
+/// None where the line does not show it, and for other faults than 10 to 13, 20, 22 and 50 to 53. `NoMemory`
+/// (9) where memory runs out.
+pub fn hint_on<'a>(
+    alloc: Global,
+    text: &'a str,
+    kind: FaultKind,
+    symbols: &'a Symbols,
+) -> Result<Option<Hint<'a>>, NoMemory>
+    ensures { IfOk result (λ o. option_map remark_of o ≡ hints.remark_on text.now kind symbols.now) }
+{
+    match kind {
+        FaultKind::BadLabel
+        | FaultKind::BadConstant
+        | FaultKind::OpenQuote
+        | FaultKind::StrayText => of_text(alloc, text, kind),
+        FaultKind::Undefined => undefined(alloc, text, symbols),
+        FaultKind::FieldRange => out_of_range(alloc, text, symbols),
+        _ => of_statement(alloc, text, kind),
+    }
+}
+
+/// The text of the remark on an expanded line that is refused with this fault: why, as `hint_on` has it; or
+/// else up to three names that are spelled like the word, in at most two steps: mnemonics or directives for
+/// `UnknownMnemonic` (50), symbols for `Undefined` (22).
+pub fn remark(
+    alloc: Global,
+    text: &str,
+    kind: FaultKind,
+    symbols: &Symbols,
+) -> Result<Option<String>, NoMemory>
+    ensures { IfOk result (λ o. option_map string_bytes o ≡ remark_text text.now kind symbols.now) }
+{
+    match hint_on(alloc, text, kind, symbols)? {
+        Some(hint) => Ok(Some(hint.text(alloc)?)),
+        None => similar::on_line(alloc, text, kind, symbols),
+    }
+}

@@ -1,0 +1,200 @@
+//! Remarks on a name that stands for nothing (22) and on a number that is too large (53).
+
+ghost use Rattle.std.specs.Prelude.{◌≡◌, IfOk, map};
+ghost use Rattle.std.specs.Option.{option_map};
+ghost use Rattle.c25_meaning_assembly.specs.Sections.{register_names};
+ghost use Rattle.c25_meaning_language.specs.Line.{line_of};
+ghost use Rattle.c25_meaning_language.specs.declared.statement.FaultKind.{FaultKind};
+ghost use Rattle.c25_expr.specs.Pieces.{pieces_of};
+ghost use Rattle.c25_hints.specs.Remark.{remark_of};
+ghost use Rattle.c25_hints.specs.Values as values;
+
+use crate::cause::Cause;
+use crate::hint::Hint;
+use crate::operands::is_name;
+use crate::tables::{is_spelled, longer_than};
+use c25_expr::Symbols;
+use c25_expr::operands::tokens_of;
+use c25_meaning_common::digits::are_digits;
+use c25_meaning_common::no_memory::NoMemory;
+use c25_meaning_language::statement::FaultKind;
+use c25_places::{Misfit, RefusedValue, refused_value};
+use c25_text::line::{first_word, split_line};
+use c25_text::tokens::Token;
+use std::alloc::Global;
+
+/// The names that `.mmregs` defines.
+static REGISTERS: [&str; 6] = ["DRR", "DXR", "TIM", "PRD", "IMR", "GREG"];
+
+/// The names of symbols, in order of definition.
+pub(crate) fn defined_names<'a>(
+    alloc: Global,
+    symbols: &'a Symbols,
+) -> Result<Vec<&'a str>, NoMemory>
+    ensures { IfOk result (λ v. map (λ n. n.now) v.items ≡ values.defined_names symbols.now) }
+{
+    let mut names = Vec::new(alloc);
+    for number in 0..symbols.len() {
+        let Some((name, _)) = symbols.entry(number) else {
+            continue;
+        };
+        names.push(name)?;
+    }
+    Ok(names)
+}
+
+/// The first of these names with the letters of this one, in either case.
+#[tactic(auto, unfolding(crate::specs::Values::same_letters))]
+fn same_letters<'a>(names: &[&'a str], name: &str) -> Option<&'a str>
+    ensures { option_map (λ n. n.now) result ≡ values.same_letters (map (λ n. n.now) names.now) name.now }
+{
+    for other in names {
+        if is_spelled(other.as_bytes(), name.as_bytes()) {
+            return Some(other);
+        }
+    }
+    None
+}
+
+/// A name that is defined in other case.
+fn of_case<'a>(names: &[&'a str], name: &str) -> Option<Hint<'a>>
+    ensures { option_map remark_of result ≡ values.of_case (map (λ n. n.now) names.now) name.now }
+{
+    match same_letters(names, name) {
+        Some(defined) => Some(Hint::about(Cause::OtherCase, defined)),
+        None => None,
+    }
+}
+
+/// Whether a name is hexadecimal digits with an `h` after them.
+fn is_hexadecimal(name: &[u8]) -> bool
+    ensures { result ≡ values.is_hexadecimal name.now }
+{
+    match name.split_last() {
+        Some((b'h' | b'H', digits)) => are_digits(16, digits),
+        _ => false,
+    }
+}
+
+fn of_digits<'a>(name: &'a str) -> Option<Hint<'a>>
+    ensures { option_map remark_of result ≡ values.of_digits name.now }
+{
+    if is_hexadecimal(name.as_bytes()) {
+        Some(Hint::about(Cause::HexadecimalName, name))
+    } else {
+        None
+    }
+}
+
+/// A name that `.mmregs` defines.
+fn of_register(name: &str) -> Option<Hint<'static>>
+    ensures { option_map remark_of result ≡ values.of_register name.now }
+{
+    match same_letters(&REGISTERS, name) {
+        Some(register) => Some(Hint::about(Cause::RegisterName, register)),
+        None => None,
+    }
+}
+
+/// The remark on a name that stands for nothing, where these are defined.
+fn of_name<'a>(names: &[&'a str], name: &'a str) -> Option<Hint<'a>>
+    ensures { option_map remark_of result ≡ values.of_name (map (λ n. n.now) names.now) name.now }
+{
+    of_case(names, name)
+        .or(of_digits(name))
+        .or(of_register(name))
+}
+
+/// The name that begins at a place, among tokens.
+#[tactic(auto, unfolding(crate::specs::Values::name_at))]
+fn name_at<'a>(start: usize, tokens: &[Token<'a>]) -> Option<&'a str>
+    ensures { option_map (λ n. n.now) result ≡ values.name_at start (pieces_of tokens.now) }
+{
+    for token in tokens {
+        if is_name(token.kind) && token.start == start {
+            return Some(token.text);
+        }
+    }
+    None
+}
+
+/// The name that begins at a place of a line.
+fn name_in<'a>(alloc: Global, start: usize, text: &'a str) -> Result<Option<&'a str>, NoMemory>
+    ensures { IfOk result (λ o. option_map (λ n. n.now) o ≡ values.name_in start (line_of text.now)) }
+{
+    match split_line(text) {
+        Ok(line) => {
+            let tokens = tokens_of(alloc, &line)?;
+            Ok(name_at(start, tokens.as_slice()))
+        }
+        Err(_) => Ok(None),
+    }
+}
+
+/// The name of a line that stands for nothing.
+pub(crate) fn refused_name<'a>(
+    alloc: Global,
+    text: &'a str,
+    symbols: &Symbols,
+) -> Result<Option<&'a str>, NoMemory>
+    ensures { IfOk result (λ o. option_map (λ n. n.now) o ≡ values.refused_name text.now symbols.now) }
+{
+    match refused_value(alloc, text, FaultKind::Undefined, symbols)? {
+        Some(refused) => name_in(alloc, refused.part.start, text),
+        None => Ok(None),
+    }
+}
+
+/// The remark on a line of which a name is refused (22).
+pub(crate) fn undefined<'a>(
+    alloc: Global,
+    text: &'a str,
+    symbols: &'a Symbols,
+) -> Result<Option<Hint<'a>>, NoMemory>
+    ensures { IfOk result (λ o. option_map remark_of o ≡ values.undefined text.now symbols.now) }
+{
+    let names = defined_names(alloc, symbols)?;
+    match refused_name(alloc, text, symbols)? {
+        Some(name) => Ok(of_name(names.as_slice(), name)),
+        None => Ok(None),
+    }
+}
+
+/// What takes a longer number than eight bits.
+fn of_word(word: &str) -> Option<Hint<'static>>
+    ensures { option_map remark_of result ≡ values.of_word word.now }
+{
+    match longer_than(word) {
+        Some(other) => Some(Hint::about(Cause::Longer, other)),
+        None => None,
+    }
+}
+
+/// The remark on a number that does not go into eight bits.
+fn of_misfit(word: Option<&str>, misfit: Misfit) -> Option<Hint<'static>>
+    ensures { option_map remark_of result ≡ values.of_misfit (option_map (λ s. s.now) word.entry) misfit }
+{
+    match word {
+        Some(word) if misfit.most == 255 => of_word(word),
+        _ => None,
+    }
+}
+
+/// The remark on a line of which a number is refused (53).
+pub(crate) fn out_of_range(
+    alloc: Global,
+    text: &str,
+    symbols: &Symbols,
+) -> Result<Option<Hint<'static>>, NoMemory>
+    ensures { IfOk result (λ o. option_map remark_of o ≡ values.out_of_range text.now symbols.now) }
+{
+    match refused_value(alloc, text, FaultKind::FieldRange, symbols)? {
+        Some(
+            RefusedValue {
+                misfit: Some(misfit),
+                ..
+            },
+        ) => Ok(of_misfit(first_word(text), misfit)),
+        _ => Ok(None),
+    }
+}

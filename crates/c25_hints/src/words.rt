@@ -1,0 +1,120 @@
+//! Remarks on a word that is no mnemonic, directive or macro (50).
+
+ghost use Rattle.std.specs.Prelude.{◌≡◌};
+ghost use Rattle.std.specs.Option.{option_map};
+ghost use Rattle.c25_text.specs.View.{part_of, piece_of};
+ghost use Rattle.c25_expr.specs.Pieces.{pieces_of};
+ghost use Rattle.c25_hints.specs.Remark.{remark_of};
+ghost use Rattle.c25_hints.specs.Words as words;
+
+use crate::cause::Cause;
+use crate::hint::Hint;
+use crate::tables::{instead_of, is_without_dot};
+use c25_meaning_common::bytes::{begins_name, byte_at};
+use c25_meaning_language::line::TokenKind;
+use c25_statements::spelled;
+use c25_text::line::Word;
+use c25_text::tokens::Token;
+
+fn is_mnemonic(word: &str) -> bool
+    ensures { result ≡ words.is_mnemonic word.now }
+{
+    spelled(word).is_ok()
+}
+
+/// A mnemonic in column 1, where it is a label.
+fn of_label<'a>(label: Option<&'a str>) -> Option<Hint<'a>>
+    ensures { option_map remark_of result ≡ words.of_label (option_map (λ s. s.now) label.entry) }
+{
+    match label {
+        Some(label) if is_mnemonic(label) => Some(Hint::about(Cause::MnemonicAsLabel, label)),
+        _ => None,
+    }
+}
+
+/// Whether a token is a mnemonic, or begins with a dot as a directive does.
+fn begins_statement(token: &Token<'_>) -> bool
+    ensures { result ≡ words.begins_statement token.now.kind token.now.text.now }
+{
+    match token.kind {
+        TokenKind::DottedName => true,
+        TokenKind::Name => is_mnemonic(token.text),
+        _ => false,
+    }
+}
+
+fn is_name(word: &str) -> bool
+    ensures { result ≡ words.is_name word.now }
+{
+    begins_name(byte_at(word.as_bytes(), 0))
+}
+
+/// A name with a mnemonic or a directive after it: a label that does not begin in column 1.
+fn of_statement<'a>(word: &'a str, tokens: &[Token<'_>]) -> Option<Hint<'a>>
+    ensures { option_map remark_of result ≡ words.of_statement word.now (pieces_of tokens.now) }
+{
+    match tokens {
+        [first, ..] if is_name(word) && begins_statement(first) => {
+            Some(Hint::about(Cause::LabelAsMnemonic, word))
+        }
+        _ => None,
+    }
+}
+
+/// A word of another assembler, with what is written here.
+fn of_other<'a>(word: &'a str) -> Option<Hint<'a>>
+    ensures { option_map remark_of result ≡ words.of_other word.now }
+{
+    match instead_of(word) {
+        Some(more) => Some(Hint {
+            cause: Cause::Instead,
+            word,
+            more,
+        }),
+        None => None,
+    }
+}
+
+fn has_some(tokens: &[Token<'_>]) -> bool
+    ensures { result ≡ words.has_some (pieces_of tokens.now) }
+{
+    match tokens {
+        [] => false,
+        _ => true,
+    }
+}
+
+/// A directive without its dot, by whether operands follow.
+fn of_directive<'a>(operands: bool, word: &'a str) -> Option<Hint<'a>>
+    ensures { option_map remark_of result ≡ words.of_directive operands word.now }
+{
+    if is_without_dot(operands, word) {
+        Some(Hint::about(Cause::DirectiveWithoutDot, word))
+    } else {
+        None
+    }
+}
+
+/// The first of these remarks on a word that there is.
+fn of_text<'a>(label: Option<&'a str>, word: &'a str, tokens: &[Token<'_>]) -> Option<Hint<'a>>
+    ensures { option_map remark_of result ≡ words.of_text (option_map (λ s. s.now) label.entry) word.now (pieces_of tokens.now) }
+{
+    of_label(label)
+        .or(of_statement(word, tokens))
+        .or(of_other(word))
+        .or(of_directive(has_some(tokens), word))
+}
+
+/// The remark on the mnemonic field of a line with this label and these tokens of operands.
+pub(crate) fn of_word<'a>(
+    label: Option<&'a str>,
+    word: Option<Word<'a>>,
+    tokens: &[Token<'_>],
+) -> Option<Hint<'a>>
+    ensures { option_map remark_of result ≡ words.of_word (option_map (λ s. s.now) label.entry) (option_map part_of word.entry) (pieces_of tokens.now) }
+{
+    match word {
+        Some(word) => of_text(label, word.text, tokens),
+        None => None,
+    }
+}

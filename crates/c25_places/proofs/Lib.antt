@@ -1,0 +1,9 @@
+pub mod Pieces
+pub mod ScanParts
+pub mod TokenFacts
+pub mod TextParts
+pub mod Words
+pub mod Shapes
+pub mod Acts
+pub mod Refusals
+pub mod FoundOperands

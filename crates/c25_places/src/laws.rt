@@ -1,0 +1,31 @@
+//! Laws of the parts where lines are refused: facts about all lines that the definitions imply. The functions
+//! do nothing.
+
+ghost use Rattle.std.specs.Prelude.{◌≡◌, ℕ, List, map, Some, Ok, Err, IsSome, IsNone};
+ghost use Rattle.c25_meaning_assembly.specs.AssemblyLine.{read_statement};
+ghost use Rattle.c25_meaning_instructions.specs.declared.mnemonic.Spelling.{Spelling};
+ghost use Rattle.c25_meaning_language.specs.Forms.{form_of};
+ghost use Rattle.c25_meaning_language.specs.Line.{Piece};
+ghost use Rattle.c25_meaning_language.specs.Operands.{written_of};
+ghost use Rattle.c25_meaning_language.specs.declared.statement.FaultKind.{FaultKind};
+ghost use Rattle.c25_meaning_language.specs.declared.statement.Form.{Form};
+ghost use Rattle.c25_places.specs.Refused.{IsWithin, first_refused, refused_part};
+ghost use Rattle.c25_places.specs.declared.part.Part.{Part};
+ghost use Rattle.c25_places.specs.declared.wanted.Operation.{Operation};
+
+/// A part has bytes and lies within its line.
+pub fn parts_lie_in_their_lines()
+    ensures { (text : List ℕ) (kind : FaultKind) (p : Part) → refused_part text kind ≡ Some p → IsWithin text p }
+{}
+
+/// A line that is refused has a part where it is refused.
+pub fn refusals_have_parts()
+    ensures { (text : List ℕ) (kind : FaultKind) → read_statement text ≡ Err kind → IsSome (refused_part text kind) }
+{}
+
+/// An instruction has a form only where each operand is what it has to be, and where an operand is refused for
+/// what it is (52) one of them is not.
+pub fn forms_take_what_is_wanted()
+    ensures taken { (s : Spelling) (operands : List (List Piece)) (f : Form) → form_of s (map written_of operands) ≡ Ok f → IsNone (first_refused FaultKind.OperandForm (Operation.Runs s) 0 operands) }
+    ensures refused { (s : Spelling) (operands : List (List Piece)) → form_of s (map written_of operands) ≡ Err FaultKind.OperandForm → IsSome (first_refused FaultKind.OperandForm (Operation.Runs s) 0 operands) }
+{}

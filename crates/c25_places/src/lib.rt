@@ -1,0 +1,20 @@
+//! The part of a source's line where it is refused, found afterwards: by the text of the line and the fault
+//! that was reported.
+#![tactic(auto)]
+
+pub mod laws;
+mod operand_faults;
+pub mod part;
+mod refused;
+#[cfg(test)]
+mod tests;
+mod text_part;
+mod tokens;
+mod value_faults;
+mod value_parts;
+pub mod values;
+pub mod wanted;
+
+pub use part::Part;
+pub use refused::refused_part;
+pub use value_parts::{Misfit, RefusedValue, refused_value};

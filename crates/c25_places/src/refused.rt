@@ -1,0 +1,158 @@
+//! The part of an expanded line where it is refused.
+
+ghost use Rattle.std.specs.Prelude.{◌≡◌, ◌-◌, ◌^◌, IfOk, Ok};
+ghost use Rattle.std.specs.Option.{option_map};
+ghost use Rattle.c25_meaning_language.specs.Line as parts;
+ghost use Rattle.c25_text.specs.View.{part_of, parts_of};
+ghost use Rattle.c25_expr.specs.Pieces.{pieces_of, operands_view};
+ghost use Rattle.c25_places.specs.Refused as refused;
+
+use crate::operand_faults::has_fault;
+use crate::part::Part;
+use crate::text_part::text_part;
+use crate::tokens::{operand_part, part_of};
+use crate::wanted::{Operation, wants};
+use c25_expr::operands::{operands_of, tokens_of};
+use c25_meaning_assembly::assembly::Directive;
+use c25_meaning_common::bytes::{byte_at, is_blank};
+use c25_meaning_common::no_memory::NoMemory;
+use c25_meaning_language::statement::FaultKind;
+use c25_statements::{directive_in, names_label, spelled};
+use c25_text::line::{Line, Word, split_line};
+use c25_text::tokens::Token;
+use c25_text::{past_blanks, past_field};
+use std::alloc::Global;
+
+/// The first operand that has this fault by itself, and its index.
+#[tactic(auto, unfolding(crate::specs::Refused::first_refused))]
+fn first_refused<'b, 'a>(
+    alloc: Global,
+    kind: FaultKind,
+    operation: Operation,
+    operands: &[&'b [Token<'a>]],
+) -> Result<Option<(usize, &'b [Token<'a>])>, NoMemory>
+    ensures { IfOk result (λ o. option_map (λ r. (r.0, pieces_of r.1.now)) o ≡ refused.first_refused kind operation 0 (operands_view operands.now)) }
+{
+    for (index, operand) in operands.iter().enumerate() {
+        if has_fault(alloc, kind, wants(operation, index), operand)? {
+            return Ok(Some((index, operand)));
+        }
+    }
+    Ok(None)
+}
+
+/// The part of the first operand that has this fault.
+fn refused_in(
+    alloc: Global,
+    kind: FaultKind,
+    operation: Operation,
+    tokens: &[Token<'_>],
+) -> Result<Option<Part>, NoMemory>
+    requires { refused.AreWithin 0 (2 ^ 64 - 1) (pieces_of tokens.now) }
+    ensures { IfOk result (λ part. part ≡ refused.refused_in kind operation (pieces_of tokens.now)) }
+{
+    let operands = operands_of(alloc, tokens)?;
+    match first_refused(alloc, kind, operation, operands.as_slice())? {
+        Some((index, operand)) => Ok(operand_part(tokens, index, operand)),
+        None => Ok(None),
+    }
+}
+
+/// The instruction of a mnemonic field, if there is one.
+fn instruction_in(word: Option<Word<'_>>) -> Option<Operation>
+    ensures { result ≡ refused.instruction_in (option_map part_of word.entry) }
+{
+    match word {
+        Some(word) => match spelled(word.text) {
+            Ok(spelling) => Some(Operation::Runs(spelling)),
+            Err(_) => None,
+        },
+        None => None,
+    }
+}
+
+/// What a line does: its directive, or else its instruction.
+pub(crate) fn operation_in(
+    directive: Option<Directive>,
+    word: Option<Word<'_>>,
+) -> Option<Operation>
+    ensures { result ≡ refused.operation_in directive (option_map part_of word.entry) }
+{
+    match directive {
+        Some(directive) => Some(Operation::Does(directive)),
+        None => instruction_in(word),
+    }
+}
+
+/// The mnemonic field, if there is one.
+fn word_part(text: &[u8]) -> Option<Part>
+    ensures { result ≡ refused.word_part text.now }
+{
+    let start = past_blanks(text, past_field(text, 0));
+    let end = past_field(text, start);
+    if start < end {
+        Some(Part { start, end })
+    } else {
+        None
+    }
+}
+
+/// The part of a line whose text has no fault.
+fn statement_part(
+    alloc: Global,
+    kind: FaultKind,
+    directive: Option<Directive>,
+    text: &str,
+    line: &Line<'_>,
+) -> Result<Option<Part>, NoMemory>
+    requires { parts.line_of text.now ≡ Ok (parts_of line.now) }
+    ensures { IfOk result (λ part. part ≡ refused.statement_part kind directive text.now (parts_of line.now)) }
+{
+    if let FaultKind::UnknownMnemonic = kind {
+        return Ok(word_part(text.as_bytes()));
+    }
+    let tokens = tokens_of(alloc, line)?;
+    if let FaultKind::OperandCount = kind {
+        return Ok(part_of(tokens.as_slice()).or(word_part(text.as_bytes())));
+    }
+    match operation_in(directive, line.word) {
+        Some(operation) => refused_in(alloc, kind, operation, tokens.as_slice()),
+        None => Ok(None),
+    }
+}
+
+/// Whether a line has a blank where its directive needs a label.
+fn lacks_label(directive: Option<Directive>, text: &str) -> bool
+    ensures { result ≡ refused.lacks_label directive text.now }
+{
+    names_label(directive) && is_blank(byte_at(text.as_bytes(), 0))
+}
+
+/// The part of a line with this directive where it is refused with this fault.
+#[tactic(auto, unfolding(crate::specs::Refused::part_in))]
+fn part_in(
+    alloc: Global,
+    kind: FaultKind,
+    directive: Option<Directive>,
+    text: &str,
+) -> Result<Option<Part>, NoMemory>
+    ensures { IfOk result (λ part. part ≡ refused.part_in kind directive text.now) }
+{
+    if lacks_label(directive, text) {
+        return Ok(Some(Part { start: 0, end: 1 }));
+    }
+    match split_line(text) {
+        Ok(line) => statement_part(alloc, kind, directive, text, &line),
+        Err(_) => Ok(text_part(text)),
+    }
+}
+
+/// The part of an expanded line where it is refused with this fault, where `read_statement` refuses it so:
+/// the text that has the fault (10 to 13); the first word (50); all operands, or the first word where there
+/// are none (51); the first operand that is not what it has to be (52); the first one whose expression has the
+/// fault (20, 21). None for other faults. `NoMemory` (9) where memory runs out.
+pub fn refused_part(alloc: Global, text: &str, kind: FaultKind) -> Result<Option<Part>, NoMemory>
+    ensures { IfOk result (λ part. part ≡ refused.refused_part text.now kind) }
+{
+    part_in(alloc, kind, directive_in(text), text)
+}
