@@ -1,5 +1,5 @@
 #!/usr/bin/env python3
-"""The names in the files of this folder, made of the tables of the repository.
+"""The names in the files of this folder, made of the tables of the repository; and the program's version wherever it is shown.
 
 usage: python3 editors/make.py [--write | --check]     (from the top of the repository)
 
@@ -16,7 +16,8 @@ and ends with status 1 where there is one.
 | numbers of faults | crates/c25_explain/src/numbers.rt |
 
 A file has its names between a line with `[names]` and a line with `[end]`; in the two files of JSON they are the values of some members.
-All else in these files is written by hand.
+All else in these files is written by hand. The version is also put into docs/manual/program.md and into the case `option-version` of
+c25_examples, and CHANGELOG.md must have it as its newest.
 
 The command line is read by evaluating what the functions of program.rt and arguments.rt make: a small part of Rust, `let`, calls, chains
 of methods and literals. What is outside that part ends this script with a message, so that no option is left out without a word.
@@ -294,6 +295,40 @@ def package(text):
     return json.dumps(found, indent=2) + "\n"
 
 
+# Where else the version is shown: a pattern, and the text for it.
+SHOWN = {
+    "docs/manual/program.md": (rb"\bc25 \d+\.\d+\.\d+", lambda version: b"c25 " + version),
+    CRATES + "c25_examples/data/cases/calls.cases": (rb"errors \d+\nc25 \d+\.\d+\.\d+\n", lambda version: b"errors %d\nc25 %s\n" % (len(version) + 5, version)),
+}
+
+
+def shown(path):
+    """The bytes of a file, and what they should be: with the program's version."""
+    pattern, made_of_version = SHOWN[path]
+    with open(path, "rb") as file:
+        found = file.read()
+    text = made_of_version(command_line().get("version").encode())
+    made, count = re.subn(pattern, lambda _: text, found)
+    if not count:
+        sys.exit(f"{path}: it shows no version")
+    return found, made
+
+
+def versions(writes):
+    """Puts the version where it is shown, or names the files that show another."""
+    wrong = []
+    for path in SHOWN:
+        found, made = shown(path)
+        if found != made and writes:
+            with open(path, "wb") as file:
+                file.write(made)
+        elif found != made:
+            wrong.append(f"{path}: another version than python3 editors/make.py --write puts in")
+    if re.search(r"(?m)^## (\S+)", text_of("CHANGELOG.md"))[1] != command_line().get("version"):
+        wrong.append("CHANGELOG.md: its newest version is not the program's")
+    return wrong
+
+
 BLOCKS = {"vim/syntax/c25.vim": vim, "emacs/c25-mode.el": emacs, "bash/c25": bash, "man/c25.1": manual_page}
 MEMBERS = {"vscode/c25.tmLanguage.json": grammar, "vscode/package.json": package}
 
@@ -311,7 +346,7 @@ def made_of(path):
 
 
 def main(words):
-    wrong = []
+    wrong = versions("--write" in words)
     for path in (*BLOCKS, *MEMBERS):
         text, made = text_of(FOLDER + path), made_of(path)
         if "--write" in words:
@@ -320,7 +355,7 @@ def main(words):
         elif text != made:
             wrong.append(f"{FOLDER}{path}: other names than python3 editors/make.py --write puts in")
     if "--check" in words:
-        print("\n".join(wrong) or f"the files of {FOLDER} have the names of the tables")
+        print("\n".join(wrong) or f"the files of {FOLDER} have the names of the tables, and the version is one")
         return 1 if wrong else 0
     if "--write" not in words:
         print(vim() + bash(), end="")

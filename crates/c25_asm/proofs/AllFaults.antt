@@ -1,15 +1,19 @@
 -- The first of all faults of a source is the one with which it is refused.
-use Rattle.std.proofs.Common.{◌≡◌, ℕ, zero, suc, Bool, true, false, cond, List, [], ◌∷◌, ◌++◌, Option, Some, None, Result, Ok, Err, refl, sym, ap, ◌∙◌, subst}
+use Rattle.std.proofs.Common.{◌≡◌, ◌<◌, ◌≤◌, ℕ, zero, suc, Bool, true, false, cond, List, [], ◌∷◌, ◌++◌, Option, Some, None, Result, Ok, Err, arith, option_map, refl, sym, ap, ◌∙◌, subst}
 use Rattle.std.proofs.lemmas.List.{append_assoc, append-nil}
 use Rattle.c25_meaning_assembly.specs.AllFaults.{LinesGoneOver, after_item, after_line, all_faults, faults_by, faults_of, gone_over, gone_over_by, gone_over_from, is_last, item_faults, operand_faults, with_fault, without_line}
 use Rattle.c25_meaning_assembly.specs.Emission.{all_names, emit_all, emitted, finished, module_with}
 use Rattle.c25_meaning_assembly.specs.ModuleOfSource.{Assembled, LinesSoFar, assembled, completed, entry_of, no_lines, pass_line, passed, passed_by, passed_from, read_and_pass}
 use Rattle.c25_meaning_assembly.specs.Sections.{Definitions, PendingItem, Progress, Section, table}
 use Rattle.c25_meaning_common.specs.Results.{◌>>=◌, fold_ok}
-use Rattle.c25_meaning_expansion.specs.Expansion.{Config}
+use Rattle.c25_meaning_expansion.proofs.ExpansionFirst.{first_giving}
+use Rattle.c25_meaning_expansion.specs.Expansion.{Config, Rewriting, Gives, Goes, Finishes, Faults, Misses}
 use Rattle.c25_meaning_expansion.specs.ExpansionAnswers.{ExpandedLine, given_by, fault_by}
-use Rattle.c25_meaning_expansion.specs.ExpansionRuns.{first, start_of}
-use Rattle.c25_meaning_expansion.specs.Files.{Files}
+use Rattle.c25_meaning_expansion.specs.ExpansionRuns.{first, start, start_of, weight}
+use Rattle.c25_meaning_expansion.specs.Files.{Files, text_named}
+use Rattle.c25_meaning_expansion.specs.LeftOut.{first_left_out}
+use Rattle.c25_meaning_expansion.specs.Rows.{file_number}
+use Rattle.c25_meaning_language.specs.Value.{Table}
 use Rattle.c25_meaning_language.specs.ExpansionFault.{ExpansionFault}
 use Rattle.c25_meaning_objects.specs.Module.{Contents}
 
@@ -34,15 +38,18 @@ line_keeps l go_on a keeps (Err f) = on (is_last f)
     on false = let k = keeps (without_line l f a) in (f ∷ k.0, k.1 ∙ append_assoc a.faults (f ∷ []) k.0)
 
 answer_keeps : (go_on : Config → LinesGoneOver → LinesGoneOver) (a : LinesGoneOver) → ((c : Config) (b : LinesGoneOver) → BeginsWith b.faults (go_on c b))
-    → (o : Option ExpansionFault) (g : Option (ExpandedLine × Config)) → BeginsWith a.faults (gone_over_by o g go_on a)
-answer_keeps go_on a keeps (Some f) g = (f ∷ [], refl)
-answer_keeps go_on a keeps None None = ([], sym (append-nil a.faults))
-answer_keeps go_on a keeps None (Some (l, c)) = line_keeps l (go_on c) a (keeps c) (read_and_pass l a.progress)
+    → (o : Option ExpansionFault) (after : Option Config) (g : Option (ExpandedLine × Config)) → BeginsWith a.faults (gone_over_by o after g go_on a)
+answer_keeps go_on a keeps (Some f) None g = (f ∷ [], refl)
+answer_keeps go_on a keeps (Some f) (Some c) g = let k = keeps c (with_fault f a) in (f ∷ k.0, k.1 ∙ append_assoc a.faults (f ∷ []) k.0)
+answer_keeps go_on a keeps None after None = ([], sym (append-nil a.faults))
+answer_keeps go_on a keeps None after (Some (l, c)) = line_keeps l (go_on c) a (keeps c) (read_and_pass l a.progress)
 
 lines_keep : (files : Files) (n : ℕ) (c : Config) (a : LinesGoneOver) → BeginsWith a.faults (gone_over files n c a)
 unfolding gone_over
 lines_keep files zero c a = ([], sym (append-nil a.faults))
-lines_keep files (suc n) c a = answer_keeps (gone_over files n) a (lines_keep files n) (fault_by files (first files (table a.progress) c)) (given_by files (first files (table a.progress) c))
+lines_keep files (suc n) c a =
+    answer_keeps (gone_over files n) a (lines_keep files n)
+    (fault_by files (first files (table a.progress) c)) (first_left_out files (table a.progress) c) (given_by files (first files (table a.progress) c))
 
 -- ---- the first phase: its first fault
 
@@ -56,33 +63,53 @@ abbrev Agrees : Result LinesSoFar ExpansionFault → LinesGoneOver → Type 0
 Agrees (Ok a) b = b ≡ clean a
 Agrees (Err f) b = (rest : List ExpansionFault) × (b.faults ≡ f ∷ rest)
 
-module _ (pass_on : Config → LinesSoFar → Result LinesSoFar ExpansionFault) (go_on : Config → LinesGoneOver → LinesGoneOver)
-    (agrees : (c : Config) (a : LinesSoFar) → Agrees (pass_on c a) (go_on c (clean a))) (keeps : (c : Config) (b : LinesGoneOver) → BeginsWith b.faults (go_on c b)) (a : LinesSoFar) where
-  line_agrees : (l : ExpandedLine) (c : Config) (r : Result Progress ExpansionFault)
+module _ (Comes : Config → Type 0) (pass_on : Config → LinesSoFar → Result LinesSoFar ExpansionFault) (go_on : Config → LinesGoneOver → LinesGoneOver)
+    (agrees : (c : Config) (a : LinesSoFar) → Comes c → Agrees (pass_on c a) (go_on c (clean a))) (keeps : (c : Config) (b : LinesGoneOver) → BeginsWith b.faults (go_on c b)) (a : LinesSoFar) where
+  line_agrees : (l : ExpandedLine) (c : Config) (r : Result Progress ExpansionFault) → Comes c
       → Agrees ((r >>= λ p. Ok (record { progress = p; entries = a.entries ++ entry_of l a.progress p ∷ [] })) >>= λ b. pass_on c b) (after_line l r (go_on c) (clean a))
-  line_agrees l c (Ok p) = agrees c (record { progress = p; entries = a.entries ++ entry_of l a.progress p ∷ [] })
-  line_agrees l c (Err f) = on (is_last f)
+  line_agrees l c (Ok p) comes = agrees c (record { progress = p; entries = a.entries ++ entry_of l a.progress p ∷ [] }) comes
+  line_agrees l c (Err f) comes = on (is_last f)
     where
       on : (b : Bool) → (rest : List ExpansionFault) × ((cond b (with_fault f (clean a)) (go_on c (without_line l f (clean a)))).faults ≡ f ∷ rest)
       on true = ([], refl)
       on false = let k = keeps c (without_line l f (clean a)) in (k.0, k.1)
 
-  answer_agrees : (o : Option ExpansionFault) (g : Option (ExpandedLine × Config)) → Agrees (passed_by o g pass_on a) (gone_over_by o g go_on (clean a))
+  answer_agrees : (o : Option ExpansionFault) (after : Option Config) (g : Option (ExpandedLine × Config)) → ((l : ExpandedLine) (c : Config) → g ≡ Some (l, c) → Comes c)
+      → Agrees (passed_by o g pass_on a) (gone_over_by o after g go_on (clean a))
   unfolding pass_line
-  answer_agrees (Some f) g = ([], refl)
-  answer_agrees None None = refl
-  answer_agrees None (Some (l, c)) = line_agrees l c (read_and_pass l a.progress)
+  answer_agrees (Some f) None g comes = ([], refl)
+  answer_agrees (Some f) (Some c) g comes = let k = keeps c (with_fault f (clean a)) in (k.0, k.1)
+  answer_agrees None after None comes = refl
+  answer_agrees None after (Some (l, c)) comes = line_agrees l c (read_and_pass l a.progress) (comes l c refl)
 
-lines_agree : (files : Files) (n : ℕ) (c : Config) (a : LinesSoFar) → Agrees (passed files n c a) (gone_over files n c (clean a))
+same : {A : Type 0} (x y : A) → Some x ≡ Some y → x ≡ y
+same x y e = cc
+
+-- a line that is given was read
+by_given : (files : Files) (s : Table) (c d : Config) (l : ExpandedLine) (r : Rewriting) → first files s c ≡ r → given_by files r ≡ Some (l, d) → d.left < c.left
+by_given files s c d l (Gives row e) f g = subst (λ (x : Config). x.left < c.left) (ap (λ p. p.1) (same _ _ g)) (first_giving files s c e row f).1
+by_given files s c d l (Goes e) f g = absurd (cc)
+by_given files s c d l (Finishes e) f g = absurd (cc)
+by_given files s c d l (Faults place kind) f g = absurd (cc)
+by_given files s c d l (Misses place name) f g = absurd (cc)
+
+lines_agree : (files : Files) (n m : ℕ) (c : Config) (a : LinesSoFar) → c.left < n → n ≤ m → Agrees (passed files n c a) (gone_over files m c (clean a))
 unfolding passed gone_over
-lines_agree files zero c a = refl
-lines_agree files (suc n) c a =
-    answer_agrees (passed files n) (gone_over files n) (lines_agree files n) (lines_keep files n) a
-    (fault_by files (first files (table a.progress) c)) (given_by files (first files (table a.progress) c))
+lines_agree files zero m c a few more = absurd (omega (arith, few))
+lines_agree files (suc n) zero c a few more = absurd (omega (arith, more))
+lines_agree files (suc n) (suc m) c a few more =
+    let s = table a.progress in
+    answer_agrees (λ d. d.left < n) (passed files n) (gone_over files m) (λ d b less. lines_agree files n m d b less (omega (arith, more))) (lines_keep files m) a
+    (fault_by files (first files s c)) (first_left_out files s c) (given_by files (first files s c))
+    (λ l d given. omega (arith, few, by_given files s c d l (first files s c) refl given))
 
-source_agrees : (files : Files) (name : List ℕ) (o : Option Config) → Agrees (passed_from files name o) (gone_over_from files name o)
-source_agrees files name None = ([], refl)
-source_agrees files name (Some c) = lines_agree files 200001 c no_lines
+by_text : (files : Files) (name : List ℕ) (file : ℕ) (text : Option (List ℕ))
+    → Agrees (passed_from files name (option_map (start file) text)) (gone_over_from files name (option_map (start file) text))
+by_text files name file None = ([], refl)
+by_text files name file (Some text) = lines_agree files 200001 (suc (weight (start file text))) (start file text) no_lines (omega arith) (omega arith)
+
+source_agrees : (files : Files) (name : List ℕ) → Agrees (passed_from files name (start_of files name)) (gone_over_from files name (start_of files name))
+source_agrees files name = by_text files name (file_number files name) (text_named files name)
 
 -- ---- the second phase
 
@@ -113,7 +140,7 @@ lines_have (Err f) b (rest, is) = (rest, ap (λ fs. faults_by fs b.progress) is)
 -- all faults of a source are those of its module: none, or its fault comes first
 pub source_has : (files : Files) (name : List ℕ) → HasFaults (assembled files name) (all_faults files name)
 unfolding assembled all_faults
-source_has files name = lines_have (passed_from files name (start_of files name)) (gone_over_from files name (start_of files name)) (source_agrees files name (start_of files name))
+source_has files name = lines_have (passed_from files name (start_of files name)) (gone_over_from files name (start_of files name)) (source_agrees files name)
 
 pub first_is : {A : Type 0} (r : Result A ExpansionFault) (fs : List ExpansionFault) (f : ExpansionFault) → HasFaults r fs → r ≡ Err f → (rest : List ExpansionFault) × (fs ≡ f ∷ rest)
 first_is (Ok x) fs f h is = absurd (cc)

@@ -4,9 +4,14 @@ use Rattle.std.proofs.Common.{◌≡◌, ◌≤◌, ◌<◌, ℕ, zero, suc, Boo
 use Rattle.std.specs.Option.{option_map}
 use Rattle.std.specs.Prelude.{IfOk, OnOk, Vec}
 use Rattle.std.specs.declared.alloc.Global.{Global}
-use Rattle.c25_macro.specs.Expander.{ExpandFault, Expansion, Stage, Stands, Absent, Failed, begun, begun_at, shown, IsNextAt, IsFailure, Tells, missing_of, left_of}
+use Rattle.c25_macro.specs.Expander.{ExpandFault, Expansion, Stage, Stands, Absent, Failed, begun, begun_at, shown, IsFailure, Tells, missing_of}
+use Rattle.c25_macro.specs.NextLines.{IsLast, IsNext, IsNextAt, weight_of}
+use Rattle.c25_macro.specs.Tracers.{fault_in}
 use Rattle.c25_macro.specs.declared.answer.ExpLine.{ExpLine}
-use Rattle.c25_meaning_assembly.specs.AllFaults.{LinesGoneOver, after_line, all_faults, faults_by, faults_of, gone_over, gone_over_by, gone_over_from, is_last_kind, left_out, no_lines, with_fault, without_line}
+use Rattle.c25_macro.specs.declared.answer.NextLine.{NextLine}
+use Rattle.c25_macro.specs.declared.answer.NextLine.TheVariants.{Given, LeftOut, Finished}
+use Rattle.c25_macro.specs.declared.tracer.StepFault.{StepFault}
+use Rattle.c25_meaning_assembly.specs.AllFaults.{LinesGoneOver, after_fault, after_line, all_faults, faults_by, faults_of, gone_over, gone_over_by, gone_over_from, is_last_kind, left_out, no_lines, with_fault, without_line}
 use Rattle.c25_meaning_assembly.specs.Emission.{at_origin}
 use Rattle.c25_meaning_assembly.specs.ModuleOfSource.{origin_of, read_and_pass}
 use Rattle.c25_meaning_assembly.specs.Sections.{Progress, name_count, start as nothing, table}
@@ -15,7 +20,8 @@ use Rattle.c25_meaning_common.specs.declared.failure.Failure.TheVariants.{NoMemo
 use Rattle.c25_meaning_common.specs.declared.no_memory.NoMemory as no_memory
 use Rattle.c25_meaning_expansion.specs.Expansion.{Config, Finishes}
 use Rattle.c25_meaning_expansion.specs.ExpansionAnswers.{ExpandedLine, given_by, fault_by}
-use Rattle.c25_meaning_expansion.specs.ExpansionRuns.{first, start, start_of}
+use Rattle.c25_meaning_expansion.specs.ExpansionRuns.{first, start, start_of, weight}
+use Rattle.c25_meaning_expansion.specs.LeftOut.{first_left_out}
 use Rattle.c25_meaning_expansion.specs.Files.{Files, text_named}
 use Rattle.c25_meaning_expansion.specs.Rows.{file_number}
 use Rattle.c25_meaning_language.specs.ExpansionFault.{ExpansionFault, Faulty, Missing}
@@ -33,7 +39,7 @@ use Rattle.c25_asm.proofs.Coming.{no_fault, told_failure}
 by_start : (files : Files) (name : List ℕ) (file : ℕ) (o : Option (List ℕ))
     → StillComes files name (begun_at (option_map (start file) o)) no_lines (gone_over_from files name (option_map (start file) o))
 by_start files name file None = refl
-by_start files name file (Some text) = (200001, omega arith, refl)
+by_start files name file (Some text) = (suc (weight (start file text)), omega arith, refl)
 
 pub begins : (files : Files) (name : List ℕ) → StillComes files name (begun_at (start_of files name)) no_lines (gone_over_from files name (start_of files name))
 begins files name = by_start files name (file_number files name) (text_named files name)
@@ -115,17 +121,23 @@ leaves_out l a b kind false more h is answer left found = subst (λ m. LeadsTo l
 
 -- ---- a line that comes
 
+-- an answer of an expansion of these files and this name
+pub next_at : (e : Expansion) (files : Files) (name : List ℕ) (s : Table) (r : Result NextLine (Failure ExpandFault)) (new : Stage)
+    → e.files ≡ files → e.name ≡ name → IsNext e s r new → IsNextAt files name e.stage s r new
+next_at e files name s r new f n h =
+    subst (λ (x : List ℕ). IsNextAt files x e.stage s r new) n (subst (λ (x : Files). IsNextAt x e.name e.stage s r new) f h)
+
 on_line : (files : Files) (c d : Config) (s : Table) (a : LinesGoneOver) (l : ExpandedLine) (n : ℕ) → s ≡ table a.progress
     → given_by files (first files s c) ≡ Some (l, d) → gone_over files (suc n) c a ≡ after_line l (read_and_pass l a.progress) (gone_over files n d) a
 unfolding gone_over
 on_line files c d s a l n is h =
     let r = first files s c in
-    sym (ap (λ t. gone_over_by (fault_by files (first files t c)) (given_by files (first files t c)) (gone_over files n) a) is)
-    ∙ ap (λ o. gone_over_by o (given_by files r) (gone_over files n) a) (no_fault files r l d h) ∙ ap (λ o. gone_over_by None o (gone_over files n) a) h
+    sym (ap (λ t. gone_over_by (fault_by files (first files t c)) (first_left_out files t c) (given_by files (first files t c)) (gone_over files n) a) is)
+    ∙ ap (λ o. gone_over_by o (first_left_out files s c) (given_by files r) (gone_over files n) a) (no_fault files r l d h) ∙ ap (λ o. gone_over_by None (first_left_out files s c) o (gone_over files n) a) h
 
 -- what comes next is gone over
 pub goes_on : (files : Files) (name : List ℕ) (old new : Stage) (s : Table) (a b meant : LinesGoneOver) (line : ExpLine)
-    → s ≡ table a.progress → StillComes files name old a meant → IsNextAt files name old s (Ok (Some line)) new → left_of new < left_of old
+    → s ≡ table a.progress → StillComes files name old a meant → IsNextAt files name old s (Ok (Given line)) new → weight_of new < weight_of old
     → LeadsTo (shown line) a b true → StillComes files name new b meant
 goes_on files name (Stands c) (Stands d) s a b meant line is (zero, few, h) next less leads = absurd (omega (arith, few))
 goes_on files name (Stands c) (Stands d) s a b meant line is (suc n, few, h) next less leads =
@@ -137,7 +149,7 @@ goes_on files name (Failed f) new s a b meant line is coming next less leads = a
 
 -- nothing is read after the line's fault
 pub stops : (files : Files) (name : List ℕ) (old new : Stage) (s : Table) (a b meant : LinesGoneOver) (line : ExpLine)
-    → s ≡ table a.progress → StillComes files name old a meant → IsNextAt files name old s (Ok (Some line)) new
+    → s ≡ table a.progress → StillComes files name old a meant → IsNextAt files name old s (Ok (Given line)) new
     → LeadsTo (shown line) a b false → faults_of meant ≡ faults_of b
 stops files name (Stands c) (Stands d) s a b meant line is (zero, few, h) next leads = absurd (omega (arith, few))
 stops files name (Stands c) (Stands d) s a b meant line is (suc n, few, h) next leads =
@@ -152,12 +164,12 @@ stops files name (Failed f) new s a b meant line is coming next leads = absurd n
 on_end : (files : Files) (c d : Config) (s : Table) (a : LinesGoneOver) (n : ℕ) → s ≡ table a.progress → first files s c ≡ Finishes d → gone_over files (suc n) c a ≡ a
 unfolding gone_over
 on_end files c d s a n is h =
-    sym (ap (λ t. gone_over_by (fault_by files (first files t c)) (given_by files (first files t c)) (gone_over files n) a) is)
-    ∙ ap (λ r. gone_over_by (fault_by files r) (given_by files r) (gone_over files n) a) h
+    sym (ap (λ t. gone_over_by (fault_by files (first files t c)) (first_left_out files t c) (given_by files (first files t c)) (gone_over files n) a) is)
+    ∙ ap (λ r. gone_over_by (fault_by files r) (first_left_out files s c) (given_by files r) (gone_over files n) a) h
 
 -- no line more came
 pub ends : (files : Files) (name : List ℕ) (old new : Stage) (s : Table) (a meant : LinesGoneOver)
-    → s ≡ table a.progress → StillComes files name old a meant → IsNextAt files name old s (Ok None) new → faults_of meant ≡ faults_of a
+    → s ≡ table a.progress → StillComes files name old a meant → IsNextAt files name old s (Ok Finished) new → faults_of meant ≡ faults_of a
 ends files name (Stands c) (Stands d) s a meant is (zero, few, h) next = absurd (omega (arith, few))
 ends files name (Stands c) (Stands d) s a meant is (suc n, few, h) next = sym (ap faults_of h) ∙ ap faults_of (on_end files c d s a n is next)
 ends files name (Stands c) Absent s a meant is coming next = absurd next
@@ -167,12 +179,25 @@ ends files name (Failed f) new s a meant is coming next = absurd next
 
 -- ---- a fault of expansion
 
-on_fault : (files : Files) (c : Config) (s : Table) (a : LinesGoneOver) (n : ℕ) (f : ExpansionFault) → s ≡ table a.progress → fault_by files (first files s c) ≡ Some f
-    → gone_over files (suc n) c a ≡ with_fault f a
+on_fault : (files : Files) (c : Config) (s : Table) (a : LinesGoneOver) (n : ℕ) (f : ExpansionFault) (after : Option Config) → s ≡ table a.progress → fault_by files (first files s c) ≡ Some f
+    → first_left_out files s c ≡ after → gone_over files (suc n) c a ≡ after_fault f after (gone_over files n) a
 unfolding gone_over
-on_fault files c s a n f is h =
-    sym (ap (λ t. gone_over_by (fault_by files (first files t c)) (given_by files (first files t c)) (gone_over files n) a) is)
-    ∙ ap (λ o. gone_over_by o (given_by files (first files s c)) (gone_over files n) a) h
+on_fault files c s a n f after is h left =
+    sym (ap (λ t. gone_over_by (fault_by files (first files t c)) (first_left_out files t c) (given_by files (first files t c)) (gone_over files n) a) is)
+    ∙ ap (λ o. gone_over_by o (first_left_out files s c) (given_by files (first files s c)) (gone_over files n) a) h
+    ∙ ap (λ o. after_fault f o (gone_over files n) a) left
+
+-- a line that expansion refuses is left out
+pub leaves : (files : Files) (name : List ℕ) (old new : Stage) (s : Table) (a b meant : LinesGoneOver) (f : StepFault)
+    → s ≡ table a.progress → StillComes files name old a meant → IsNextAt files name old s (Ok (LeftOut f)) new → weight_of new < weight_of old
+    → b ≡ with_fault (fault_in f) a → StillComes files name new b meant
+leaves files name (Stands c) (Stands d) s a b meant f is (zero, few, h) next less same = absurd (omega (arith, few))
+leaves files name (Stands c) (Stands d) s a b meant f is (suc n, few, h) next less same =
+    (n, omega (arith, few, less), ap (gone_over files n d) same ∙ sym (on_fault files c s a n (fault_in f) (Some d) is next.0 next.1) ∙ h)
+leaves files name (Stands c) Absent s a b meant f is coming next less same = absurd next
+leaves files name (Stands c) (Failed e) s a b meant f is coming next less same = absurd next
+leaves files name Absent new s a b meant f is coming next less same = absurd next
+leaves files name (Failed e) new s a b meant f is coming next less same = absurd next
 
 -- the fault that is told is the last one
 told_last : (failure : Failure ExpansionFault) (a meant : LinesGoneOver) (e : Failure ExpandFault) (missing : Option (Bor (List ℕ))) (x : AsmFault)
@@ -198,11 +223,11 @@ expansion_fails files name (Stands c) (Stands d) s a b meant e missing g is comi
 expansion_fails files name (Stands c) Absent s a b meant e missing g is coming next same told end = absurd next
 expansion_fails files name (Stands c) (Failed failure) s a b meant e missing g is (zero, few, h) next same told end = absurd (omega (arith, few))
 expansion_fails files name (Stands c) (Failed failure) s a b meant e missing g is (suc n, few, h) next same told end =
-    stopped_by a b meant g (λ x q. told_last failure a meant e missing x (failed failure next.0) next.1 same (subst (λ (y : Failure AsmFault). IsTold missing e y) q told)) end
+    stopped_by a b meant g (λ x q. told_last failure a meant e missing x (failed failure next.0 next.2) next.1 same (subst (λ (y : Failure AsmFault). IsTold missing e y) q told)) end
   where
-    failed : (failure : Failure ExpansionFault) → IsFailure files (first files s c) failure → (f : ExpansionFault) → failure ≡ Fault f → with_fault f a ≡ meant
-    failed (NoMemory m) i f q = absurd (cc)
-    failed (Fault x) i f q = let one : x ≡ f = cc in sym (ap (λ y. with_fault y a) one) ∙ sym (on_fault files c s a n x is i) ∙ h
+    failed : (failure : Failure ExpansionFault) → IsFailure files (first files s c) failure → IsLast (first_left_out files s c) failure → (f : ExpansionFault) → failure ≡ Fault f → with_fault f a ≡ meant
+    failed (NoMemory m) i last f q = absurd (cc)
+    failed (Fault x) i last f q = let one : x ≡ f = cc in sym (ap (λ y. with_fault y a) one) ∙ sym (on_fault files c s a n x None is i last) ∙ h
 expansion_fails files name Absent new s a b meant e missing g is coming next same told end =
     stopped_by a b meant g (λ x q. told_last (Fault (Missing name 0 name)) a meant e missing x (λ f p. let one : Missing name 0 name ≡ f = cc in sym (ap (λ y. with_fault y a) one) ∙ coming) next.1
     (same ∙ ap missing_of next.0) (subst (λ (y : Failure AsmFault). IsTold missing e y) q told)) end

@@ -5,6 +5,7 @@ use Rattle.c25_meaning_assembly.specs.AllFaults.{LinesGoneOver, after_line, faul
 use Rattle.c25_meaning_assembly.specs.ModuleOfSource.{read_and_pass}
 use Rattle.c25_meaning_assembly.specs.Sections.{name_count}
 use Rattle.c25_meaning_expansion.specs.ExpansionAnswers.{ExpandedLine}
+use Rattle.c25_meaning_expansion.specs.ExpansionRuns.{weight}
 use Rattle.c25_meaning_expansion.specs.Files.{Files}
 use Rattle.c25_meaning_language.specs.ExpansionFault.{ExpansionFault, Missing}
 use Rattle.c25_meaning_common.specs.declared.failure.Failure.{Failure}
@@ -34,7 +35,7 @@ EndsWith (Fault f) a b = b ≡ with_fault (fault_of f) a
 -- what all lines of the module of a name come to, where an expansion has come this far and these lines were
 -- gone over
 abbrev pub StillComes : Files → (name : List ℕ) → Stage → LinesGoneOver → LinesGoneOver → Type 0
-StillComes files name (Stands c) a meant = (n : ℕ) × (c.left < n) × (gone_over files n c a ≡ meant)
+StillComes files name (Stands c) a meant = (n : ℕ) × (weight c < n) × (gone_over files n c a ≡ meant)
 StillComes files name Absent a meant = with_fault (Missing name 0 name) a ≡ meant
 StillComes files name (Failed f) a meant = ⊥
 

@@ -3,15 +3,17 @@
 ghost use Rattle.std.specs.Prelude.{◌≡◌, IfOk, OnOk, map, take};
 ghost use Rattle.c25_macro.specs.Expander.{shown};
 ghost use Rattle.c25_macro.specs.Expanders.{expansion_of};
+ghost use Rattle.c25_macro.specs.Tracers.{fault_in};
 ghost use Rattle.c25_meaning_assembly.specs.AllFaults as meaning;
 ghost use Rattle.c25_phases.specs.View.{fault_of};
 ghost use Rattle.c25_asm.specs.GoneOver.{EndsWith, HasRoom, IsGoneOver, LeadsTo, gone_over_of};
 
 use crate::assembly::told;
 use crate::lines_gone_over::LinesGoneOver;
-use c25_macro::answer::ExpLine;
+use c25_macro::answer::{ExpLine, NextLine};
 use c25_macro::expander::Expander;
 use c25_macro::files::Files;
+use c25_macro::tracer::StepFault;
 use c25_meaning_common::failure::Failure;
 use c25_meaning_common::no_memory::NoMemory;
 use c25_meaning_common::placed::FileLine;
@@ -57,6 +59,24 @@ fn go_over_line<'a>(lines: &mut LinesGoneOver<'a>, line: ExpLine<'a>) -> Result<
     }
 }
 
+/// The fault of a line that expansion refuses, as the fault of the source.
+fn refused(fault: StepFault<'_>) -> AsmFault<'_>
+    ensures { fault_of result ≡ fault_in fault.entry }
+{
+    match fault {
+        StepFault::Faulty(placed) => AsmFault::Line(placed),
+        StepFault::Missing { file, line, name } => AsmFault::NoFile { file, line, name },
+    }
+}
+
+/// Adds the fault of a line that expansion refuses and leaves out.
+fn add_left_out<'a>(lines: &mut LinesGoneOver<'a>, fault: StepFault<'a>) -> Result<(), NoMemory>
+    ensures { OnOk result (gone_over_of lines.new ≡ meaning.with_fault (fault_in fault.entry) (gone_over_of lines.old)) }
+{
+    lines.faults.push(refused(fault))?;
+    Ok(())
+}
+
 /// Adds the fault with which expansion ends.
 fn add_last<'a>(
     lines: &mut LinesGoneOver<'a>,
@@ -85,13 +105,14 @@ fn go_over_rest<'a>(
 {
     loop {
         lines.progress.move_here();
-        match expander.next_line(lines.progress.symbols()) {
-            Ok(Some(line)) => {
+        match expander.next_or_leave_out(lines.progress.symbols()) {
+            Ok(NextLine::Given(line)) => {
                 if !go_over_line(lines, line)? {
                     return Ok(());
                 }
             }
-            Ok(None) => return Ok(()),
+            Ok(NextLine::LeftOut(fault)) => add_left_out(lines, fault)?,
+            Ok(NextLine::Finished) => return Ok(()),
             Err(failure) => return add_last(lines, told(alloc, expander.missing(), failure)),
         }
     }
@@ -127,9 +148,10 @@ fn faults_of<'a>(
 /// All faults of the source of a name, in the order in which they are reported, and at most this many of
 /// them. The first one is that of [`crate::assemble`], and there is none where it gives a module.
 ///
-/// A line that the first phase refuses is left out but for its label, and the lines after it are gone over;
-/// 54 ends the list, and so does each fault of expansion. Where the first phase has no fault, the second one
-/// reports each operand that it refuses.
+/// A line that the first phase refuses is left out but for its label, and one that expansion refuses with what it
+/// would open; the lines after it are gone over. 31, 33, 34 and 54 end the list, and so does a refused `.if` or
+/// `.loop` where 32 blocks are open. Where the first phase has no fault, the second one reports each operand that
+/// it refuses.
 ///
 /// `NoMemory` where memory runs out.
 pub fn all_faults<'a>(

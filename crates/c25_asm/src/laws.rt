@@ -18,7 +18,7 @@ pub fn trails_are_of_the_fault_that_is_told()
 
 /// A source has no fault exactly where it is assembled; else the first of all its faults is the one with which
 /// it is refused.
-pub fn the_first_of_all_faults_is_the_one_that_is_told()
+pub fn the_first_of_all_faults_is_the_one_that_is_reported()
     ensures none { (files : Files) (name : List ℕ) → (all_faults files name ≡ []) ↔ ((a : Assembled) × (assembled files name ≡ Ok a)) }
     ensures first { (files : Files) (name : List ℕ) (fault : ExpansionFault) → assembled files name ≡ Err fault
         → (rest : List ExpansionFault) × (all_faults files name ≡ fault ∷ rest) }

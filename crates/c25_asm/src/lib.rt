@@ -10,7 +10,8 @@
 //! what names stood for.
 //!
 //! `all_faults` goes over a source for all its faults: a line that the first phase refuses is left out but for
-//! its label, and where no line is refused, all items are gone over.
+//! its label, one that expansion refuses is left out with what it would open, and where no line is refused, all
+//! items are gone over.
 #![tactic(auto)]
 
 mod assembly;

@@ -98,16 +98,15 @@ fn push_faults(
     }
 }
 
-/// The name of the file that is copied and has not been read, where the last of all faults is that it is not
-/// there.
+/// The name of the first file that is copied and has not been read, where a fault is that it is not there.
 fn unread_among(alloc: Global, faults: &[AsmFault<'_>]) -> Result<(), Failure<MissingFile>> {
-    match faults.last() {
-        Some(AsmFault::NoFile { name, .. }) => {
+    for fault in faults {
+        if let AsmFault::NoFile { name, .. } = fault {
             let name = String::from_str(alloc, name.as_str())?;
-            Err(Failure::Fault(MissingFile { name }))
+            return Err(Failure::Fault(MissingFile { name }));
         }
-        _ => Ok(()),
     }
+    Ok(())
 }
 
 /// Appends the lines of all faults of a source.

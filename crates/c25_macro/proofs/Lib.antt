@@ -1,6 +1,8 @@
 pub mod Consuming
 pub mod Entries
 pub mod Fewer
+pub mod Leaving
+pub mod LeavingOut
 pub mod Lists
 pub mod Nexts
 pub mod Trails

@@ -71,6 +71,12 @@ abbrev pub GoesOn : {A : Type 0} → Rewriting → Result A (Failure ExpanderFau
 GoesOn r (Ok x) new = r ≡ Goes new
 GoesOn r (Err failure) new = Refuses r failure
 
+-- a part of a rewriting that refuses a line leaves the configuration as it was
+abbrev pub Keeps : {A : Type 0} → Result A (Failure ExpanderFault) → Config → Config → Type 0
+Keeps (Ok x) old new = Unit {0}
+Keeps (Err (NoMemory n)) old new = Unit {0}
+Keeps (Err (Fault refusal)) old new = new ≡ old
+
 -- the answer of a call for the next line is this rewriting, the first that does not merely go on, and leads
 -- to this configuration
 abbrev pub Answers : Rewriting → Result (Option Row) (Failure ExpanderFault) → Config → Type 0

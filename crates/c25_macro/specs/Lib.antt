@@ -5,7 +5,9 @@ pub mod Dictionary
 pub mod Expander
 pub mod Expanders
 pub mod SourceFrames
+pub mod LeavingOut
 pub mod Macros
+pub mod NextLines
 pub mod Refusals
 pub mod Stages
 pub mod Tracers

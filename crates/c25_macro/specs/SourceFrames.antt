@@ -1,7 +1,7 @@
 -- What the open files, expansions and turns of an expander stand for.
 use Rattle.c25_macro.specs.declared.frames.ExitTarget.{ExitTarget}
 use Rattle.c25_macro.specs.declared.frames.ExitTarget.TheVariants as blocks
-use Rattle.std.specs.Prelude.{Bool, List, [], ◌∷◌, ◌++◌, map}
+use Rattle.std.specs.Prelude.{Bool, false, ◌||◌, List, [], ◌∷◌, ◌++◌, map}
 use Rattle.c25_meaning_expansion.specs.Expansion as exp
 use Rattle.c25_meaning_expansion.specs.Expansion.{LineOrEnd, Read, Close}
 use Rattle.c25_meaning_expansion.specs.declared.expansion.Branch.{Branch}
@@ -35,6 +35,12 @@ frames (s ∷ ss) = scope_of s.frame ∷ frames ss
 abbrev pub test_of : ExitTarget → exp.Kind → Bool
 test_of blocks.Expansion = exp.is_expansion
 test_of blocks.Turn = exp.is_turn
+
+-- whether a block that passes the test can be left from a source of this kind inside these: it passes, or one of
+-- these does, other than the outermost
+abbrev pub can_leave : (exp.Kind → Bool) → exp.Kind → List exp.SourceFrame → Bool
+can_leave test kind [] = false
+can_leave test kind (f ∷ fs) = test kind || can_leave test f.kind fs
 
 -- the open `.if`s without the innermost
 abbrev pub other_branches : List Branch → List Branch

@@ -1,5 +1,6 @@
 //! The answers of an expander.
 
+use crate::tracer::StepFault;
 use c25_meaning_common::placed::{FileLine, Placed};
 use c25_meaning_language::statement::FaultKind;
 use std::borrow::CowStr;
@@ -14,6 +15,17 @@ pub struct ExpLine<'a> {
     /// The text of the line after substitution, without its end; borrowed from the file's text where nothing
     /// was replaced.
     pub text: CowStr<'a>,
+}
+
+/// What a call for the next line gives where the lines that are refused are left out.
+#[derive(Drop)]
+pub enum NextLine<'a> {
+    /// A line is given.
+    Given(ExpLine<'a>),
+    /// A line is refused and left out, and expansion goes on.
+    LeftOut(StepFault<'a>),
+    /// No line is left.
+    Finished,
 }
 
 /// A fault of a line, or of a file that a line copies and that is not there, with its place (10 to 13, 20 to

@@ -10,7 +10,7 @@ ghost use Rattle.c25_meaning_expansion.specs.ExpansionRules as rule;
 ghost use Rattle.c25_meaning_instructions.specs.Spellings.{spelling_of};
 ghost use Rattle.c25_expr.specs.View.{tree_of};
 ghost use Rattle.c25_macro.specs.Acts.{bytes_of_names};
-ghost use Rattle.c25_macro.specs.Config.{config, GoesOn};
+ghost use Rattle.c25_macro.specs.Config.{config, GoesOn, Keeps};
 ghost use Rattle.c25_macro.specs.SourceFrames.{test_of};
 ghost use Rattle.c25_macro.specs.declared.state.Mode.TheVariants as modes;
 
@@ -62,7 +62,8 @@ impl<'a> ExpanderState<'a> {
         name: String,
         parameters: Vec<String>,
     ) -> Result<(), Failure<ExpanderFault>>
-        ensures { GoesOn (rule.begins_macro place (string_bytes name) (bytes_of_names parameters.items) (config self.old)) result (config self.new) }
+        ensures answer { GoesOn (rule.begins_macro place (string_bytes name) (bytes_of_names parameters.items) (config self.old)) result (config self.new) }
+        ensures kept { Keeps result (config self.old) (config self.new) }
     {
         if self.is_taken(name.as_str()) {
             return Err(fault(FaultKind::Redefined, place));
@@ -87,7 +88,8 @@ impl<'a> ExpanderState<'a> {
     ) -> Result<(), Failure<ExpanderFault>>
         requires expansions { (config self.old).names.count < 2 ^ 31 }
         requires reading { self.old.mode ≡ modes.Reading }
-        ensures { GoesOn (rule.begins_expansion place body.entry arguments (config self.old)) result (config self.new) }
+        ensures answer { GoesOn (rule.begins_expansion place body.entry arguments (config self.old)) result (config self.new) }
+        ensures kept { Keeps result (config self.old) (config self.new) }
     {
         if self.is_full() {
             return Err(fault(FaultKind::Depth, place));
@@ -105,7 +107,8 @@ impl<'a> ExpanderState<'a> {
         place: FileLine<usize>,
     ) -> Result<(), Failure<ExpanderFault>>
         requires reading { self.old.mode ≡ modes.Reading }
-        ensures { GoesOn (rule.leaves (test_of block) place (config self.old)) result (config self.new) }
+        ensures answer { GoesOn (rule.leaves (test_of block) place (config self.old)) result (config self.new) }
+        ensures kept { Keeps result (config self.old) (config self.new) }
     {
         if self.leave(block) {
             Ok(())
@@ -121,7 +124,8 @@ impl<'a> ExpanderState<'a> {
         place: FileLine<usize>,
         turns: usize,
     ) -> Result<(), Failure<ExpanderFault>>
-        ensures { GoesOn (rule.collects place turns (config self.old)) result (config self.new) }
+        ensures answer { GoesOn (rule.collects place turns (config self.old)) result (config self.new) }
+        ensures kept { Keeps result (config self.old) (config self.new) }
     {
         if self.is_full() {
             return Err(fault(FaultKind::Depth, place));
@@ -140,7 +144,8 @@ impl<'a> ExpanderState<'a> {
         place: FileLine<usize>,
         count: Option<Expr>,
     ) -> Result<(), Failure<ExpanderFault>>
-        ensures { GoesOn (rule.begins_loop symbols.now place (option_map tree_of count) (config self.old)) result (config self.new) }
+        ensures answer { GoesOn (rule.begins_loop symbols.now place (option_map tree_of count) (config self.old)) result (config self.new) }
+        ensures kept { Keeps result (config self.old) (config self.new) }
     {
         match count {
             Some(count) => match number(symbols, count) {
@@ -158,7 +163,8 @@ impl<'a> ExpanderState<'a> {
         place: FileLine<usize>,
     ) -> Result<(), Failure<ExpanderFault>>
         requires reading { self.old.mode ≡ modes.Reading }
-        ensures { GoesOn (rule.breaks_if holds place (config self.old)) result (config self.new) }
+        ensures answer { GoesOn (rule.breaks_if holds place (config self.old)) result (config self.new) }
+        ensures kept { Keeps result (config self.old) (config self.new) }
     {
         if !self.stands_in(ExitTarget::Turn) {
             return Err(fault(FaultKind::StrayEnd, place));
@@ -180,7 +186,8 @@ impl<'a> ExpanderState<'a> {
         condition: Option<Expr>,
     ) -> Result<(), Failure<ExpanderFault>>
         requires reading { self.old.mode ≡ modes.Reading }
-        ensures { GoesOn (rule.breaks symbols.now place (option_map tree_of condition) (config self.old)) result (config self.new) }
+        ensures answer { GoesOn (rule.breaks symbols.now place (option_map tree_of condition) (config self.old)) result (config self.new) }
+        ensures kept { Keeps result (config self.old) (config self.new) }
     {
         match condition {
             Some(condition) => match number(symbols, condition) {
@@ -193,7 +200,8 @@ impl<'a> ExpanderState<'a> {
 
     /// Does `.asg`: the name stands for this text from now on. Only memory may run out.
     pub(crate) fn assign(&mut self, name: &str, text: String) -> Result<(), Failure<ExpanderFault>>
-        ensures { GoesOn (exp.Goes (record (config self.old) { names = exp.assigned name.now (string_bytes text) (config self.old).names })) result (config self.new) }
+        ensures answer { GoesOn (exp.Goes (record (config self.old) { names = exp.assigned name.now (string_bytes text) (config self.old).names })) result (config self.new) }
+        ensures kept { Keeps result (config self.old) (config self.new) }
     {
         self.names.assign(name, text).map_err(Failure::NoMemory)
     }
@@ -208,7 +216,8 @@ impl<'a> ExpanderState<'a> {
         expression: Expr,
         name: &str,
     ) -> Result<(), Failure<ExpanderFault>>
-        ensures { GoesOn (rule.evaluates symbols.now place (tree_of expression) name.now (config self.old)) result (config self.new) }
+        ensures answer { GoesOn (rule.evaluates symbols.now place (tree_of expression) name.now (config self.old)) result (config self.new) }
+        ensures kept { Keeps result (config self.old) (config self.new) }
     {
         let number = match number(symbols, expression) {
             Ok(number) => number,
@@ -228,7 +237,8 @@ impl<'a> ExpanderState<'a> {
         name: String,
     ) -> Result<(), Failure<ExpanderFault>>
         requires reading { self.old.mode ≡ modes.Reading }
-        ensures { GoesOn (rule.copies files.now place (string_bytes name) (config self.old)) result (config self.new) }
+        ensures answer { GoesOn (rule.copies files.now place (string_bytes name) (config self.old)) result (config self.new) }
+        ensures kept { Keeps result (config self.old) (config self.new) }
     {
         match files.find(name.as_str()) {
             Some((file, text)) => {
@@ -247,7 +257,8 @@ impl<'a> ExpanderState<'a> {
     #[tactic(auto, unfolding(c25_meaning_expansion::specs::ExpansionRules::ends_all))]
     pub(crate) fn end_all(&mut self, place: FileLine<usize>) -> Result<(), Failure<ExpanderFault>>
         requires reading { self.old.mode ≡ modes.Reading }
-        ensures { GoesOn (rule.ends_all place (config self.old)) result (config self.new) }
+        ensures answer { GoesOn (rule.ends_all place (config self.old)) result (config self.new) }
+        ensures kept { Keeps result (config self.old) (config self.new) }
     {
         self.top = Source {
             lines: Rows::none().into_passage(),

@@ -4,10 +4,13 @@ ghost use Rattle.std.specs.Prelude.{◌≡◌, ◌<◌, IfOk, IfSome};
 ghost use Rattle.std.specs.Option.{option_map};
 ghost use Rattle.c25_macro.specs.Expander.{begun, IsNext, IsKept, missing_of, left_of};
 ghost use Rattle.c25_macro.specs.Expanders.{expansion_of};
+ghost use Rattle.c25_macro.specs.NextLines as next_lines;
+ghost use Rattle.c25_macro.specs.NextLines.{IsLighter};
 
-use crate::answer::{ExpLine, ExpandFault};
+use crate::answer::{ExpLine, ExpandFault, NextLine};
 use crate::expander::Expander;
 use crate::stage::{Stage, advance};
+use crate::stage_leaving_out::advance_or_leave_out;
 use c25_expr::symbols::Symbols;
 use c25_files::files::Files;
 use c25_meaning_common::failure::Failure;
@@ -51,6 +54,30 @@ impl<'a> Expander<'a> {
     {
         let stage = mem::replace(&mut self.stage, Stage::NoModule);
         let (stage, answer) = advance(self.alloc, self.files, self.name, stage, symbols);
+        self.stage = stage;
+        answer
+    }
+
+    /// The next line, as [`Expander::next_line`] gives it, but that a line which is refused is left out, with what
+    /// it would open, and the next call goes on after it: up to `.endif` after a refused `.if`, `.elseif` or
+    /// `.else`, up to `.endloop` or `.endm` after a refused `.loop` or `.macro`; a refused `.break` leaves its
+    /// loop. A failure is the last one, after 31, 33, 34, where the module is not there, or memory runs out:
+    /// every further call answers the same.
+    pub fn next_or_leave_out(
+        &mut self,
+        symbols: &Symbols,
+    ) -> Result<NextLine<'a>, Failure<ExpandFault<'a>>>
+        ensures next { next_lines.IsNext (expansion_of self.old) symbols.now result (expansion_of self.new).stage }
+        // Each line that is given or left out leaves less to do.
+        ensures lighter { IfOk result (λ next. IsLighter next (expansion_of self.old).stage (expansion_of self.new).stage) }
+        ensures kept { IsKept (expansion_of self.new).stage }
+        ensures files { (expansion_of self.new).files ≡ (expansion_of self.old).files }
+        ensures name { (expansion_of self.new).name ≡ (expansion_of self.old).name }
+    {
+        let stage = mem::replace(&mut self.stage, Stage::NoModule);
+        let (stage, answer) = advance_or_leave_out(
+            self.alloc, self.files, self.name, stage, symbols,
+        );
         self.stage = stage;
         answer
     }

@@ -5,7 +5,7 @@
 ghost use Rattle.std.specs.Prelude.{◌≡◌};
 ghost use Rattle.c25_meaning_expansion.specs.ExpansionRules as rule;
 ghost use Rattle.c25_expr.specs.View.{tree_of};
-ghost use Rattle.c25_macro.specs.Config.{config, GoesOn};
+ghost use Rattle.c25_macro.specs.Config.{config, GoesOn, Keeps};
 ghost use Rattle.c25_macro.specs.SourceFrames.{other_branches};
 
 use crate::expander_fault::{ExpanderFault, fault};
@@ -49,7 +49,8 @@ impl ExpanderState<'_> {
         place: FileLine<usize>,
         condition: Expr,
     ) -> Result<(), Failure<ExpanderFault>>
-        ensures { GoesOn (rule.begins_if symbols.now place (tree_of condition) (config self.old)) result (config self.new) }
+        ensures answer { GoesOn (rule.begins_if symbols.now place (tree_of condition) (config self.old)) result (config self.new) }
+        ensures kept { Keeps result (config self.old) (config self.new) }
     {
         let number = match number(symbols, condition) {
             Ok(number) => number,
@@ -72,7 +73,8 @@ impl ExpanderState<'_> {
         branch: Branch,
         phase: Phase,
     ) -> Result<(), Failure<ExpanderFault>>
-        ensures { GoesOn (rule.enters branch (other_branches (config self.old).frame.branches) (config self.old) phase) result (config self.new) }
+        ensures answer { GoesOn (rule.enters branch (other_branches (config self.old).frame.branches) (config self.old) phase) result (config self.new) }
+        ensures kept { Keeps result (config self.old) (config self.new) }
     {
         let branches = &mut self.top.frame.branches;
         branches
@@ -88,7 +90,8 @@ impl ExpanderState<'_> {
         number: Result<i32, FaultKind>,
         branch: Branch,
     ) -> Result<(), Failure<ExpanderFault>>
-        ensures { GoesOn (rule.with_number place number (λ number. rule.enters branch (other_branches (config self.old).frame.branches) (config self.old) (rule.phase_of number))) result (config self.new) }
+        ensures answer { GoesOn (rule.with_number place number (λ number. rule.enters branch (other_branches (config self.old).frame.branches) (config self.old) (rule.phase_of number))) result (config self.new) }
+        ensures kept { Keeps result (config self.old) (config self.new) }
     {
         match number {
             Ok(number) => self.enter(branch, phase_of(number)),
@@ -104,7 +107,8 @@ impl ExpanderState<'_> {
         place: FileLine<usize>,
         condition: Expr,
     ) -> Result<(), Failure<ExpanderFault>>
-        ensures { GoesOn (rule.elseif_by symbols.now place (tree_of condition) (config self.old).frame.branches (config self.old)) result (config self.new) }
+        ensures answer { GoesOn (rule.elseif_by symbols.now place (tree_of condition) (config self.old).frame.branches (config self.old)) result (config self.new) }
+        ensures kept { Keeps result (config self.old) (config self.new) }
     {
         // A fault of the condition is reported only where no condition has held so far, or where no `.if` is
         // open.
@@ -125,7 +129,8 @@ impl ExpanderState<'_> {
     /// Does `.else`: its lines are taken where no condition has held. `StrayEnd` (32) where no `.if` is open,
     /// or after another `.else`.
     pub(crate) fn pass_else(&mut self, place: FileLine<usize>) -> Result<(), Failure<ExpanderFault>>
-        ensures { GoesOn (rule.else_by place (config self.old).frame.branches (config self.old)) result (config self.new) }
+        ensures answer { GoesOn (rule.else_by place (config self.old).frame.branches (config self.old)) result (config self.new) }
+        ensures kept { Keeps result (config self.old) (config self.new) }
     {
         let Some(branch) = self.top.frame.branches.innermost() else {
             return Err(fault(FaultKind::StrayEnd, place));
@@ -139,7 +144,8 @@ impl ExpanderState<'_> {
 
     /// Does `.endif`: closes the innermost `.if`. `StrayEnd` (32) where none is open.
     pub(crate) fn end_if(&mut self, place: FileLine<usize>) -> Result<(), Failure<ExpanderFault>>
-        ensures { GoesOn (rule.endif_by place (config self.old).frame.branches (config self.old)) result (config self.new) }
+        ensures answer { GoesOn (rule.endif_by place (config self.old).frame.branches (config self.old)) result (config self.new) }
+        ensures kept { Keeps result (config self.old) (config self.new) }
     {
         match self.top.frame.branches.pop() {
             Some(_) => Ok(()),

@@ -3,7 +3,7 @@
 ghost use Rattle.std.specs.Prelude.{MatchOption, ◌≡◌, ◌∷◌, ◌<◌, OnOk, option_to_list, IfNone, length, ◌++◌, [], false, min, sum_by, ◌+◌};
 ghost use Rattle.std.specs.List.{list_any};
 ghost use Rattle.c25_meaning_expansion.specs.Rows.{is_empty};
-ghost use Rattle.c25_macro.specs.SourceFrames.{frames, kind_of, test_of, other_branches};
+ghost use Rattle.c25_macro.specs.SourceFrames.{can_leave, frames, kind_of, test_of, other_branches};
 
 use c25_files::{Passage, Rows};
 use c25_meaning_common::no_memory::NoMemory;
@@ -169,6 +169,18 @@ impl<'a> Stack<'a> {
         ensures { result ≡ list_any (λ f. test_of block f.kind) (frames self.now) }
     {
         has(self.sources.as_slice(), block)
+    }
+
+    /// Whether a block of this kind can be left from a source of that kind inside these: it is one, or one of
+    /// these is, other than the outermost.
+    #[tactic(auto, using(crate::proofs::Leaving::inner_some, crate::proofs::Leaving::inner_none))]
+    pub(crate) fn can_leave(&self, kind: &Kind<'a>, block: ExitTarget) -> bool
+        ensures { result ≡ can_leave (test_of block) (kind_of kind.now) (frames self.now) }
+    {
+        match self.sources.as_slice() {
+            [] => false,
+            [_, inner @ ..] => kind.is(block) || has(inner, block),
+        }
     }
 
     /// Puts a source inside the others.

@@ -11,7 +11,7 @@ ghost use Rattle.c25_meaning_expansion.specs.ExpansionRules as rule;
 ghost use Rattle.c25_meaning_language.specs.declared.statement.FaultKind.{FaultKind};
 ghost use Rattle.c25_meaning_common.specs.Results.{Meets};
 ghost use Rattle.c25_macro.specs.Acts.{act_of, order_of};
-ghost use Rattle.c25_macro.specs.Config.{config, Follows, GoesOn};
+ghost use Rattle.c25_macro.specs.Config.{config, Follows, GoesOn, Keeps};
 ghost use Rattle.c25_macro.specs.Dictionary.{dictionary_of};
 ghost use Rattle.c25_macro.specs.SourceFrames.{other_branches};
 ghost use Rattle.c25_macro.specs.declared.state.Mode.TheVariants as modes;
@@ -47,7 +47,8 @@ impl<'a> ExpanderState<'a> {
     ) -> Result<(), Failure<ExpanderFault>>
         requires expansions { (config self.old).names.count < 2 ^ 31 }
         requires reading { self.old.mode ≡ modes.Reading }
-        ensures { GoesOn (rule.acts files.now symbols.now place (act_of act.entry) (config self.old)) result (config self.new) }
+        ensures answer { GoesOn (rule.acts files.now symbols.now place (act_of act.entry) (config self.old)) result (config self.new) }
+        ensures kept { Keeps result (config self.old) (config self.new) }
     {
         match act {
             ExpansionAct::If(condition) => self.begin_if(symbols, place, condition),
@@ -79,7 +80,8 @@ impl<'a> ExpanderState<'a> {
     ) -> Result<LineResult<'a>, Failure<ExpanderFault>>
         requires expansions { (config self.old).names.count < 2 ^ 31 }
         requires reading { self.old.mode ≡ modes.Reading }
-        ensures { Follows (rule.labelled files.now symbols.now place (order_of order.entry).label (order_of order.entry).act (config self.old)) result (config self.new) }
+        ensures answer { Follows (rule.labelled files.now symbols.now place (order_of order.entry).label (order_of order.entry).act (config self.old)) result (config self.new) }
+        ensures kept { Keeps result (config self.old) (config self.new) }
     {
         let Order { label, act } = order;
         match label {
@@ -101,8 +103,9 @@ impl<'a> ExpanderState<'a> {
     ) -> Result<LineResult<'a>, Failure<ExpanderFault>>
         requires expansions { (config self.old).names.count < 2 ^ 31 }
         requires reading { self.old.mode ≡ modes.Reading }
-        ensures { (told : Result acts.Order FaultKind) → Meets order_of told order.entry
+        ensures answer { (told : Result acts.Order FaultKind) → Meets order_of told order.entry
             → Follows (rule.consumed files.now symbols.now place told (config self.old)) result (config self.new) }
+        ensures kept { Keeps result (config self.old) (config self.new) }
     {
         match order {
             Ok(order) => self.label(files, symbols, place, order),
@@ -119,7 +122,8 @@ impl<'a> ExpanderState<'a> {
     ) -> Result<LineResult<'a>, Failure<ExpanderFault>>
         requires expansions { (config self.old).names.count < 2 ^ 31 }
         requires reading { self.old.mode ≡ modes.Reading }
-        ensures { Follows (rule.calls files.now symbols.now line.entry (rule.macro_of (first_word line.entry.text) (config self.old).names) (config self.old)) result (config self.new) }
+        ensures answer { Follows (rule.calls files.now symbols.now line.entry (rule.macro_of (first_word line.entry.text) (config self.old).names) (config self.old)) result (config self.new) }
+        ensures kept { Keeps result (config self.old) (config self.new) }
     {
         let alloc = self.alloc;
         match self.names.macro_called(line.text()) {
@@ -140,7 +144,8 @@ impl<'a> ExpanderState<'a> {
     ) -> Result<LineResult<'a>, Failure<ExpanderFault>>
         requires expansions { (config self.old).names.count < 2 ^ 31 }
         requires reading { self.old.mode ≡ modes.Reading }
-        ensures { Follows (rule.uses files.now symbols.now line.entry (rule.directive_in (first_word line.entry.text)) (config self.old)) result (config self.new) }
+        ensures answer { Follows (rule.uses files.now symbols.now line.entry (rule.directive_in (first_word line.entry.text)) (config self.old)) result (config self.new) }
+        ensures kept { Keeps result (config self.old) (config self.new) }
     {
         match directive_in(line.text()) {
             Some(directive) => self.obey(files, symbols, line.place(), directive, line.text()),
@@ -177,7 +182,8 @@ impl<'a> ExpanderState<'a> {
     ) -> Result<LineResult<'a>, Failure<ExpanderFault>>
         requires expansions { (config self.old).names.count < 2 ^ 31 }
         requires reading { self.old.mode ≡ modes.Reading }
-        ensures { Follows (rule.used files.now symbols.now row.entry directive (config self.old)) result (config self.new) }
+        ensures answer { Follows (rule.used files.now symbols.now row.entry directive (config self.old)) result (config self.new) }
+        ensures kept { Keeps result (config self.old) (config self.new) }
     {
         match self.substituted(directive, row.text()) {
             Ok(text) => self.use_substituted(files, symbols, Line::new(row.place(), text)),
@@ -197,7 +203,8 @@ impl<'a> ExpanderState<'a> {
     ) -> Result<LineResult<'a>, Failure<ExpanderFault>>
         requires expansions { (config self.old).names.count < 2 ^ 31 }
         requires reading { self.old.mode ≡ modes.Reading }
-        ensures { Follows (rule.consumed files.now symbols.now place (acts.order_of directive text.now) (config self.old)) result (config self.new) }
+        ensures answer { Follows (rule.consumed files.now symbols.now place (acts.order_of directive text.now) (config self.old)) result (config self.new) }
+        ensures kept { Keeps result (config self.old) (config self.new) }
     {
         let order = read_order(self.alloc, directive, text);
         self.consume(files, symbols, place, order)
@@ -214,7 +221,8 @@ impl<'a> ExpanderState<'a> {
     ) -> Result<LineResult<'a>, Failure<ExpanderFault>>
         requires expansions { (config self.old).names.count < 2 ^ 31 }
         requires reading { self.old.mode ≡ modes.Reading }
-        ensures { Follows (rule.resumes files.now symbols.now row.entry directive (config self.old)) result (config self.new) }
+        ensures answer { Follows (rule.resumes files.now symbols.now row.entry directive (config self.old)) result (config self.new) }
+        ensures kept { Keeps result (config self.old) (config self.new) }
     {
         match self.substituted(Some(directive), row.text()) {
             Ok(text) => self.obey(files, symbols, row.place(), directive, text.as_str()),
@@ -229,7 +237,8 @@ impl<'a> ExpanderState<'a> {
         branch: Branch,
         nested: usize,
     ) -> Result<LineResult<'a>, Failure<ExpanderFault>>
-        ensures { Follows (rule.nests nested branch (other_branches (config self.old).frame.branches) (config self.old)) result (config self.new) }
+        ensures answer { Follows (rule.nests nested branch (other_branches (config self.old).frame.branches) (config self.old)) result (config self.new) }
+        ensures kept { Keeps result (config self.old) (config self.new) }
     {
         let branches = &mut self.top.frame.branches;
         let replaced = branches.replace(Branch { nested, ..branch });
@@ -246,7 +255,8 @@ impl<'a> ExpanderState<'a> {
     ) -> Result<LineResult<'a>, Failure<ExpanderFault>>
         requires expansions { (config self.old).names.count < 2 ^ 31 }
         requires reading { self.old.mode ≡ modes.Reading }
-        ensures { Follows (rule.reads_elseif files.now symbols.now row.entry branch (other_branches (config self.old).frame.branches) (config self.old)) result (config self.new) }
+        ensures answer { Follows (rule.reads_elseif files.now symbols.now row.entry branch (other_branches (config self.old).frame.branches) (config self.old)) result (config self.new) }
+        ensures kept { Keeps result (config self.old) (config self.new) }
     {
         match branch.phase {
             Phase::Seeking => self.resume(files, symbols, row, Directive::ElseIf),
@@ -265,7 +275,8 @@ impl<'a> ExpanderState<'a> {
     ) -> Result<LineResult<'a>, Failure<ExpanderFault>>
         requires expansions { (config self.old).names.count < 2 ^ 31 }
         requires reading { self.old.mode ≡ modes.Reading }
-        ensures { Follows (rule.else_in branch.phase row.entry.place (λ _. rule.resumes files.now symbols.now row.entry Directive.Else (config self.old))) result (config self.new) }
+        ensures answer { Follows (rule.else_in branch.phase row.entry.place (λ _. rule.resumes files.now symbols.now row.entry Directive.Else (config self.old))) result (config self.new) }
+        ensures kept { Keeps result (config self.old) (config self.new) }
     {
         match branch.phase {
             Phase::Seeking | Phase::Taking | Phase::Passing => {
@@ -286,7 +297,8 @@ impl<'a> ExpanderState<'a> {
     ) -> Result<LineResult<'a>, Failure<ExpanderFault>>
         requires expansions { (config self.old).names.count < 2 ^ 31 }
         requires reading { self.old.mode ≡ modes.Reading }
-        ensures { Follows (rule.skips_outer files.now symbols.now row.entry directive branch (other_branches (config self.old).frame.branches) (config self.old)) result (config self.new) }
+        ensures answer { Follows (rule.skips_outer files.now symbols.now row.entry directive branch (other_branches (config self.old).frame.branches) (config self.old)) result (config self.new) }
+        ensures kept { Keeps result (config self.old) (config self.new) }
     {
         match directive {
             Some(Directive::If) => self.nest(branch, 1),
@@ -305,7 +317,8 @@ impl<'a> ExpanderState<'a> {
     ) -> Result<LineResult<'a>, Failure<ExpanderFault>>
         requires some { 0 < branch.nested }
         requires few { branch.nested < 2 ^ 31 }
-        ensures { Follows (rule.skips_nested directive branch (other_branches (config self.old).frame.branches) (config self.old)) result (config self.new) }
+        ensures answer { Follows (rule.skips_nested directive branch (other_branches (config self.old).frame.branches) (config self.old)) result (config self.new) }
+        ensures kept { Keeps result (config self.old) (config self.new) }
     {
         match directive {
             Some(Directive::If) => self.nest(branch, branch.nested + 1),
@@ -327,7 +340,8 @@ impl<'a> ExpanderState<'a> {
         requires expansions { (config self.old).names.count < 2 ^ 31 }
         requires reading { self.old.mode ≡ modes.Reading }
         requires few { branch.nested < 2 ^ 31 }
-        ensures { Follows (rule.skips files.now symbols.now row.entry directive branch (other_branches (config self.old).frame.branches) (config self.old)) result (config self.new) }
+        ensures answer { Follows (rule.skips files.now symbols.now row.entry directive branch (other_branches (config self.old).frame.branches) (config self.old)) result (config self.new) }
+        ensures kept { Keeps result (config self.old) (config self.new) }
     {
         if branch.nested == 0 {
             self.skip_outer(files, symbols, row, directive, branch)
@@ -347,7 +361,8 @@ impl<'a> ExpanderState<'a> {
     ) -> Result<LineResult<'a>, Failure<ExpanderFault>>
         requires expansions { (config self.old).names.count < 2 ^ 31 }
         requires reading { self.old.mode ≡ modes.Reading }
-        ensures { Follows (rule.takes files.now symbols.now row.entry directive branch (other_branches (config self.old).frame.branches) (config self.old)) result (config self.new) }
+        ensures answer { Follows (rule.takes files.now symbols.now row.entry directive branch (other_branches (config self.old).frame.branches) (config self.old)) result (config self.new) }
+        ensures kept { Keeps result (config self.old) (config self.new) }
     {
         match directive {
             Some(Directive::ElseIf) => self.read_elseif(files, symbols, row, branch),
@@ -365,7 +380,8 @@ impl<'a> ExpanderState<'a> {
         requires expansions { (config self.old).names.count < 2 ^ 31 }
         requires reading { self.old.mode ≡ modes.Reading }
         requires nested { nesting (config self.old).frame.branches < 2 ^ 31 }
-        ensures { Follows (rule.reads_by files.now symbols.now row.entry (rule.directive_in (first_word row.entry.text)) (config self.old).frame.branches (config self.old)) result (config self.new) }
+        ensures answer { Follows (rule.reads_by files.now symbols.now row.entry (rule.directive_in (first_word row.entry.text)) (config self.old).frame.branches (config self.old)) result (config self.new) }
+        ensures kept { Keeps result (config self.old) (config self.new) }
     {
         let directive = directive_in(row.text());
         match self.top.frame.branches.innermost() {

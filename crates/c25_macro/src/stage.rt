@@ -68,7 +68,7 @@ fn no_file(file: &str, line: usize) -> ExpandFault<'_>
 }
 
 /// The stage after a refusal, and the answer that reports it.
-fn refuse<'a>(
+pub(crate) fn refuse<'a>(
     files: &'a Files,
     name: &'a str,
     failure: Failure<ExpanderFault>,

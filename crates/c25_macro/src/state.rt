@@ -3,10 +3,10 @@
 //! files, `bodies.rt` their bodies, `lines.rt` what is done with a line that is read; `step.rt` goes on until
 //! a line is given.
 
-ghost use Rattle.std.specs.Prelude.{◌≡◌, ◌<◌, ◌^◌, ◌++◌, Some, None, MatchBool};
+ghost use Rattle.std.specs.Prelude.{◌≡◌, ◌<◌, ◌^◌, ◌++◌, Some, None, MatchBool, false};
 ghost use Rattle.c25_meaning_expansion.specs.Expansion as exp;
 ghost use Rattle.c25_meaning_expansion.specs.ExpansionRuns.{start};
-ghost use Rattle.c25_macro.specs.Config.{config, mode_of, Follows, GoesOn};
+ghost use Rattle.c25_macro.specs.Config.{config, mode_of, Follows, GoesOn, Keeps};
 ghost use Rattle.c25_macro.specs.SourceFrames.{kind_of, test_of};
 ghost use Rattle.c25_macro.specs.declared.state.Mode.TheVariants as modes;
 
@@ -61,7 +61,8 @@ pub(crate) enum LineResult<'a> {
 pub(crate) fn consumed<'a>(
     done: Result<(), Failure<ExpanderFault>>,
 ) -> Result<LineResult<'a>, Failure<ExpanderFault>>
-    ensures { (r : exp.Rewriting) (new : exp.Config) → GoesOn r done new → Follows r result new }
+    ensures answer { (r : exp.Rewriting) (new : exp.Config) → GoesOn r done new → Follows r result new }
+    ensures kept { (old new : exp.Config) → Keeps done old new → Keeps result old new }
 {
     match done {
         Ok(()) => Ok(LineResult::Consumed),
@@ -129,7 +130,8 @@ impl<'a> ExpanderState<'a> {
         rows: Rows<'a>,
     ) -> Result<(), Failure<ExpanderFault>>
         requires reading { self.old.mode ≡ modes.Reading }
-        ensures { GoesOn (exp.Goes (exp.source_opened (kind_of kind.entry) last rows.entry (config self.old))) result (config self.new) }
+        ensures answer { GoesOn (exp.Goes (exp.source_opened (kind_of kind.entry) last rows.entry (config self.old))) result (config self.new) }
+        ensures kept { Keeps result (config self.old) (config self.new) }
     {
         let source = Source {
             lines: rows.into_passage(),
@@ -158,14 +160,18 @@ impl<'a> ExpanderState<'a> {
     }
 
     /// Makes the source current in which the innermost block of this kind was opened, and closes all that was
-    /// opened after it. False where no such block is open; then only the outermost source is left.
+    /// opened after it. False where no such block is open; then all stays open.
     #[tactic(auto, using(crate::proofs::Lists::after_closes))]
     pub(crate) fn leave(&mut self, block: ExitTarget) -> bool
         requires reading { self.old.mode ≡ modes.Reading }
-        ensures { MatchBool result
+        ensures kept { result ≡ false → config self.new ≡ config self.old }
+        ensures left { MatchBool result
             (exp.left_through (test_of block) (config self.old).lines (config self.old).frame (config self.old).outer (config self.old).names (config self.old) ≡ Some (config self.new))
             (exp.left_through (test_of block) (config self.old).lines (config self.old).frame (config self.old).outer (config self.old).names (config self.old) ≡ None) }
     {
+        if !self.below.can_leave(&self.top.frame.kind, block) {
+            return false;
+        }
         while let Some(source) = self.below.pop() {
             let ended = mem::replace(&mut self.top, source);
             self.names.end(&ended.frame.kind);

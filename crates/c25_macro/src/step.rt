@@ -27,7 +27,7 @@ use std::mem;
 impl<'a> ExpanderState<'a> {
     /// The next line of the innermost file, expansion or turn, if it has one. It counts among the lines that
     /// may be read.
-    fn next_row(&mut self) -> Result<Option<Row<'a>>, Failure<ExpanderFault>>
+    pub(crate) fn next_row(&mut self) -> Result<Option<Row<'a>>, Failure<ExpanderFault>>
         ensures next { IsNextRow self.old result self.new }
         ensures frame { self.new.top.frame ≡ self.old.top.frame }
         ensures below { self.new.below ≡ self.old.below }
@@ -46,7 +46,7 @@ impl<'a> ExpanderState<'a> {
 
     /// Begins the next turn of a loop, goes back to what stands after the file, expansion or turn that ends
     /// here, or ends the expansion; an `.if` that is still open is fault 31.
-    fn end_source(&mut self) -> Result<LineResult<'a>, Failure<ExpanderFault>>
+    pub(crate) fn end_source(&mut self) -> Result<LineResult<'a>, Failure<ExpanderFault>>
         requires ended { self.old.top.lines.rest ≡ [] }
         requires reading { self.old.mode ≡ modes.Reading }
         ensures { (files : meaning.Files) (s : Table) → Follows (runs.front files s (config self.old).lines (config self.old)) result (config self.new) }
@@ -96,7 +96,7 @@ impl<'a> ExpanderState<'a> {
 
     /// Collects the next line for the body of this macro. Where there is no line, the block is left open
     /// (31).
-    fn read_into_macro(
+    pub(crate) fn read_into_macro(
         &mut self,
         name: String,
         parameters: Vec<String>,
@@ -114,7 +114,7 @@ impl<'a> ExpanderState<'a> {
     }
 
     /// Collects the next line for the body of this loop. Where there is no line, the block is left open (31).
-    fn read_into_loop(
+    pub(crate) fn read_into_loop(
         &mut self,
         turns: usize,
         nested: usize,

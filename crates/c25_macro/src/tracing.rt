@@ -43,7 +43,7 @@ impl ExpanderState<'_> {
 }
 
 /// The fault that reports a refusal, with the name of the line's file.
-fn told(files: &Files, refusal: ExpanderFault) -> StepFault<'_>
+pub(crate) fn told(files: &Files, refusal: ExpanderFault) -> StepFault<'_>
     ensures { fault_by files.now (refused_by refusal) ≡ Some (fault_in result) }
 {
     match refusal {

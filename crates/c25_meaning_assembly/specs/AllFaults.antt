@@ -1,6 +1,7 @@
 -- All faults of a source (SPRU018, the assembler's two passes). The first phase leaves out each line that is
--- faulty, but for its label, and goes on with what stood before the line. The second phase is gone over only
--- where the first one has no fault: each operand that it refuses is reported.
+-- faulty, but for its label, and goes on with what stood before the line; a line that expansion refuses is left out
+-- as `LeftOut` of expansion says. The second phase is gone over only where the first one has no fault: each
+-- operand that it refuses is reported.
 use Rattle.std.specs.Prelude.{ℕ, zero, suc, Bool, true, false, if◌then◌else◌, List, [], ◌∷◌, ◌++◌, Option, Some, None, Result, Ok, Err}
 use Rattle.c25_meaning_assembly.specs.AssemblyLine.{directive_in, label_for}
 use Rattle.c25_meaning_assembly.specs.Emission.{all_names, emitted}
@@ -9,8 +10,9 @@ use Rattle.c25_meaning_assembly.specs.Sections.{Definitions, PendingItem, Progre
 use Rattle.c25_meaning_assembly.specs.declared.assembly.Directive.{Directive}
 use Rattle.c25_meaning_expansion.specs.Expansion.{Config}
 use Rattle.c25_meaning_expansion.specs.ExpansionAnswers.{ExpandedLine, given_by, fault_by}
-use Rattle.c25_meaning_expansion.specs.ExpansionRuns.{first, start_of}
+use Rattle.c25_meaning_expansion.specs.ExpansionRuns.{first, start_of, weight}
 use Rattle.c25_meaning_expansion.specs.Files.{Files}
+use Rattle.c25_meaning_expansion.specs.LeftOut.{first_left_out}
 use Rattle.c25_meaning_language.specs.ExpansionFault.{ExpansionFault, Faulty, Missing}
 use Rattle.c25_meaning_language.specs.Line.{first_word, is_comment_line, label_in}
 use Rattle.c25_meaning_language.specs.declared.line.LineFault.{LineFault}
@@ -75,22 +77,29 @@ abbrev pub after_line : ExpandedLine → Result Progress ExpansionFault → (Lin
 after_line l (Ok p) go_on a = go_on (record a { progress = p })
 after_line l (Err f) go_on a = if is_last f then with_fault f a else go_on (without_line l f a)
 
--- what follows an answer of expansion: nothing after its fault or the end, or a line
-abbrev pub gone_over_by : Option ExpansionFault → Option (ExpandedLine × Config) → (Config → LinesGoneOver → LinesGoneOver) → LinesGoneOver → LinesGoneOver
-gone_over_by (Some f) given go_on a = with_fault f a
-gone_over_by None None go_on a = a
-gone_over_by None (Some (l, c)) go_on a = after_line l (read_and_pass l a.progress) (go_on c) a
+-- what follows a line that expansion refuses for this fault: `go_on` where it is left out; nothing after the last fault
+abbrev pub after_fault : ExpansionFault → Option Config → (Config → LinesGoneOver → LinesGoneOver) → LinesGoneOver → LinesGoneOver
+after_fault f None go_on a = with_fault f a
+after_fault f (Some c) go_on a = go_on c (with_fault f a)
 
--- the lines that expansion gives from a configuration on, at most `n`
+-- what follows an answer of expansion: a fault, nothing after the end, or a line; `after` is what expansion goes on
+-- with after its fault, if it goes on
+abbrev pub gone_over_by : Option ExpansionFault → (after : Option Config) → Option (ExpandedLine × Config) → (Config → LinesGoneOver → LinesGoneOver) → LinesGoneOver → LinesGoneOver
+gone_over_by (Some f) after given go_on a = after_fault f after go_on a
+gone_over_by None after None go_on a = a
+gone_over_by None after (Some (l, c)) go_on a = after_line l (read_and_pass l a.progress) (go_on c) a
+
+-- the lines that expansion gives or refuses from a configuration on, at most `n`
 unfoldable pub gone_over : Files → ℕ → Config → LinesGoneOver → LinesGoneOver
 gone_over files zero c a = a
 gone_over files (suc n) c a =
-    gone_over_by (fault_by files (first files (table a.progress) c)) (given_by files (first files (table a.progress) c)) (gone_over files n) a
+    gone_over_by (fault_by files (first files (table a.progress) c)) (first_left_out files (table a.progress) c) (given_by files (first files (table a.progress) c)) (gone_over files n) a
 
--- the lines of the module whose expansion starts so, or Missing if there is no file of this name
+-- the lines of the module whose expansion starts so, or Missing if there is no file of this name; the weight of a
+-- configuration bounds how many lines are given or refused from there on
 abbrev pub gone_over_from : Files → List ℕ → Option Config → LinesGoneOver
 gone_over_from files name None = with_fault (Missing name 0 name) no_lines
-gone_over_from files name (Some c) = gone_over files 200001 c no_lines
+gone_over_from files name (Some c) = gone_over files (suc (weight c)) c no_lines
 
 -- ---- the second phase
 

@@ -86,7 +86,7 @@ pub record Acted (c d : Config) : Type 0 where
 abbrev pub Never : Config → Type 0
 Never d = ⊥
 
-not_full : (c : Config) → is_full c ≡ false → depth c < 32
+pub not_full : (c : Config) → is_full c ≡ false → depth c < 32
 not_full c h = grind (arith, nat_tests)
 
 -- the blocks open in a file, expansion or turn, and those around it
@@ -98,7 +98,7 @@ unfolding begins_if
 acted_if s place e c h = comes_needed s place e _ (λ number. comes_unless (is_full c) fault.Depth place _ (λ room. goes (omega (arith, not_full c room))))
 
 -- other `.if`s in the innermost file, expansion or turn
-acted_branches : (new old : List Branch) (c : Config) → IsIdle c.mode → old ≡ c.frame.branches → nesting new ≤ nesting old → length new ≤ length old → Acted c (with_branches new c)
+pub acted_branches : (new old : List Branch) (c : Config) → IsIdle c.mode → old ≡ c.frame.branches → nesting new ≤ nesting old → length new ≤ length old → Acted c (with_branches new c)
 acted_branches new old c h e n l = omega (arith, ap nesting e, ap length e)
 
 acted_enters : (b : Branch) (bs : List Branch) (c : Config) (phase : Phase) → IsIdle c.mode → b ∷ bs ≡ c.frame.branches → Comes (Acted c) Never (enters b bs c phase)
@@ -132,7 +132,7 @@ count_stays Copied names = refl
 count_stays Expanded names = refl
 count_stays (Turn body more) names = refl
 
-acted_left : (test : Kind → Bool) (lines : List LineOrEnd) (frame : SourceFrame) (outer : List SourceFrame) (names : Dictionary) (c : Config) → IsIdle c.mode →
+pub acted_left : (test : Kind → Bool) (lines : List LineOrEnd) (frame : SourceFrame) (outer : List SourceFrame) (names : Dictionary) (c : Config) → IsIdle c.mode →
     length outer ≤ length c.outer → deepest (frame ∷ outer) ≤ skipping c → names.count ≡ c.names.count →
     length frame.branches + sum_by (λ g. length g.branches + 1) outer ≤ depth c → IfSome (left_through test lines frame outer names c) (Acted c)
 acted_left test lines frame [] names c h l k n b = tt

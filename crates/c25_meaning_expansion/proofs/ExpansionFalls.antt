@@ -40,12 +40,12 @@ waiting (Acting place act) = refl
 waiting (InMacro name parameters body nested) = refl
 waiting (InLoop turns body nested) = refl
 
-idle : IsIdle Reading
+pub idle : IsIdle Reading
 idle = record { nested = refl; nothing_waits = refl; no_loop = refl }
 
 -- ---- a line whose label was given
 
-falls_acted : (place : FileLine ℕ) (act : ExpansionAct) (c d : Config) → c.mode ≡ Acting place act → Acted (record c { mode = Reading }) d → Falls c d
+pub falls_acted : (place : FileLine ℕ) (act : ExpansionAct) (c d : Config) → c.mode ≡ Acting place act → Acted (record c { mode = Reading }) d → Falls c d
 falls_acted place act c d e h =
     let pends = ap pending e in
     let nested = ap nested_of e in
@@ -64,7 +64,7 @@ after_acted place act c _ e misses = tt
 
 -- ---- a line that is read
 
-falls_took : (row : Row) (rest : List LineOrEnd) (c d : Config) → 0 < c.left → Took c.mode (record c { lines = rest; mode = Reading; left = c.left - 1 }) d → Falls c d
+pub falls_took : (row : Row) (rest : List LineOrEnd) (c d : Config) → 0 < c.left → Took c.mode (record c { lines = rest; mode = Reading; left = c.left - 1 }) d → Falls c d
 falls_took row rest c d some h =
     record {
       weighs_less = omega (arith, h, waiting c.mode, waiting d.mode, front_small d.lines);

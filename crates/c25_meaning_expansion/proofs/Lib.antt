@@ -3,3 +3,4 @@ pub mod ExpansionBounded
 pub mod ExpansionFalls
 pub mod ExpansionFirst
 pub mod ExpansionLines
+pub mod LeavingOut

@@ -6,4 +6,5 @@ pub mod ExpansionAnswers
 pub mod ExpansionBounds
 pub mod ExpansionRules
 pub mod ExpansionRuns
+pub mod LeftOut
 pub mod Trail

@@ -6,8 +6,6 @@ pub mod laws;
 mod operand_faults;
 pub mod part;
 mod refused;
-#[cfg(test)]
-mod tests;
 mod text_part;
 mod tokens;
 mod value_faults;

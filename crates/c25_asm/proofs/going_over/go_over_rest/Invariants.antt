@@ -1,5 +1,5 @@
 use Rattle.std.proofs.Common.{◌≡◌}
-use Rattle.c25_macro.specs.Expander.{left_of}
+use Rattle.c25_macro.specs.NextLines.{weight_of}
 use Rattle.c25_macro.specs.Expanders.{expansion_of}
 use Rattle.c25_meaning_assembly.specs.AllFaults.{LinesGoneOver}
 use Rattle.c25_asm.specs.GoneOver.{HasRoom, StillComes, gone_over_of}
@@ -16,4 +16,4 @@ invariant-loop-line l = record {
 }
 
 abbrev pub decreases-loop-line : goal.decreases-loop-line
-decreases-loop-line l = left_of (expansion_of l.expander).stage
+decreases-loop-line l = weight_of (expansion_of l.expander).stage

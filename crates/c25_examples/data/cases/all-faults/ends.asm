@@ -1,3 +1,3 @@
         FOO
-        .endif                  ; a fault of expansion: nothing is read after it
+        .endif                  ; ends nothing
         BAR

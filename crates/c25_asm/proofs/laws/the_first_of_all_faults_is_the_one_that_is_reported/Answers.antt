@@ -1,7 +1,7 @@
 use Rattle.c25_meaning_assembly.specs.AllFaults.{all_faults}
 use Rattle.c25_meaning_assembly.specs.ModuleOfSource.{assembled}
 use Rattle.c25_asm.proofs.AllFaults.{first_is, none_then, source_has, whole_then}
-use Rattle.c25_asm.proofs.laws.the_first_of_all_faults_is_the_one_that_is_told.Goals as goal
+use Rattle.c25_asm.proofs.laws.the_first_of_all_faults_is_the_one_that_is_reported.Goals as goal
 
 pub returns-clause-none : goal.returns-clause-none
 returns-clause-none c = λ files name.

@@ -1,12 +1,12 @@
-//! Lines with the part that is refused, by the rules of lines, operands and directives.
+//! Tests of the part of a line that is refused, by the rules of lines, operands and directives.
 
-use crate::{Misfit, Part, RefusedValue, refused_part, refused_value};
 use c25_expr::Symbols;
 use c25_expr::symbols::Defined;
 use c25_meaning_common::failure::Failure;
 use c25_meaning_common::no_memory::NoMemory;
 use c25_meaning_language::statement::FaultKind;
 use c25_meaning_language::value::{Base, Value};
+use c25_places::{Misfit, Part, RefusedValue, refused_part, refused_value};
 use std::alloc::Global;
 use std::process::Abort;
 use std::test::Fail;

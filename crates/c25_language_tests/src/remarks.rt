@@ -1,0 +1,299 @@
+//! Tests of the remark on a line that is refused: lines as people write them, each with what it must say, or
+//! nothing.
+
+use c25_expr::Symbols;
+use c25_expr::symbols::Defined;
+use c25_hints::remark;
+use c25_meaning_common::failure::Failure;
+use c25_meaning_language::statement::FaultKind;
+use c25_meaning_language::value::{Base, Value};
+use std::alloc::Global;
+use std::process::Abort;
+use std::test::Fail;
+
+/// Stands for no remark.
+const NOTHING: &str = "";
+
+/// The symbols `K` 300, and `START` and `Loop`, which are addresses of `.text`.
+fn symbols(alloc: Global) -> Result<Symbols, Failure<Defined>> {
+    let mut symbols = Symbols::new(alloc);
+    let number = Value {
+        base: Base::Absolute,
+        offset: 300,
+    };
+    symbols.define("K", number)?;
+    let address = Value {
+        base: Base::Section(0),
+        offset: 0,
+    };
+    symbols.define("START", address)?;
+    symbols.define("Loop", address)?;
+    Ok(symbols)
+}
+
+/// Asserts that each of these lines, refused with this fault, has this remark.
+fn remarks_are(
+    rt: &impl Abort,
+    alloc: Global,
+    kind: FaultKind,
+    rows: &[(&str, &str)],
+) -> Result<(), Fail> {
+    let symbols = symbols(alloc)?;
+    for (line, wanted) in rows {
+        let found = remark(alloc, line, kind, &symbols)?;
+        let text = match &found {
+            Some(text) => text.as_str(),
+            None => NOTHING,
+        };
+        assert_eq!(rt; text, *wanted);
+    }
+    Ok(())
+}
+
+#[test]
+fn labels_are_remarked_on(rt: HostRuntime) -> Result<(), Fail> {
+    let rows = [
+        ("9X NOP", "a name begins with a letter or _"),
+        (".text", "a blank stands before a directive"),
+        ("X:NOP", "a blank stands after the colon of a label"),
+        ("A-B NOP", "a name has letters, digits, _ and $ alone"),
+        ("$1 NOP", "there are no local labels, as $1: write a name"),
+        (" .set 5", "this directive needs a label in column 1"),
+        (
+            " .usect \"v\",1",
+            "this directive needs a label in column 1",
+        ),
+        (
+            "\x1a",
+            "Ctrl-Z (1Ah), with which old files end: take it out",
+        ),
+        ("\x0c NOP", "a control character: take it out"),
+    ];
+    remarks_are(&rt, rt.alloc(), FaultKind::BadLabel, &rows)
+}
+
+#[test]
+fn constants_are_remarked_on(rt: HostRuntime) -> Result<(), Fail> {
+    let rows = [
+        (
+            " .word 12G",
+            "a constant has the digits 0 to 9, or ends in h, q or b",
+        ),
+        (
+            " LALK 0x10",
+            "a hexadecimal constant is written 0FFh, not 0xFF",
+        ),
+        (" LALK >00FF", "a hexadecimal constant ends in h"),
+        (" LALK 00FF", "a hexadecimal constant ends in h"),
+        (" LACK >1F", "a hexadecimal constant ends in h"),
+        (
+            " .word 8Q",
+            "a constant that ends in q has the digits 0 to 7",
+        ),
+        (" .word 2B", "a hexadecimal constant ends in h"),
+        (
+            " .word 1Gh",
+            "a constant that ends in h has the digits 0 to 9 and A to F",
+        ),
+        (
+            " .word 1xb",
+            "a hexadecimal constant is written 0FFh, not 0xFF",
+        ),
+        (
+            " .word 12zb",
+            "a constant that ends in b has the digits 0 and 1",
+        ),
+    ];
+    remarks_are(&rt, rt.alloc(), FaultKind::BadConstant, &rows)
+}
+
+#[test]
+fn quotes_are_remarked_on(rt: HostRuntime) -> Result<(), Fail> {
+    let rows = [
+        (" .string \"AB", "this quote of a string is not closed"),
+        (
+            " .word 'AB'",
+            "one character stands between two ': write 'A'*256+'B' for 'AB'",
+        ),
+        (" .word 'A", "one character stands between two '"),
+        (
+            " NOP it's a comment",
+            "a comment begins with ;, and an apostrophe stands in comments alone",
+        ),
+    ];
+    remarks_are(&rt, rt.alloc(), FaultKind::OpenQuote, &rows)
+}
+
+#[test]
+fn characters_are_remarked_on(rt: HostRuntime) -> Result<(), Fail> {
+    let rows = [
+        (" LACK #5", "there is no # before an operand"),
+        (
+            " LALK !1",
+            "write ~ to invert all bits, and =0 after a value for a logical not",
+        ),
+        (
+            " .float 3.14",
+            "there are no fractions: write the words, worked out beforehand",
+        ),
+        (
+            " .word é",
+            "characters that are not ASCII stand in comments alone",
+        ),
+        (" .word @", NOTHING),
+        (" LACK n?", "substitution left this: nothing has the name"),
+        (
+            " NOP \x1a",
+            "Ctrl-Z (1Ah), with which old files end: take it out",
+        ),
+    ];
+    remarks_are(&rt, rt.alloc(), FaultKind::StrayText, &rows)
+}
+
+#[test]
+fn expressions_are_remarked_on(rt: HostRuntime) -> Result<(), Fail> {
+    let rows = [
+        (" B 1+", "nothing stands after +"),
+        (" .word 1,", "an operand is missing"),
+        (" LAC ,4", "an operand is missing"),
+        (
+            " LACK 5 load it",
+            "put ; before load if a comment begins there",
+        ),
+        (
+            " LALK >10",
+            "a hexadecimal constant is written 0FFh, not >FF",
+        ),
+        (
+            " LALK >FF",
+            "a hexadecimal constant is written 0FFh, not >FF",
+        ),
+        (
+            " LAC *AR1",
+            "AR1 follows a comma, as in *,AR1 or, after a shift, *,0,AR1",
+        ),
+        (" B $1", "there are no local labels, as $1: write a name"),
+        (
+            " LAC 60h GET THE SAMPLE",
+            "put ; before GET if a comment begins there",
+        ),
+        (" .word 1 2", "an operator or a comma is missing before 2"),
+        (
+            " ADD *+,4 SHIFT",
+            "put ; before SHIFT if a comment begins there",
+        ),
+        (" LAC (1", NOTHING),
+        (" LAC 5*(", "nothing stands after ("),
+        (" .word A,*5", NOTHING),
+    ];
+    remarks_are(&rt, rt.alloc(), FaultKind::BadExpression, &rows)
+}
+
+#[test]
+fn undefined_names_are_remarked_on(rt: HostRuntime) -> Result<(), Fail> {
+    let rows = [
+        (" B X", NOTHING),
+        (
+            " B LOOP",
+            "upper and lower case differ in names: Loop is defined",
+        ),
+        (
+            " LALK FFh",
+            "a hexadecimal constant begins with a digit: 0FFh",
+        ),
+        (
+            " LALK bh",
+            "a hexadecimal constant begins with a digit: 0bh",
+        ),
+        (" B h", NOTHING),
+        (" SACL IMR", "IMR is a name that .mmregs defines"),
+        (" SACL greg", "GREG is a name that .mmregs defines"),
+        ("N .set M*2", NOTHING),
+        (
+            " .bss X,k",
+            "upper and lower case differ in names: K is defined",
+        ),
+        (" B STRAT", "similar: START"),
+        (" B LOPO", "similar: Loop"),
+        (" LALK K1", "similar: K"),
+    ];
+    remarks_are(&rt, rt.alloc(), FaultKind::Undefined, &rows)
+}
+
+#[test]
+fn unknown_words_are_remarked_on(rt: HostRuntime) -> Result<(), Fail> {
+    let rows = [
+        (" LOOP LACK 5", "a label begins in column 1: LOOP"),
+        (" LOOP .word 5", "a label begins in column 1: LOOP"),
+        (
+            "LACK 5",
+            "in column 1 LACK is a label: put a blank before it",
+        ),
+        ("K EQU 5", "a directive begins with a dot: .EQU"),
+        (" data 5", "in place of data write .word"),
+        (
+            " .long 1",
+            "in place of .long write .word n&0FFFFh,n>>16, or the halves swapped",
+        ),
+        (
+            " .asect \"v\",20h",
+            "in place of .asect write .sect, and an address in the command file",
+        ),
+        (
+            " .newblock",
+            "in place of .newblock write nothing, and names for local labels",
+        ),
+        (" LACC 5", "similar: LACT, LAC, LACK"),
+        (" LAC*", "similar: LACT, LAC, LACK"),
+        (" $END", "in place of $END write .endm"),
+        (" BNAZ 5", "similar: BNZ, BANZ, BNC"),
+        (" .wrod 5", "similar: .word"),
+        (" FOO 1", NOTHING),
+        (" LOOP", "similar: LTP, LDP, POP"),
+        (" END START", "a directive begins with a dot: .END"),
+        (" ENDIF", "a directive begins with a dot: .ENDIF"),
+    ];
+    remarks_are(&rt, rt.alloc(), FaultKind::UnknownMnemonic, &rows)
+}
+
+#[test]
+fn operand_counts_are_remarked_on(rt: HostRuntime) -> Result<(), Fail> {
+    let rows = [
+        (" LAC", "the form is LAC dma[,shift] | ind[,shift[,next]]"),
+        (" LACK 5,6", "the form is LACK constant"),
+        (" LARK AR1 5", "a comma is missing before 5"),
+        (" OUT 60h PA1", "a comma is missing before PA1"),
+        (" LARK 5", "the form is LARK ar,constant"),
+        (
+            " NOP do nothing",
+            "NOP has no operand; a comment begins with ;",
+        ),
+        (
+            " .endif 1",
+            ".endif has no operand; a comment begins with ;",
+        ),
+        (" .bss X", "the form is .bss name,words[,flag]"),
+        (" NORM *+,AR1", "the form is NORM [ind]"),
+    ];
+    remarks_are(&rt, rt.alloc(), FaultKind::OperandCount, &rows)
+}
+
+#[test]
+fn operand_forms_are_remarked_on(rt: HostRuntime) -> Result<(), Fail> {
+    let rows = [
+        (" LACK *", "the form is LACK constant"),
+        (" .word \"AB\"", "the form is .word value[,value]"),
+        (" .copy b.inc", "the form is .copy \"file\""),
+    ];
+    remarks_are(&rt, rt.alloc(), FaultKind::OperandForm, &rows)
+}
+
+#[test]
+fn values_are_remarked_on(rt: HostRuntime) -> Result<(), Fail> {
+    let rows = [
+        (" LACK 256", "LALK takes a longer number"),
+        (" LARK 9,5", NOTHING),
+        (" LACK K*2", "LALK takes a longer number"),
+    ];
+    remarks_are(&rt, rt.alloc(), FaultKind::FieldRange, &rows)
+}
