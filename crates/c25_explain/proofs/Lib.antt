@@ -1,6 +1,8 @@
 pub mod Columns
 pub mod NoteTexts
-pub mod Misfitted
+pub mod NotesShown
+pub mod Noticed
 pub mod Noted
 pub mod Openings
 pub mod ShownFaults
+pub mod ShownLinks

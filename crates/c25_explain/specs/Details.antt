@@ -95,3 +95,25 @@ value_text f = untaken_text f.value ++ base_text f.base f.name ++ addend_text f.
 -- the name of the module's file, the module's number, where the field is, and its value
 abbrev pub misfit_text : List ℕ → MisfitData → List ℕ
 misfit_text file f = file ++ codes ": module " ++ decimal f.number ++ codes ": " ++ field_text f ++ value_text f ++ codes "\n"
+
+-- ---- the modules that have a name: 70, 71, 76
+
+-- what a module does with a name: it uses it, defines it for all modules, or defines it for itself alone
+pub data Deed : Type 0 where
+  Uses : Deed
+  Defines : Deed
+  Keeps : Deed
+
+-- what a module does with a name
+unfoldable pub deed_text : Deed → List ℕ → List ℕ
+deed_text Uses name = codes " uses " ++ name
+deed_text Defines name = codes " defines " ++ name
+deed_text Keeps name = codes " defines " ++ name ++ codes " without .def " ++ name
+
+-- the name of the module's file, the module's number, and what it does with the name
+abbrev pub site_text : List ℕ → ℕ → Deed → List ℕ → List ℕ
+site_text file number deed name = file ++ codes ": module " ++ decimal number ++ deed_text deed name ++ codes "\n"
+
+-- that no module defines a name
+abbrev pub nowhere_text : List ℕ → List ℕ
+nowhere_text name = codes "no module defines " ++ name ++ codes "\n"

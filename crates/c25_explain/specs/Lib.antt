@@ -3,7 +3,8 @@ pub mod Note
 pub mod AllFaults
 pub mod Details
 pub mod LinkNotes
-pub mod Misfits
+pub mod Again
+pub mod SiteView
 pub mod Notes
 pub mod Places
 pub mod Refusals

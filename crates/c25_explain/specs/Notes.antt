@@ -10,6 +10,7 @@ use Rattle.c25_disk.specs.Held.{Held, IsAllOf}
 use Rattle.c25_disk.specs.declared.fault.FileFault.{FileFault}
 use Rattle.c25_disk.specs.declared.fault.FileFault.TheVariants.{CannotWrite, CannotRead, FileTwice}
 use Rattle.c25_chain.specs.Refusal.{refusal_of}
+use Rattle.c25_explain.specs.Again.{ShowsOtherLinks}
 use Rattle.c25_explain.specs.AllFaults.{ShowsOthers}
 use Rattle.c25_explain.specs.Note.{IsNoteOf, line_of}
 use Rattle.c25_explain.specs.declared.fault.AnyFault.{AnyFault}
@@ -130,22 +131,24 @@ IsExplanation held true named refusal text =
     IsExplained held (place_of named.files named.script refusal) (text_of named.files.command) (texts_of named.sources.now) (texts_of named.objects.now) refusal text ⊎ (text ≡ [])
 IsExplanation held false named refusal text = text ≡ []
 
--- the lines of all other faults of the sources where they are asked for and the fault is of a source
-abbrev pub AreOthers : Held → (all : Bool) → NamedFiles → ChainFault (String Global) → List ℕ → Type 0
-AreOthers held true named (Source placed) text = ShowsOthers held (texts_of named.sources.now) (refusal_of (Source placed)) text
-AreOthers held true named (NoFile file line name) text = ShowsOthers held (texts_of named.sources.now) (refusal_of (NoFile file line name)) text
-AreOthers held true named (Object placed) text = text ≡ []
-AreOthers held true named (Command placed) text = text ≡ []
-AreOthers held true named (Link placed) text = text ≡ []
-AreOthers held true named (Hex placed) text = text ≡ []
-AreOthers held true named (Schedule line) text = text ≡ []
-AreOthers held true named (Samples line) text = text ≡ []
-AreOthers held true named (Script line) text = text ≡ []
-AreOthers held true named (File placed) text = text ≡ []
-AreOthers held false named refusal text = text ≡ []
+-- the lines of all other faults of the sources or of linking, where they are asked for and the fault is one of
+-- these
+abbrev pub AreOthers : Held → (explain all : Bool) → NamedFiles → ChainFault (String Global) → List ℕ → Type 0
+AreOthers held explain true named (Source placed) text = ShowsOthers held (texts_of named.sources.now) (refusal_of (Source placed)) text
+AreOthers held explain true named (NoFile file line name) text = ShowsOthers held (texts_of named.sources.now) (refusal_of (NoFile file line name)) text
+AreOthers held explain true named (Object placed) text = text ≡ []
+AreOthers held explain true named (Command placed) text = text ≡ []
+AreOthers held explain true named (Link placed) text =
+    ShowsOtherLinks explain held (text_of named.files.command) (texts_of named.sources.now) (texts_of named.objects.now) (refusal_of (Link placed)) text
+AreOthers held explain true named (Hex placed) text = text ≡ []
+AreOthers held explain true named (Schedule line) text = text ≡ []
+AreOthers held explain true named (Samples line) text = text ≡ []
+AreOthers held explain true named (Script line) text = text ≡ []
+AreOthers held explain true named (File placed) text = text ≡ []
+AreOthers held explain false named refusal text = text ≡ []
 
 -- the note of a fault: its explanation, then the lines of all other faults; or nothing, where memory runs out
 abbrev pub IsNoted : Held → Notes → ChainFault (String Global) → List ℕ → Type 0
 IsNoted held Nothing refusal note = note ≡ []
 IsNoted held (After options named) refusal note =
-    ((explanation others : List ℕ) × IsExplanation held options.explain named refusal explanation × AreOthers held options.all named refusal others × (note ≡ explanation ++ others)) ⊎ (note ≡ [])
+    ((explanation others : List ℕ) × IsExplanation held options.explain named refusal explanation × AreOthers held options.explain options.all named refusal others × (note ≡ explanation ++ others)) ⊎ (note ≡ [])

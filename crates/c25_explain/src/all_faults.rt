@@ -161,7 +161,7 @@ impl Work for AllFaults<'_> {
 
 /// What follows the line of a fault in a text, if that line comes first; empty where it does not, or memory
 /// runs out.
-fn after_line(alloc: Global, text: &str, refusal: &ChainFault<String>) -> String
+pub(crate) fn after_line(alloc: Global, text: &str, refusal: &ChainFault<String>) -> String
     ensures { Follows (refusal_of refusal.now) text.now (string_bytes result) ⊎ (string_bytes result ≡ []) }
 {
     let Ok(line) = write_refusal(alloc, refusal) else {

@@ -1,6 +1,7 @@
 //! What each fault means, and what is reported after the line of a fault.
 #![tactic(auto)]
 
+mod again;
 mod all_faults;
 mod command_file;
 mod expansion;
@@ -8,11 +9,14 @@ pub mod explanation;
 pub mod fault;
 mod fields;
 mod files;
+mod link_faults;
 mod link_notes;
 mod linking;
 mod misfits;
 pub mod named;
+mod named_sites;
 pub mod note;
+mod note_lines;
 pub mod notes;
 mod numbers;
 mod objects;

@@ -4,7 +4,7 @@ ghost use Rattle.std.specs.Prelude.{string_bytes};
 ghost use Rattle.c25_options.specs.Task.{text_of, texts_of};
 ghost use Rattle.c25_explain.specs.LinkNotes.{ShowsLink, ShowsMissing, ShowsOf, ShowsStanding};
 
-use crate::misfits::field_text;
+use crate::again::{Asked, asked_text};
 use crate::named::NamedFiles;
 use crate::ranges::missing_text;
 use crate::standing::refused_text;
@@ -81,7 +81,8 @@ fn range_text<D: Disk>(alloc: Global, disk: &D, file: Option<&str>, section: &st
 }
 
 /// The note of a fault of linking: of 72 the range that the section lacks, of 75 the field that does not take
-/// its value. The files are read again; the note is empty where they cannot be read or memory runs out.
+/// its value, of 70, 71 and 76 the modules that use or define the name. The files are read again; the note is
+/// empty where they cannot be read or memory runs out.
 pub(crate) fn link_text<D: Disk>(
     alloc: Global,
     disk: &D,
@@ -90,14 +91,14 @@ pub(crate) fn link_text<D: Disk>(
 ) -> String
     ensures { ShowsLink (D.bytes_of disk.now) (text_of named.entry.files.command) (texts_of named.entry.sources.now) (texts_of named.entry.objects.now) refusal.now.fault (string_bytes refusal.now.place) (string_bytes result) }
 {
-    match refusal.fault {
-        LinkFault::NoRange => range_text(alloc, disk, named.files.command, refusal.place.as_str()),
-        LinkFault::RelocRange => field_text(alloc, disk, named),
-        LinkFault::Unresolved
-        | LinkFault::DefinedTwice
-        | LinkFault::DoesNotFit
-        | LinkFault::Overlap
-        | LinkFault::NoEntry
-        | LinkFault::BadRun => String::new(alloc),
+    let name = refusal.place.as_str();
+    let fault = refusal.fault;
+    match fault {
+        LinkFault::Unresolved | LinkFault::DefinedTwice | LinkFault::NoEntry => {
+            asked_text(alloc, disk, named, Asked::Name { fault, name })
+        }
+        LinkFault::NoRange => range_text(alloc, disk, named.files.command, name),
+        LinkFault::RelocRange => asked_text(alloc, disk, named, Asked::Field),
+        LinkFault::DoesNotFit | LinkFault::Overlap | LinkFault::BadRun => String::new(alloc),
     }
 }

@@ -8,6 +8,7 @@ ghost use Rattle.c25_explain.specs.Notes.{AreNotesFor, AreOthers, IsExplained, I
 
 use crate::all_faults::others_text;
 use crate::fault::AnyFault;
+use crate::link_faults::other_links_text;
 use crate::link_notes::{link_text, standing_text};
 use crate::named::NamedFiles;
 use crate::note::{Shown, Unread, explained, line_of};
@@ -238,25 +239,26 @@ fn explanation_text<D: Disk>(
     }
 }
 
-/// The lines of all other faults of the sources, where they are asked for and the fault is of a source.
+/// The lines of all other faults of the sources or of linking, where they are asked for and the fault is one
+/// of these.
 fn other_faults<D: Disk>(
     alloc: Global,
     disk: &D,
-    all: bool,
+    options: FaultOptions,
     named: NamedFiles<'_>,
     refusal: &ChainFault<String>,
 ) -> String
-    ensures { AreOthers (D.bytes_of disk.now) all named.entry refusal.now (string_bytes result) }
+    ensures { AreOthers (D.bytes_of disk.now) options.explain options.all named.entry refusal.now (string_bytes result) }
 {
-    if !all {
+    if !options.all {
         return String::new(alloc);
     }
     match refusal {
         ChainFault::Source(_) | ChainFault::NoFile { .. } => {
             others_text(alloc, disk, named.sources, refusal)
         }
+        ChainFault::Link(_) => other_links_text(alloc, disk, named, options.explain, refusal),
         ChainFault::Command(_)
-        | ChainFault::Link(_)
         | ChainFault::Object(_)
         | ChainFault::Hex(_)
         | ChainFault::Schedule { .. }
@@ -290,6 +292,6 @@ pub fn note_of<D: Disk>(
         return String::new(alloc);
     };
     let explanation = explanation_text(alloc, disk, options.explain, named, refusal);
-    let others = other_faults(alloc, disk, options.all, named, refusal);
+    let others = other_faults(alloc, disk, options, named, refusal);
     joined(alloc, explanation, others.as_str())
 }

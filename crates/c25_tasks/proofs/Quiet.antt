@@ -61,14 +61,14 @@ explanation_anew held other true named f text is (inl (behind, none, explained))
 explanation_anew held other true named f text is (inr none) = inr none
 explanation_anew held other false named f text is none = none
 
-others_anew : (held other : Held) (all : Bool) (named : NamedFiles) (f : Placed (String Global) FileFault) (text : List ℕ) → AreOthers held all named (File f) text → AreOthers other all named (File f) text
-others_anew held other true named f text none = none
-others_anew held other false named f text none = none
+others_anew : (held other : Held) (explain all : Bool) (named : NamedFiles) (f : Placed (String Global) FileFault) (text : List ℕ) → AreOthers held explain all named (File f) text → AreOthers other explain all named (File f) text
+others_anew held other explain true named f text none = none
+others_anew held other explain false named f text none = none
 
 noted_anew : (held other : Held) (notes : Notes) (f : Placed (String Global) FileFault) (note : List ℕ) → f.fault ≡ CannotWrite → IsNoted held notes (File f) note → IsNoted other notes (File f) note
 noted_anew held other Nothing f note is noted = noted
 noted_anew held other (After options named) f note is (inl (explanation, others, explained, listed, same)) =
-    inl (explanation, others, explanation_anew held other options.explain named f explanation is explained, others_anew held other options.all named f others listed, same)
+    inl (explanation, others, explanation_anew held other options.explain named f explanation is explained, others_anew held other options.explain options.all named f others listed, same)
 noted_anew held other (After options named) f note is (inr none) = inr none
 
 of_refusal_anew : (held other : Held) (notes : Notes) (f : Placed (String Global) FileFault) (e : Ending) (note : List ℕ) → f.fault ≡ CannotWrite → IsReportOf held notes (failure.Fault (File f)) e note → IsReportOf other notes (failure.Fault (File f)) e note

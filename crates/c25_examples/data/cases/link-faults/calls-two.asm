@@ -1,0 +1,4 @@
+ .ref OUT,IN
+ CALL IN
+ CALL OUT
+ CALL IN

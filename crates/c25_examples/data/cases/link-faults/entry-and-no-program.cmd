@@ -1,0 +1,2 @@
+-e MAIN
+MEMORY { PAGE 1 : D : o = 300h, l = 10h }

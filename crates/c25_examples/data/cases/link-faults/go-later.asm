@@ -1,0 +1,3 @@
+ .def GO
+ NOP
+GO NOP

@@ -1,0 +1,2 @@
+ .def GO
+GO .set 3

@@ -1,0 +1,2 @@
+ .def GO
+GO NOP

@@ -1,0 +1,1 @@
+SECTIONS { .data : > TABLE .text : > ROM }

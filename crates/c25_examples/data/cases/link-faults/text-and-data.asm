@@ -1,0 +1,3 @@
+ B 0
+ .data
+ .word 1

@@ -1,0 +1,2 @@
+MEMORY { PAGE 0 : P : o = 0, l = 1 }
+SECTIONS { .text : > P .data : > TABLE }

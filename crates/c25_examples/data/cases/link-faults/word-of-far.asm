@@ -1,0 +1,2 @@
+ .ref FAR
+ .word FAR

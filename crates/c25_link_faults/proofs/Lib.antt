@@ -1,0 +1,6 @@
+pub mod Beside
+pub mod First
+pub mod Lacked
+pub mod More
+pub mod Others
+pub mod Twice

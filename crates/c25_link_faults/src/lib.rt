@@ -1,0 +1,15 @@
+//! All faults of modules that are linked under a command, and what each of them is about.
+#![tactic(auto)]
+
+mod all;
+mod definitions;
+mod lacking;
+mod lines;
+mod names;
+mod ranges;
+mod sections;
+mod sites;
+mod uses;
+
+pub use all::all_link_faults;
+pub use sites::{Site, definition_sites, local_sites, use_sites};
