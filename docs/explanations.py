@@ -3,9 +3,9 @@
 
 usage: python3 docs/explanations.py [--write | --check]     (from the top of the repository)
 
-It prints the explanation of each fault. --write puts the explanations into crates/c25_explain/src, a file for each group of faults
-of the page; --check names each of these files that is missing or differs from what --write would write, and ends with status 1 where
-there is one.
+It prints the explanation of each fault and of each end of a run. --write puts the explanations into crates/c25_explain/src, a file for
+each group of faults of the page and one for the ends of runs; --check names each of these files that is missing or differs from what
+--write would write, and ends with status 1 where there is one.
 
 An explanation is the fault's heading, as `53 FieldRange`, and what its section has, in three parts:
 
@@ -14,6 +14,9 @@ An explanation is the fault's heading, as `53 FieldRange`, and what its section 
   blanks. The other examples, and the blocks of lines that give the same fault, are on the page only: a reader at a terminal wants one
   case that can be seen at once;
 - the advice: the text after the examples. Its last paragraph begins with `Do:`.
+
+The end of a run that leaves the code, as OutOfCode, has no number: its explanation is its name, the paragraph of the page that begins
+with it, and the example after that.
 
 Paragraphs are printed in lines of at most 100 columns, without the marks of links, and without the backquotes of code that has a
 letter or a digit. Code of signs alone, as `;`, keeps its backquotes, since nothing else would separate it from the sentence. Tables
@@ -37,6 +40,7 @@ GROUPS = {
     "Maps and hex texts": ("written_texts", "Hex", "c25_hex", "hex_fault.HexFault"),
     "Files and memory": ("files", "File", "c25_disk", "fault.FileFault"),
 }
+ENDS = ("What is not a fault", "run_end_texts")  # the group that has the ends of runs, and their file
 # The faults that are variants of `AnyFault` themselves.
 ALONE = {"NoMemory": "Memory", "BadMap": "Map", "BadSchedule": "Schedule", "BadSamples": "Samples", "BadCommand": "Script"}
 
@@ -89,12 +93,26 @@ def parts(body):
     return ["\n\n".join(part) + "\n" if part else "" for part in (meaning, example, advice)]
 
 
+def summary(meaning):
+    """The first sentence of a meaning, in one line, as the list of all faults has it."""
+    paragraph = " ".join(meaning.partition("\n\n")[0].split())
+    return re.match(r".*?\.(?=\s|$)", paragraph)[0]
+
+
 def explanations():
     """For each group that has faults: their headings and the parts of their explanations."""
     for title, body in sections(text_of(PAGE), "##"):
         faults = {heading: parts(section) for heading, section in sections(body, "###")}
         if faults:
             yield title, faults
+
+
+def ends():
+    """The ends of runs: their names with the meaning and the example."""
+    body = dict(sections(text_of(PAGE), "##"))[ENDS[0]]
+    for name, text in re.findall(r"(?ms)^`(\w+)`: (.*?)(?=^`\w+`: |\Z)", body):
+        meaning, example, _ = parts(text[0].upper() + text[1:])
+        yield name, meaning, example
 
 
 def whole(heading, parts_of_it):
@@ -113,12 +131,31 @@ def function(heading, parts_of_it, variant):
     """The function that returns the explanation of a fault, as `field_range` for `53 FieldRange`."""
     number, name = heading.split()
     fault = ALONE.get(name) or f"({variant} fault.{name})"
-    snake = re.sub(r"(?<=[a-z])(?=[A-Z])", "_", name).lower()
     meaning, example, advice = parts_of_it
     example = f"Some(\n            {literal(example)},\n        )" if example else "None"
     fields = [f"number: {number}", f'name: "{name}"', f"meaning: {literal(meaning)}", f"example: {example}", f"advice: {literal(advice)}"]
     body = "".join(f"        {field},\n" for field in fields)
-    return f"pub(crate) fn {snake}() -> Explanation\n    ensures {{ IsExplanationOf {fault} result }}\n{{\n    Explanation {{\n{body}    }}\n}}\n"
+    return f"pub(crate) fn {snake_case(name)}() -> Explanation\n    ensures {{ IsExplanationOf {fault} result }}\n{{\n    Explanation {{\n{body}    }}\n}}\n"
+
+
+def snake_case(name):
+    return re.sub(r"(?<=[a-z])(?=[A-Z])", "_", name).lower()
+
+
+def ends_source():
+    """The file of the ends of runs."""
+    head = [
+        f"//! Ends of runs: explanations, made of {PAGE} by docs/explanations.py --write.\n",
+        "ghost use Rattle.std.specs.Prelude.{◌≡◌};",
+        "ghost use Rattle.c25_meaning_processor.specs.RunText.{stop_name};",
+        "ghost use Rattle.c25_meaning_processor.specs.declared.stop.Stop.TheVariants as stop;",
+        "\nuse crate::run_ends::RunEnd;\n",
+    ]
+    for name, meaning, example in ends():
+        fields = [f'name: "{name}"', f"meaning: {literal(meaning)}", f"example: {literal(example)}"]
+        body = "".join(f"        {field},\n" for field in fields)
+        head.append(f"pub(crate) fn {snake_case(name)}() -> RunEnd\n    ensures {{ result.name.now ≡ stop_name stop.{name} }}\n{{\n    RunEnd {{\n{body}    }}\n}}\n")
+    return "\n".join(head)
 
 
 def source(title, faults):
@@ -137,7 +174,8 @@ def source(title, faults):
 
 
 def sources():
-    return {f"{FOLDER}/{GROUPS[title][0]}.rt": source(title, faults) for title, faults in explanations()}
+    groups = {f"{FOLDER}/{GROUPS[title][0]}.rt": source(title, faults) for title, faults in explanations()}
+    return {**groups, f"{FOLDER}/{ENDS[1]}.rt": ends_source()}
 
 
 def main(words):
@@ -150,7 +188,8 @@ def main(words):
         wrong = [path for path, text in sources().items() if not os.path.isfile(path) or text_of(path) != text]
         print("\n".join(f"{path} is not what python3 docs/explanations.py --write makes of {PAGE}" for path in wrong) or f"the explanations are those of {PAGE}")
         return 1 if wrong else 0
-    print("\n".join(whole(heading, text) for _, faults in explanations() for heading, text in faults.items()), end="")
+    faults = [whole(heading, text) for _, group in explanations() for heading, text in group.items()]
+    print("\n".join(faults + [whole(name, (meaning, example)) for name, meaning, example in ends()]), end="")
     return 0
 
 

@@ -13,7 +13,7 @@ and ends with status 1 where there is one.
 | AR0 to AR7, PA0 to PA15 | `predefined` of crates/c25_meaning_language/specs/Value.antt |
 | the names of .mmregs | `register_names` of crates/c25_meaning_assembly/specs/Sections.antt |
 | subcommands, options, their texts, the version | crates/c25_options/src/program.rt and arguments.rt |
-| numbers of faults | crates/c25_explain/src/numbers.rt |
+| numbers and names of faults | the explanations in crates/c25_explain/src |
 
 A file has its names between a line with `[names]` and a line with `[end]`; in the two files of JSON they are the values of some members.
 All else in these files is written by hand. The version is also put into docs/manual/program.md and into the case `option-version` of
@@ -22,6 +22,7 @@ c25_examples, and CHANGELOG.md must have it as its newest.
 The command line is read by evaluating what the functions of program.rt and arguments.rt make: a small part of Rust, `let`, calls, chains
 of methods and literals. What is outside that part ends this script with a message, so that no option is left out without a word.
 """
+import glob
 import json
 import re
 import sys
@@ -70,8 +71,11 @@ def memory_mapped():
     return re.findall(r'codes "(\w+)"', text)
 
 
-def fault_numbers():
-    return re.findall(r"(?m)^ +(\d+) => Some\(AnyFault::", text_of(CRATES + "c25_explain/src/numbers.rt"))
+def faults():
+    """The numbers and the names of all faults, by rising numbers."""
+    texts = [text_of(path) for path in sorted(glob.glob(CRATES + "c25_explain/src/*.rt"))]
+    found = sorted({(int(number), name) for text in texts for number, name in re.findall(r'(?m)^ +number: (\d+),\n +name: "(\w+)",$', text)})
+    return [str(number) for number, _ in found] + [name for _, name in found]
 
 
 # The command line.
@@ -242,8 +246,8 @@ def bash():
     """The subcommands, the options of each, and the options that a word that is not a file follows."""
     program = command_line()
     made = f"_c25_subcommands='{' '.join(it.name for it in program.subcommand)}'\n"
-    made += f"_c25_numbers='{' '.join(fault_numbers())}'\n_c25_options() {{\n  case $1 in\n"
-    others = {"--help", "--version"}
+    made += f"_c25_faults='{' '.join(faults())}'\n_c25_options() {{\n  case $1 in\n"
+    others = {"--all", "--explain", "--help", "--version"}
     for it in program.subcommand:
         found = [name for names, _, _ in options(it) for name in names if name.startswith("--")]
         made += f"    {it.name}) echo '{' '.join(found + ['--help'])}' ;;\n"
@@ -257,11 +261,17 @@ def roff(text):
     return re.sub(r"(?m)^(?=[.'])", r"\\&", text.replace("\\", "\\e").replace("-", "\\-"))
 
 
+def operand_shown(operand):
+    """An operand in the line of a subcommand: in brackets where it may be left out, with two points where there may be several."""
+    shown = f"\\fI{roff(operand.get('value_name'))}\\fR" + ".." * (operand.get("num_args") is not None)
+    return shown if operand.get("required") else f"[{shown}]"
+
+
 def manual_page():
     program = command_line()
     made = ""
     for it in program.subcommand:
-        words = [f"\\fB{roff(it.name)}\\fR"] + [f"\\fI{roff(a.get('value_name'))}\\fR" + ".." * (a.get("num_args") is not None) for a in operands(it)]
+        words = [f"\\fB{roff(it.name)}\\fR"] + [operand_shown(a) for a in operands(it)]
         made += f".SS {' '.join(words)}\n{roff(it.get('about'))}.\n"
         rows = [([], f"\\fI{roff(a.get('value_name'))}\\fR", a) for a in operands(it)]
         rows += [(names, f"\\fI{roff(value)}\\fR" if value else "", a) for names, value, a in options(it)]

@@ -538,8 +538,9 @@ def bash(folder):
     program = make.command_line()
     names = {it.name for it in program.subcommand}
     options = {it.name: {name for names, _, _ in make.options(it) for name in names if name.startswith("--")} | {"--help"} for it in program.subcommand}
-    cases = [("c25 ", names), ("c25 d", {it for it in names if it.startswith("d")}), ("c25 --v", {"--version"}), ("c25 run --s", {it for it in options["run"] if it.startswith("--s")}),
-             ("c25 run one", {"one.asm"}), ("c25 run one.asm --steps ", set()), ("c25 explain 5", {it for it in make.fault_numbers() if it.startswith("5")}),
+    cases = [("c25 ", names | {"help"}), ("c25 d", {it for it in names if it.startswith("d")}), ("c25 --v", {"--version"}), ("c25 run --s", {it for it in options["run"] if it.startswith("--s")}),
+             ("c25 run one", {"one.asm"}), ("c25 run one.asm --steps ", set()), ("c25 explain 5", {it for it in make.faults() if it.startswith("5")}), ("c25 explain Bad", {it for it in make.faults() if it.startswith("Bad")}),
+             ("c25 help d", {it for it in names if it.startswith("d")}), ("c25 --ex", {"--explain"}), ("c25 --explain bu", {"build"}), ("c25 --explain --all build --", options["build"]),
              ("c25 run one.asm --command on", {"one.asm"}), ("c25 run one.asm --command = on", {"one.asm"}), ("c25 asm --", options["asm"])]
     for line, wanted in cases:
         words = line.split() + [""] * line.endswith(" ")

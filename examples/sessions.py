@@ -19,7 +19,8 @@ folder its commands, each followed by what a terminal shows, and for packed case
   same page and of `parts.txt` here, which has for each example the line as it is read and the carets below its part that
   is refused. `pages/faults` has the other examples: calls of a library on a file, which a session has too.
 - `cases/NAME` is used as it is, with its files, its `session` and its `output.txt`: what a terminal shows, where a line
-  `{NUMBER}` stands for what `--explain` prints about the fault of that number after the line that it shows.
+  `{NUMBER}` stands for what `--explain` prints about the fault of that number after the line that it shows, and a line
+  `{faults}` for the list of all faults.
 - `cases/*.cases` and `random/*.cases` are used as they are.
 
 The program itself is not run here: `rt ci` runs it.
@@ -51,7 +52,7 @@ LIBRARY = ("read_hex", "read_map", "run_chain", "line_of", "list", "values")
 # Commands of other programs that show something: what they show is not compared.
 OTHERS = ("ls", "od ", "cmp ")
 # The subcommands that take `--explain`.
-EXPLAINING = ("asm", "link", "build", "run", "debug")
+EXPLAINING = ("asm", "link", "build", "run", "debug", "dis")
 # For the examples whose fault is in a body or in a copied file: the lines of `a.asm` that led there, the innermost first, and how
 # often each did: calls, `.copy`, and `.endloop`, which starts the turns of its loop.
 LED = {
@@ -230,12 +231,21 @@ def notes():
             for _, faults in explanations.explanations() for heading, (meaning, _, advice) in faults.items()}
 
 
+def list_of_faults():
+    """The line of each fault in the list that `c25 explain` prints: number, name, and the first sentence of its meaning."""
+    told = {heading: explanations.summary(parts[0]) for _, faults in explanations.explanations() for heading, parts in faults.items()}
+    return ["%s: %s" % (heading, told[heading]) for heading in sorted(told, key=lambda heading: int(heading.split()[0]))]
+
+
 def with_notes(lines):
-    """Lines in which a line `{NUMBER}` stands for the note of a fault."""
+    """Lines in which a line `{NUMBER}` stands for the note of a fault, and `{faults}` for the list of all."""
     told = notes()
     for line in lines:
         number = re.fullmatch(r"\{(\d+)\}", line)
-        yield from told[number[1]].splitlines() if number else [line]
+        if line == "{faults}":
+            yield from list_of_faults()
+        else:
+            yield from told[number[1]].splitlines() if number else [line]
 
 
 def case_folders():

@@ -1,4 +1,8 @@
 pub mod Columns
+pub mod NumberedFaults
+pub mod Below
+pub mod NoEnd
+pub mod Sentences
 pub mod NoteTexts
 pub mod NotesShown
 pub mod Noticed

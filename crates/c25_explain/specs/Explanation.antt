@@ -1,5 +1,6 @@
 -- What an explanation is of, what it says as a whole, and which numbers have one.
-use Rattle.std.specs.Prelude.{◌≡◌, ℕ, List, ◌++◌, Option, Some, None, codes}
+use Rattle.std.specs.Char.{to_ascii_lowercase}
+use Rattle.std.specs.Prelude.{◌≡◌, ℕ, ◌<◌, All, AllPairs, Any, List, [], ◌∷◌, ◌++◌, Option, Some, None, codes, map}
 use Rattle.std.specs.Borrow.{Bor}
 use Rattle.c25_disk.specs.FaultNames.{file_fault_name, file_fault_number}
 use Rattle.c25_meaning_linking.specs.CommandFaults.{command_name, command_number}
@@ -8,6 +9,7 @@ use Rattle.c25_hex.specs.Faults.{hex_name, hex_number}
 use Rattle.c25_meaning_language.specs.Faults.{fault_name, fault_number}
 use Rattle.c25_meaning_objects.specs.Faults.{object_name, object_number}
 use Rattle.c25_meaning_linking.specs.LinkFaults.{link_name, link_number}
+use Rattle.c25_explain.specs.Sentence.{first_sentence}
 use Rattle.c25_explain.specs.declared.fault.AnyFault.{AnyFault}
 use Rattle.c25_explain.specs.declared.fault.AnyFault.TheVariants.{Memory, Source, Object, Command, Link, Map, Hex, Schedule, Samples, Script, File}
 use Rattle.c25_explain.specs.declared.parts.Explanation.{Explanation}
@@ -63,6 +65,22 @@ abbrev pub Explains : ℕ → Option Explanation → Type 0
 Explains number None = IsFaultOf number None
 Explains number (Some explanation) = (fault : AnyFault) × IsFaultOf number (Some fault) × IsExplanationOf fault explanation
 
+-- two names are alike but for the case of their letters
+abbrev pub IsAlike : List ℕ → List ℕ → Type 0
+IsAlike name other = map to_ascii_lowercase name ≡ map to_ascii_lowercase other
+
+-- the answer to a name, whatever the case of its letters: the explanation of the fault that has it, or nothing
+-- where no fault has it
+abbrev pub ExplainsName : List ℕ → Option Explanation → Type 0
+ExplainsName name None = (fault : AnyFault) → IsAlike (name_of fault) name → ⊥
+ExplainsName name (Some explanation) = (fault : AnyFault) × IsAlike (name_of fault) name × IsExplanationOf fault explanation
+
+-- the explanations of all faults, by rising numbers
+pub record AreAll (explanations : List Explanation) : Type 0 where
+  pub only : All (λ e. (fault : AnyFault) × IsExplanationOf fault e) explanations
+  pub each : (fault : AnyFault) → Any (IsExplanationOf fault) explanations
+  pub rising : AllPairs (λ e later. e.number < later.number) explanations
+
 -- ---- texts
 
 -- number and name, meaning, example if there is one, and advice, with an empty line between them
@@ -73,3 +91,16 @@ text_with (Some example) e = numbered e.number e.name.now ++ codes "\n\n" ++ e.m
 -- all of an explanation
 abbrev pub whole_text : Explanation → List ℕ
 whole_text e = text_with e.example e
+
+-- the line of a fault in the list of all: its number and name, and the first sentence of what it means
+abbrev pub summary_line : Explanation → List ℕ
+summary_line e = numbered e.number e.name.now ++ codes ": " ++ first_sentence e.meaning.now ++ codes "\n"
+
+-- the lines of faults
+abbrev pub summaries : List Explanation → List ℕ
+summaries [] = []
+summaries (e ∷ es) = summary_line e ++ summaries es
+
+-- a text is the list of all faults
+abbrev pub IsSummaryOfAll : List ℕ → Type 0
+IsSummaryOfAll text = (explanations : List Explanation) × AreAll explanations × (text ≡ summaries explanations)

@@ -1,4 +1,7 @@
 pub mod Explanation
+pub mod Below
+pub mod RunEnds
+pub mod Sentence
 pub mod Note
 pub mod AllFaults
 pub mod Details

@@ -1,5 +1,5 @@
 -- The note of a fault after its line.
-use Rattle.std.specs.Prelude.{◌≡◌, ◌⊎◌, ℕ, ◌+◌, ◌==◌, Bool, true, false, List, [], ◌++◌, take, count_by, Option, Some, None, String, option_map}
+use Rattle.std.specs.Prelude.{◌≡◌, ◌⊎◌, ℕ, ◌+◌, ◌==◌, Bool, true, false, List, [], ◌++◌, take, count_by, Option, Some, None, String, option_map, slice_get}
 use Rattle.std.specs.Borrow.{Bor}
 use Rattle.std.specs.Str.{IsUtf8, IsValidUpTo}
 use Rattle.std.specs.String.{string_bytes}
@@ -39,19 +39,19 @@ AreNotesFor options files script sources objects Nothing = ⊥
 abbrev pub at_line : Option (List ℕ) → ℕ → Option (List ℕ × ℕ)
 at_line name line = option_map (λ file. (file, line)) name
 
--- the file and the number of the line where a fault is, if it is in a line: the files are the names of the
--- command file, the samples, the schedule and the script
-abbrev pub place_of : RunFiles → Option (Bor (List ℕ)) → ChainFault (String Global) → Option (List ℕ × ℕ)
-place_of files script (Source placed) = Some (string_bytes placed.place.file, placed.place.line)
-place_of files script (NoFile file line name) = Some (string_bytes file, line)
-place_of files script (Command placed) = at_line (text_of files.command) placed.place
-place_of files script (Samples line) = at_line (text_of files.samples) line
-place_of files script (Schedule line) = at_line (text_of files.schedule) line
-place_of files script (Script line) = at_line (text_of script) line
-place_of files script (Object placed) = None
-place_of files script (Link placed) = None
-place_of files script (Hex placed) = None
-place_of files script (File placed) = None
+-- the file and the number of the line where a fault is, if it is in a line, with the names of the files that
+-- a task reads; a hex text is the first of the objects
+abbrev pub place_of : NamedFiles → ChainFault (String Global) → Option (List ℕ × ℕ)
+place_of named (Source placed) = Some (string_bytes placed.place.file, placed.place.line)
+place_of named (NoFile file line name) = Some (string_bytes file, line)
+place_of named (Command placed) = at_line (text_of named.files.command) placed.place
+place_of named (Samples line) = at_line (text_of named.files.samples) line
+place_of named (Schedule line) = at_line (text_of named.files.schedule) line
+place_of named (Script line) = at_line (text_of named.script) line
+place_of named (Object placed) = None
+place_of named (Link placed) = None
+place_of named (Hex placed) = at_line (text_of (slice_get named.objects.now 0)) placed.place
+place_of named (File placed) = None
 
 -- the line of this number of the file's text, or nothing where there is no such line
 abbrev pub IsLineOf : (file : List ℕ) → (number : ℕ) → (text : List ℕ) → Shown → Type 0
@@ -128,7 +128,7 @@ IsExplained held place command sources objects refusal note =
 -- the explanation of a fault where it is asked for, unless memory runs out
 abbrev pub IsExplanation : Held → (explain : Bool) → NamedFiles → ChainFault (String Global) → List ℕ → Type 0
 IsExplanation held true named refusal text =
-    IsExplained held (place_of named.files named.script refusal) (text_of named.files.command) (texts_of named.sources.now) (texts_of named.objects.now) refusal text ⊎ (text ≡ [])
+    IsExplained held (place_of named refusal) (text_of named.files.command) (texts_of named.sources.now) (texts_of named.objects.now) refusal text ⊎ (text ≡ [])
 IsExplanation held false named refusal text = text ≡ []
 
 -- the lines of all other faults of the sources or of linking, where they are asked for and the fault is one of

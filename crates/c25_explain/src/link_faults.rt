@@ -1,6 +1,6 @@
 //! All faults of linking, for `--all`.
 
-ghost use Rattle.std.specs.Prelude.{◌≡◌, ◌⊎◌, ◌++◌, [], if◌then◌else◌, IfOk, IfSome, OnOk, map, string_bytes};
+ghost use Rattle.std.specs.Prelude.{◌≡◌, ◌⊎◌, ◌++◌, ◌∷◌, [], if◌then◌else◌, IfOk, IfSome, OnOk, map, string_bytes};
 ghost use Rattle.c25_chain.specs.Refusal.{refusal_of};
 ghost use Rattle.c25_cmd.specs.View.{command_data};
 ghost use Rattle.c25_meaning_linking.specs.Command.{IsCommand};
@@ -101,6 +101,14 @@ fn more_note(alloc: Global) -> Result<LinkNote, NoMemory>
     Ok(LinkNote { text, line: None })
 }
 
+/// Appends the note that stands for the faults that are not shown.
+fn push_more(alloc: Global, notes: &mut Vec<LinkNote>) -> Result<(), NoMemory>
+    ensures { OnOk result (notes_view notes.new.items ≡ notes_view notes.old.items ++ more_note ∷ []) }
+{
+    notes.push(more_note(alloc)?)?;
+    Ok(())
+}
+
 /// Appends faults, at most 99, and the note that stands for those that are not shown.
 fn push_shown(
     alloc: Global,
@@ -113,8 +121,7 @@ fn push_shown(
     if faults.len() > MOST_OTHERS {
         let (shown, _) = faults.split_at(MOST_OTHERS);
         push_faults(alloc, among, shown, notes)?;
-        notes.push(more_note(alloc)?)?;
-        Ok(())
+        push_more(alloc, notes)
     } else {
         push_faults(alloc, among, faults, notes)
     }

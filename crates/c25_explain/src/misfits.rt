@@ -1,6 +1,6 @@
 //! The field that does not take its value (75), found by linking again.
 
-ghost use Rattle.std.specs.Prelude.{◌≡◌, IfOk, IfSome, map, string_bytes};
+ghost use Rattle.std.specs.Prelude.{◌≡◌, ◌∷◌, [], IfOk, IfSome, map, string_bytes};
 ghost use Rattle.c25_link.specs.Misfits.{misfit_data};
 ghost use Rattle.c25_explain.specs.Again.{AreFieldNotes, field_note, note_view, notes_view};
 
@@ -21,6 +21,18 @@ fn field_note(alloc: Global, names: &[String], misfit: &Misfit<'_>) -> Result<Li
     Ok(LinkNote { text, line })
 }
 
+/// The note about a field, alone.
+fn notes_of_field(
+    alloc: Global,
+    names: &[String],
+    misfit: &Misfit<'_>,
+) -> Result<Vec<LinkNote>, NoMemory>
+    ensures { IfOk result (λ notes. notes_view notes.items ≡ field_note (map string_bytes names.now) (misfit_data misfit.now) ∷ []) }
+{
+    let note = field_note(alloc, names, misfit)?;
+    alone(alloc, note)
+}
+
 /// The note about the first field that does not take its value, in modules of the files of these names,
 /// linked under the text of a command file; none where all fields take their values, or the command file or
 /// the modules are refused before fields are looked at.
@@ -36,10 +48,7 @@ pub(crate) fn field_notes(
         return Ok(None);
     };
     match first_misfit(alloc, modules, &command) {
-        Ok(Some(misfit)) => {
-            let note = field_note(alloc, names, &misfit)?;
-            alone(alloc, note).map(Some)
-        }
+        Ok(Some(misfit)) => notes_of_field(alloc, names, &misfit).map(Some),
         Ok(None) | Err(_) => Ok(None),
     }
 }

@@ -10,5 +10,6 @@ pub struct NamedFiles<'a> {
     /// The name of the debugger's script, where there is one.
     pub script: Option<&'a str>,
     pub sources: &'a [&'a str],
+    /// The names of the objects, or that of the hex text that is disassembled.
     pub objects: &'a [&'a str],
 }

@@ -67,13 +67,15 @@ fn at_line<'a>(file: Option<&'a str>, line: usize) -> Option<FileLine<&'a str>>
 
 /// The line of a file where a fault is; `None` for a fault without a line, or in a file of the run that no
 /// option names.
-fn place_of<'a>(
-    refusal: &'a ChainFault<String>,
-    files: RunFiles<'a>,
-    script: Option<&'a str>,
-) -> Option<FileLine<&'a str>>
-    ensures { option_map (λ place. (place.file.now, place.line)) result ≡ place_of files.entry script.entry refusal.entry.now }
+fn place_of<'a>(refusal: &'a ChainFault<String>, named: NamedFiles<'a>) -> Option<FileLine<&'a str>>
+    ensures { option_map (λ place. (place.file.now, place.line)) result ≡ place_of named.entry refusal.entry.now }
 {
+    let NamedFiles {
+        files,
+        script,
+        objects,
+        ..
+    } = named;
     match refusal {
         ChainFault::Source(placed) => at_line(Some(placed.place.file.as_str()), placed.place.line),
         ChainFault::NoFile { file, line, .. } => at_line(Some(file.as_str()), *line),
@@ -81,8 +83,8 @@ fn place_of<'a>(
         ChainFault::Samples { line } => at_line(files.samples, *line),
         ChainFault::Schedule { line } => at_line(files.schedule, *line),
         ChainFault::Script { line } => at_line(script, *line),
-        ChainFault::Object(_) | ChainFault::Link(_) | ChainFault::Hex(_) | ChainFault::File(_) =>
-            None,
+        ChainFault::Hex(placed) => at_line(objects.first().copied(), placed.place),
+        ChainFault::Object(_) | ChainFault::Link(_) | ChainFault::File(_) => None,
     }
 }
 
@@ -207,11 +209,11 @@ fn explanation_of<D: Disk>(
     refusal: &ChainFault<String>,
     named: NamedFiles<'_>,
 ) -> Result<String, NoMemory>
-    ensures { IfOk result (λ note. IsExplained (D.bytes_of disk.now) (place_of named.entry.files named.entry.script refusal.now) (text_of named.entry.files.command) (texts_of named.entry.sources.now) (texts_of named.entry.objects.now) refusal.now (string_bytes note)) }
+    ensures { IfOk result (λ note. IsExplained (D.bytes_of disk.now) (place_of named.entry refusal.now) (text_of named.entry.files.command) (texts_of named.entry.sources.now) (texts_of named.entry.objects.now) refusal.now (string_bytes note)) }
 {
     let fault = of_refusal(refusal);
     let after = text_after(alloc, disk, named, refusal);
-    if let Some(place) = place_of(refusal, named.files, named.script) {
+    if let Some(place) = place_of(refusal, named) {
         return explained_at(alloc, disk, fault, place, after.as_str());
     }
     match unread_name(refusal) {

@@ -10,7 +10,7 @@ pub struct Explanation {
     pub number: u8,
     /// The fault name shown to the user, after the number.
     pub name: &'static str,
-    /// What the fault means.
+    /// What the fault means. Its first sentence says it in brief.
     pub meaning: &'static str,
     /// The smallest example, with the line that reports its fault. Only out of memory has none.
     pub example: Option<&'static str>,

@@ -1,10 +1,10 @@
 -- Names, each once, one more at a time.
-use Rattle.std.proofs.Common.{◌≡◌, ℕ, Bool, true, false, not, ◌||◌, cond, List, [], ◌∷◌, ◌++◌, map, refl, sym, ap, subst, ◌∙◌, append_assoc}
+use Rattle.std.proofs.Common.{◌≡◌, ℕ, Bool, true, false, not, ◌||◌, cond, List, [], ◌∷◌, ◌++◌, refl, sym, ap, subst, ◌∙◌, append_assoc}
 use Rattle.std.specs.Borrow.{Bor}
 use Rattle.std.specs.List.{list_any}
 use Rattle.std.specs.Str.{bytes_eq}
 use Rattle.std.proofs.lemmas.List.{append-nil, map-append}
-use Rattle.c25_meaning_linking.specs.GoodMap.{is_among, new_names}
+use Rattle.c25_meaning_linking.specs.GoodMap.{is_among}
 use Rattle.c25_place.specs.Requests.{HasNames}
 use Rattle.c25_place.proofs.Asked.{name_new, name_seen, names_more}
 use Rattle.c25_place.proofs.Listed.{name_is_new, names_inserted}

@@ -1,14 +1,13 @@
 -- Sections without a range, by the lists that the code goes over.
-use Rattle.std.proofs.Common.{◌≡◌, ℕ, Bool, true, false, not, ◌&&◌, ◌||◌, cond, List, [], ◌∷◌, ◌++◌, filter, map, None, refl, sym, ap, ◌∙◌}
+use Rattle.std.proofs.Common.{◌≡◌, ℕ, Bool, true, false, ◌&&◌, ◌||◌, cond, List, [], ◌∷◌, ◌++◌, filter, map, refl, sym, ap, ◌∙◌}
 use Rattle.std.specs.List.{list_any}
 use Rattle.std.specs.Str.{bytes_eq}
 use Rattle.std.proofs.lemmas.List.{map-append}
 use Rattle.std.proofs.lemmas.List.Elements.{filter-append}
 use Rattle.c25_meaning_linking.specs.Command.{CommandData, PlacingData, RangeData}
-use Rattle.c25_meaning_linking.specs.GoodMap.{Request, comes_first, comes_later, is_among, listed_request, new_names, placings_for, ranges_for, requests, unlisted_names, unlisted_request}
+use Rattle.c25_meaning_linking.specs.GoodMap.{Request, comes_first, comes_later, is_among, listed_request, new_names, placings_for, ranges_for, unlisted_names, unlisted_request}
 use Rattle.c25_meaning_linking.specs.Place.{all_sections, is_initialised, is_section_named, is_there}
 use Rattle.c25_meaning_objects.specs.Module.{Contents, SectionData, has_words}
-use Rattle.c25_place.specs.Requests.{is_due}
 use Rattle.c25_link_faults.specs.Faults.{lacks_range, without_range}
 use Rattle.c25_link_faults.specs.View.{lacking_listed, lacking_unlisted, loaded_names, placing_names, section_names}
 

@@ -1,13 +1,11 @@
 -- Lists that the code makes, one item more at a time.
 use Rattle.std.proofs.Common.{◌≡◌, ℕ, ◌+◌, ◌<◌, Bool, true, false, cond, List, [], ◌∷◌, ◌++◌, length, get_or, take, map, filter, refl, sym, ap, ◌∙◌}
-use Rattle.std.specs.Borrow.{Bor}
-use Rattle.std.specs.List.{flat_map}
 use Rattle.std.proofs.lemmas.List.{append-nil, append_assoc, map-append, take_more}
 use Rattle.std.proofs.lemmas.List.Elements.{filter-append}
 use Rattle.c25_cmd.specs.View.{placing_of, placings_of}
 use Rattle.c25_cmd.specs.declared.command.Placing.{Placing}
 use Rattle.c25_meaning_linking.proofs.ByModules.{by_modules_more}
-use Rattle.c25_meaning_linking.specs.Linking.{Use, is_unresolved, use_of}
+use Rattle.c25_meaning_linking.specs.Linking.{is_unresolved, use_of}
 use Rattle.c25_meaning_linking.specs.Place.{all_sections, by_modules}
 use Rattle.c25_meaning_linking.specs.Words as words
 use Rattle.c25_meaning_objects.specs.Module.{Contents, SectionData, has_words}
@@ -16,7 +14,7 @@ use Rattle.c25_module.specs.View.{section_data, sections_data}
 use Rattle.c25_module.specs.declared.parts.Section.{Section}
 use Rattle.c25_place.proofs.Listed.{mapped_more}
 use Rattle.c25_link_faults.specs.Faults.{used_name}
-use Rattle.c25_link_faults.specs.View.{definition_view, definitions_view, loaded_names, names_of, names_view, placing_names, section_names}
+use Rattle.c25_link_faults.specs.View.{definition_view, definitions_view, loaded_names, names_of, placing_names, section_names}
 use Rattle.c25_link_faults.specs.declared.definitions.Definition.{Definition}
 
 -- what passes a test, with one item more

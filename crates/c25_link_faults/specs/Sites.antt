@@ -1,5 +1,5 @@
 -- Where modules use a name, and where they define it.
-use Rattle.std.specs.Prelude.{◌≡◌, ◌==◌, ◌&&◌, ℕ, ℤ, pos, Bool, false, not, List, map, filter, find, Option, None}
+use Rattle.std.specs.Prelude.{◌==◌, ◌&&◌, ℕ, ℤ, pos, Bool, false, not, List, map, filter, find, Option, None}
 use Rattle.std.specs.List.{zip}
 use Rattle.std.specs.Option.{option_map}
 use Rattle.std.specs.Ordering.{int_eq}
@@ -10,7 +10,6 @@ use Rattle.c25_meaning_linking.specs.Place.{by_modules}
 use Rattle.c25_meaning_linking.specs.Words.{Definition, definition, definitions, is_defined, symbol_name}
 use Rattle.c25_meaning_objects.specs.Module.{Contents, SymbolData, is_global}
 use Rattle.c25_meaning_objects.specs.declared.object.ModuleMark.{ModuleMark}
-use Rattle.c25_meaning_objects.specs.declared.object.Relocation.{Relocation}
 use Rattle.c25_meaning_objects.specs.declared.object.RelocationBase.{RelocationBase}
 use Rattle.c25_meaning_objects.specs.declared.object.RelocationBase.TheVariants as base
 use Rattle.c25_meaning_objects.specs.declared.object.SymbolKind.{SymbolKind}

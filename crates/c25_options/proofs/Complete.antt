@@ -9,9 +9,9 @@ use Rattle.clap.specs.Faults.{check_fault, defaults_fault, entered_fault, fault_
 use Rattle.clap.specs.Takes.{is_given}
 use Rattle.clap.specs.declared.builder.value_parser.ValueParser.{ValueParser}
 use Rattle.clap.specs.declared.error.kind.ErrorKind.TheVariants as kind
-use Rattle.c25_options.specs.Complete.{IsComplete, IsFoundComplete, IsNumberText}
+use Rattle.c25_options.specs.Complete.{IsComplete, IsFoundComplete}
 use Rattle.c25_options.specs.Program.{program}
-use Rattle.c25_options.proofs.Rows.{AreFine, IsSound, all_sound, default_fine, flag_fine, given_there, is_sound, number_fine, one_there, parser_in, use_fine}
+use Rattle.c25_options.proofs.Rows.{AreFine, IsSound, all_sound, default_fine, flag_fine, given_there, is_sound, number_fine, parser_in, use_fine}
 use Rattle.c25_options.proofs.Walks.{KeepsDefault, level_keeps, none_of_both}
 
 -- what holds of each holds of the one that is found
@@ -86,7 +86,6 @@ asm_each words e =
       build = λ is. absurd (true≢false (sym is));
       run = λ is. absurd (true≢false (sym is));
       debug = λ is. absurd (true≢false (sym is));
-      explain = λ is. absurd (true≢false (sym is));
       dis = λ is. absurd (true≢false (sym is));
     }
 
@@ -98,11 +97,10 @@ link_each words e =
     record {
       named = refl;
       asm = λ is. absurd (true≢false (sym is));
-      link = λ is. (given_there (parser_at (sub 1)) (codes "command") rows kept.0 (found.0 refl), given_there (parser_at (sub 1)) (codes "object") rows kept.0 (found.1.0 refl), given_there (parser_at (sub 1)) (codes "out") rows kept.0 (found.1.1.0 refl), flag_fine (parser_at (sub 1)) (codes "explain") refl rows kept.0);
+      link = λ is. (given_there (parser_at (sub 1)) (codes "command") rows kept.0 (found.0 refl), given_there (parser_at (sub 1)) (codes "object") rows kept.0 (found.1.0 refl), given_there (parser_at (sub 1)) (codes "out") rows kept.0 (found.1.1.0 refl), flag_fine (parser_at (sub 1)) (codes "explain") refl rows kept.0, flag_fine (parser_at (sub 1)) (codes "all") refl rows kept.0);
       build = λ is. absurd (true≢false (sym is));
       run = λ is. absurd (true≢false (sym is));
       debug = λ is. absurd (true≢false (sym is));
-      explain = λ is. absurd (true≢false (sym is));
       dis = λ is. absurd (true≢false (sym is));
     }
 
@@ -118,7 +116,6 @@ build_each words e =
       build = λ is. (given_there (parser_at (sub 2)) (codes "source") rows kept.0 (found.0 refl), given_there (parser_at (sub 2)) (codes "out") rows kept.0 (found.1.0 refl), flag_fine (parser_at (sub 2)) (codes "explain") refl rows kept.0, flag_fine (parser_at (sub 2)) (codes "all") refl rows kept.0);
       run = λ is. absurd (true≢false (sym is));
       debug = λ is. absurd (true≢false (sym is));
-      explain = λ is. absurd (true≢false (sym is));
       dis = λ is. absurd (true≢false (sym is));
     }
 
@@ -134,7 +131,6 @@ run_each words e =
       build = λ is. absurd (true≢false (sym is));
       run = λ is. (given_there (parser_at (sub 3)) (codes "source") rows kept.0 (found.0 refl), number_fine (parser_at (sub 3)) (codes "steps") 4294967295 32 refl (omega arith) rows kept.0, flag_fine (parser_at (sub 3)) (codes "regs") refl rows kept.0, flag_fine (parser_at (sub 3)) (codes "explain") refl rows kept.0, flag_fine (parser_at (sub 3)) (codes "all") refl rows kept.0);
       debug = λ is. absurd (true≢false (sym is));
-      explain = λ is. absurd (true≢false (sym is));
       dis = λ is. absurd (true≢false (sym is));
     }
 
@@ -150,15 +146,11 @@ debug_each words e =
       build = λ is. absurd (true≢false (sym is));
       run = λ is. absurd (true≢false (sym is));
       debug = λ is. (given_there (parser_at (sub 4)) (codes "source") rows kept.0 (found.0 refl), given_there (parser_at (sub 4)) (codes "script") rows kept.0 (found.1.0 refl), flag_fine (parser_at (sub 4)) (codes "explain") refl rows kept.0, flag_fine (parser_at (sub 4)) (codes "all") refl rows kept.0);
-      explain = λ is. absurd (true≢false (sym is));
       dis = λ is. absurd (true≢false (sym is));
     }
 
 explain_each : IsEach (sub 5)
 explain_each words e =
-    let kept = fine_rows (sub 5) refl refl words e in
-    let rows = rows_after (sub 5).rules [] words in
-    let found = none_missing rows (sub 5).rules (check_passes _ kept.1) in
     record {
       named = refl;
       asm = λ is. absurd (true≢false (sym is));
@@ -166,8 +158,6 @@ explain_each words e =
       build = λ is. absurd (true≢false (sym is));
       run = λ is. absurd (true≢false (sym is));
       debug = λ is. absurd (true≢false (sym is));
-      explain = λ is. one_there (IsNumberText 8) (codes "number") rows (given_there (parser_at (sub 5)) (codes "number") rows kept.0 (found.0 refl))
-          (number_fine (parser_at (sub 5)) (codes "number") 255 8 refl (omega arith) rows kept.0);
       dis = λ is. absurd (true≢false (sym is));
     }
 
@@ -183,8 +173,7 @@ dis_each words e =
       build = λ is. absurd (true≢false (sym is));
       run = λ is. absurd (true≢false (sym is));
       debug = λ is. absurd (true≢false (sym is));
-      explain = λ is. absurd (true≢false (sym is));
-      dis = λ is. given_there (parser_at (sub 6)) (codes "file") rows kept.0 (found.0 refl);
+      dis = λ is. (given_there (parser_at (sub 6)) (codes "file") rows kept.0 (found.0 refl), flag_fine (parser_at (sub 6)) (codes "explain") refl rows kept.0);
     }
 
 -- ---- the program

@@ -1,3 +1,4 @@
+pub mod Ordered
 pub mod FlagText
 pub mod NumberText
 pub mod Rows

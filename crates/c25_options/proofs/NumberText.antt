@@ -1,6 +1,6 @@
 -- The text of a number: that it is one where it passed its test, and what `get_one` reads of it.
 use Rattle.std.proofs.Common.{◌≡◌, ◌==◌, ◌<◌, ◌^◌, ℕ, Bool, cond, true, false, refl, sym, ap, subst, arith, drop, List, [], ◌∷◌, Option, Some, None, Result, Ok, unwrap_or}
-use Rattle.std.specs.Prelude.{IfSome, IsSomeAnd, pos}
+use Rattle.std.specs.Prelude.{IfSome, pos}
 use Rattle.std.specs.Str.Parse.{IsNumeral, ParsesUnsigned, digits_value, starts_with_minus, without_leading_plus}
 use Rattle.std.proofs.lemmas.Bool.{ne_eqb}
 use Rattle.std.proofs.lemmas.Int.{ints}
@@ -9,7 +9,7 @@ use Rattle.clap.specs.Lexer.{without_minus}
 use Rattle.clap.specs.Values.{IsSignedIn}
 use Rattle.clap.specs.Words.{ReadsOne, Text}
 use Rattle.c25_options.specs.Complete.{IsNumberText}
-use Rattle.c25_options.specs.Task.{IsNumber, IsSteps}
+use Rattle.c25_options.specs.Task.{IsSteps}
 
 without_minus-cond : (t : List ℕ) → without_minus t ≡ cond (starts_with_minus t) (drop 1 t) t
 without_minus-cond [] = refl
@@ -47,11 +47,3 @@ pub steps_read : {E : Type 0} (gives : List ℕ → Result ℕ E → Type 0) (fo
 steps_read gives None r parses wanted none some = rw (none refl) refl
 steps_read gives (Some t) (Some n) parses wanted none some = (wanted.0, (parses t (Ok n) (some t refl)).1)
 steps_read gives (Some t) None parses wanted none some = absurd ((parses t _ (some t refl).1) wanted)
-
--- a number that is there is read
-pub number_read : {E : Type 0} (gives : List ℕ → Result ℕ E → Type 0) (found : Option Text) (r : Option ℕ)
-    → ((t : List ℕ) (x : Result ℕ E) → gives t x → ParsesUnsigned 8 10 t x) → IsSomeAnd found (IsNumberText 8)
-    → ((t : List ℕ) → found ≡ Some t → ReadsOne gives t r) → IsSomeAnd r (IsNumber found)
-number_read gives None r parses wanted some = absurd wanted
-number_read gives (Some t) (Some n) parses wanted some = (wanted.0, (parses t (Ok n) (some t refl)).1)
-number_read gives (Some t) None parses wanted some = absurd ((parses t _ (some t refl).1) wanted)

@@ -1,6 +1,6 @@
 -- Rows in which each argument that was used has a value, and all values are what the parser of their argument takes.
 use Rattle.std.proofs.Common.{◌≡◌, ◌==◌, ◌∙◌, ◌<◌, ◌^◌, ◌++◌, ◌&&◌, ◌||◌, ℕ, Bool, cond, true, false, not, refl, sym, ap, subst, arith, drop, length, map, List, [], ◌∷◌, Option, Some, None, is_some, true≢false, nat_lt, length-append}
-use Rattle.std.specs.Prelude.{IfSome, IsSomeAnd, option_and_then, pos, slice_get}
+use Rattle.std.specs.Prelude.{IfSome, option_and_then, pos, slice_get}
 use Rattle.std.specs.List.{AllByRecursion, find, list_all, slice_index_or}
 use Rattle.std.specs.Option.{option_map, option_map_or}
 use Rattle.std.specs.Str.{bytes_eq}
@@ -256,18 +256,6 @@ module _ (parser : Text → ValueParser) where
   -- the text of a flag is one
   pub flag_fine : (id : Text) → parser id ≡ taking.Bool → (rows : List Row) → AreFine parser rows → IfSome (one_of id rows) IsFlagText
   flag_fine id by rows fine = one_fine IsFlagText id _ by (λ t taken. taken) rows fine
-
--- what has a value that is a number, where it has one, has one
-pub one_there : (P : Text → Type 0) (id : Text) (rows : List Row) → IsThere rows id → IfSome (one_of id rows) P → IsSomeAnd (one_of id rows) P
-one_there P id rows there = go (find (λ (x : Row). bytes_eq x.id id) rows) there
-  where
-    first : (how : Reading) (o : Option Text) → is_some o ≡ true → IfSome (option_map (read_as how) o) P → IsSomeAnd (option_map (read_as how) o) P
-    first how None has p = true≢false (sym has)
-    first how (Some t) has p = p
-
-    go : (o : Option Row) → is_some (option_and_then (λ (x : Row). slice_get x.values 0) o) ≡ true → IfSome (option_and_then row_text o) P → IsSomeAnd (option_and_then row_text o) P
-    go None has p = true≢false (sym has)
-    go (Some r) has p = first r.reading (slice_get r.values 0) has p
 
 -- what has a value has all its values
 pub there_listed : (id : Text) (rows : List Row) → IsThere rows id → all_of id rows ≡ None → ⊥

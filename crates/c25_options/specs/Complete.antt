@@ -1,5 +1,5 @@
 -- The matches of a subcommand have each required argument.
-use Rattle.std.specs.Prelude.{◌≡◌, ℕ, ◌<◌, ◌^◌, ◌||◌, List, Option, Some, None, IfSome, IsSomeAnd, codes, is_some, true}
+use Rattle.std.specs.Prelude.{◌≡◌, ℕ, ◌<◌, ◌^◌, ◌||◌, List, Option, Some, None, IfSome, codes, is_some, true}
 use Rattle.std.specs.Str.{bytes_eq}
 use Rattle.std.specs.Str.Parse.{IsNumeral, digits_value, without_leading_plus}
 use Rattle.clap.specs.Words.{Row, Text, first_of, found_of, one_of, rows_of}
@@ -29,12 +29,11 @@ IsFlagIn rows id = IfSome (one_of id rows) IsFlagText
 pub record IsComplete (name : Text) (rows : List Row) : Type 0 where
   pub named : (bytes_eq name (codes "asm") || (bytes_eq name (codes "link") || (bytes_eq name (codes "build") || (bytes_eq name (codes "run") || (bytes_eq name (codes "debug") || (bytes_eq name (codes "explain") || bytes_eq name (codes "dis"))))))) ≡ true
   pub asm : bytes_eq name (codes "asm") ≡ true → IsThere rows (codes "source") × IsThere rows (codes "obj") × IsFlagIn rows (codes "explain") × IsFlagIn rows (codes "all")
-  pub link : bytes_eq name (codes "link") ≡ true → IsThere rows (codes "command") × IsThere rows (codes "object") × IsThere rows (codes "out") × IsFlagIn rows (codes "explain")
+  pub link : bytes_eq name (codes "link") ≡ true → IsThere rows (codes "command") × IsThere rows (codes "object") × IsThere rows (codes "out") × IsFlagIn rows (codes "explain") × IsFlagIn rows (codes "all")
   pub build : bytes_eq name (codes "build") ≡ true → IsThere rows (codes "source") × IsThere rows (codes "out") × IsFlagIn rows (codes "explain") × IsFlagIn rows (codes "all")
   pub run : bytes_eq name (codes "run") ≡ true → IsThere rows (codes "source") × IfSome (one_of (codes "steps") rows) (IsNumberText 32) × IsFlagIn rows (codes "regs") × IsFlagIn rows (codes "explain") × IsFlagIn rows (codes "all")
   pub debug : bytes_eq name (codes "debug") ≡ true → IsThere rows (codes "source") × IsThere rows (codes "script") × IsFlagIn rows (codes "explain") × IsFlagIn rows (codes "all")
-  pub explain : bytes_eq name (codes "explain") ≡ true → IsSomeAnd (one_of (codes "number") rows) (IsNumberText 8)
-  pub dis : bytes_eq name (codes "dis") ≡ true → IsThere rows (codes "file")
+  pub dis : bytes_eq name (codes "dis") ≡ true → IsThere rows (codes "file") × IsFlagIn rows (codes "explain")
 
 -- what `clap` finds is a subcommand with complete matches
 abbrev pub IsFoundComplete : Option (Text × List Row) → Type 0

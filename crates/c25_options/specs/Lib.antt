@@ -1,3 +1,4 @@
+pub mod Arranged
 pub mod Complete
 pub mod Program
 pub mod Task

@@ -29,13 +29,13 @@ output_rule name = record (needed_rule name) { short = Some 111 }
 abbrev pub steps_rule : Rule
 steps_rule = record (option_rule (codes "steps")) { parser = Some (parser.Signed (pos 0) (pos 4294967295)) }
 
+-- one operand, which may be left out
+abbrev pub optional_rule : Text → Rule
+optional_rule name = record (new_rule name) { value_names = 1 }
+
 -- one required operand
 abbrev pub operand_rule : Text → Rule
-operand_rule name = record (new_rule name) { required = true; value_names = 1 }
-
--- one required operand, a number from 0 to 255
-abbrev pub number_rule : Rule
-number_rule = record (operand_rule (codes "number")) { parser = Some (parser.Signed (pos 0) (pos 255)) }
+operand_rule name = record (optional_rule name) { required = true }
 
 -- one operand or more
 abbrev pub operands_rule : Text → Rule
@@ -69,9 +69,9 @@ with_run_files shape = added (added (added shape (option_rule (codes "command"))
 abbrev pub asm_shape : Shape
 asm_shape = with_fault_options (shape_with (codes "asm") (operand_rule (codes "source") ∷ output_rule (codes "obj") ∷ option_rule (codes "list") ∷ []))
 
--- link COMMAND OBJECT.. --out B [--explain]
+-- link COMMAND OBJECT.. --out B [--explain] [--all]
 abbrev pub link_shape : Shape
-link_shape = with_explain (shape_with (codes "link") (operand_rule (codes "command") ∷ operands_rule (codes "object") ∷ output_rule (codes "out") ∷ []))
+link_shape = with_fault_options (shape_with (codes "link") (operand_rule (codes "command") ∷ operands_rule (codes "object") ∷ output_rule (codes "out") ∷ []))
 
 -- build SOURCE.. --out B [--command F] [--symbols F] [--explain] [--all]
 abbrev pub build_shape : Shape
@@ -85,13 +85,13 @@ run_shape = with_fault_options (with_run_files (shape_with (codes "run") (operan
 abbrev pub debug_shape : Shape
 debug_shape = with_fault_options (with_run_files (shape_with (codes "debug") (operands_rule (codes "source") ∷ needed_rule (codes "script") ∷ [])))
 
--- explain NUMBER
+-- explain [FAULT]
 abbrev pub explain_shape : Shape
-explain_shape = shape_with (codes "explain") (number_rule ∷ [])
+explain_shape = shape_with (codes "explain") (optional_rule (codes "fault") ∷ [])
 
--- dis FILE [--from ADDRESS]
+-- dis FILE [--from ADDRESS] [--explain]
 abbrev pub dis_shape : Shape
-dis_shape = shape_with (codes "dis") (operand_rule (codes "file") ∷ option_rule (codes "from") ∷ [])
+dis_shape = with_explain (shape_with (codes "dis") (operand_rule (codes "file") ∷ option_rule (codes "from") ∷ []))
 
 -- the program before it has its subcommands: it has a version, a subcommand is required, and there is no
 -- subcommand `help`

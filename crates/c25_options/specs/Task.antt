@@ -1,5 +1,5 @@
 -- The task that a command line asks for, by the matches that `clap` defines.
-use Rattle.std.specs.Prelude.{◌≡◌, ℕ, Bool, false, List, [], Option, Some, None, Result, Ok, Err, codes, map, option_map, IsSomeAnd}
+use Rattle.std.specs.Prelude.{◌≡◌, ℕ, Bool, false, List, [], Option, Some, None, Result, Ok, Err, codes, map, option_map}
 use Rattle.std.specs.Str.{bytes_eq}
 use Rattle.std.specs.Str.Parse.{IsNumeral, digits_value, without_leading_plus}
 use Rattle.std.specs.Borrow.{Bor}
@@ -33,10 +33,6 @@ abbrev pub IsSteps : Option Text → ℕ → Type 0
 IsSteps None n = n ≡ 1000
 IsSteps (Some text) n = Gives text n
 
--- the number that the text of an operand gives, which is there (`-0` is 0 here too)
-abbrev pub IsNumber : Option Text → ℕ → Type 0
-IsNumber text n = IsSomeAnd text (λ t. Gives t n)
-
 -- whether a flag was given: the text that is found for it is `true` where it was, and else `false`
 abbrev pub IsFlag : Option Text → Bool → Type 0
 IsFlag None given = given ≡ false
@@ -62,12 +58,12 @@ Asks name rows (Assemble source object listing faults) =
     × (first_of (codes "obj") rows ≡ Some object.now)
     × (first_of (codes "list") rows ≡ text_of listing)
     × AreFaultOptions rows faults
-Asks name rows (Link command objects base explain) =
+Asks name rows (Link command objects base faults) =
     (name ≡ codes "link")
     × (first_of (codes "command") rows ≡ Some command.now)
     × (all_of (codes "object") rows ≡ Some (texts_of objects.items))
     × (first_of (codes "out") rows ≡ Some base.now)
-    × IsFlag (one_of (codes "explain") rows) explain
+    × AreFaultOptions rows faults
 Asks name rows (Build sources base command symbols faults) =
     (name ≡ codes "build")
     × (all_of (codes "source") rows ≡ Some (texts_of sources.items))
@@ -88,9 +84,12 @@ Asks name rows (Debug sources script files faults) =
     × (first_of (codes "script") rows ≡ Some script.now)
     × AreRunFiles rows files
     × AreFaultOptions rows faults
-Asks name rows (Explain number) = (name ≡ codes "explain") × IsNumber (one_of (codes "number") rows) number
-Asks name rows (Disassemble file from) =
-    (name ≡ codes "dis") × (first_of (codes "file") rows ≡ Some file.now) × (first_of (codes "from") rows ≡ text_of from)
+Asks name rows (Explain fault) = (name ≡ codes "explain") × (first_of (codes "fault") rows ≡ text_of fault)
+Asks name rows (Disassemble file from explain) =
+    (name ≡ codes "dis")
+    × (first_of (codes "file") rows ≡ Some file.now)
+    × (first_of (codes "from") rows ≡ text_of from)
+    × IsFlag (one_of (codes "explain") rows) explain
 
 -- the task that what `clap` finds asks for
 abbrev pub IsAskedBy : Option (Text × List Row) → Task → Type 0

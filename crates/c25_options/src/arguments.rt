@@ -2,7 +2,7 @@
 
 ghost use Rattle.std.specs.Prelude.{◌≡◌, codes, false};
 ghost use Rattle.clap.specs.Words.{rule_of};
-ghost use Rattle.c25_options.specs.Program.{flag_rule, needed_rule, number_rule, operand_rule, operands_rule, option_rule, output_rule, steps_rule};
+ghost use Rattle.c25_options.specs.Program.{flag_rule, needed_rule, operand_rule, operands_rule, optional_rule, option_rule, output_rule, steps_rule};
 
 use clap::{Arg, ArgAction, value_parser};
 use std::alloc::Global;
@@ -83,23 +83,20 @@ pub(crate) fn first_address<'a>(alloc: Global, help: &'a str) -> Arg<'a>
     option(alloc, "from", help).value_name("ADDRESS")
 }
 
+/// One operand, which may be left out.
+pub(crate) fn optional<'a>(alloc: Global, name: &'a str, value: &'a str, help: &'a str) -> Arg<'a>
+    ensures rule { rule_of result ≡ optional_rule name.entry.now }
+    ensures local { result.global ≡ false }
+{
+    Arg::new(alloc, name).value_name(value).help(help)
+}
+
 /// One required operand.
 pub(crate) fn operand<'a>(alloc: Global, name: &'a str, value: &'a str, help: &'a str) -> Arg<'a>
     ensures rule { rule_of result ≡ operand_rule name.entry.now }
     ensures local { result.global ≡ false }
 {
-    Arg::new(alloc, name)
-        .value_name(value)
-        .help(help)
-        .required(true)
-}
-
-/// The required operand `NUMBER`, from 0 to 255.
-pub(crate) fn number<'a>(alloc: Global, help: &'a str) -> Arg<'a>
-    ensures rule { rule_of result ≡ number_rule }
-    ensures local { result.global ≡ false }
-{
-    operand(alloc, "number", "NUMBER", help).value_parser(value_parser!(u8))
+    optional(alloc, name, value, help).required(true)
 }
 
 /// One operand or more.

@@ -2,6 +2,7 @@
 #![tactic(auto)]
 
 mod arguments;
+pub mod arranged;
 pub mod fault;
 mod matched;
 mod program;

@@ -1,9 +1,9 @@
 //! Values of the operands and options that `clap` found.
 
-ghost use Rattle.std.specs.Prelude.{◌≡◌, IfOk, IfSome, IsSomeAnd, Some, codes};
+ghost use Rattle.std.specs.Prelude.{◌≡◌, IfOk, IfSome, Some, codes};
 ghost use Rattle.clap.specs.Words.{all_of, first_of, one_of};
 ghost use Rattle.c25_options.specs.Complete.{IsFlagIn, IsNumberText, IsThere, rows_in};
-ghost use Rattle.c25_options.specs.Task.{AreFaultOptions, AreRunFiles, IsFlag, IsNumber, IsSteps, text_of, texts_of};
+ghost use Rattle.c25_options.specs.Task.{AreFaultOptions, AreRunFiles, IsFlag, IsSteps, text_of, texts_of};
 
 use crate::task::{DEFAULT_STEPS, FaultOptions, RunFiles};
 use c25_meaning_common::no_memory::NoMemory;
@@ -75,17 +75,6 @@ pub(crate) fn steps(matches: &ArgMatches<'_>) -> u32
     ensures { IsSteps (one_of (codes "steps") (rows_in matches.now)) result }
 {
     matches.get_one::<u32>("steps").unwrap_or(DEFAULT_STEPS)
-}
-
-/// The number of the fault that `explain` is to explain.
-pub(crate) fn number(matches: &ArgMatches<'_>) -> u8
-    requires { IsSomeAnd (one_of (codes "number") (rows_in matches.now)) (IsNumberText 8) }
-    ensures { IsNumber (one_of (codes "number") (rows_in matches.now)) result }
-{
-    match matches.get_one::<u8>("number") {
-        Some(number) => number,
-        None => unreachable!(),
-    }
 }
 
 /// The files that a run reads in addition to its sources.

@@ -6,7 +6,7 @@ ghost use Rattle.clap.specs.Words.{App, Rule, Shape, app_of, rule_of, with_subco
 ghost use Rattle.c25_options.specs.Program.{IsSubcommand, added, asm_shape, bare_program, build_shape, debug_shape, dis_shape, explain_shape, link_shape, program, run_shape, with_explain, with_fault_options, with_run_files, with_sources};
 
 use crate::arguments::{
-    base_name, command_file, first_address, flag, needed, number, operand, operands, option,
+    base_name, command_file, first_address, flag, needed, operand, operands, option, optional,
     output, steps,
 };
 use clap::{Arg, Command};
@@ -14,7 +14,7 @@ use std::alloc::{AllocError, Global};
 
 /// The version that `--version` prints after the program's name. It rises with each change of what the
 /// program reads, writes or answers.
-const VERSION: &str = "1.8.0";
+const VERSION: &str = "1.9.0";
 
 /// The text that help prints after the list of subcommands.
 const MORE: &str =
@@ -22,7 +22,9 @@ const MORE: &str =
 
 Status: 0 done; 1 refused, with one line on standard error: FILE:LINE: NUMBER NAME; 2 the words are no task,
 or ask for help or the version; 3 the code was left.
-A fault by its number, with an example: c25 explain NUMBER; all of them: docs/FAULTS.md. Everything else: docs/MANUAL.md.";
+A fault by its number or name, with an example: c25 explain FAULT; a list of all: c25 explain. The same on
+a page: docs/FAULTS.md. Everything else: docs/MANUAL.md. --explain and --all may stand before the subcommand
+too, and c25 help SUBCOMMAND prints what c25 SUBCOMMAND --help does.";
 
 /// A command of `clap`, unless memory ran out while it was made.
 type Made<'a> = Result<Command<'a>, AllocError>;
@@ -55,7 +57,7 @@ fn with_fault_options<'a>(alloc: Global, subcommand: Made<'a>) -> Made<'a>
     ensures { (shape : Shape) → IfOk subcommand.entry (IsSubcommand shape) → IfOk result (IsSubcommand (with_fault_options shape)) }
 {
     let command = with_explain(alloc, subcommand);
-    let help = "Reports all faults of the sources, not the first alone";
+    let help = "Reports all faults, not the first alone";
     with_argument(command, flag(alloc, "all", help))
 }
 
@@ -108,7 +110,7 @@ fn link<'a>(alloc: Global) -> Made<'a>
     let command = with_argument(command, objects);
     let base = base_name(alloc, "How the names of the hex texts and the map begin");
     let command = with_argument(command, base);
-    with_explain(alloc, command)
+    with_fault_options(alloc, command)
 }
 
 fn build<'a>(alloc: Global) -> Made<'a>
@@ -168,11 +170,12 @@ fn explain<'a>(alloc: Global) -> Made<'a>
     let command = subcommand(
         alloc,
         "explain",
-        "Prints what a fault means, its smallest example and what to do",
-        "Example: c25 explain 53",
+        "Prints what a fault means, its smallest example and what to do; without FAULT, a list of all",
+        "Example: c25 explain FieldRange",
     );
-    let help = "The number of the fault, as its line has it";
-    with_argument(command, number(alloc, help))
+    let help =
+        "The number or the name of the fault as its line has it, or the name with which a run ended";
+    with_argument(command, optional(alloc, "fault", "FAULT", help))
 }
 
 fn dis<'a>(alloc: Global) -> Made<'a>
@@ -187,7 +190,8 @@ fn dis<'a>(alloc: Global) -> Made<'a>
     let help = "The object, or the hex text of program memory";
     let command = with_argument(command, operand(alloc, "file", "FILE", help));
     let help = "Where printing begins in a hex text, one to four hexadecimal digits";
-    with_argument(command, first_address(alloc, help))
+    let command = with_argument(command, first_address(alloc, help));
+    with_explain(alloc, command)
 }
 
 /// The program without its subcommands, one of which is required.

@@ -1,6 +1,6 @@
 //! The task that the command line names.
 
-ghost use Rattle.std.specs.Prelude.{◌≡◌, ◌<◌, ◌≤◌, IfErr, IfOk, IfSome, IsSomeAnd, Ok, codes, length, map, string_bytes, true};
+ghost use Rattle.std.specs.Prelude.{◌≡◌, ◌<◌, ◌≤◌, IfErr, IfOk, IfSome, Ok, codes, length, map, string_bytes, true};
 ghost use Rattle.clap.specs.Words.{app_of, one_of, subcommand_rows_of, takes};
 ghost use Rattle.c25_meaning_common.specs.Results.{IsNoMemory};
 ghost use Rattle.c25_options.specs.Complete.{IsComplete, IsFlagIn, IsFoundComplete, IsNumberText, IsThere, rows_in};
@@ -9,7 +9,7 @@ ghost use Rattle.c25_options.specs.declared.task.Task.TheVariants.{RunStandardIn
 ghost use Rattle.c25_options.specs.Task.{Asks, IsAskedBy, IsWantOfMemory, Reads};
 
 use crate::fault::WordsFault;
-use crate::matched::{all, fault_options, flag, needed, number, optional, run_files, steps};
+use crate::matched::{all, fault_options, flag, needed, optional, run_files, steps};
 use crate::program::program;
 use crate::task::Task;
 use c25_meaning_common::failure::Failure;
@@ -32,14 +32,14 @@ fn assemble<'a>(matches: &ArgMatches<'a>) -> Task<'a>
 
 /// The task of the subcommand `link`.
 fn link<'a>(alloc: Global, matches: &ArgMatches<'a>) -> Result<Task<'a>, NoMemory>
-    requires { IsThere (rows_in matches.now) (codes "command") × IsThere (rows_in matches.now) (codes "object") × IsThere (rows_in matches.now) (codes "out") × IsFlagIn (rows_in matches.now) (codes "explain") }
+    requires { IsThere (rows_in matches.now) (codes "command") × IsThere (rows_in matches.now) (codes "object") × IsThere (rows_in matches.now) (codes "out") × IsFlagIn (rows_in matches.now) (codes "explain") × IsFlagIn (rows_in matches.now) (codes "all") }
     ensures { IfOk result (Asks (codes "link") (rows_in matches.now)) }
 {
     Ok(Task::Link {
         command: needed(matches, "command"),
         objects: all(alloc, matches, "object")?,
         base: needed(matches, "out"),
-        explain: flag(matches, "explain"),
+        faults: fault_options(matches),
     })
 }
 
@@ -86,22 +86,22 @@ fn debug<'a>(alloc: Global, matches: &ArgMatches<'a>) -> Result<Task<'a>, NoMemo
 
 /// The task of the subcommand `explain`.
 fn explain<'a>(matches: &ArgMatches<'a>) -> Task<'a>
-    requires { IsSomeAnd (one_of (codes "number") (rows_in matches.now)) (IsNumberText 8) }
     ensures { Asks (codes "explain") (rows_in matches.now) result }
 {
     Task::Explain {
-        number: number(matches),
+        fault: optional(matches, "fault"),
     }
 }
 
 /// The task of the subcommand `dis`.
 fn disassemble<'a>(matches: &ArgMatches<'a>) -> Task<'a>
-    requires { IsThere (rows_in matches.now) (codes "file") }
+    requires { IsThere (rows_in matches.now) (codes "file") × IsFlagIn (rows_in matches.now) (codes "explain") }
     ensures { Asks (codes "dis") (rows_in matches.now) result }
 {
     Task::Disassemble {
         file: needed(matches, "file"),
         from: optional(matches, "from"),
+        explain: flag(matches, "explain"),
     }
 }
 
@@ -165,7 +165,7 @@ fn read_some<'a>(alloc: Global, arguments: &'a [String]) -> Result<Task<'a>, Wor
 /// is `RunStandardInput`. `Failure::NoMemory` is out of memory; `Failure::Fault` is `clap`'s error for a
 /// command line that no case of `Task` describes (no subcommand or an unknown one, an unknown option, an
 /// option given twice or without its argument, a missing or surplus operand or option, an invalid number of
-/// steps or of a fault), for a request for help or the version, and where memory runs out in `clap`.
+/// steps), for a request for help or the version, and where memory runs out in `clap`.
 pub fn read_words<'a>(alloc: Global, arguments: &'a [String]) -> Result<Task<'a>, WordsFault>
     ensures none { length arguments.now < 2 → result ≡ Ok RunStandardInput }
     ensures some { 2 ≤ length arguments.now → Reads (map string_bytes arguments.now) result }

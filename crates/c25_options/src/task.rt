@@ -19,7 +19,7 @@ pub struct RunFiles<'a> {
 pub struct FaultOptions {
     /// Whether the first fault is explained.
     pub explain: bool,
-    /// Whether all faults of the sources are reported.
+    /// Whether all faults are reported.
     pub all: bool,
 }
 
@@ -35,13 +35,13 @@ pub enum Task<'a> {
         listing: Option<&'a str>,
         faults: FaultOptions,
     },
-    /// `link COMMAND OBJECT.. --out BASE [--explain]`: writes `BASE.p0.hex`, `BASE.p1.hex` and
+    /// `link COMMAND OBJECT.. --out BASE [--explain] [--all]`: writes `BASE.p0.hex`, `BASE.p1.hex` and
     /// `BASE.map`.
     Link {
         command: &'a str,
         objects: Vec<&'a str>,
         base: &'a str,
-        explain: bool,
+        faults: FaultOptions,
     },
     /// `build SOURCE.. --out BASE [--command FILE] [--symbols FILE] [--explain] [--all]`: writes what `link`
     /// does, and `BASE.1.lst`, `BASE.2.lst`, .., a listing for each source; with `--symbols` also the names of
@@ -70,13 +70,14 @@ pub enum Task<'a> {
         files: RunFiles<'a>,
         faults: FaultOptions,
     },
-    /// `explain NUMBER`: prints what the fault of this number means.
+    /// `explain [FAULT]`: prints what the fault of this number or name means, or a list of all faults.
     Explain {
-        number: u8,
+        fault: Option<&'a str>,
     },
-    /// `dis FILE [--from ADDRESS]`: prints an object, or the words of a hex text, as instructions.
+    /// `dis FILE [--from ADDRESS] [--explain]`: prints an object, or the words of a hex text, as instructions.
     Disassemble {
         file: &'a str,
         from: Option<&'a str>,
+        explain: bool,
     },
 }

@@ -1,6 +1,7 @@
 //! Command lines. Each case is a line: what reading it answers, `|`, and the arguments after the program's
 //! name, separated by single blanks.
 
+use c25_options::arranged::arranged;
 use c25_options::fault::is_want_of_memory;
 use c25_options::read::read_words;
 use c25_options::task::{FaultOptions, RunFiles, Task};
@@ -102,10 +103,10 @@ fn show(alloc: Global, task: &Task<'_>) -> Result<String, AllocError> {
             command,
             objects,
             base,
-            explain,
+            faults,
         } => {
-            let (objects, explain) = (Operands(objects), Flag("explain", *explain));
-            format!(in alloc; "link {command} :{objects} base={base}{explain}")
+            let (objects, faults) = (Operands(objects), Faults(faults));
+            format!(in alloc; "link {command} :{objects} base={base}{faults}")
         }
         Task::Build {
             sources,
@@ -140,10 +141,17 @@ fn show(alloc: Global, task: &Task<'_>) -> Result<String, AllocError> {
             let faults = Faults(faults);
             format!(in alloc; "debug{sources} script={script}{files}{faults}")
         }
-        Task::Explain { number } => format!(in alloc; "explain {number}"),
-        Task::Disassemble { file, from } => {
-            let from = Value("from", *from);
-            format!(in alloc; "dis {file}{from}")
+        Task::Explain { fault } => {
+            let fault = Value("fault", *fault);
+            format!(in alloc; "explain{fault}")
+        }
+        Task::Disassemble {
+            file,
+            from,
+            explain,
+        } => {
+            let (from, explain) = (Value("from", *from), Flag("explain", *explain));
+            format!(in alloc; "dis {file}{from}{explain}")
         }
     }
 }
@@ -189,6 +197,50 @@ fn are_answered(rt: &(impl Abort + AllocGlobal), cases: &str) -> Result<(), Fail
 fn run_standard_input(rt: &(impl Abort + AllocGlobal), arguments: &[String]) -> Result<(), Fail> {
     let answer = told(rt.alloc(), arguments)?;
     assert_eq!(rt; answer.as_str(), "standard input");
+    Ok(())
+}
+
+/// Words after the program's name, with single blanks between them.
+fn line_of(alloc: Global, words: &[String]) -> Result<String, AllocError> {
+    let mut line = String::new(alloc);
+    for word in words.iter().skip(1) {
+        if !line.is_empty() {
+            line.push(' ')?;
+        }
+        line.push_str(word.as_str())?;
+    }
+    Ok(line)
+}
+
+/// The arguments of a line in the order in which they are read.
+fn order(alloc: Global, line: &str) -> Result<String, Fail> {
+    let arguments = arguments_of(alloc, line)?;
+    match arranged(alloc, &arguments) {
+        Ok(Some(words)) => line_of(alloc, &words).map_err(Fail::from),
+        Ok(None) => line_of(alloc, &arguments).map_err(Fail::from),
+        Err(_) => Err("no memory".into()),
+    }
+}
+
+/// The cases of a text whose arguments are read in another order than they say, a line each, with the order.
+fn disordered(alloc: Global, cases: &str) -> Result<String, Fail> {
+    let mut out = String::new(alloc);
+    for case in cases.lines() {
+        let Some((wanted, line)) = case.split_once(" | ") else {
+            return Err(Fail::from("no bar"));
+        };
+        let order = order(alloc, line)?;
+        if order.as_str() != wanted {
+            write!(out, "{line}: {order}\n")?;
+        }
+    }
+    Ok(out)
+}
+
+#[test]
+fn help_and_flags_stand_before_subcommands(rt: HostRuntime) -> Result<(), Fail> {
+    let disordered = disordered(rt.alloc(), ARRANGED)?;
+    assert_eq!(rt; disordered.as_str(), "");
     Ok(())
 }
 
@@ -250,9 +302,11 @@ run a.asm steps=1000 samples=s | run a.asm --samples s
 run a.asm steps=1000 schedule=w | run a.asm --schedule w
 debug a.asm script=d | debug a.asm --script d
 debug a.asm b.asm script=d command=c samples=s schedule=w | debug a.asm --schedule w --samples s b.asm --script d --command c
-explain 53 | explain 53
-explain 0 | explain 0
-explain 255 | explain +0255
+explain | explain
+explain fault=53 | explain 53
+explain fault=256 | explain 256
+explain fault=+0255 | explain +0255
+explain fault=FieldRange | explain FieldRange
 dis a.obj | dis a.obj
 dis -a | dis -- -a
 run run asm help steps=1000 | run run asm help
@@ -277,10 +331,36 @@ build a b base=b all | build a --all b --out b
 run a steps=1000 all | run a --all
 run --all steps=1000 | run -- --all
 debug a script=d explain all | debug a --explain --script d --all
-refused | link c a --out b --all
+link c : a base=b all | link c a --out b --all
+link c : a base=b explain all | link --all c a --out b --explain
+refused | link c a --out b --all --all
+refused | dis a --all
 refused | run a --all --all
 refused | run a --all=true
 refused | explain 53 --all
+";
+
+const ARRANGED: &str = "\
+run a | run a
+run a help --all | run a help --all
+build --explain a -o b | --explain build a -o b
+build --explain --all a -o b | --explain --all build a -o b
+run --all a --explain | --all run a --explain
+run --all --all a | --all --all run a
+explain --explain 53 | --explain explain 53
+--explain | --explain
+--all --explain | --all --explain
+--help --explain | --explain --help
+--Explain run a | --Explain run a
+--explain=true run a | --explain=true run a
+-- --explain run a | -- --explain run a
+--help | help
+run --help | help run
+run --help a | help run a
+explain --help | help explain
+--help --help | help --help
+help --explain run | --explain help run
+Help run | Help run
 ";
 
 const STEPS: &str = "\
@@ -407,7 +487,9 @@ refused | run --explain
 refused | debug a --script --explain
 refused | run a --Explain
 refused | run a --expl
-refused | dis a --explain
+dis a explain | dis a --explain
+dis a from=0400 explain | dis --explain a --from 0400
+refused | dis a --explain --explain
 refused | explain 53 --explain
 refused | --explain run a
 ";
@@ -421,11 +503,9 @@ refused | debug --script d
 refused | debug a.asm --script
 refused | debug a.asm --script d --steps 5
 refused | debug a.asm --script d --script e
-refused | explain
-refused | explain 256
-refused | explain FieldRange
 refused | explain 53 54
-refused | explain --number 53
+refused | explain -53
+refused | explain --fault 53
 refused | dis
 refused | dis a.obj b.obj
 refused | dis --file a.obj

@@ -1,8 +1,9 @@
--- Files that are taken for hex texts.
-use Rattle.std.proofs.Common.{◌≡◌, ◌∙◌, sym, ap, subst, ℕ, List, Bool, true, false, refl}
+-- Files that are taken for hex texts, and arguments of `--from` that are no address.
+use Rattle.std.proofs.Common.{◌≡◌, ◌∙◌, sym, ap, subst, ℕ, List, [], Bool, true, false, refl, string_bytes}
+use Rattle.std.specs.Io.KnownBytes.{Keeps}
 use Rattle.std.specs.FinMap as map
 use Rattle.std.specs.Ordering.{nat_cmp}
-use Rattle.std.specs.Prelude.{Result, Err, String}
+use Rattle.std.specs.Prelude.{Result, Err, None, Option, String}
 use Rattle.std.specs.Str.{IsUtf8, is_utf8}
 use Rattle.std.specs.declared.alloc.Global.{Global}
 use Rattle.std.proofs.lemmas.Str.{IsUtf8-from_is_utf8, is_utf8-from_IsUtf8}
@@ -10,9 +11,16 @@ use Rattle.c25_chain.specs.Refusal.{Fault, IsRefusedAs, refusal_of}
 use Rattle.c25_chain.specs.declared.fault.ChainFault.{ChainFault}
 use Rattle.c25_chain.specs.declared.fault.ChainFault.TheVariants.{File}
 use Rattle.c25_disk.specs.declared.fault.FileFault.TheVariants.{CannotRead}
+use Rattle.c25_disk.specs.Held.{Held}
+use Rattle.c25_explain.specs.declared.notes.Notes.{Notes}
+use Rattle.c25_meaning_common.specs.Digits.{hexadecimal_of}
 use Rattle.c25_meaning_common.specs.Results.{FailsBy}
 use Rattle.c25_meaning_common.specs.declared.failure.Failure.TheVariants as failure
-use Rattle.c25_tasks.specs.Disassembly.{IsGivenText, IsTextOf, given_by, given_in}
+use Rattle.c25_report.specs.declared.ending.Ending.{Ending}
+use Rattle.c25_report.specs.declared.ending.Report.{Report}
+use Rattle.c25_tasks.proofs.Done.{line_reported}
+use Rattle.c25_tasks.specs.Disassembly.{DisassemblesFrom, IsGivenText, IsTextOf, address_of, given_by, given_in, no_address_line}
+use Rattle.c25_tasks.specs.Tells.{IsLineOf, Printed}
 
 is_given : (name bytes : List ℕ) → is_utf8 bytes ≡ true → given_in (name, bytes) ≡ given_by bytes
 is_given name bytes e = rw e refl
@@ -35,3 +43,11 @@ pub text_refused : (name bytes shown : List ℕ) (fault : Fault) → shown ≡ b
     → FailsBy refusal_of (given_in (name, bytes)) fault
 text_refused name bytes shown (failure.NoMemory n) is none refused = tt
 text_refused name bytes shown (failure.Fault f) is none refused = rw (not_text bytes (λ utf8. none (subst IsUtf8 (sym is) utf8))) (ap Err (sym refused))
+
+-- the argument of `--from` is no address
+pub no_address : (held : Held) (notes : Notes) (name word shown : List ℕ) (found : Option ℕ) (ending : Ending) (report : Report) (out : Printed) → found ≡ hexadecimal_of 1 shown → shown ≡ word → found ≡ None → report.ending ≡ ending → string_bytes report.note ≡ [] → IsLineOf (no_address_line word) ending → Keeps out.0 out.1
+    → DisassemblesFrom held notes name word (address_of word) report.ending (string_bytes report.note) out
+no_address held notes name word shown found ending report out read is none same quiet line keeps =
+    let address : address_of word ≡ None = ap (hexadecimal_of 1) (sym is) ∙ sym read ∙ none in
+    let reported = line_reported (no_address_line word) ending report same quiet line in
+    subst (λ (start : Option ℕ). DisassemblesFrom held notes name word start report.ending (string_bytes report.note) out) (sym address) (reported.0, reported.1, keeps)

@@ -16,26 +16,28 @@ use Rattle.c25_options.specs.Task.{text_of, texts_of}
 use Rattle.c25_options.specs.declared.task.FaultOptions.{FaultOptions}
 use Rattle.c25_options.specs.declared.task.RunFiles.{RunFiles}
 use Rattle.c25_options.specs.declared.task.Task.{Task}
-use Rattle.c25_options.specs.declared.task.Task.TheVariants.{Assemble, Link, Build, Run, Debug}
+use Rattle.c25_options.specs.declared.task.Task.TheVariants.{Assemble, Link, Build, Run, Debug, Disassemble}
 use Rattle.c25_tasks.specs.Assembly.{Assembles}
 use Rattle.c25_tasks.specs.Building.{WritesProgram}
 use Rattle.c25_tasks.specs.Debugging.{DebugsTold}
+use Rattle.c25_tasks.specs.Disassembly.{DisassemblesTold}
 use Rattle.c25_tasks.specs.Linking.{LinksFrom}
 use Rattle.c25_explain.specs.Notes.{AreNotesFor, IsNoted}
 use Rattle.c25_tasks.specs.Program.{AreNotesUnder, Does, Effect, effect_of}
 use Rattle.c25_tasks.specs.Running.{RunsTold}
 use Rattle.c25_tasks.specs.Symbols.{BuildsToDisk}
-use Rattle.c25_tasks.specs.Tells.{IsEndingOf, IsLineOf, IsReportOf, Printed, Wrote}
+use Rattle.c25_tasks.specs.Tells.{IsLineOf, IsReportOf, Printed, Wrote}
 use Rattle.c25_explain.specs.declared.notes.Notes.{Notes}
-
-pub ends_of : (fault : Fault) (f : ChainFault (String Global)) (e : Ending) → fault ≡ failure.Fault f → IsLineOf (fault_text fault) e → IsEndingOf fault e
-ends_of fault f e is line = subst (λ (x : Fault). IsEndingOf x e) (sym is) (subst (λ (x : Fault). IsLineOf (fault_text x) e) is line)
 
 pub reports_line : (held : Held) (notes : Notes) (fault : Fault) (f : ChainFault (String Global)) (line : String Global) (note : List ℕ)
     → fault ≡ failure.Fault f → string_bytes line ≡ fault_text fault → IsNoted held notes f note → IsReportOf held notes fault (ending.Faulty line) note
 reports_line held notes fault f line note is text noted =
     let of_f : string_bytes line ≡ fault_text (failure.Fault f) = text ∙ ap (λ (x : Fault). fault_text x) is in
     subst (λ (x : Fault). IsReportOf held notes x (ending.Faulty line) note) (sym is) (inl ((line, refl, of_f), noted))
+
+-- a line that is reported without a note
+pub line_reported : (text : List ℕ) (e : Ending) (report : Report) → report.ending ≡ e → string_bytes report.note ≡ [] → IsLineOf text e → IsLineOf text report.ending × (string_bytes report.note ≡ [])
+line_reported text e report same none line = (subst (λ (x : Ending). IsLineOf text x) (sym same) line, none)
 
 -- ---- tasks
 
@@ -54,11 +56,11 @@ pub does_assemble : (held : Held) (input : Option (List ℕ)) (task : Task) (sou
 does_assemble held input task source object listing faults notes e is asked writes keeps =
     subst (λ (t : Task). Does held input t e) (sym is) ((notes, asked, writes), keeps)
 
-pub does_link : (held : Held) (input : Option (List ℕ)) (task : Task) (command : Bor (List ℕ)) (objects : Vec (Bor (List ℕ)) Global) (base : Bor (List ℕ)) (explain : Bool) (notes : Notes) (noted names : List (Bor (List ℕ))) (told : Result Built Fault) (e : Effect)
-    → task ≡ Link command objects base explain → noted ≡ objects.items → AreNotesUnder (record { explain = explain; all = false }) (Some command) [] (texts_of noted) notes → names ≡ objects.items → LinksFrom held command.now (texts_of names) told → WritesProgram held notes base.now told e.ending e.note e.written → Keeps e.out.0 e.out.1 → Does held input task e
-does_link held input task command objects base explain notes noted names told e is of asked same comes writes keeps =
+pub does_link : (held : Held) (input : Option (List ℕ)) (task : Task) (command : Bor (List ℕ)) (objects : Vec (Bor (List ℕ)) Global) (base : Bor (List ℕ)) (faults : FaultOptions) (notes : Notes) (noted names : List (Bor (List ℕ))) (told : Result Built Fault) (e : Effect)
+    → task ≡ Link command objects base faults → noted ≡ objects.items → AreNotesUnder faults (Some command) [] (texts_of noted) notes → names ≡ objects.items → LinksFrom held command.now (texts_of names) told → WritesProgram held notes base.now told e.ending e.note e.written → Keeps e.out.0 e.out.1 → Does held input task e
+does_link held input task command objects base faults notes noted names told e is of asked same comes writes keeps =
     let of_objects = subst (λ (ns : List (Bor (List ℕ))). LinksFrom held command.now (texts_of ns) told) same comes in
-    let of_noted = subst (λ (ns : List (Bor (List ℕ))). AreNotesUnder (record { explain = explain; all = false }) (Some command) [] (texts_of ns) notes) of asked in
+    let of_noted = subst (λ (ns : List (Bor (List ℕ))). AreNotesUnder faults (Some command) [] (texts_of ns) notes) of asked in
     subst (λ (t : Task). Does held input t e) (sym is) ((notes, of_noted, (told, of_objects, writes)), keeps)
 
 pub does_build : (held : Held) (input : Option (List ℕ)) (task : Task) (sources : Vec (Bor (List ℕ)) Global) (base : Bor (List ℕ)) (command symbols : Option (Bor (List ℕ))) (faults : FaultOptions) (notes : Notes) (noted names : List (Bor (List ℕ))) (e : Effect)
@@ -81,3 +83,7 @@ does_debug held input task sources script files faults notes noted names e is of
     let of_sources = subst (λ (ns : List (Bor (List ℕ))). DebugsTold held notes (texts_of ns) script.now files e.ending e.note e.out) same told in
     let of_noted = subst (λ (ns : List (Bor (List ℕ))). AreNotesFor faults files (Some script) (texts_of ns) [] notes) of asked in
     subst (λ (t : Task). Does held input t e) (sym is) ((notes, of_noted, of_sources), stay)
+
+pub does_disassemble : (held : Held) (input : Option (List ℕ)) (task : Task) (file : Bor (List ℕ)) (from : Option (Bor (List ℕ))) (explain : Bool) (notes : Notes) (e : Effect)
+    → task ≡ Disassemble file from explain → AreNotesUnder (record { explain = explain; all = false }) None [] (file.now ∷ []) notes → DisassemblesTold held notes file.now (text_of from) e.ending e.note e.out → Stay e.written.0 e.written.1 → Does held input task e
+does_disassemble held input task file from explain notes e is asked told stay = subst (λ (t : Task). Does held input t e) (sym is) ((notes, asked, told), stay)

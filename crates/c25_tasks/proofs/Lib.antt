@@ -8,3 +8,4 @@ pub mod Words
 pub mod Disassembled
 pub mod WithSymbols
 pub mod Lines
+pub mod Explained

@@ -20,7 +20,8 @@ use Rattle.c25_meaning_objects.specs.Module.{Contents}
 use Rattle.c25_report.specs.declared.ending.Ending.{Ending}
 use Rattle.c25_inputs.specs.Files.{IsUnread}
 use Rattle.c25_inputs.specs.Objects.{module_in}
-use Rattle.c25_tasks.specs.Tells.{IsEndingOf, IsLineOf, Printed, TellsText}
+use Rattle.c25_explain.specs.declared.notes.Notes.{Notes}
+use Rattle.c25_tasks.specs.Tells.{IsLineOf, IsReportOf, Printed, TellsAnswers}
 
 -- an answer is a text of what is meant, or the fault, unless memory ran out
 abbrev pub IsTextOf : {A : Type 0} → (A → List ℕ → Type 0) → Result A (ChainFault (List ℕ)) → Result (String Global) Fault → Type 0
@@ -55,36 +56,37 @@ object_line name = codes "dis: " ++ name ++ codes " is an object, and --from is 
 
 -- what is reported of an object file where `--from` is given: that it is an object, or why its bytes are
 -- invalid
-abbrev pub TellsObject : List ℕ → Result Contents Fault → Ending → Type 0
-TellsObject name (Ok contents) e = IsLineOf (object_line name) e
-TellsObject name (Err fault) e = IsEndingOf fault e
+abbrev pub TellsObject : Held → Notes → List ℕ → Result Contents Fault → Ending → (note : List ℕ) → Type 0
+TellsObject held notes name (Ok contents) e note = IsLineOf (object_line name) e × (note ≡ [])
+TellsObject held notes name (Err fault) e note = IsReportOf held notes fault e note
 
 -- an object file with its name, where `--from` is given: by the module that its bytes spell, or their fault,
 -- it is reported that it is an object, or the fault
-abbrev pub RefusesObject : List ℕ × List ℕ → Ending → Type 0
-RefusesObject file e = (answer : Result Contents Fault) × MeetsBy refusal_of (λ m. m) (module_in file) answer × TellsObject file.0 answer e
+abbrev pub RefusesObject : Held → Notes → List ℕ × List ℕ → Ending → (note : List ℕ) → Type 0
+RefusesObject held notes file e note = (answer : Result Contents Fault) × MeetsBy refusal_of (λ m. m) (module_in file) answer × TellsObject held notes file.0 answer e note
 
 -- an answer of which this holds is printed
-abbrev pub Prints : (Result (String Global) Fault → Type 0) → Ending → Printed → Type 0
-Prints holds e out = (answer : Result (String Global) Fault) × holds answer × TellsText answer e out
+abbrev pub Prints : Held → Notes → (Result (String Global) Fault → Type 0) → Ending → (note : List ℕ) → Printed → Type 0
+Prints held notes holds e note out = (answer : Result (String Global) Fault) × holds answer × TellsAnswers held notes answer e note out
 
 -- what is done with a file with its name, by whether it is read as a hex text, and where `--from` is given
-abbrev pub DisassemblesBy : Bool → Option ℕ → List ℕ × List ℕ → Ending → Printed → Type 0
-DisassemblesBy true start file e out = Prints (IsTextOf (IsGivenText (unwrap_or start 0)) (given_in file)) e out
-DisassemblesBy false None file e out = Prints (IsTextOf IsModuleText (module_in file)) e out
-DisassemblesBy false (Some start) file e out = RefusesObject file e × Keeps out.0 out.1
+abbrev pub DisassemblesBy : Held → Notes → Bool → Option ℕ → List ℕ × List ℕ → Ending → (note : List ℕ) → Printed → Type 0
+DisassemblesBy held notes true start file e note out = Prints held notes (IsTextOf (IsGivenText (unwrap_or start 0)) (given_in file)) e note out
+DisassemblesBy held notes false None file e note out = Prints held notes (IsTextOf IsModuleText (module_in file)) e note out
+DisassemblesBy held notes false (Some start) file e note out = RefusesObject held notes file e note × Keeps out.0 out.1
 
 -- what is done with a file with its name, by its bytes
-abbrev pub Disassembles : Option ℕ → List ℕ × List ℕ → Ending → Printed → Type 0
-Disassembles start file e out = DisassemblesBy (is_hex file.1) start file e out
+abbrev pub Disassembles : Held → Notes → Option ℕ → List ℕ × List ℕ → Ending → (note : List ℕ) → Printed → Type 0
+Disassembles held notes start file e note out = DisassemblesBy held notes (is_hex file.1) start file e note out
 
 -- it is reported that a file cannot be read (8)
-abbrev pub TellsUnread : List ℕ → Ending → Printed → Type 0
-TellsUnread name e out = ((fault : Fault) × IsUnread name fault × IsEndingOf fault e) × Keeps out.0 out.1
+abbrev pub TellsUnread : Held → Notes → List ℕ → Ending → (note : List ℕ) → Printed → Type 0
+TellsUnread held notes name e note out = ((fault : Fault) × IsUnread name fault × IsReportOf held notes fault e note) × Keeps out.0 out.1
 
 -- what is done with a file on a disk
-abbrev pub DisassemblesNamed : Held → List ℕ → Option ℕ → Ending → Printed → Type 0
-DisassemblesNamed held name start e out = TellsUnread name e out ⊎ ((bytes : List ℕ) × IsAllOf (held name) bytes × Disassembles start (name, bytes) e out)
+abbrev pub DisassemblesNamed : Held → Notes → List ℕ → Option ℕ → Ending → (note : List ℕ) → Printed → Type 0
+DisassemblesNamed held notes name start e note out =
+    TellsUnread held notes name e note out ⊎ ((bytes : List ℕ) × IsAllOf (held name) bytes × Disassembles held notes start (name, bytes) e note out)
 
 -- ---- where printing begins
 
@@ -97,11 +99,11 @@ abbrev pub no_address_line : List ℕ → List ℕ
 no_address_line word = codes "dis: no address: " ++ word
 
 -- what is done where `--from` is given, by the address that its argument gives
-abbrev pub DisassemblesFrom : Held → List ℕ → List ℕ → Option ℕ → Ending → Printed → Type 0
-DisassemblesFrom held name word None e out = IsLineOf (no_address_line word) e × Keeps out.0 out.1
-DisassemblesFrom held name word (Some start) e out = DisassemblesNamed held name (Some start) e out
+abbrev pub DisassemblesFrom : Held → Notes → List ℕ → List ℕ → Option ℕ → Ending → (note : List ℕ) → Printed → Type 0
+DisassemblesFrom held notes name word None e note out = IsLineOf (no_address_line word) e × (note ≡ []) × Keeps out.0 out.1
+DisassemblesFrom held notes name word (Some start) e note out = DisassemblesNamed held notes name (Some start) e note out
 
 -- what is done with a file, and the argument of `--from`, if there is one
-abbrev pub DisassemblesTold : Held → List ℕ → Option (List ℕ) → Ending → Printed → Type 0
-DisassemblesTold held name None e out = DisassemblesNamed held name None e out
-DisassemblesTold held name (Some word) e out = DisassemblesFrom held name word (address_of word) e out
+abbrev pub DisassemblesTold : Held → Notes → List ℕ → Option (List ℕ) → Ending → (note : List ℕ) → Printed → Type 0
+DisassemblesTold held notes name None e note out = DisassemblesNamed held notes name None e note out
+DisassemblesTold held notes name (Some word) e note out = DisassemblesFrom held notes name word (address_of word) e note out

@@ -12,6 +12,7 @@ use Rattle.c25_report.specs.Ending.{IsShort}
 use Rattle.c25_report.specs.declared.ending.Ending.{Ending}
 use Rattle.c25_report.specs.declared.ending.Ending.TheVariants as ending
 use Rattle.c25_report.specs.declared.ending.Report.{Report}
+use Rattle.c25_options.specs.Arranged.{arranged}
 use Rattle.c25_options.specs.Task.{Reads, text_of, texts_of}
 use Rattle.c25_options.specs.declared.task.FaultOptions.{FaultOptions}
 use Rattle.c25_options.specs.declared.task.Task.{Task}
@@ -20,7 +21,7 @@ use Rattle.c25_tasks.specs.Assembly.{Assembles}
 use Rattle.c25_tasks.specs.Building.{WritesProgram}
 use Rattle.c25_tasks.specs.Debugging.{DebugsTold}
 use Rattle.c25_tasks.specs.Disassembly.{DisassemblesTold}
-use Rattle.c25_tasks.specs.Explaining.{Explained}
+use Rattle.c25_tasks.specs.Explaining.{ExplainedTold}
 use Rattle.c25_tasks.specs.Linking.{LinksFrom}
 use Rattle.c25_explain.specs.Notes.{AreNotesFor}
 use Rattle.c25_tasks.specs.Running.{Runs, RunsTold}
@@ -68,8 +69,8 @@ Does held input RunStandardInput e = Runs held input e.ending e.note e.out × St
 Does held input (Assemble source object listing faults) e =
     Noting (AreNotesUnder faults None (source.now ∷ []) []) (λ notes. Assembles held notes source.now object.now (text_of listing) e.ending e.note e.written)
     × Keeps e.out.0 e.out.1
-Does held input (Link command objects base explain) e =
-    Noting (AreNotesUnder (record { explain = explain; all = false }) (Some command) [] (texts_of objects.items)) (λ notes. WritesBuilt held notes (LinksFrom held command.now (texts_of objects.items)) base.now e)
+Does held input (Link command objects base faults) e =
+    Noting (AreNotesUnder faults (Some command) [] (texts_of objects.items)) (λ notes. WritesBuilt held notes (LinksFrom held command.now (texts_of objects.items)) base.now e)
     × Keeps e.out.0 e.out.1
 Does held input (Build sources base command symbols faults) e =
     Noting (AreNotesUnder faults command (texts_of sources.items) [])
@@ -83,8 +84,10 @@ Does held input (Debug sources script files faults) e =
     Noting (AreNotesFor faults files (Some script) (texts_of sources.items) [])
     (λ notes. DebugsTold held notes (texts_of sources.items) script.now files e.ending e.note e.out)
     × Stay e.written.0 e.written.1
-Does held input (Explain number) e = Explained number e.ending e.out × OnlyPrints e
-Does held input (Disassemble file from) e = DisassemblesTold held file.now (text_of from) e.ending e.out × OnlyPrints e
+Does held input (Explain fault) e = ExplainedTold (text_of fault) e.ending e.out × OnlyPrints e
+Does held input (Disassemble file from explain) e =
+    Noting (AreNotesUnder (record { explain = explain; all = false }) None [] (file.now ∷ [])) (λ notes. DisassemblesTold held notes file.now (text_of from) e.ending e.note e.out)
+    × Stay e.written.0 e.written.1
 
 -- ---- command lines
 
@@ -94,9 +97,9 @@ DoesRead held input (Ok task) e = Does held input task e
 DoesRead held input (Err fault) e = (e.ending ≡ ending.NoTask fault) × IsQuiet e
 
 -- how a command line is read, the program's name first: without arguments it asks for the run of standard
--- input
+-- input; else its words are read in their order, in which flags of faults and `help` may stand before a subcommand
 abbrev pub AreRead : List (List ℕ) → Result Task (Failure Error) → Type 0
-AreRead words answer = (length words < 2 → answer ≡ Ok RunStandardInput) × (2 ≤ length words → Reads words answer)
+AreRead words answer = (length words < 2 → answer ≡ Ok RunStandardInput) × (2 ≤ length words → Reads (arranged words) answer)
 
 -- what the program does for a command line
 abbrev pub DoesWords : Held → Option (List ℕ) → List (List ℕ) → Effect → Type 0

@@ -42,11 +42,6 @@ HasFault text e = (line : String Global) × (e ≡ ending.Faulty line) × (strin
 abbrev pub IsLineOf : List ℕ → Ending → Type 0
 IsLineOf text e = HasFault text e ⊎ IsShort e
 
--- the ending of a failure: out of memory as itself, and a fault with its line, unless memory runs out
-abbrev pub IsEndingOf : Fault → Ending → Type 0
-IsEndingOf (failure.NoMemory n) e = e ≡ ending.NoMemory n
-IsEndingOf (failure.Fault f) e = IsLineOf (fault_text (failure.Fault f)) e
-
 -- the report of a failure: out of memory as itself; a fault with its line and its note, unless memory runs
 -- out for the line
 abbrev pub IsReportOf : Held → Notes → Fault → Ending → (note : List ℕ) → Type 0
@@ -88,15 +83,11 @@ IsRunOfAnswers given n regs e note out = (chain : Chain) → (a : IsAnswer given
 abbrev pub PrintsGiven : (Given → Type 0) → ℕ → (regs : Bool) → Ending → (note : List ℕ) → Printed → Type 0
 PrintsGiven is_given n regs e note out = IsRun e → (given : Given) × is_given given × IsRunOfStatements given n regs e note out × IsRunOfAnswers given n regs e note out
 
--- the answers of a debugger go to standard output; a failure is reported, and nothing goes to standard output
+-- a text, as the answers of a debugger or a disassembly, goes to standard output; a failure is reported, and
+-- nothing goes to standard output
 abbrev pub TellsAnswers : Held → Notes → Result (String Global) Fault → Ending → (note : List ℕ) → Printed → Type 0
 TellsAnswers held notes (Ok text) e note out = IsPrinted (string_bytes text) ending.Done e out.0 out.1 × (note ≡ [])
 TellsAnswers held notes (Err fault) e note out = IsReportOf held notes fault e note × Keeps out.0 out.1
-
--- the text of a disassembly goes to standard output; a failure is the ending, without a note
-abbrev pub TellsText : Result (String Global) Fault → Ending → Printed → Type 0
-TellsText (Ok text) e out = IsPrinted (string_bytes text) ending.Done e out.0 out.1
-TellsText (Err fault) e out = IsEndingOf fault e × Keeps out.0 out.1
 
 -- ---- files
 

@@ -1,6 +1,6 @@
 //! The task `dis`.
 
-ghost use Rattle.std.specs.Prelude.{◌≡◌, Some, None, false};
+ghost use Rattle.std.specs.Prelude.{◌≡◌, Some, None, false, string_bytes};
 ghost use Rattle.c25_chain.specs.Refusal.{IsRefusedAs};
 ghost use Rattle.c25_chain.specs.declared.fault.ChainFault.TheVariants as refusal;
 ghost use Rattle.c25_dis.specs.Sections.{IsModuleText};
@@ -10,19 +10,20 @@ ghost use Rattle.c25_inputs.specs.Objects.{module_in};
 ghost use Rattle.c25_tasks.specs.Tells.{IsLineOf};
 ghost use Rattle.c25_options.specs.Task.{text_of};
 
-use crate::report::{ending_of_fault, report_text};
+use crate::report::{report_answers, report_of_fault};
 use c25_chain::fault::{ChainFault, Fault};
 use c25_dis::{disassemble_module, disassemble_words};
 use c25_disk::disk::Disk;
 use c25_disk::fault::FileFault;
 use c25_disk::read_binary;
+use c25_explain::notes::Notes;
 use c25_hex::read_hex;
 use c25_inputs::files::fault_of_file;
 use c25_inputs::objects::{Object, module_of};
 use c25_meaning_common::failure::Failure;
 use c25_meaning_common::no_memory::NoMemory;
 use c25_meaning_common::placed::Placed;
-use c25_report::ending::Ending;
+use c25_report::ending::{Ending, Report};
 use c25_texts::hexadecimal_of;
 use std::alloc::Global;
 use std::io::Write;
@@ -84,6 +85,14 @@ fn object_text(alloc: Global, file: &Object<'_>) -> Result<String, Fault>
     }
 }
 
+/// Which notes are reported of a fault, and where printing begins.
+#[derive(Clone, Copy)]
+struct Asked<'a> {
+    notes: Notes<'a>,
+    /// The address that `--from` gives.
+    start: Option<u16>,
+}
+
 /// The line for an argument of `--from` that is no address, unless memory runs out.
 fn no_address(alloc: Global, word: &str) -> Ending
     ensures { IsLineOf (no_address_line word.now) result }
@@ -104,41 +113,48 @@ fn is_object(alloc: Global, name: &str) -> Ending
     }
 }
 
-/// The line for an object file where `--from` is given: that it is an object, or the fault of its bytes (40
+/// The report of an object file where `--from` is given: that it is an object, or the fault of its bytes (40
 /// to 45).
-fn refuse_object(alloc: Global, file: &Object<'_>) -> Ending
-    ensures { RefusesObject (file.now.name.now, file.now.bytes.items) result }
+fn refuse_object<D: Disk>(alloc: Global, disk: &D, file: &Object<'_>, notes: Notes<'_>) -> Report
+    ensures { RefusesObject (D.bytes_of disk.now) notes.entry (file.now.name.now, file.now.bytes.items) result.ending (string_bytes result.note) }
 {
     match module_of(alloc, file) {
-        Ok(_module) => is_object(alloc, file.name),
-        Err(fault) => ending_of_fault(alloc, fault),
+        Ok(_module) => Report::without_note(alloc, is_object(alloc, file.name)),
+        Err(fault) => report_of_fault(alloc, disk, fault, notes),
     }
 }
 
 /// Prints an object file, unless `--from` is given.
-fn print_object<O: Write>(
+fn print_object<D: Disk, O: Write>(
     alloc: Global,
     file: &Object<'_>,
-    start: Option<u16>,
+    asked: Asked<'_>,
+    disk: &D,
     out: &mut O,
-) -> Ending
-    ensures { DisassemblesBy false start (file.now.name.now, file.now.bytes.items) result (O.contents out.old, O.contents out.new) }
+) -> Report
+    ensures { DisassemblesBy (D.bytes_of disk.now) asked.entry.notes false asked.entry.start (file.now.name.now, file.now.bytes.items) result.ending (string_bytes result.note) (O.contents out.old, O.contents out.new) }
 {
-    match start {
-        Some(_address) => refuse_object(alloc, file),
-        None => report_text(alloc, object_text(alloc, file), out),
+    match asked.start {
+        Some(_address) => refuse_object(alloc, disk, file, asked.notes),
+        None => report_answers(alloc, disk, object_text(alloc, file), asked.notes, out),
     }
 }
 
 /// Prints a file as a hex text or as an object, by its first byte.
-fn print_file<O: Write>(alloc: Global, file: &Object<'_>, start: Option<u16>, out: &mut O) -> Ending
-    ensures { Disassembles start (file.now.name.now, file.now.bytes.items) result (O.contents out.old, O.contents out.new) }
+fn print_file<D: Disk, O: Write>(
+    alloc: Global,
+    file: &Object<'_>,
+    asked: Asked<'_>,
+    disk: &D,
+    out: &mut O,
+) -> Report
+    ensures { Disassembles (D.bytes_of disk.now) asked.entry.notes asked.entry.start (file.now.name.now, file.now.bytes.items) result.ending (string_bytes result.note) (O.contents out.old, O.contents out.new) }
 {
     if is_hex(file.bytes.as_slice()) {
-        let told = hex_text(alloc, file, start.unwrap_or(0));
-        report_text(alloc, told, out)
+        let told = hex_text(alloc, file, asked.start.unwrap_or(0));
+        report_answers(alloc, disk, told, asked.notes, out)
     } else {
-        print_object(alloc, file, start, out)
+        print_object(alloc, file, asked, disk, out)
     }
 }
 
@@ -146,50 +162,71 @@ fn print_file<O: Write>(alloc: Global, file: &Object<'_>, start: Option<u16>, ou
 fn print_named<D: Disk, O: Write>(
     alloc: Global,
     name: &str,
-    start: Option<u16>,
+    asked: Asked<'_>,
     disk: &D,
     out: &mut O,
-) -> Ending
-    ensures { DisassemblesNamed (D.bytes_of disk.now) name.now start result (O.contents out.old, O.contents out.new) }
+) -> Report
+    ensures { DisassemblesNamed (D.bytes_of disk.now) asked.entry.notes name.now asked.entry.start result.ending (string_bytes result.note) (O.contents out.old, O.contents out.new) }
 {
     match read_binary(alloc, disk, name) {
         Ok(bytes) => {
             let file = Object { name, bytes };
-            print_file(alloc, &file, start, out)
+            print_file(alloc, &file, asked, disk, out)
         }
-        Err(failure) => ending_of_fault(alloc, fault_of_file(failure)),
+        Err(failure) => report_of_fault(alloc, disk, fault_of_file(failure), asked.notes),
     }
 }
 
-/// Prints a file from the address that the argument of `--from` gives. An argument that is no address is
+/// A file to be disassembled.
+#[derive(Clone, Copy)]
+pub(crate) struct Disassembly<'a> {
+    pub(crate) name: &'a str,
+    /// The argument of `--from`, where it is given.
+    pub(crate) from: Option<&'a str>,
+    /// Which notes are reported of a fault.
+    pub(crate) notes: Notes<'a>,
+}
+
+/// Prints a file from the address that this word gives, the argument of `--from`. A word that is no address is
 /// reported before the file is read.
 fn print_from<D: Disk, O: Write>(
     alloc: Global,
-    name: &str,
+    file: Disassembly<'_>,
     word: &str,
     disk: &D,
     out: &mut O,
-) -> Ending
-    ensures { DisassemblesFrom (D.bytes_of disk.now) name.now word.now (address_of word.now) result (O.contents out.old, O.contents out.new) }
+) -> Report
+    ensures { DisassemblesFrom (D.bytes_of disk.now) file.entry.notes file.entry.name.now word.now (address_of word.now) result.ending (string_bytes result.note) (O.contents out.old, O.contents out.new) }
 {
     match hexadecimal_of(1, word.as_bytes()) {
-        Some(address) => print_named(alloc, name, Some(address), disk, out),
-        None => no_address(alloc, word),
+        Some(address) => {
+            let asked = Asked {
+                notes: file.notes,
+                start: Some(address),
+            };
+            print_named(alloc, file.name, asked, disk, out)
+        }
+        None => Report::without_note(alloc, no_address(alloc, word)),
     }
 }
 
 /// Prints an object as instructions, or a hex text from the address of `--from` on, where that is given.
 pub(crate) fn disassemble<D: Disk, O: Write>(
     alloc: Global,
-    name: &str,
-    from: Option<&str>,
+    file: Disassembly<'_>,
     disk: &D,
     out: &mut O,
-) -> Ending
-    ensures { DisassemblesTold (D.bytes_of disk.now) name.now (text_of from.entry) result (O.contents out.old, O.contents out.new) }
+) -> Report
+    ensures { DisassemblesTold (D.bytes_of disk.now) file.entry.notes file.entry.name.now (text_of file.entry.from) result.ending (string_bytes result.note) (O.contents out.old, O.contents out.new) }
 {
-    match from {
-        None => print_named(alloc, name, None, disk, out),
-        Some(word) => print_from(alloc, name, word, disk, out),
+    match file.from {
+        None => {
+            let asked = Asked {
+                notes: file.notes,
+                start: None,
+            };
+            print_named(alloc, file.name, asked, disk, out)
+        }
+        Some(word) => print_from(alloc, file, word, disk, out),
     }
 }

@@ -2,13 +2,18 @@
 
 ghost use Rattle.std.specs.Prelude.{◌≡◌, IfOk, string_bytes};
 ghost use Rattle.c25_explain.specs.Explanation.{whole_text};
-ghost use Rattle.c25_tasks.specs.Explaining.{Explained, PrintsParts, unknown_line};
+ghost use Rattle.c25_explain.specs.RunEnds.{end_text};
+ghost use Rattle.c25_options.specs.Task.{text_of};
+ghost use Rattle.c25_tasks.specs.Explaining.{Explained, ExplainedEnd, ExplainedName, ExplainedTold, ExplainedWord, Listed, PrintsParts, unknown_line, unknown_name_line};
 ghost use Rattle.c25_tasks.specs.Tells.{IsLineOf};
 
-use c25_explain::explanation::explanation;
+use c25_explain::explanation::{explanation, explanation_named};
 use c25_explain::parts::Explanation;
+use c25_explain::run_ends::{RunEnd, run_end_named};
+use c25_explain::summaries::list_of_faults;
 use c25_meaning_common::no_memory::NoMemory;
 use c25_report::ending::Ending;
+use c25_report::printing::print_answers;
 use std::alloc::Global;
 use std::io::Write;
 
@@ -29,6 +34,16 @@ fn unknown(alloc: Global, number: u8) -> Ending
     }
 }
 
+/// The ending for a word that no fault has as its number or its name, and no end of a run as its name.
+fn unknown_name(alloc: Global, word: &str) -> Ending
+    ensures { IsLineOf (unknown_name_line word.now) result }
+{
+    match format!(in alloc; "explain: no fault has the number or the name {word}") {
+        Ok(line) => Ending::Faulty(line),
+        Err(error) => Ending::NoMemory(NoMemory::from(error)),
+    }
+}
+
 /// Prints an explanation.
 fn print_explanation<O: Write>(explanation: &Explanation, out: &mut O) -> Ending
     ensures { PrintsParts (whole_text explanation.now) result (O.contents out.old, O.contents out.new) }
@@ -40,11 +55,71 @@ fn print_explanation<O: Write>(explanation: &Explanation, out: &mut O) -> Ending
 }
 
 /// Prints the explanation of the fault of this number; a number that no fault has is reported.
-pub(crate) fn explain_number<O: Write>(alloc: Global, number: u8, out: &mut O) -> Ending
+fn explain_number<O: Write>(alloc: Global, number: u8, out: &mut O) -> Ending
     ensures { Explained number result (O.contents out.old, O.contents out.new) }
 {
     match explanation(number) {
         Some(explanation) => print_explanation(&explanation, out),
         None => unknown(alloc, number),
+    }
+}
+
+/// Prints the explanation of the end of a run.
+fn print_end<O: Write>(end: &RunEnd, out: &mut O) -> Ending
+    ensures { PrintsParts (end_text end.now) result (O.contents out.old, O.contents out.new) }
+{
+    match write!(out, "{end}") {
+        Ok(()) => Ending::Done,
+        Err(_) => Ending::Unprinted,
+    }
+}
+
+/// Prints the explanation of the end of a run of this name; a name that none has is reported.
+fn explain_end<O: Write>(alloc: Global, name: &str, out: &mut O) -> Ending
+    ensures { ExplainedEnd name.now result (O.contents out.old, O.contents out.new) }
+{
+    match run_end_named(name) {
+        Some(end) => print_end(&end, out),
+        None => unknown_name(alloc, name),
+    }
+}
+
+/// Prints the explanation of the fault or of the end of a run of this name; a name that none has is reported.
+fn explain_name<O: Write>(alloc: Global, name: &str, out: &mut O) -> Ending
+    ensures { ExplainedName name.now result (O.contents out.old, O.contents out.new) }
+{
+    match explanation_named(name) {
+        Some(explanation) => print_explanation(&explanation, out),
+        None => explain_end(alloc, name, out),
+    }
+}
+
+/// Prints the explanation of the fault or of the end of a run that a word gives by its number or its name.
+fn explain_word<O: Write>(alloc: Global, word: &str, out: &mut O) -> Ending
+    ensures { ExplainedWord word.now result (O.contents out.old, O.contents out.new) }
+{
+    match word.parse::<u8>() {
+        Ok(number) => explain_number(alloc, number, out),
+        Err(_) => explain_name(alloc, word, out),
+    }
+}
+
+/// Prints the list of all faults.
+fn print_list<O: Write>(alloc: Global, out: &mut O) -> Ending
+    ensures { Listed result (O.contents out.old, O.contents out.new) }
+{
+    match list_of_faults(alloc) {
+        Ok(text) => print_answers(text.as_str(), out),
+        Err(error) => Ending::NoMemory(error),
+    }
+}
+
+/// Prints the explanation of the fault that the word gives, or without a word the list of all faults.
+pub(crate) fn explain<O: Write>(alloc: Global, word: Option<&str>, out: &mut O) -> Ending
+    ensures { ExplainedTold (text_of word.entry) result (O.contents out.old, O.contents out.new) }
+{
+    match word {
+        Some(word) => explain_word(alloc, word, out),
+        None => print_list(alloc, out),
     }
 }

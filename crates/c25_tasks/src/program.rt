@@ -1,18 +1,57 @@
 //! The program: the command line, the task, and the report.
 
-ghost use Rattle.std.specs.Prelude.{OnOk, map, string_bytes};
+ghost use Rattle.std.specs.Prelude.{◌≤◌, IfErr, IfOk, OnOk, length, map, string_bytes};
+ghost use Rattle.c25_options.specs.Arranged.{IsArranged};
 ghost use Rattle.c25_report.specs.Ending.{IsReported};
-ghost use Rattle.c25_tasks.specs.Program.{DoesWords, HasNoWords, IsProgram, effect_of};
+ghost use Rattle.c25_tasks.specs.Program.{AreRead, DoesRead, DoesWords, HasNoWords, IsProgram, effect_of};
 
 use crate::task::do_task;
 use c25_disk::disk::Disk;
+use c25_meaning_common::failure::Failure;
 use c25_meaning_common::no_memory::NoMemory;
+use c25_options::arranged::arranged;
+use c25_options::fault::WordsFault;
 use c25_options::read::read_words;
+use c25_options::task::Task;
 use c25_report::ending::{Ended, Ending, Report, finish};
 use std::alloc::{AllocError, Global};
 use std::io::{ErrorKind, Read, Write};
 use std::rt::Env;
 use std::{env, io};
+
+/// Reads a command line, the program's name first, whose words in the order in which they are read were
+/// `arranged`.
+fn task_of_words<'a>(
+    alloc: Global,
+    words: &'a [String],
+    arranged: &'a Result<Option<Vec<String>>, NoMemory>,
+) -> Result<Task<'a>, WordsFault>
+    requires order { IfOk arranged.now (IsArranged (map string_bytes words.now)) }
+    requires short { IfErr arranged.now (λ _. 2 ≤ length words.now) }
+    ensures { AreRead (map string_bytes words.entry.now) result }
+{
+    match arranged {
+        Ok(None) => read_words(alloc, words),
+        Ok(Some(arranged)) => read_words(alloc, arranged),
+        Err(error) => Err(Failure::NoMemory(*error)),
+    }
+}
+
+/// Runs a task that was read, or reports that there is none, and answers the report.
+fn report_of_task<D: Disk, R: Read, O: Write>(
+    alloc: Global,
+    task: Result<Task<'_>, WordsFault>,
+    disk: &mut D,
+    input: &mut R,
+    out: &mut O,
+) -> Report
+    ensures { DoesRead (D.bytes_of disk.old) (R.remaining input.old) task.entry (effect_of result (O.contents out.old, O.contents out.new) (D.written disk.old, D.written disk.new)) }
+{
+    match task {
+        Ok(task) => do_task(alloc, &task, disk, input, out),
+        Err(fault) => Report::without_note(alloc, Ending::NoTask(fault)),
+    }
+}
 
 /// Runs the task of a command line, and answers its report.
 fn report_of_words<D: Disk, R: Read, O: Write>(
@@ -24,10 +63,9 @@ fn report_of_words<D: Disk, R: Read, O: Write>(
 ) -> Report
     ensures { DoesWords (D.bytes_of disk.old) (R.remaining input.old) (map string_bytes words.now) (effect_of result (O.contents out.old, O.contents out.new) (D.written disk.old, D.written disk.new)) }
 {
-    match read_words(alloc, words) {
-        Ok(task) => do_task(alloc, &task, disk, input, out),
-        Err(fault) => Report::without_note(alloc, Ending::NoTask(fault)),
-    }
+    let arranged = arranged(alloc, words);
+    let task = task_of_words(alloc, words, &arranged);
+    report_of_task(alloc, task, disk, input, out)
 }
 
 /// Standard input, standard output and standard error.

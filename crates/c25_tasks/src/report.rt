@@ -1,8 +1,7 @@
 //! Answers and faults as endings and reports.
 
 ghost use Rattle.std.specs.Prelude.{IfOk, string_bytes};
-ghost use Rattle.c25_chain.specs.FaultText.{fault_text};
-ghost use Rattle.c25_tasks.specs.Tells.{IsEndingOf, IsLineOf, IsOfSources, IsReportOf, TellsAnswers, TellsRun, TellsText};
+ghost use Rattle.c25_tasks.specs.Tells.{IsOfSources, IsReportOf, TellsAnswers, TellsRun};
 
 use c25_chain::fault::Fault;
 use c25_chain::ready::Ready;
@@ -15,27 +14,6 @@ use c25_report::printing::print_answers;
 use c25_run::print_run;
 use std::alloc::Global;
 use std::io::Write;
-
-/// The line of a fault, unless memory runs out.
-fn line_of(alloc: Global, fault: &Fault) -> Ending
-    ensures { IsLineOf (fault_text fault.now) result }
-{
-    match write_fault(alloc, fault) {
-        Ok(line) => Ending::Faulty(line),
-        Err(error) => Ending::NoMemory(error),
-    }
-}
-
-/// The ending of a failure: out of memory, or the line of a fault.
-#[tactic(auto, using(crate::proofs::Done::ends_of))]
-pub(crate) fn ending_of_fault(alloc: Global, fault: Fault) -> Ending
-    ensures { IsEndingOf fault result }
-{
-    match &fault {
-        Failure::NoMemory(error) => Ending::NoMemory(*error),
-        Failure::Fault(_) => line_of(alloc, &fault),
-    }
-}
 
 /// The report of a failure: the line of its fault, and the note after it.
 pub(crate) fn report_of_fault<D: Disk>(
@@ -59,21 +37,7 @@ pub(crate) fn report_of_fault<D: Disk>(
     }
 }
 
-/// Prints a text, or answers the ending of the failure.
-pub(crate) fn report_text<O: Write>(
-    alloc: Global,
-    answer: Result<String, Fault>,
-    out: &mut O,
-) -> Ending
-    ensures { TellsText answer result (O.contents out.old, O.contents out.new) }
-{
-    match answer {
-        Ok(text) => print_answers(text.as_str(), out),
-        Err(fault) => ending_of_fault(alloc, fault),
-    }
-}
-
-/// Prints the answers of a debugger, or answers the report of the failure.
+/// Prints a text, as the answers of a debugger or a disassembly, or answers the report of the failure.
 pub(crate) fn report_answers<D: Disk, O: Write>(
     alloc: Global,
     disk: &D,

@@ -13,8 +13,8 @@ ghost use Rattle.c25_tasks.specs.Tells.{Writes, WritesTexts, WritesTold};
 use crate::assembly::{Assembly, asm_outputs};
 use crate::building::built;
 use crate::debugging::{DebugNames, debug_sources};
-use crate::disassembly::disassemble;
-use crate::explaining::explain_number;
+use crate::disassembly::{Disassembly, disassemble};
+use crate::explaining::explain;
 use crate::linking::linked;
 use crate::report::{RunOptions, report_of_fault};
 use crate::running::{RunNames, run_sources};
@@ -259,14 +259,10 @@ pub(crate) fn do_task<D: Disk, R: Read, O: Write>(
             command,
             objects,
             base,
-            explain,
+            faults,
         } => {
             let answer = linked(alloc, disk, command, objects);
-            let options = FaultOptions {
-                explain: *explain,
-                all: false,
-            };
-            let notes = notes_under(options, Some(*command), &[], objects);
+            let notes = notes_under(*faults, Some(*command), &[], objects);
             write_program(alloc, base, answer, notes, disk)
         }
         Task::Build {
@@ -318,13 +314,27 @@ pub(crate) fn do_task<D: Disk, R: Read, O: Write>(
             };
             debug_sources(alloc, named, notes, disk, out)
         }
-        Task::Explain { number } => {
-            let ending = explain_number(alloc, *number, out);
+        Task::Explain { fault } => {
+            let ending = explain(alloc, *fault, out);
             Report::without_note(alloc, ending)
         }
-        Task::Disassemble { file, from } => {
-            let ending = disassemble(alloc, file, *from, disk, out);
-            Report::without_note(alloc, ending)
+        Task::Disassemble {
+            file,
+            from,
+            explain,
+        } => {
+            let options = FaultOptions {
+                explain: *explain,
+                all: false,
+            };
+            let files = [*file];
+            let notes = notes_under(options, None, &[], &files);
+            let file = Disassembly {
+                name: file,
+                from: *from,
+                notes,
+            };
+            disassemble(alloc, file, disk, out)
         }
     }
 }

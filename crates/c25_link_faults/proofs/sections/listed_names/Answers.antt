@@ -1,4 +1,4 @@
-use Rattle.std.proofs.Common.{[], subst, sym, take, ap}
+use Rattle.std.proofs.Common.{[], subst, sym, take}
 use Rattle.c25_cmd.specs.View.{placings_of}
 use Rattle.c25_link_faults.specs.View.{HasFirst, placing_names}
 use Rattle.c25_link_faults.proofs.More.{placings_next}

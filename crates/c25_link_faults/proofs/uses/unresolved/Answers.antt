@@ -1,4 +1,4 @@
-use Rattle.std.proofs.Common.{List, [], ap, subst, sym, take, map, filter, ◌++◌, ◌∙◌}
+use Rattle.std.proofs.Common.{List, [], subst, sym, take, map, filter, ◌++◌}
 use Rattle.c25_meaning_linking.proofs.ByModules.{by_modules_all}
 use Rattle.c25_meaning_linking.specs.Linking.{Use, is_unresolved, module_uses}
 use Rattle.c25_meaning_linking.specs.Place.{by_modules}

@@ -4,4 +4,5 @@ pub returns : goal.returns
 returns c =
     let command = c.subcommand-command.ensures in
     let command = c.with_argument-command.ensures _ _ command c.operand.ensures.rule in
-    c.with_argument.ensures _ _ command c.first_address.ensures.rule
+    let command = c.with_argument-command-2.ensures _ _ command c.first_address.ensures.rule in
+    c.with_explain.ensures _ command

@@ -6,4 +6,4 @@ returns c =
     let command = c.with_argument-command.ensures _ _ command c.operand-file.ensures.rule in
     let command = c.with_argument-command-2.ensures _ _ command c.operands-objects.ensures.rule in
     let command = c.with_argument-command-3.ensures _ _ command c.base_name-base.ensures.rule in
-    c.with_explain.ensures _ command
+    c.with_fault_options.ensures _ command

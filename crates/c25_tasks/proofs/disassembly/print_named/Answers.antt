@@ -3,4 +3,4 @@ use Rattle.c25_tasks.proofs.Quiet.{keeps}
 use Rattle.c25_tasks.proofs.disassembly.print_named.Goals as goal
 
 pub returns-in-Err : goal.returns-in-Err
-returns-in-Err g c = inl ((c.fault_of_file.result, (c.in-Err.failure, c.in-Err.ensures.fault, c.fault_of_file.ensures), c.ending_of_fault.ensures), keeps _)
+returns-in-Err g c = inl ((c.fault_of_file.result, (c.in-Err.failure, c.in-Err.ensures.fault, c.fault_of_file.ensures), c.report_of_fault.ensures), keeps _)

@@ -1,6 +1,6 @@
 use Rattle.std.proofs.Common.{refl}
-use Rattle.c25_options.specs.declared.task.Task.TheVariants.{Disassemble, Explain}
-use Rattle.c25_tasks.proofs.Done.{does, does_assemble, does_build, does_debug, does_link, does_run, reported}
+use Rattle.c25_options.specs.declared.task.Task.TheVariants.{Explain}
+use Rattle.c25_tasks.proofs.Done.{does, does_assemble, does_build, does_debug, does_disassemble, does_link, does_run, reported}
 use Rattle.c25_tasks.proofs.Quiet.{keeps, stays}
 use Rattle.c25_tasks.proofs.task.do_task.Goals as goal
 
@@ -10,7 +10,7 @@ returns-in-Assemble g c =
 
 pub returns-in-Link : goal.returns-in-Link
 returns-in-Link g c =
-    does_link (g.D.Disk.bytes_of c.args.disk.now) _ c.args.task.now c.in-Link.command c.in-Link.objects c.in-Link.base c.in-Link.explain c.notes_under-notes-in-Link.result c.deref-in-Link.result.now c.deref.result.now c.linked-answer.result _ c.in-Link.is c.deref-in-Link.ensures.value c.notes_under-notes-in-Link.ensures c.deref.ensures.value c.linked-answer.ensures c.write_program.ensures (keeps _)
+    does_link (g.D.Disk.bytes_of c.args.disk.now) _ c.args.task.now c.in-Link.command c.in-Link.objects c.in-Link.base c.in-Link.faults c.notes_under-notes-in-Link.result c.deref-in-Link.result.now c.deref.result.now c.linked-answer.result _ c.in-Link.is c.deref-in-Link.ensures.value c.notes_under-notes-in-Link.ensures c.deref.ensures.value c.linked-answer.ensures c.write_program.ensures (keeps _)
 
 pub returns-in-Build : goal.returns-in-Build
 returns-in-Build g c =
@@ -26,10 +26,9 @@ returns-in-Debug g c =
 
 pub returns-in-Explain : goal.returns-in-Explain
 returns-in-Explain g c =
-    reported (g.D.Disk.bytes_of c.args.disk.now) _ c.args.task.now c.explain_number-ending.result c.without_note.result _ _ c.without_note.ensures.ending c.without_note.ensures.note
-    (does _ _ c.args.task.now (Explain c.in-Explain.number) _ c.in-Explain.is (c.explain_number-ending.ensures, (stays _, refl)))
+    reported (g.D.Disk.bytes_of c.args.disk.now) _ c.args.task.now c.explain-ending.result c.without_note.result _ _ c.without_note.ensures.ending c.without_note.ensures.note
+    (does _ _ c.args.task.now (Explain c.in-Explain.fault) _ c.in-Explain.is (c.explain-ending.ensures, (stays _, refl)))
 
 pub returns-in-Disassemble : goal.returns-in-Disassemble
 returns-in-Disassemble g c =
-    reported (g.D.Disk.bytes_of c.args.disk.now) _ c.args.task.now c.disassemble-ending.result c.without_note-in-Disassemble.result _ _ c.without_note-in-Disassemble.ensures.ending c.without_note-in-Disassemble.ensures.note
-    (does _ _ c.args.task.now (Disassemble c.in-Disassemble.file c.in-Disassemble.from) _ c.in-Disassemble.is (c.disassemble-ending.ensures, (stays _, refl)))
+    does_disassemble (g.D.Disk.bytes_of c.args.disk.now) _ c.args.task.now c.in-Disassemble.file c.in-Disassemble.from c.in-Disassemble.explain c.notes_under-notes-in-Disassemble.result _ c.in-Disassemble.is c.notes_under-notes-in-Disassemble.ensures c.disassemble.ensures (stays _)
