@@ -106,6 +106,7 @@ KNOWN = {
         "b.asm: module 1 defines GO",
     ],
     "link:MAIN: 76 NoEntry, 1": ["a.asm:1: MAIN NOP", "a.asm: module 0 defines MAIN without .def MAIN"],
+    "link:b: 74 Overlap, 1": ["b: words 0001 to 0001 of page 0", ".text: words 0000 to 0001 of page 0"],
     "link:.text: 72 NoRange, 1": ["command: .text is to stand in ROM, and no range has this name"],
     "link:.text: 72 NoRange, 2": ["command: .text is to stand on page 0, which has no range"],
     "link:.text: 72 NoRange, 3": ["command: .text is to stand in DATA, and no range has this name on page 0"],

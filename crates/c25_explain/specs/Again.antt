@@ -11,7 +11,7 @@ use Rattle.c25_chain.specs.declared.fault.ChainFault.TheVariants.{Link}
 use Rattle.c25_disk.specs.Copies.{HasCopied}
 use Rattle.c25_disk.specs.Held.{Held, IsAllOf, ReadsSources}
 use Rattle.c25_explain.specs.AllFaults.{Follows}
-use Rattle.c25_explain.specs.Details.{Deed, Defines, Keeps, Uses, misfit_text, nowhere_text, site_text}
+use Rattle.c25_explain.specs.Details.{Deed, Defines, Keeps, Uses, misfit_text, nowhere_text, site_text, span_text}
 use Rattle.c25_explain.specs.Note.{line_of}
 use Rattle.c25_explain.specs.declared.again.Asked.{Asked}
 use Rattle.c25_explain.specs.declared.again.Asked.TheVariants as asked
@@ -20,6 +20,7 @@ use Rattle.c25_inputs.specs.Files.{IsOptional}
 use Rattle.c25_inputs.specs.Objects.{AreFiles, modules_in}
 use Rattle.c25_link.specs.Misfits.{MisfitData, first_misfit}
 use Rattle.c25_link_faults.specs.Faults.{AreLinkFaults}
+use Rattle.c25_link_faults.specs.Overlaps.{OverlapData, SpanData, overlap_of}
 use Rattle.c25_link_faults.specs.Sites.{SiteData, definition_sites, local_sites, use_sites}
 use Rattle.c25_meaning_common.specs.Faults.{placed_text}
 use Rattle.c25_meaning_common.specs.declared.placed.FileLine.{FileLine}
@@ -78,6 +79,21 @@ name_notes names modules Unresolved name = unresolved_notes names modules name
 name_notes names modules DefinedTwice name = twice_notes names modules name
 name_notes names modules NoEntry name = entry_notes names modules name
 name_notes names modules _ name = []
+
+-- ---- 74: sections
+
+-- the note about the words of a section
+abbrev pub span_note : SpanData → NoteData
+span_note s = record { text = span_text s; line = None }
+
+-- the notes about two sections
+abbrev pub overlap_notes : OverlapData → List NoteData
+overlap_notes o = span_note o.section ∷ span_note o.other ∷ []
+
+-- the notes about the section of a name, and the one that shares a word with it under the text of a command
+abbrev pub AreOverlapNotes : (name : List ℕ) → List Contents → List ℕ → List NoteData → Type 0
+AreOverlapNotes name modules text notes =
+    (command : CommandData) × (command_of text ≡ Ok command) × ((o : OverlapData) × (overlap_of modules command name ≡ Some o) × (notes ≡ overlap_notes o))
 
 -- ---- 75: fields
 
@@ -138,16 +154,18 @@ AreAllNotes explain names modules text notes = (command : CommandData) × (comma
 
 -- ---- what is asked for
 
--- what is asked of modules: which use or define the name of a fault (70, 71, 76), the first field that does not
--- take its value (75), all faults, to be explained or not
+-- what is asked of modules: which use or define the name of a fault (70, 71, 76), which section shares a word
+-- with one of a name (74), the first field that does not take its value (75), all faults, to be explained or not
 pub data Question : Type 0 where
   AboutName : LinkFault → List ℕ → Question
+  AboutOverlap : List ℕ → Question
   AboutField : Question
   AboutAll : Bool → Question
 
 -- the notes that are asked for, of modules of the files of these names under the text of a command
 abbrev pub AreNotes : Question → (names : List (List ℕ)) → List Contents → (command : List ℕ) → List NoteData → Type 0
 AreNotes (AboutName fault name) names modules command notes = notes ≡ name_notes names modules fault name
+AreNotes (AboutOverlap name) names modules command notes = AreOverlapNotes name modules command notes
 AreNotes AboutField names modules command notes = AreFieldNotes names modules command notes
 AreNotes (AboutAll explain) names modules command notes = AreAllNotes explain names modules command notes
 
@@ -230,5 +248,6 @@ notes_view notes = map note_view notes
 -- what is asked, as clauses see it
 abbrev pub question : Asked → Question
 question (asked.Name fault name) = AboutName fault name.now
+question (asked.Overlap name) = AboutOverlap name.now
 question asked.Field = AboutField
 question (asked.AllFaults explain) = AboutAll explain

@@ -3,6 +3,7 @@ use Rattle.std.specs.Prelude.{ℕ, zero, suc, ◌&&◌, ℤ, pos, negsuc, List, 
 use Rattle.std.specs.Fmt.{decimal, signed_decimal}
 use Rattle.c25_cmd.specs.Refused.{Character, End, RefusedAtData, Word}
 use Rattle.c25_link.specs.Misfits.{MisfitData}
+use Rattle.c25_link_faults.specs.Overlaps.{SpanData}
 use Rattle.c25_meaning_common.specs.Digits.{four_digits, two_digits}
 use Rattle.c25_meaning_common.specs.Faults.{placed_text}
 use Rattle.c25_meaning_objects.specs.declared.object.RelocationBase.{RelocationBase}
@@ -117,3 +118,13 @@ site_text file number deed name = file ++ codes ": module " ++ decimal number ++
 -- that no module defines a name
 abbrev pub nowhere_text : List ℕ → List ℕ
 nowhere_text name = codes "no module defines " ++ name ++ codes "\n"
+
+-- ---- two sections that share a word: 74
+
+-- the first and the last word of a section
+unfoldable pub words_text : SpanData → List ℕ
+words_text s = codes ": words " ++ address_text s.first ++ codes " to " ++ address_text s.last
+
+-- the name of a section, its first and its last word, and its page
+abbrev pub span_text : SpanData → List ℕ
+span_text s = s.name ++ words_text s ++ codes " of page " ++ decimal s.page ++ codes "\n"

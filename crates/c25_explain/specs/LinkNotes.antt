@@ -12,7 +12,7 @@ use Rattle.c25_meaning_linking.specs.CommandText.{command_of}
 use Rattle.c25_meaning_linking.specs.declared.link_fault.LinkFault.{LinkFault}
 use Rattle.c25_meaning_linking.specs.declared.link_fault.LinkFault.TheVariants.{BadRun, DefinedTwice, DoesNotFit, NoEntry, NoRange, Overlap, RelocRange, Unresolved}
 use Rattle.c25_place.specs.Missing.{MissingData, missing_range}
-use Rattle.c25_explain.specs.Again.{AboutField, AboutName, ShowsAsked}
+use Rattle.c25_explain.specs.Again.{AboutField, AboutName, AboutOverlap, ShowsAsked}
 use Rattle.c25_explain.specs.Trails.{IsTrailText}
 
 -- ---- the command file
@@ -34,8 +34,8 @@ ShowsOf held (Some file) shows shown = ((text : List ℕ) × IsAllOf (held file)
 
 -- ---- linking
 
--- the note of a fault of linking: of 72 the range that the section lacks, of 75 the field, of 70, 71 and 76
--- the modules that use or define the name, of all others nothing
+-- the note of a fault of linking: of 72 the range that the section lacks, of 74 the words of both sections, of
+-- 75 the field, of 70, 71 and 76 the modules that use or define the name, of all others nothing
 abbrev pub ShowsLink : Held → (command : Option (List ℕ)) → (sources objects : List (List ℕ)) → LinkFault → (name : List ℕ) → List ℕ → Type 0
 ShowsLink held command sources objects Unresolved name shown = ShowsAsked (AboutName Unresolved name) held command sources objects shown
 ShowsLink held command sources objects DefinedTwice name shown = ShowsAsked (AboutName DefinedTwice name) held command sources objects shown
@@ -43,7 +43,7 @@ ShowsLink held command sources objects NoEntry name shown = ShowsAsked (AboutNam
 ShowsLink held command sources objects NoRange name shown = ShowsOf held command (λ file text. ShowsMissing file name text) shown
 ShowsLink held command sources objects RelocRange name shown = ShowsAsked AboutField held command sources objects shown
 ShowsLink held command sources objects DoesNotFit name shown = shown ≡ []
-ShowsLink held command sources objects Overlap name shown = shown ≡ []
+ShowsLink held command sources objects Overlap name shown = ShowsAsked (AboutOverlap name) held command sources objects shown
 ShowsLink held command sources objects BadRun name shown = shown ≡ []
 
 -- ---- refusals

@@ -10,6 +10,7 @@ use crate::misfits::field_notes;
 use crate::named::NamedFiles;
 use crate::named_sites::{About, name_notes};
 use crate::note_lines::{LinkNote, notes_shown};
+use crate::overlaps::overlap_notes;
 use c25_chain::assemble_all;
 use c25_chain::fault::{ChainFault, Fault};
 use c25_disk::disk::Disk;
@@ -29,6 +30,8 @@ use std::alloc::Global;
 pub(crate) enum Asked<'a> {
     /// Which modules use or define the name of this fault.
     Name { fault: LinkFault, name: &'a str },
+    /// The section of this name, and the one that shares a word with it (74).
+    Overlap(&'a str),
     /// The first field that does not take its value (75).
     Field,
     /// All faults of linking, and, where they are to be explained, which modules use or define their names.
@@ -58,6 +61,7 @@ fn notes_of(
         Asked::Name { fault, name } => {
             name_notes(alloc, modules, fault, About { names, name }).map(Some)
         }
+        Asked::Overlap(name) => overlap_notes(alloc, modules, command, name),
         Asked::Field => field_notes(alloc, names, modules, command),
         Asked::AllFaults { explain } => {
             let among = Among {

@@ -45,7 +45,7 @@ fn push_at(text: &mut String) -> Result<(), NoMemory>
 
 /// Appends an address in four hexadecimal digits.
 #[tactic(auto, unfolding(crate::specs::Details::address_text))]
-fn push_address(text: &mut String, address: u16) -> Result<(), NoMemory>
+pub(crate) fn push_address(text: &mut String, address: u16) -> Result<(), NoMemory>
     ensures { OnOk result (string_bytes text.new ≡ string_bytes text.old ++ address_text address) }
 {
     text.push_str(four(address).as_str())

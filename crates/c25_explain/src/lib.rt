@@ -20,6 +20,7 @@ mod note_lines;
 pub mod notes;
 mod numbers;
 mod objects;
+mod overlaps;
 pub mod parts;
 mod places;
 mod ranges;

@@ -4,3 +4,4 @@ pub mod Lacked
 pub mod More
 pub mod Others
 pub mod Twice
+pub mod Spanned

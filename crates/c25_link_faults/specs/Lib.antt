@@ -1,3 +1,4 @@
 pub mod Faults
+pub mod Overlaps
 pub mod Sites
 pub mod View

@@ -1,0 +1,8 @@
+ B 0
+ .sect "b"
+ NOP
+ NOP
+ NOP
+ .sect "c"
+ NOP
+ .bss X,4
