@@ -62,10 +62,10 @@ def crates():
 def minutes():
     """Of each crate, the minutes of its proof, its tests and its must-fail edits together, by the page's table of times."""
     found = {}
-    for line in text_of(PAGE).partition("\n## Times\n")[2].partition("\n## ")[0].splitlines():
+    for line in text_of(PAGE).partition("\n## Times\n")[2].partition("\n##")[0].splitlines():
         cells = [it.strip() for it in line.strip("|").split("|")]
-        if re.fullmatch(r"(?:c25|show)\w*", cells[0]) and len(cells) == 6:
-            found[cells[0]] = sum(float(it) for it in re.findall(r"\d+(?:\.\d+)?", re.sub(r"\(\d+\)", "", " ".join(cells[3:]))))
+        if re.fullmatch(r"(?:c25|show)\w*", cells[0]) and len(cells) == 4:
+            found[cells[0]] = sum(float(it) for it in re.findall(r"\d+(?:\.\d+)?", re.sub(r"\(\d+\)", "", " ".join(cells[1:]))))
     return found
 
 
