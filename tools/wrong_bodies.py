@@ -18,6 +18,8 @@ import subprocess
 import sys
 import tempfile
 
+# What the prover says where its search ended at a limit, so that the wrong body may be one that it could not refute.
+LIMITS = ("only by a limit", "stopped at its own limit", "gave up at one of its limits")
 LINE = re.compile(r"must-fail (\w+)/([\w.-]+\.edit): (.*)")
 
 
@@ -43,7 +45,7 @@ def copied(folder, crates):
 def kind_of(answer):
     """What an answer of `rt ci` on a wrong body comes to."""
     if answer.startswith("refused"):
-        return "at a limit" if "only by a limit" in answer else "refused"
+        return "at a limit" if any(it in answer for it in LIMITS) else "refused"
     return "not refused" if answer.startswith("NOT REFUSED") else "not tried"
 
 
