@@ -1,10 +1,12 @@
 #!/usr/bin/env python3
-"""The explanations of faults that `c25 explain` prints, made of docs/FAULTS.md, where their text stands.
+"""The explanations of faults and of warnings that `c25 explain` prints, made of docs/FAULTS.md and docs/WARNINGS.md, where their text
+stands.
 
 usage: python3 docs/explanations.py [--write | --check]     (from the top of the repository)
 
-It prints the explanation of each fault and of each end of a run. --write puts the explanations into crates/c25_explain/src, a file for
-each group of faults of the page and one for the ends of runs; --check names each of these files that is missing or differs from what
+It prints the explanation of each fault, of each end of a run and of each warning. --write puts the explanations into
+crates/c25_explain/src, a file for each group of faults of the page and one for the ends of runs, and those of warnings into
+crates/c25_warning_pages/src; --check names each of these files that is missing or differs from what
 --write would write, and ends with status 1 where there is one.
 
 An explanation is the fault's heading, as `53 FieldRange`, and what its section has, in three parts:
@@ -17,6 +19,9 @@ An explanation is the fault's heading, as `53 FieldRange`, and what its section 
 
 The end of a run that leaves the code, as OutOfCode, has no number: its explanation is its name, the paragraph of the page that begins
 with it, and the example after that.
+
+The explanation of a warning is its name and what its section has, in the same three parts; the inputs for which nothing is printed are
+on the page only.
 
 Paragraphs are printed in lines of at most 100 columns, without the marks of links, and without the backquotes of code that has a
 letter or a digit. Code of signs alone, as `;`, keeps its backquotes, since nothing else would separate it from the sentence. Tables
@@ -41,6 +46,12 @@ GROUPS = {
     "Files and memory": ("files", "File", "c25_disk", "fault.FileFault"),
 }
 ENDS = ("What is not a fault", "run_end_texts")  # the group that has the ends of runs, and their file
+WARNINGS, WARNINGS_FILE = "docs/WARNINGS.md", "crates/c25_warning_pages/src/texts.rt"
+# For each group of the page of warnings: the crate, the type and the definition of the names of its warnings.
+WARNING_GROUPS = {
+    "A line of a source": ("line", "c25_line_warnings", "warning_kind.WarningKind", "warning_name"),
+    "A command file": ("section", "c25_warnings", "warning.LinkWarningKind", "link_warning_name"),
+}
 # The faults that are variants of `AnyFault` themselves.
 ALONE = {"NoMemory": "Memory", "BadMap": "Map", "BadSchedule": "Schedule", "BadSamples": "Samples", "BadCommand": "Script"}
 
@@ -115,6 +126,12 @@ def ends():
         yield name, meaning, example
 
 
+def warnings():
+    """For each group of warnings: their names and the parts of their explanations."""
+    for title, body in sections(text_of(WARNINGS), "##"):
+        yield title, {heading: parts(section) for heading, section in sections(body, "###")}
+
+
 def whole(heading, parts_of_it):
     """What `c25 explain` prints."""
     return "\n".join([heading + "\n", *(part for part in parts_of_it if part)])
@@ -158,6 +175,22 @@ def ends_source():
     return "\n".join(head)
 
 
+def warnings_source():
+    """The file of the warnings."""
+    head = [f"//! Explanations of warnings, made of {WARNINGS} by docs/explanations.py --write.\n", "ghost use Rattle.std.specs.Prelude.{◌≡◌};"]
+    head += [f"ghost use Rattle.{crate}.specs.Names.{{{names}}};" for _, crate, _, names in WARNING_GROUPS.values()]
+    head += [f"ghost use Rattle.{crate}.specs.declared.{kind}.TheVariants as {short};" for short, crate, kind, _ in WARNING_GROUPS.values()]
+    head += ["\nuse crate::page::Page;\n"]
+    for title, group in warnings():
+        short, _, _, names = WARNING_GROUPS[title]
+        for name, (meaning, example, advice) in group.items():
+            texts = {"summary": summary(meaning), "meaning": meaning, "example": example, "advice": advice}
+            fields = [f'name: "{name}"'] + [f"{field}: {literal(text)}" for field, text in texts.items()]
+            body = "".join(f"        {field},\n" for field in fields)
+            head.append(f"pub(crate) fn {snake_case(name)}() -> Page\n    ensures {{ result.name.now ≡ {names} {short}.{name} }}\n{{\n    Page {{\n{body}    }}\n}}\n")
+    return "\n".join(head)
+
+
 def source(title, faults):
     """The file of a group."""
     _, variant, crate, kind = GROUPS[title]
@@ -175,7 +208,7 @@ def source(title, faults):
 
 def sources():
     groups = {f"{FOLDER}/{GROUPS[title][0]}.rt": source(title, faults) for title, faults in explanations()}
-    return {**groups, f"{FOLDER}/{ENDS[1]}.rt": ends_source()}
+    return {**groups, f"{FOLDER}/{ENDS[1]}.rt": ends_source(), WARNINGS_FILE: warnings_source()}
 
 
 def main(words):
@@ -186,10 +219,11 @@ def main(words):
         return 0
     if "--check" in words:
         wrong = [path for path, text in sources().items() if not os.path.isfile(path) or text_of(path) != text]
-        print("\n".join(f"{path} is not what python3 docs/explanations.py --write makes of {PAGE}" for path in wrong) or f"the explanations are those of {PAGE}")
+        print("\n".join(f"{path} is not what python3 docs/explanations.py --write makes of {WARNINGS if path == WARNINGS_FILE else PAGE}" for path in wrong) or f"the explanations are those of {PAGE} and {WARNINGS}")
         return 1 if wrong else 0
     faults = [whole(heading, text) for _, group in explanations() for heading, text in group.items()]
-    print("\n".join(faults + [whole(name, (meaning, example)) for name, meaning, example in ends()]), end="")
+    runs = [whole(name, (meaning, example)) for name, meaning, example in ends()]
+    print("\n".join(faults + runs + [whole(name, text) for _, group in warnings() for name, text in group.items()]), end="")
     return 0
 
 

@@ -18,9 +18,11 @@ folder its commands, each followed by what a terminal shows, and for packed case
   blocks. `explained.cases` has those of these examples that take `--explain`, with the note of each fault, made of the
   same page and of `parts.txt` here, which has for each example the line as it is read and the carets below its part that
   is refused. `pages/faults` has the other examples: calls of a library on a file, which a session has too.
+- `warnings.cases` has the examples of docs/WARNINGS.md: the inputs with a warning, without and with `--explain`, and those
+  for which nothing is printed.
 - `cases/NAME` is used as it is, with its files, its `session` and its `output.txt`: what a terminal shows, where a line
-  `{NUMBER}` stands for what `--explain` prints about the fault of that number after the line that it shows, and a line
-  `{faults}` for the list of all faults.
+  `{NUMBER}` or `{NAME}` stands for what `--explain` prints about the fault of that number or the warning of that name
+  after the lines that it shows, a line `{faults}` for the list of all faults and `{warnings}` for that of all warnings.
 - `cases/*.cases` and `random/*.cases` are used as they are.
 
 The program itself is not run here: `rt ci` runs it.
@@ -45,6 +47,7 @@ BESIDE = ("expected.py", "output.txt", "README.md", "samples.csv", "samples.wav"
 PAGES = ["README.md", "docs/MANUAL.md"] + ["docs/manual/%s.md" % name for name in (
     "language", "macros", "linking", "program", "formats", "limits", "debugging")]
 FAULTS = "docs/FAULTS.md"
+WARNINGS = "docs/WARNINGS.md"
 # Programs whose samples are made of another file, and the arguments with which examples/tools/signals.py makes them.
 RECORDED = {"mulaw": ["samples.wav"], "fir": ["samples.csv", "--column", "2", "--fractions"]}
 # Calls of libraries that no command line makes, or not on every text (crates/c25_examples/src/library.rt).
@@ -115,6 +118,18 @@ KNOWN = {
         "a.asm: module 0: the field at 0000 in .text does not take -1, which is .text-1",
     ],
     "link:.text: 75 RelocRange, 2": ["a.asm: module 0: the field at 0000 in .text does not take 65536, which is A"],
+}
+
+# What the warning of each example of the page of warnings is about, where it is one of a line of a source.
+ABOUT = {
+    "MnemonicLabel": "NOP",
+    "DirectiveLabel": "END",
+    "RegisterShift": "AR3",
+    "ProgramAddress": "T",
+    "DataAddress": "V",
+    "NotRepeatable": "LALK",
+    "Unused": "N",
+    "NotReached": "NOP",
 }
 
 
@@ -232,6 +247,21 @@ def notes():
             for _, faults in explanations.explanations() for heading, (meaning, _, advice) in faults.items()}
 
 
+def warnings():
+    """For each warning of the page: its name and the parts of its explanation."""
+    return {name: parts for _, group in explanations.warnings() for name, parts in group.items()}
+
+
+def warning_notes():
+    """For each name of a warning, what `--explain` prints after the lines that it shows: the meaning, the advice, where the example is."""
+    return {name: "\n%s\n%s\nExample: c25 explain %s\n" % (meaning, advice, name) for name, (meaning, _, advice) in warnings().items()}
+
+
+def list_of_warnings():
+    """The line of each warning in the list that `c25 explain` prints after that of faults."""
+    return ["%s: %s" % (name, explanations.summary(meaning)) for name, (meaning, _, _) in warnings().items()]
+
+
 def list_of_faults():
     """The line of each fault in the list that `c25 explain` prints: number, name, and the first sentence of its meaning."""
     told = {heading: explanations.summary(parts[0]) for _, faults in explanations.explanations() for heading, parts in faults.items()}
@@ -239,14 +269,16 @@ def list_of_faults():
 
 
 def with_notes(lines):
-    """Lines in which a line `{NUMBER}` stands for the note of a fault, and `{faults}` for the list of all."""
-    told = notes()
+    """Lines in which a line `{NUMBER}` or `{NAME}` stands for the note of a fault or a warning, and `{faults}` and `{warnings}` for the
+    lists of all."""
+    lists = {"{faults}": list_of_faults, "{warnings}": list_of_warnings}
+    told = {**notes(), **warning_notes()}
     for line in lines:
-        number = re.fullmatch(r"\{(\d+)\}", line)
-        if line == "{faults}":
-            yield from list_of_faults()
+        of = re.fullmatch(r"\{(\w+)\}", line)
+        if line in lists:
+            yield from lists[line]()
         else:
-            yield from told[number[1]].splitlines() if number else [line]
+            yield from told[of[1]].splitlines() if of else [line]
 
 
 def case_folders():
@@ -348,14 +380,21 @@ def note_of(files, name, told, part):
 
 def packed_case(name, files, words, told, note=""):
     """An example as a packed case: a fault's line goes to standard error, that of a run to standard output."""
-    runs = is_run(told)
-    line = told.encode() + b"\n" + note.encode()
+    line = told + "\n" + note
+    return packed_call(name, files, words, 3, line, "") if is_run(told) else packed_call(name, files, words, 1, None, line)
+
+
+def packed_call(name, files, words, status, output, errors):
+    """A call of the program as a packed case, with what it prints to standard output (if that is said) and to standard error."""
     out = b"case %s\n" % name.encode() + b"".join(b"word %s\n" % word.encode() for word in words)
     for file in sorted(files):
         held = file_bytes(file, files[file])
         out += b"given %d %s\n%s\n" % (len(held), file.encode(), held)
-    answer = b"status 3\noutput %d\n%s\nerrors 0\n\n" if runs else b"status 1\nerrors %d\n%s\n"
-    return out + answer % (len(line), line)
+    out += b"status %d\n" % status
+    for kind, text in ((b"output", output), (b"errors", errors)):
+        if text is not None:
+            out += b"%s %d\n%s\n" % (kind, len(text.encode()), text.encode())
+    return out
 
 
 def fault_examples():
@@ -411,12 +450,52 @@ def program_faults():
 def write_packed(data, name, cases):
     """A file of packed cases."""
     with open(os.path.join(data, name), "wb") as file:
-        file.write(b"".join(packed_case(*case) for case in cases))
+        file.write(b"".join(cases))
     return packed(data, name)
 
 
 def faults(data):
-    return write_packed(data, "faults.cases", program_faults())
+    return write_packed(data, "faults.cases", [packed_case(*case) for case in program_faults()])
+
+
+def warning_examples():
+    """The examples of the page of warnings: their files and the lines that are printed, none for an input that is clean."""
+    for _, kind, block in blocks(os.path.join(TOP, WARNINGS)):
+        if kind == "given":
+            given = given_files(block)[0]
+        elif kind == "reported":
+            yield given, block
+        elif kind == "clean":
+            yield given_files(block)[0], []
+
+
+def warning_details(files, told):
+    """What `--explain` shows of a warning of a source: the line, and what the warning is about."""
+    place, name = told.split(": warning ")
+    if place.startswith("link:"):
+        return ""
+    file, _, number = place.rpartition(":")
+    return "  %s | %s\n  about %s\n" % (number, files[file][int(number) - 1], ABOUT[name])
+
+
+def warning_cases():
+    """The examples of the page of warnings as packed cases."""
+    told = warning_notes()
+    for files, lines in warning_examples():
+        words = ["check", "a.asm"] + (["--command", "command"] if "command" in files else [])
+        if lines:
+            line, = lines
+            name = line.rpartition(" ")[2]
+            yield packed_call(name, files, words, 1, "", line + "\n")
+            explained = line + "\n" + warning_details(files, line) + told[name]
+            yield packed_call(name + ", explained", files, words + ["--explain"], 1, "", explained)
+        else:
+            yield packed_call(name + ", clean", files, words, 0, "", "")
+
+
+def warned(data):
+    """The file of packed cases of warnings."""
+    return write_packed(data, "warnings.cases", warning_cases())
 
 
 def explained(data):
@@ -426,7 +505,7 @@ def explained(data):
              for name, files, words, told in program_faults() if words[0] in EXPLAINING and not is_run(told)]
     if shown:
         sys.exit("examples/parts.txt: %s has no such example" % FAULTS)
-    return write_packed(data, "explained.cases", cases)
+    return write_packed(data, "explained.cases", [packed_case(*case) for case in cases])
 
 
 def recorded():
@@ -452,7 +531,7 @@ def differing(made, standing):
 def make(made):
     """Makes the files and folders anew: pairs of what was made and what is in the repository."""
     told = [program(name, made) for name in PROGRAMS] + [page(path, made) for path in PAGES]
-    told += [library_faults(made), faults(made), explained(made)]
+    told += [library_faults(made), faults(made), explained(made), warned(made)]
     told += case_folders()
     told += [packed(DATA, "%s/%s" % (kind, name)) for kind in ("cases", "random")
              for name in sorted(os.listdir(os.path.join(DATA, kind))) if name.endswith(".cases")]
@@ -461,7 +540,7 @@ def make(made):
         with open(os.path.join(made, name), "w", encoding="utf-8") as file:
             file.write("".join(line + "\n" for line in lines))
     return [(os.path.join(made, name), os.path.join(at, name))
-            for at, name in ((CRATE, "args"), (CRATE, "stdout"), (DATA, "faults.cases"), (DATA, "explained.cases"), (DATA, "programs"), (DATA, "pages"))]
+            for at, name in ((CRATE, "args"), (CRATE, "stdout"), (DATA, "faults.cases"), (DATA, "explained.cases"), (DATA, "warnings.cases"), (DATA, "programs"), (DATA, "pages"))]
 
 
 def check(pairs):

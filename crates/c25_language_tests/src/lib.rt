@@ -1,6 +1,6 @@
 //! Tests of what reads a line: its tokens (`c25_text`), its operands (`c25_expr`), and substitution in it
 //! (`c25_substitution`); and of what is shown of a line that is refused: its part (`c25_places`) and the remark
-//! (`c25_hints`).
+//! (`c25_hints`); and of what is warned of in a line (`c25_line_warnings`, `c25_uses`).
 #![tactic(auto)]
 
 #[cfg(test)]
@@ -15,3 +15,5 @@ mod remarks;
 mod substitution;
 #[cfg(test)]
 mod values;
+#[cfg(test)]
+mod warnings;

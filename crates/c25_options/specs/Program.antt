@@ -93,6 +93,10 @@ explain_shape = shape_with (codes "explain") (optional_rule (codes "fault") ∷ 
 abbrev pub dis_shape : Shape
 dis_shape = with_explain (shape_with (codes "dis") (operand_rule (codes "file") ∷ option_rule (codes "from") ∷ []))
 
+-- check SOURCE.. [--command F] [--explain] [--all]
+abbrev pub check_shape : Shape
+check_shape = with_fault_options (shape_with (codes "check") (operands_rule (codes "source") ∷ option_rule (codes "command") ∷ []))
+
 -- the program before it has its subcommands: it has a version, a subcommand is required, and there is no
 -- subcommand `help`
 abbrev pub bare_program : App
@@ -105,7 +109,7 @@ bare_program = record {
 abbrev pub program : App
 program = record {
   top = record bare_program.top { is_leaf = false };
-  subs = asm_shape ∷ link_shape ∷ build_shape ∷ run_shape ∷ debug_shape ∷ explain_shape ∷ dis_shape ∷ [];
+  subs = asm_shape ∷ link_shape ∷ build_shape ∷ run_shape ∷ debug_shape ∷ explain_shape ∷ dis_shape ∷ check_shape ∷ [];
 }
 
 -- the command is a subcommand of this shape

@@ -14,7 +14,7 @@ use Rattle.c25_options.specs.Program.{program}
 use Rattle.c25_options.specs.declared.task.FaultOptions.{FaultOptions}
 use Rattle.c25_options.specs.declared.task.RunFiles.{RunFiles}
 use Rattle.c25_options.specs.declared.task.Task.{Task}
-use Rattle.c25_options.specs.declared.task.Task.TheVariants.{RunStandardInput, Assemble, Link, Build, Run, Debug, Explain, Disassemble}
+use Rattle.c25_options.specs.declared.task.Task.TheVariants.{RunStandardInput, Assemble, Link, Build, Run, Debug, Explain, Disassemble, Check}
 
 -- the texts of borrowed texts
 abbrev pub texts_of : List (Bor Text) → List Text
@@ -90,6 +90,11 @@ Asks name rows (Disassemble file from explain) =
     × (first_of (codes "file") rows ≡ Some file.now)
     × (first_of (codes "from") rows ≡ text_of from)
     × IsFlag (one_of (codes "explain") rows) explain
+Asks name rows (Check sources command faults) =
+    (name ≡ codes "check")
+    × (all_of (codes "source") rows ≡ Some (texts_of sources.items))
+    × (first_of (codes "command") rows ≡ text_of command)
+    × AreFaultOptions rows faults
 
 -- the task that what `clap` finds asks for
 abbrev pub IsAskedBy : Option (Text × List Row) → Task → Type 0

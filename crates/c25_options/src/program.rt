@@ -3,7 +3,7 @@
 ghost use Rattle.std.specs.Prelude.{◌≡◌, IfOk, false};
 ghost use Rattle.clap.specs.Simple.{new_shape};
 ghost use Rattle.clap.specs.Words.{App, Rule, Shape, app_of, rule_of, with_subcommand};
-ghost use Rattle.c25_options.specs.Program.{IsSubcommand, added, asm_shape, bare_program, build_shape, debug_shape, dis_shape, explain_shape, link_shape, program, run_shape, with_explain, with_fault_options, with_run_files, with_sources};
+ghost use Rattle.c25_options.specs.Program.{IsSubcommand, added, asm_shape, bare_program, build_shape, check_shape, debug_shape, dis_shape, explain_shape, link_shape, program, run_shape, with_explain, with_fault_options, with_run_files, with_sources};
 
 use crate::arguments::{
     base_name, command_file, first_address, flag, needed, operand, operands, option, optional,
@@ -14,17 +14,18 @@ use std::alloc::{AllocError, Global};
 
 /// The version that `--version` prints after the program's name. It rises with each change of what the
 /// program reads, writes or answers.
-const VERSION: &str = "1.9.0";
+const VERSION: &str = "1.10.0";
 
 /// The text that help prints after the list of subcommands.
 const MORE: &str =
-    "Without words it assembles and links standard input, runs it for 1000 steps and prints its outputs.
+    "Without arguments it assembles and links standard input, runs it for 1000 steps and prints its outputs.
 
-Status: 0 done; 1 refused, with one line on standard error: FILE:LINE: NUMBER NAME; 2 the words are no task,
-or ask for help or the version; 3 the code was left.
+Status: 0 done; 1 refused, with one line on standard error: FILE:LINE: NUMBER NAME; 2 the command line is
+invalid, or asks for help or the version; 3 the code was left.
 A fault by its number or name, with an example: c25 explain FAULT; a list of all: c25 explain. The same on
 a page: docs/FAULTS.md. Everything else: docs/MANUAL.md. --explain and --all may stand before the subcommand
-too, and c25 help SUBCOMMAND prints what c25 SUBCOMMAND --help does.";
+too, and c25 help SUBCOMMAND prints what c25 SUBCOMMAND --help does. Standard input is named /dev/stdin, and
+- is the name of a file like any other.";
 
 /// A command of `clap`, unless memory ran out while it was made.
 type Made<'a> = Result<Command<'a>, AllocError>;
@@ -48,7 +49,7 @@ fn with_argument<'a>(subcommand: Made<'a>, argument: Arg<'a>) -> Made<'a>
 fn with_explain<'a>(alloc: Global, subcommand: Made<'a>) -> Made<'a>
     ensures { (shape : Shape) → IfOk subcommand.entry (IsSubcommand shape) → IfOk result (IsSubcommand (with_explain shape)) }
 {
-    let help = "Explains a fault behind its line, as explain does";
+    let help = "Explains a fault after its line, as explain does";
     with_argument(subcommand, flag(alloc, "explain", help))
 }
 
@@ -194,6 +195,20 @@ fn dis<'a>(alloc: Global) -> Made<'a>
     with_explain(alloc, command)
 }
 
+fn check<'a>(alloc: Global) -> Made<'a>
+    ensures { IfOk result (IsSubcommand check_shape) }
+{
+    let command = subcommand(
+        alloc,
+        "check",
+        "Reports what is allowed in sources and a command file and is most likely a mistake",
+        "Example: c25 check main.asm fir.asm --command fir.cmd --explain",
+    );
+    let command = with_sources(alloc, command);
+    let command = with_argument(command, command_file(alloc));
+    with_fault_options(alloc, command)
+}
+
 /// The program without its subcommands, one of which is required.
 fn bare_program<'a>(alloc: Global) -> Command<'a>
     ensures { app_of result ≡ bare_program }
@@ -224,5 +239,6 @@ pub(crate) fn program<'a>(alloc: Global) -> Made<'a>
     let program = with_subcommand(program, run(alloc));
     let program = with_subcommand(program, debug(alloc));
     let program = with_subcommand(program, explain(alloc));
-    with_subcommand(program, dis(alloc))
+    let program = with_subcommand(program, dis(alloc));
+    with_subcommand(program, check(alloc))
 }

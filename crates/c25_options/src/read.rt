@@ -105,6 +105,18 @@ fn disassemble<'a>(matches: &ArgMatches<'a>) -> Task<'a>
     }
 }
 
+/// The task of the subcommand `check`.
+fn check<'a>(alloc: Global, matches: &ArgMatches<'a>) -> Result<Task<'a>, NoMemory>
+    requires { IsThere (rows_in matches.now) (codes "source") × IsFlagIn (rows_in matches.now) (codes "explain") × IsFlagIn (rows_in matches.now) (codes "all") }
+    ensures { IfOk result (Asks (codes "check") (rows_in matches.now)) }
+{
+    Ok(Task::Check {
+        sources: all(alloc, matches, "source")?,
+        command: optional(matches, "command"),
+        faults: fault_options(matches),
+    })
+}
+
 /// The task of the subcommand of this name.
 fn task_of<'a>(alloc: Global, name: &str, matches: &ArgMatches<'a>) -> Result<Task<'a>, NoMemory>
     requires { IsComplete name.now (rows_in matches.now) }
@@ -118,6 +130,7 @@ fn task_of<'a>(alloc: Global, name: &str, matches: &ArgMatches<'a>) -> Result<Ta
         "debug" => debug(alloc, matches),
         "explain" => Ok(explain(matches)),
         "dis" => Ok(disassemble(matches)),
+        "check" => check(alloc, matches),
         _ => unreachable!(),
     }
 }

@@ -80,4 +80,10 @@ pub enum Task<'a> {
         from: Option<&'a str>,
         explain: bool,
     },
+    /// `check SOURCE.. [--command FILE] [--explain] [--all]`: reports all faults, or else the warnings.
+    Check {
+        sources: Vec<&'a str>,
+        command: Option<&'a str>,
+        faults: FaultOptions,
+    },
 }

@@ -153,6 +153,15 @@ fn show(alloc: Global, task: &Task<'_>) -> Result<String, AllocError> {
             let (from, explain) = (Value("from", *from), Flag("explain", *explain));
             format!(in alloc; "dis {file}{from}{explain}")
         }
+        Task::Check {
+            sources,
+            command,
+            faults,
+        } => {
+            let (sources, command) = (Operands(sources), Value("command", *command));
+            let faults = Faults(faults);
+            format!(in alloc; "check{sources}{command}{faults}")
+        }
     }
 }
 
@@ -302,6 +311,9 @@ run a.asm steps=1000 samples=s | run a.asm --samples s
 run a.asm steps=1000 schedule=w | run a.asm --schedule w
 debug a.asm script=d | debug a.asm --script d
 debug a.asm b.asm script=d command=c samples=s schedule=w | debug a.asm --schedule w --samples s b.asm --script d --command c
+check a.asm | check a.asm
+check a.asm b.asm command=c | check a.asm --command c b.asm
+check a.asm explain all | check --all --explain a.asm
 explain | explain
 explain fault=53 | explain 53
 explain fault=256 | explain 256

@@ -1,5 +1,5 @@
 -- What is done for a task, and the endings of failures.
-use Rattle.std.proofs.Common.{◌≡◌, ◌∙◌, ap, inl, refl, sym, subst, ℕ, Bool, false, List, [], ◌∷◌, Bor, Option, string_bytes}
+use Rattle.std.proofs.Common.{◌≡◌, ◌∙◌, ap, inl, refl, sym, subst, ℕ, Bool, true, false, List, [], ◌∷◌, Bor, Option, string_bytes}
 use Rattle.std.specs.Io.KnownBytes.{Keeps}
 use Rattle.std.specs.Prelude.{Some, None, Result, String, Vec}
 use Rattle.std.specs.declared.alloc.Global.{Global}
@@ -16,9 +16,10 @@ use Rattle.c25_options.specs.Task.{text_of, texts_of}
 use Rattle.c25_options.specs.declared.task.FaultOptions.{FaultOptions}
 use Rattle.c25_options.specs.declared.task.RunFiles.{RunFiles}
 use Rattle.c25_options.specs.declared.task.Task.{Task}
-use Rattle.c25_options.specs.declared.task.Task.TheVariants.{Assemble, Link, Build, Run, Debug, Disassemble}
+use Rattle.c25_options.specs.declared.task.Task.TheVariants.{Assemble, Link, Build, Run, Debug, Disassemble, Check}
 use Rattle.c25_tasks.specs.Assembly.{Assembles}
 use Rattle.c25_tasks.specs.Building.{WritesProgram}
+use Rattle.c25_tasks.specs.Checking.{ChecksTold}
 use Rattle.c25_tasks.specs.Debugging.{DebugsTold}
 use Rattle.c25_tasks.specs.Disassembly.{DisassemblesTold}
 use Rattle.c25_tasks.specs.Linking.{LinksFrom}
@@ -87,3 +88,10 @@ does_debug held input task sources script files faults notes noted names e is of
 pub does_disassemble : (held : Held) (input : Option (List ℕ)) (task : Task) (file : Bor (List ℕ)) (from : Option (Bor (List ℕ))) (explain : Bool) (notes : Notes) (e : Effect)
     → task ≡ Disassemble file from explain → AreNotesUnder (record { explain = explain; all = false }) None [] (file.now ∷ []) notes → DisassemblesTold held notes file.now (text_of from) e.ending e.note e.out → Stay e.written.0 e.written.1 → Does held input task e
 does_disassemble held input task file from explain notes e is asked told stay = subst (λ (t : Task). Does held input t e) (sym is) ((notes, asked, told), stay)
+
+pub does_check : (held : Held) (input : Option (List ℕ)) (task : Task) (sources : Vec (Bor (List ℕ)) Global) (command : Option (Bor (List ℕ))) (faults : FaultOptions) (notes : Notes) (noted names : List (Bor (List ℕ))) (e : Effect)
+    → task ≡ Check sources command faults → noted ≡ sources.items → AreNotesUnder (record { explain = faults.explain; all = true }) command (texts_of noted) [] notes → names ≡ sources.items → ChecksTold faults.explain held notes (texts_of names) (text_of command) e.ending e.note → Keeps e.out.0 e.out.1 → Stay e.written.0 e.written.1 → Does held input task e
+does_check held input task sources command faults notes noted names e is of asked same told keeps stay =
+    let of_sources = subst (λ (ns : List (Bor (List ℕ))). ChecksTold faults.explain held notes (texts_of ns) (text_of command) e.ending e.note) same told in
+    let of_noted = subst (λ (ns : List (Bor (List ℕ))). AreNotesUnder (record { explain = faults.explain; all = true }) command (texts_of ns) [] notes) of asked in
+    subst (λ (t : Task). Does held input t e) (sym is) ((notes, of_noted, of_sources), keeps, stay)

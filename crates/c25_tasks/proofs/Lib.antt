@@ -9,3 +9,4 @@ pub mod Disassembled
 pub mod WithSymbols
 pub mod Lines
 pub mod Explained
+pub mod Warned

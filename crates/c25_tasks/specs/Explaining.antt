@@ -11,13 +11,15 @@ use Rattle.c25_report.specs.Ending.{IsPrinted, IsShort}
 use Rattle.c25_report.specs.declared.ending.Ending.{Ending}
 use Rattle.c25_report.specs.declared.ending.Ending.TheVariants as ending
 use Rattle.c25_tasks.specs.Tells.{IsLineOf, Printed}
+use Rattle.c25_warning_pages.specs.Pages as pages
+use Rattle.c25_warning_pages.specs.Pages.{IsListOfAll, IsPageNamed}
+use Rattle.c25_warning_pages.specs.declared.page.Page.{Page}
 
 -- the line of a number that no fault has
 abbrev pub unknown_line : ℕ → List ℕ
 unknown_line number = codes "explain: no fault has the number " ++ decimal number
 
--- the line of a word that is no number from 0 to 255, and that neither a fault nor an end of a run has as its
--- name
+-- the line of a word that is no number from 0 to 255, and that no fault, end of a run or warning has as its name
 abbrev pub unknown_name_line : List ℕ → List ℕ
 unknown_name_line word = codes "explain: no fault has the number or the name " ++ word
 
@@ -35,14 +37,24 @@ TellsAnswer unknown None e out = IsLineOf unknown e × Keeps out.0 out.1
 abbrev pub Explained : ℕ → Ending → Printed → Type 0
 Explained number e out = (answer : Option Explanation) × Explains number answer × TellsAnswer (unknown_line number) answer e out
 
--- what is done with the answer to the name of an end of a run, as with that to a number
-abbrev pub TellsEndAnswer : (unknown : List ℕ) → Option RunEnd → Ending → Printed → Type 0
-TellsEndAnswer unknown (Some end) e out = PrintsParts (end_text end) e out
-TellsEndAnswer unknown None e out = IsLineOf unknown e × Keeps out.0 out.1
+-- what is done with the answer to the name of a warning, as with that to a number
+abbrev pub TellsPage : (unknown : List ℕ) → Option Page → Ending → Printed → Type 0
+TellsPage unknown (Some page) e out = PrintsParts (pages.whole_text page) e out
+TellsPage unknown None e out = IsLineOf unknown e × Keeps out.0 out.1
+
+-- the name of a warning is explained
+abbrev pub ExplainedWarning : List ℕ → Ending → Printed → Type 0
+ExplainedWarning name e out = (answer : Option Page) × IsPageNamed name answer × TellsPage (unknown_name_line name) answer e out
+
+-- what is done with the answer to the name of an end of a run: an explanation goes to standard output; where there is
+-- none it is taken for the name of a warning
+abbrev pub TellsEndAnswer : List ℕ → Option RunEnd → Ending → Printed → Type 0
+TellsEndAnswer name (Some end) e out = PrintsParts (end_text end) e out
+TellsEndAnswer name None e out = ExplainedWarning name e out
 
 -- the name of an end of a run is explained
 abbrev pub ExplainedEnd : List ℕ → Ending → Printed → Type 0
-ExplainedEnd name e out = (answer : Option RunEnd) × ExplainsEnd name answer × TellsEndAnswer (unknown_name_line name) answer e out
+ExplainedEnd name e out = (answer : Option RunEnd) × ExplainsEnd name answer × TellsEndAnswer name answer e out
 
 -- what is done with the answer to the name of a fault: an explanation goes to standard output; where there is
 -- none it is taken for the name of an end of a run
@@ -60,12 +72,16 @@ ExplainedWord word e out =
     ((number : ℕ) × (number < 256) × Gives word number × Explained number e out)
     ⊎ (((number : ℕ) → number < 256 → Gives word number → ⊥) × ExplainedName word e out)
 
--- the list of all faults goes to standard output; or memory runs out, and nothing does
+-- the list of all faults, and then that of all warnings
+abbrev pub IsWholeList : List ℕ → Type 0
+IsWholeList text = (faults warnings : List ℕ) × IsSummaryOfAll faults × IsListOfAll warnings × (text ≡ faults ++ warnings)
+
+-- this list goes to standard output; or memory runs out, and nothing does
 abbrev pub Listed : Ending → Printed → Type 0
 Listed e out =
-    ((text : List ℕ) × IsSummaryOfAll text × IsPrinted text ending.Done e out.0 out.1) ⊎ (IsShort e × Keeps out.0 out.1)
+    ((text : List ℕ) × IsWholeList text × IsPrinted text ending.Done e out.0 out.1) ⊎ (IsShort e × Keeps out.0 out.1)
 
--- what is done: the word is explained, and without a word all faults are listed
+-- what is done: the word is explained, and without a word all faults and warnings are listed
 abbrev pub ExplainedTold : Option (List ℕ) → Ending → Printed → Type 0
 ExplainedTold None e out = Listed e out
 ExplainedTold (Some word) e out = ExplainedWord word e out

@@ -3,6 +3,7 @@ pub mod Tells
 pub mod View
 pub mod Assembly
 pub mod Building
+pub mod Checking
 pub mod Linking
 pub mod Running
 pub mod Debugging

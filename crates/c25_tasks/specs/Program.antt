@@ -1,5 +1,5 @@
 -- The program: what it reads, prints, writes and reports.
-use Rattle.std.specs.Prelude.{◌≡◌, ◌⊎◌, ℕ, ◌<◌, ◌≤◌, false, List, [], ◌∷◌, length, Option, Some, None, Result, Ok, Err}
+use Rattle.std.specs.Prelude.{◌≡◌, ◌⊎◌, ℕ, ◌<◌, ◌≤◌, true, false, List, [], ◌∷◌, length, Option, Some, None, Result, Ok, Err}
 use Rattle.std.specs.Borrow.{Bor}
 use Rattle.std.specs.Io.KnownBytes.{Keeps}
 use Rattle.std.specs.String.{string_bytes}
@@ -16,9 +16,10 @@ use Rattle.c25_options.specs.Arranged.{arranged}
 use Rattle.c25_options.specs.Task.{Reads, text_of, texts_of}
 use Rattle.c25_options.specs.declared.task.FaultOptions.{FaultOptions}
 use Rattle.c25_options.specs.declared.task.Task.{Task}
-use Rattle.c25_options.specs.declared.task.Task.TheVariants.{RunStandardInput, Assemble, Link, Build, Run, Debug, Explain, Disassemble}
+use Rattle.c25_options.specs.declared.task.Task.TheVariants.{RunStandardInput, Assemble, Link, Build, Run, Debug, Explain, Disassemble, Check}
 use Rattle.c25_tasks.specs.Assembly.{Assembles}
 use Rattle.c25_tasks.specs.Building.{WritesProgram}
+use Rattle.c25_tasks.specs.Checking.{ChecksTold}
 use Rattle.c25_tasks.specs.Debugging.{DebugsTold}
 use Rattle.c25_tasks.specs.Disassembly.{DisassemblesTold}
 use Rattle.c25_tasks.specs.Explaining.{ExplainedTold}
@@ -88,6 +89,11 @@ Does held input (Explain fault) e = ExplainedTold (text_of fault) e.ending e.out
 Does held input (Disassemble file from explain) e =
     Noting (AreNotesUnder (record { explain = explain; all = false }) None [] (file.now ∷ [])) (λ notes. DisassemblesTold held notes file.now (text_of from) e.ending e.note e.out)
     × Stay e.written.0 e.written.1
+-- all faults are reported, whether `--all` is given or not
+Does held input (Check sources command faults) e =
+    Noting (AreNotesUnder (record { explain = faults.explain; all = true }) command (texts_of sources.items) [])
+    (λ notes. ChecksTold faults.explain held notes (texts_of sources.items) (text_of command) e.ending e.note)
+    × Keeps e.out.0 e.out.1 × Stay e.written.0 e.written.1
 
 -- ---- command lines
 

@@ -4,8 +4,9 @@ ghost use Rattle.std.specs.Prelude.{◌≡◌, IfOk, string_bytes};
 ghost use Rattle.c25_explain.specs.Explanation.{whole_text};
 ghost use Rattle.c25_explain.specs.RunEnds.{end_text};
 ghost use Rattle.c25_options.specs.Task.{text_of};
-ghost use Rattle.c25_tasks.specs.Explaining.{Explained, ExplainedEnd, ExplainedName, ExplainedTold, ExplainedWord, Listed, PrintsParts, unknown_line, unknown_name_line};
+ghost use Rattle.c25_tasks.specs.Explaining.{Explained, ExplainedEnd, ExplainedName, ExplainedTold, ExplainedWarning, ExplainedWord, IsWholeList, Listed, PrintsParts, unknown_line, unknown_name_line};
 ghost use Rattle.c25_tasks.specs.Tells.{IsLineOf};
+ghost use Rattle.c25_warning_pages.specs.Pages as pages;
 
 use c25_explain::explanation::{explanation, explanation_named};
 use c25_explain::parts::Explanation;
@@ -14,6 +15,7 @@ use c25_explain::summaries::list_of_faults;
 use c25_meaning_common::no_memory::NoMemory;
 use c25_report::ending::Ending;
 use c25_report::printing::print_answers;
+use c25_warning_pages::{Page, list_of_warnings, page_named};
 use std::alloc::Global;
 use std::io::Write;
 
@@ -34,7 +36,7 @@ fn unknown(alloc: Global, number: u8) -> Ending
     }
 }
 
-/// The ending for a word that no fault has as its number or its name, and no end of a run as its name.
+/// The ending for a word that no fault has as its number or its name, and no end of a run or warning as its name.
 fn unknown_name(alloc: Global, word: &str) -> Ending
     ensures { IsLineOf (unknown_name_line word.now) result }
 {
@@ -74,17 +76,38 @@ fn print_end<O: Write>(end: &RunEnd, out: &mut O) -> Ending
     }
 }
 
-/// Prints the explanation of the end of a run of this name; a name that none has is reported.
+/// Prints the explanation of a warning.
+fn print_page<O: Write>(page: &Page, out: &mut O) -> Ending
+    ensures { PrintsParts (pages.whole_text page.now) result (O.contents out.old, O.contents out.new) }
+{
+    match write!(out, "{page}") {
+        Ok(()) => Ending::Done,
+        Err(_) => Ending::Unprinted,
+    }
+}
+
+/// Prints the explanation of the warning of this name; a name that none has is reported.
+fn explain_warning<O: Write>(alloc: Global, name: &str, out: &mut O) -> Ending
+    ensures { ExplainedWarning name.now result (O.contents out.old, O.contents out.new) }
+{
+    match page_named(name) {
+        Some(page) => print_page(&page, out),
+        None => unknown_name(alloc, name),
+    }
+}
+
+/// Prints the explanation of the end of a run or of the warning of this name; a name that none has is reported.
 fn explain_end<O: Write>(alloc: Global, name: &str, out: &mut O) -> Ending
     ensures { ExplainedEnd name.now result (O.contents out.old, O.contents out.new) }
 {
     match run_end_named(name) {
         Some(end) => print_end(&end, out),
-        None => unknown_name(alloc, name),
+        None => explain_warning(alloc, name, out),
     }
 }
 
-/// Prints the explanation of the fault or of the end of a run of this name; a name that none has is reported.
+/// Prints the explanation of the fault, the end of a run or the warning of this name; a name that none has is
+/// reported.
 fn explain_name<O: Write>(alloc: Global, name: &str, out: &mut O) -> Ending
     ensures { ExplainedName name.now result (O.contents out.old, O.contents out.new) }
 {
@@ -94,7 +117,7 @@ fn explain_name<O: Write>(alloc: Global, name: &str, out: &mut O) -> Ending
     }
 }
 
-/// Prints the explanation of the fault or of the end of a run that a word gives by its number or its name.
+/// Prints the explanation of the fault, the end of a run or the warning that a word gives by its number or its name.
 fn explain_word<O: Write>(alloc: Global, word: &str, out: &mut O) -> Ending
     ensures { ExplainedWord word.now result (O.contents out.old, O.contents out.new) }
 {
@@ -104,17 +127,28 @@ fn explain_word<O: Write>(alloc: Global, word: &str, out: &mut O) -> Ending
     }
 }
 
-/// Prints the list of all faults.
+/// The list of all faults and of all warnings.
+fn whole_list(alloc: Global) -> Result<String, NoMemory>
+    ensures { IfOk result (λ text. IsWholeList (string_bytes text)) }
+{
+    let mut text = list_of_faults(alloc)?;
+    let warnings = list_of_warnings(alloc)?;
+    text.push_str(warnings.as_str())?;
+    Ok(text)
+}
+
+/// Prints the list of all faults and of all warnings.
 fn print_list<O: Write>(alloc: Global, out: &mut O) -> Ending
     ensures { Listed result (O.contents out.old, O.contents out.new) }
 {
-    match list_of_faults(alloc) {
+    match whole_list(alloc) {
         Ok(text) => print_answers(text.as_str(), out),
         Err(error) => Ending::NoMemory(error),
     }
 }
 
-/// Prints the explanation of the fault that the word gives, or without a word the list of all faults.
+/// Prints the explanation of the fault, the end of a run or the warning that the word gives, or without a word the
+/// list of all faults and of all warnings.
 pub(crate) fn explain<O: Write>(alloc: Global, word: Option<&str>, out: &mut O) -> Ending
     ensures { ExplainedTold (text_of word.entry) result (O.contents out.old, O.contents out.new) }
 {

@@ -3,6 +3,7 @@
 
 mod assembly;
 mod building;
+mod checking;
 mod copies;
 mod debugging;
 mod disassembly;

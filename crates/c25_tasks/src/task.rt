@@ -12,6 +12,7 @@ ghost use Rattle.c25_tasks.specs.Tells.{Writes, WritesTexts, WritesTold};
 
 use crate::assembly::{Assembly, asm_outputs};
 use crate::building::built;
+use crate::checking::{Checked, report_checked};
 use crate::debugging::{DebugNames, debug_sources};
 use crate::disassembly::{Disassembly, disassemble};
 use crate::explaining::explain;
@@ -335,6 +336,23 @@ pub(crate) fn do_task<D: Disk, R: Read, O: Write>(
                 notes,
             };
             disassemble(alloc, file, disk, out)
+        }
+        Task::Check {
+            sources,
+            command,
+            faults,
+        } => {
+            let options = FaultOptions {
+                explain: faults.explain,
+                all: true,
+            };
+            let notes = notes_under(options, *command, sources, &[]);
+            let checked = Checked {
+                sources,
+                command: *command,
+                explain: faults.explain,
+            };
+            report_checked(alloc, disk, checked, notes)
         }
     }
 }

@@ -8,4 +8,5 @@ returns c =
     let program = c.with_subcommand-program-4.ensures _ _ program c.run.ensures in
     let program = c.with_subcommand-program-5.ensures _ _ program c.debug.ensures in
     let program = c.with_subcommand-program-6.ensures _ _ program c.explain.ensures in
-    c.with_subcommand.ensures _ _ program c.dis.ensures
+    let program = c.with_subcommand-program-7.ensures _ _ program c.dis.ensures in
+    c.with_subcommand.ensures _ _ program c.check.ensures

@@ -1,6 +1,6 @@
 use Rattle.std.proofs.Common.{refl}
 use Rattle.c25_options.specs.declared.task.Task.TheVariants.{Explain}
-use Rattle.c25_tasks.proofs.Done.{does, does_assemble, does_build, does_debug, does_disassemble, does_link, does_run, reported}
+use Rattle.c25_tasks.proofs.Done.{does, does_assemble, does_build, does_check, does_debug, does_disassemble, does_link, does_run, reported}
 use Rattle.c25_tasks.proofs.Quiet.{keeps, stays}
 use Rattle.c25_tasks.proofs.task.do_task.Goals as goal
 
@@ -32,3 +32,7 @@ returns-in-Explain g c =
 pub returns-in-Disassemble : goal.returns-in-Disassemble
 returns-in-Disassemble g c =
     does_disassemble (g.D.Disk.bytes_of c.args.disk.now) _ c.args.task.now c.in-Disassemble.file c.in-Disassemble.from c.in-Disassemble.explain c.notes_under-notes-in-Disassemble.result _ c.in-Disassemble.is c.notes_under-notes-in-Disassemble.ensures c.disassemble.ensures (stays _)
+
+pub returns-in-Check : goal.returns-in-Check
+returns-in-Check g c =
+    does_check (g.D.Disk.bytes_of c.args.disk.now) _ c.args.task.now c.in-Check.sources c.in-Check.command c.in-Check.faults c.notes_under-notes-in-Check.result c.deref-in-Check.result.now c.deref-in-Check-2.result.now _ c.in-Check.is c.deref-in-Check.ensures.value c.notes_under-notes-in-Check.ensures c.deref-in-Check-2.ensures.value c.report_checked.ensures (keeps _) (stays _)

@@ -1,0 +1,121 @@
+//! Sources, checked.
+
+ghost use Rattle.std.specs.Prelude.{◌≡◌, IfOk, Ok, map, string_bytes};
+ghost use Rattle.c25_check.specs.Checking.{Checks, HasWarnings, Warns};
+ghost use Rattle.c25_cmd.specs.View.{command_data};
+ghost use Rattle.c25_meaning_linking.specs.Command.{CommandData};
+ghost use Rattle.c25_meaning_linking.specs.CommandText.{command_of};
+ghost use Rattle.c25_warnings.specs.Program.{warnings_of_program};
+ghost use Rattle.c25_warnings.specs.View.{linked_of, program_warnings_of};
+
+use crate::places::{borrowed, places_in};
+use c25_chain::fault::Fault;
+use c25_chain::linked::Linked;
+use c25_chain::modules::Modules;
+use c25_chain::{assemble_all, link_modules};
+use c25_cmd::{Command, read_command};
+use c25_macro::files::Files;
+use c25_meaning_common::failure::Failure;
+use c25_meaning_common::no_memory::NoMemory;
+use c25_module::Module;
+use c25_warning_pages::explain_warnings;
+use c25_warnings::{Linked as Placed, ProgramWarnings, warnings_of_program, write_warnings};
+use std::alloc::Global;
+
+/// Warnings, each on a line, with its explanation after it where that is asked for.
+fn written(alloc: Global, warnings: &ProgramWarnings<'_>, explain: bool) -> Result<String, NoMemory>
+    ensures { IfOk result (λ text. HasWarnings explain (program_warnings_of warnings.now) (string_bytes text)) }
+{
+    if explain {
+        explain_warnings(alloc, warnings)
+    } else {
+        write_warnings(alloc, warnings)
+    }
+}
+
+/// The lines of the warnings of sources and of the command under which their modules are placed.
+fn warning_lines<'a>(
+    alloc: Global,
+    files: &'a Files,
+    names: &[&'a str],
+    placed: Placed<'a>,
+    explain: bool,
+) -> Result<String, NoMemory>
+    ensures { IfOk result (λ text. HasWarnings explain (warnings_of_program files.now (map (λ n. n.now) names.now) (linked_of placed.entry)) (string_bytes text)) }
+{
+    let warnings = warnings_of_program(alloc, files, names, placed)?;
+    written(alloc, &warnings, explain)
+}
+
+/// A program that was linked.
+#[derive(Clone, Copy)]
+struct Program<'a> {
+    sources: &'a [String],
+    modules: &'a [Module],
+    linked: &'a Linked,
+}
+
+/// The lines of the warnings of a program and of the command under which it was linked.
+fn lines_under<'a>(
+    alloc: Global,
+    files: &'a Files,
+    program: Program<'a>,
+    command: &'a Command,
+    explain: bool,
+) -> Result<String, NoMemory>
+    ensures { IfOk result (λ text. Warns explain files.now (map string_bytes program.entry.sources.now) program.entry.modules.now (command_data command.now) program.entry.linked.now.image (string_bytes text)) }
+{
+    let places = places_in(alloc, program.linked.image.map())?;
+    let names = borrowed(alloc, program.sources)?;
+    let placed = Placed {
+        modules: program.modules,
+        command,
+        places: places.as_slice(),
+    };
+    warning_lines(alloc, files, names.as_slice(), placed, explain)
+}
+
+/// The lines of the warnings of a program that was linked under the text of a command file.
+fn lines_of(
+    alloc: Global,
+    files: &Files,
+    program: Program<'_>,
+    command: &str,
+    explain: bool,
+) -> Result<String, NoMemory>
+    requires { (read : CommandData) × (command_of command.now ≡ Ok read) }
+    ensures { (read : CommandData) → command_of command.now ≡ Ok read
+        → IfOk result (λ text. Warns explain files.now (map string_bytes program.entry.sources.now) program.entry.modules.now read program.entry.linked.now.image (string_bytes text)) }
+{
+    match read_command(alloc, command) {
+        Ok(command) => lines_under(alloc, files, program, &command, explain),
+        Err(Failure::NoMemory(error)) => Err(error),
+        Err(Failure::Fault(_)) => unreachable!(),
+    }
+}
+
+/// Assembles the named sources, whose texts are in `files`, links their modules under the text of a command
+/// file, and writes the warnings of the program, each on a line, with its explanation after it where that is asked
+/// for. The faults are those of [`build`](c25_chain::build).
+pub(crate) fn check(
+    alloc: Global,
+    files: &Files,
+    sources: &[String],
+    command: &str,
+    explain: bool,
+) -> Result<String, Fault>
+    ensures { Checks explain files.now (map string_bytes sources.now) command.now result }
+{
+    let Modules { modules: made, .. } = assemble_all(alloc, files, sources)?;
+    let modules = made.as_slice();
+    let linked = link_modules(alloc, modules, command)?;
+    let program = Program {
+        sources,
+        modules,
+        linked: &linked,
+    };
+    match lines_of(alloc, files, program, command, explain) {
+        Ok(text) => Ok(text),
+        Err(error) => Err(error.into()),
+    }
+}

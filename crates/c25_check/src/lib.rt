@@ -1,0 +1,8 @@
+//! What `check` finds in sources: the faults that keep their program from being built, or its warnings.
+#![tactic(auto)]
+
+mod check;
+mod places;
+mod sources;
+
+pub use sources::check_sources;

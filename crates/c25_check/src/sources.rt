@@ -1,0 +1,74 @@
+//! Sources of a disk, checked.
+
+ghost use Rattle.std.specs.Option.{option_map};
+ghost use Rattle.std.specs.Prelude.{◌≡◌};
+ghost use Rattle.c25_check.specs.Checking.{ChecksFrom};
+ghost use Rattle.c25_inputs.specs.Files.{missing_name};
+ghost use Rattle.c25_options.specs.Task.{text_of, texts_of};
+
+use crate::check::check;
+use c25_chain::fault::{ChainFault, Fault};
+use c25_disk::disk::Disk;
+use c25_disk::work::Work;
+use c25_inputs::files::missing_name;
+use c25_inputs::sources::{Inputs, command_alone, inputs_of};
+use c25_inputs::work::work_over;
+use c25_macro::files::Files;
+use std::alloc::Global;
+
+/// A task over files: sources to check under the text of a command file, and whether warnings are explained.
+#[derive(Clone, Copy)]
+struct Check<'a> {
+    sources: &'a [String],
+    command: &'a str,
+    explain: bool,
+}
+
+impl<'a> Work for Check<'a> {
+    ghost use Rattle.std.specs.Prelude.{map, string_bytes};
+    ghost use Rattle.c25_check.specs.Checking.{Checks};
+    ghost use Rattle.c25_inputs.specs.Files.{missing_name};
+
+    type Answer = String;
+
+    type Fault = ChainFault<String>;
+
+    ghost comes_to = { λ work files result. Checks work.explain files (map string_bytes work.sources.now) work.command.now result };
+
+    ghost missing_of = { missing_name };
+
+    fn answer(&self, alloc: Global, files: &Files) -> Result<String, Fault> {
+        check(alloc, files, self.sources, self.command, self.explain)
+    }
+
+    fn missing(fault: &ChainFault<String>) -> Option<&str>
+        ensures { option_map (λ name. name.now) result ≡ missing_name fault.now }
+    {
+        missing_name(fault)
+    }
+}
+
+/// Reads sources and then the command file, where one is named, and writes the warnings of their program, each on a
+/// line, with its explanation after it where that is asked for. The faults are those of files and of building.
+pub fn check_sources<D: Disk>(
+    alloc: Global,
+    disk: &D,
+    sources: &[&str],
+    command: Option<&str>,
+    explain: bool,
+) -> Result<String, Fault>
+    ensures { ChecksFrom explain (D.bytes_of disk.now) (texts_of sources.now) (text_of command.entry) result }
+{
+    let inputs = inputs_of(alloc, disk, sources, command_alone(command))?;
+    let Inputs {
+        files,
+        names,
+        beside,
+    } = inputs;
+    let work = Check {
+        sources: names.as_slice(),
+        command: beside.command.as_str(),
+        explain,
+    };
+    work_over(alloc, disk, files, &work)
+}

@@ -1,0 +1,4 @@
+ NOP
+end
+Text
+ENDM ; not .endm

@@ -1,0 +1,3 @@
+ LACK 5
+NOP
+nop2

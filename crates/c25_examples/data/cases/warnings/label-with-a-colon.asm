@@ -1,0 +1,4 @@
+ LACK 5
+NOP:
+ NOP
+ B NOP

@@ -1,0 +1,9 @@
+L RPTK 3
+ B L
+ RPT *
+ LALK 5
+ RPTK 1
+ ret
+ RPTK 3
+ SFL
+ LALK 5

@@ -1,0 +1,2 @@
+ .bss V,1
+ LAC V

@@ -1,0 +1,3 @@
+ ADD *+,AR3
+ BAD
+ LACK 1,2

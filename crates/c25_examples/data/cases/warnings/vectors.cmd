@@ -1,0 +1,1 @@
+SECTIONS { vectors : > 0 }

@@ -1,0 +1,8 @@
+use Rattle.c25_options.proofs.program.check.Goals as goal
+
+pub returns : goal.returns
+returns c =
+    let command = c.subcommand-command.ensures in
+    let command = c.with_sources-command.ensures _ command in
+    let command = c.with_argument-command.ensures _ _ command c.command_file.ensures.rule in
+    c.with_fault_options.ensures _ command

@@ -1,0 +1,39 @@
+-- The task `check`: the warnings of sources, reported.
+use Rattle.std.specs.Prelude.{◌≡◌, ◌⊎◌, ◌==◌, ℕ, Bool, List, [], ◌∷◌, Option, Result, Ok, Err, String}
+use Rattle.std.specs.List.{after_first, before_first}
+use Rattle.std.specs.String.{string_bytes}
+use Rattle.std.specs.declared.alloc.Global.{Global}
+use Rattle.c25_chain.specs.Refusal.{Fault}
+use Rattle.c25_check.specs.Checking.{ChecksFrom}
+use Rattle.c25_disk.specs.Held.{Held}
+use Rattle.c25_explain.specs.declared.notes.Notes.{Notes}
+use Rattle.c25_report.specs.Ending.{IsShort}
+use Rattle.c25_report.specs.declared.ending.Ending.{Ending}
+use Rattle.c25_report.specs.declared.ending.Ending.TheVariants as ending
+use Rattle.c25_tasks.specs.Tells.{HasFault, IsReportOf}
+
+-- the first line of a text, without its line feed, and the lines after it
+abbrev pub first_line : List ℕ → List ℕ
+first_line text = before_first (λ b. b == 10) text
+
+abbrev pub other_lines : List ℕ → List ℕ
+other_lines text = after_first (λ b. b == 10) text
+
+-- the report of a first line and of others after it, unless memory runs out
+abbrev pub IsReportWith : (first others : List ℕ) → Ending → (note : List ℕ) → Type 0
+IsReportWith first others e note = (HasFault first e × (note ≡ others)) ⊎ (IsShort e × (note ≡ []))
+
+-- lines of warnings are reported as those of faults: the first is the line of the ending and the others are its note, unless
+-- memory runs out; without warnings all is done
+abbrev pub ReportsLines : List ℕ → Ending → (note : List ℕ) → Type 0
+ReportsLines [] e note = (e ≡ ending.Done) × (note ≡ [])
+ReportsLines (b ∷ text) e note = IsReportWith (first_line (b ∷ text)) (other_lines (b ∷ text)) e note
+
+-- the warnings of sources are reported, or why their program cannot be built
+abbrev pub ReportsChecked : Held → Notes → Result (String Global) Fault → Ending → (note : List ℕ) → Type 0
+ReportsChecked held notes (Ok text) e note = ReportsLines (string_bytes text) e note
+ReportsChecked held notes (Err fault) e note = IsReportOf held notes fault e note
+
+-- sources on a disk are checked under a command file, where one is named
+abbrev pub ChecksTold : (explain : Bool) → Held → Notes → List (List ℕ) → Option (List ℕ) → Ending → (note : List ℕ) → Type 0
+ChecksTold explain held notes sources command e note = (told : Result (String Global) Fault) × ChecksFrom explain held sources command told × ReportsChecked held notes told e note

@@ -1,0 +1,80 @@
+//! The task `check`.
+
+ghost use Rattle.std.specs.Prelude.{◌≡◌, IfOk, string_bytes};
+ghost use Rattle.c25_options.specs.Task.{text_of, texts_of};
+ghost use Rattle.c25_tasks.specs.Checking.{ChecksTold, IsReportWith, ReportsLines};
+
+use crate::report::report_of_fault;
+use c25_check::check_sources;
+use c25_disk::disk::Disk;
+use c25_explain::notes::Notes;
+use c25_meaning_common::no_memory::NoMemory;
+use c25_report::ending::{Ending, Report};
+use std::alloc::Global;
+
+/// Two texts, owned.
+fn owned(alloc: Global, first: &str, second: &str) -> Result<(String, String), NoMemory>
+    ensures first { IfOk result (λ texts. string_bytes texts.0 ≡ first.now) }
+    ensures second { IfOk result (λ texts. string_bytes texts.1 ≡ second.now) }
+{
+    let first = String::from_str(alloc, first)?;
+    match String::from_str(alloc, second) {
+        Ok(second) => Ok((first, second)),
+        Err(error) => Err(NoMemory::from(error)),
+    }
+}
+
+/// The report of warnings, of which the first and the others are given.
+fn report_with(alloc: Global, first: &str, others: &str) -> Report
+    ensures { IsReportWith first.now others.now result.ending (string_bytes result.note) }
+{
+    match owned(alloc, first, others) {
+        Ok((line, note)) => Report {
+            ending: Ending::Faulty(line),
+            note,
+        },
+        Err(error) => Report::without_note(alloc, Ending::NoMemory(error)),
+    }
+}
+
+/// The report of warnings, each on a line.
+fn report_lines(alloc: Global, lines: &str) -> Report
+    ensures { ReportsLines lines.now result.ending (string_bytes result.note) }
+{
+    if lines.is_empty() {
+        return Report::without_note(alloc, Ending::Done);
+    }
+    match lines.split_once('\n') {
+        Some((first, others)) => report_with(alloc, first, others),
+        None => report_with(alloc, lines, ""),
+    }
+}
+
+/// What is checked: sources under a command file, where one is named.
+#[derive(Clone, Copy)]
+pub(crate) struct Checked<'a> {
+    pub(crate) sources: &'a [&'a str],
+    pub(crate) command: Option<&'a str>,
+    /// Whether each warning is explained.
+    pub(crate) explain: bool,
+}
+
+/// Checks sources: reports their warnings, or why their program cannot be built.
+pub(crate) fn report_checked<D: Disk>(
+    alloc: Global,
+    disk: &D,
+    checked: Checked<'_>,
+    notes: Notes<'_>,
+) -> Report
+    ensures { ChecksTold checked.entry.explain (D.bytes_of disk.now) notes.entry (texts_of checked.entry.sources.now) (text_of checked.entry.command) result.ending (string_bytes result.note) }
+{
+    let Checked {
+        sources,
+        command,
+        explain,
+    } = checked;
+    match check_sources(alloc, disk, sources, command, explain) {
+        Ok(lines) => report_lines(alloc, lines.as_str()),
+        Err(fault) => report_of_fault(alloc, disk, fault, notes),
+    }
+}

@@ -1,0 +1,3 @@
+pub mod Uses
+pub mod UsedNames
+pub mod View

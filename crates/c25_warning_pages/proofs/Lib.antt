@@ -1,0 +1,3 @@
+pub mod NoName
+pub mod Joined
+pub mod Pieces

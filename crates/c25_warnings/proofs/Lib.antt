@@ -1,0 +1,4 @@
+pub mod Coming
+pub mod Once
+pub mod Passed
+pub mod Reported

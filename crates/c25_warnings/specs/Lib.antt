@@ -1,0 +1,9 @@
+pub mod Names
+pub mod SourceLines
+pub mod Warnings
+pub mod Sources
+pub mod Linking
+pub mod Program
+pub mod Shown
+pub mod Coming
+pub mod View
