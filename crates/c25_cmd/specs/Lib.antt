@@ -1,4 +1,5 @@
 pub mod After
 pub mod Known
 pub mod Refused
+pub mod SectionLines
 pub mod View

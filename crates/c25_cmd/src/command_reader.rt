@@ -1,42 +1,19 @@
 //! The command that a text spells.
 
-ghost use Rattle.std.specs.Prelude.{◌≡◌, ◌==◌, ◌≤◌, length, count_by, IfOk};
-ghost use Rattle.std.specs.Str.Lines.{lines};
+ghost use Rattle.std.specs.Prelude.{IfOk};
 ghost use Rattle.c25_meaning_linking.specs.Command.{IsCommand};
 ghost use Rattle.c25_meaning_linking.specs.CommandText.{command_of};
-ghost use Rattle.c25_meaning_linking.specs.CommandTokens.{line_at};
 ghost use Rattle.c25_meaning_common.specs.Results.{Meets};
 ghost use Rattle.c25_cmd.specs.View.{command_data};
 
-use crate::bytes::front;
 use crate::command::Command;
 use crate::lexer::tokens;
+use crate::line_numbers::line_at;
 use crate::parts::command_at;
 use c25_meaning_common::failure::Failure;
 use c25_meaning_common::placed::Placed;
 use c25_meaning_linking::command_fault::CommandFault;
 use std::alloc::Global;
-
-fn line_feeds(text: &[u8]) -> usize
-    ensures value { result ≡ count_by (λ b. b == 10) text.now }
-    ensures bound { result ≤ length text.now }
-{
-    text.iter().filter(|b| **b == b'\n').count()
-}
-
-fn line_count(text: &str) -> usize
-    ensures { result ≡ length (lines text.now) }
-{
-    text.lines().count()
-}
-
-/// The number of the line of a place, from 1. The end of the text is on the last line.
-fn line_at(text: &str, place: usize) -> usize
-    ensures { result ≡ line_at text.now place }
-{
-    let before = line_feeds(front(text.as_bytes(), place));
-    (before + 1).min(line_count(text))
-}
 
 /// Reads a command file.
 ///

@@ -16,7 +16,8 @@ use c25_meaning_linking::command_token::{Keyword, Kind, Sign, Want};
 /// Why tokens are no command: a fault at the byte where a token begins, or out of memory.
 pub(crate) type CommandFailure = Failure<Placed<usize, CommandFault>>;
 
-fn passes(want: Want, kind: Kind) -> bool
+/// Whether a token of this kind is a wanted one.
+pub(crate) fn passes(want: Want, kind: Kind) -> bool
     ensures { result ≡ passes want kind }
 {
     match (want, kind) {

@@ -19,7 +19,7 @@ fn can_be_set(breakpoints: &Breakpoints, address: u16) -> bool
 }
 
 /// Sets a breakpoint, and answers whether it is set.
-pub(crate) fn answer_set(
+pub fn answer_set(
     alloc: Global,
     breakpoints: &mut Breakpoints,
     address: u16,
@@ -36,7 +36,7 @@ pub(crate) fn answer_set(
 }
 
 /// Clears a breakpoint, and answers whether there was one.
-pub(crate) fn answer_cleared(
+pub fn answer_cleared(
     alloc: Global,
     breakpoints: &mut Breakpoints,
     address: u16,

@@ -2,12 +2,12 @@
 #![tactic(auto)]
 
 mod answers;
-mod breakpoints;
+pub mod breakpoints;
 mod memories;
 pub mod script;
 pub mod session;
-mod shown;
-mod steps;
+pub mod shown;
+pub mod steps;
 
 pub use script::{Script, read_script};
 pub use session::Session;

@@ -22,7 +22,7 @@ use c25_meaning_image::marks::size_at;
 use std::alloc::Global;
 
 /// The answer to `regs`: the registers.
-pub(crate) fn show_registers<F: Feed + Drop, S: Sink + Drop>(
+pub fn show_registers<F: Feed + Drop, S: Sink + Drop>(
     alloc: Global,
     board: &Board<F, S>,
 ) -> Result<Answer, NoMemory>
@@ -35,7 +35,7 @@ pub(crate) fn show_registers<F: Feed + Drop, S: Sink + Drop>(
 }
 
 /// The answer to `stack`: the hardware stack.
-pub(crate) fn show_stack<F: Feed + Drop, S: Sink + Drop>(
+pub fn show_stack<F: Feed + Drop, S: Sink + Drop>(
     alloc: Global,
     board: &Board<F, S>,
 ) -> Result<Answer, NoMemory>
@@ -48,7 +48,7 @@ pub(crate) fn show_stack<F: Feed + Drop, S: Sink + Drop>(
 }
 
 /// The answer to `data`: words of data memory, as the processor reads them.
-pub(crate) fn show_data<F: Feed + Drop, S: Sink + Drop>(
+pub fn show_data<F: Feed + Drop, S: Sink + Drop>(
     alloc: Global,
     board: &Board<F, S>,
     address: u16,
@@ -64,7 +64,7 @@ pub(crate) fn show_data<F: Feed + Drop, S: Sink + Drop>(
 }
 
 /// The answer to `prog`: words of program memory, as the processor reads them.
-pub(crate) fn show_program<F: Feed + Drop, S: Sink + Drop>(
+pub fn show_program<F: Feed + Drop, S: Sink + Drop>(
     alloc: Global,
     board: &Board<F, S>,
     address: u16,
@@ -93,7 +93,7 @@ fn show_mark(alloc: Global, image: &Image, address: u16) -> Result<Answer, NoMem
 /// The answer to `where`: the instruction that is fetched at PC from block B0, if there is one, otherwise the
 /// image's instruction at PC. Where that of block B0 stands in the sources is looked up by the address where
 /// it is loaded.
-pub(crate) fn show_place<F: Feed + Drop, S: Sink + Drop>(
+pub fn show_place<F: Feed + Drop, S: Sink + Drop>(
     alloc: Global,
     image: &Image,
     board: &Board<F, S>,
@@ -118,12 +118,7 @@ pub(crate) fn show_place<F: Feed + Drop, S: Sink + Drop>(
 }
 
 /// The answer to `list`: the first `count` instructions of the image at an address or after it.
-pub(crate) fn show_list(
-    alloc: Global,
-    image: &Image,
-    address: u16,
-    count: u32,
-) -> Result<Answer, NoMemory>
+pub fn show_list(alloc: Global, image: &Image, address: u16, count: u32) -> Result<Answer, NoMemory>
     ensures text { IfOk result (λ answer. AreLinesOf image.now.program (source_line_at image.now) (marks_from image.now.marks address count) (string_bytes answer.text)) }
     ensures refused { IfOk result (λ answer. answer.is_refused ≡ false) }
 {
@@ -133,7 +128,7 @@ pub(crate) fn show_list(
 }
 
 /// The answer to `symbols`: a line for each symbol of the image.
-pub(crate) fn show_symbols(alloc: Global, image: &Image) -> Result<Answer, NoMemory>
+pub fn show_symbols(alloc: Global, image: &Image) -> Result<Answer, NoMemory>
     ensures text { IfOk result (λ answer. string_bytes answer.text ≡ symbols_text image.now.described.symbols) }
     ensures refused { IfOk result (λ answer. answer.is_refused ≡ false) }
 {

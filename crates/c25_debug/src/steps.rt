@@ -15,13 +15,13 @@ use std::alloc::Global;
 
 /// The answer to a command, and whether it says that the sink refused a word.
 #[derive(Drop)]
-pub(crate) struct Answer {
-    pub(crate) text: String,
-    pub(crate) is_refused: bool,
+pub struct Answer {
+    pub text: String,
+    pub is_refused: bool,
 }
 
 /// The answer of a text that does not say that the sink refused a word.
-pub(crate) fn shown(text: String) -> Answer
+pub fn shown(text: String) -> Answer
     ensures text { string_bytes result.text ≡ string_bytes text }
     ensures refused { result.is_refused ≡ false }
 {

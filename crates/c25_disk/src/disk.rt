@@ -1,6 +1,6 @@
 //! The trait of what files are read from and written to.
 
-ghost use Rattle.std.specs.Prelude.{◌≡◌, ◌∷◌, [], Some, IfOk, IfSome, OnErr, OnOk};
+ghost use Rattle.std.specs.Prelude.{◌≡◌, ◌∷◌, [], Some, IfOk, IfSome, OnErr, OnOk, is_ok};
 ghost use Rattle.c25_disk.specs.Held.{Adds, Stay};
 
 use std::io::Read;
@@ -13,7 +13,7 @@ pub struct DiskFault;
 
 /// A place of named files: the system's, or files in memory.
 pub trait Disk {
-    ghost use Rattle.std.specs.Prelude.{ℕ, List, Option};
+    ghost use Rattle.std.specs.Prelude.{ℕ, Bool, List, None, Option};
 
     /// An open file, read from its beginning.
     type Reader: Read + Drop;
@@ -21,12 +21,16 @@ pub trait Disk {
     /// The bytes of the file of a name, where they are known.
     ghost bytes_of: { Self → List ℕ → Option (List ℕ) };
 
+    /// Whether the file of a name can be opened, where that is known.
+    ghost opens: { Self → List ℕ → Option Bool } = { λ _ _. None };
+
     /// The files that were written whole, where that is known: names and bytes, the oldest first.
     ghost written: { Self → Option (List (List ℕ × List ℕ)) };
 
     /// Opens a file for reading.
     fn open(&self, name: &str) -> Result<Self::Reader, DiskFault>
-        ensures { IfOk result (λ reader. IfSome (bytes_of self.now name.now) (λ bytes. Self.Reader.remaining reader ≡ Some bytes)) };
+        ensures bytes { IfOk result (λ reader. IfSome (bytes_of self.now name.now) (λ bytes. Self.Reader.remaining reader ≡ Some bytes)) }
+        ensures opened { IfSome (opens self.now name.now) (λ can. is_ok result ≡ can) };
 
     /// Writes a whole file, replacing one of the same name. After a fault the file may have some of the
     /// bytes, and counts as not written.

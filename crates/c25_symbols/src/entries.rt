@@ -20,7 +20,7 @@ use std::alloc::{AllocError, Global};
 
 /// A symbol of a program, as its line shows it.
 #[derive(Clone, Copy)]
-pub(crate) struct SymbolEntry<'a> {
+pub struct SymbolEntry<'a> {
     /// The low 32 bits of the symbol's value.
     pub value: u32,
     pub kind: SymbolKind,
@@ -149,7 +149,7 @@ fn push_symbols<'a>(
 
 /// The symbols that modules define, by modules and symbols, where the map says the sections stand.
 #[tactic(auto, using(c25_meaning_linking::proofs::ByModules::by_modules_more, c25_meaning_linking::proofs::ByModules::by_modules_all))]
-pub(crate) fn all_entries<'a>(
+pub fn all_entries<'a>(
     alloc: Global,
     modules: &'a [Module],
     sources: &'a [String],

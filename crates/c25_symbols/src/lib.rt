@@ -2,7 +2,7 @@
 #![tactic(auto)]
 
 mod digits;
-mod entries;
+pub mod entries;
 pub mod laws;
 mod order;
 mod parts;
