@@ -13,7 +13,7 @@ and ends with status 1 where there is one.
 | AR0 to AR7, PA0 to PA15 | `predefined` of crates/c25_meaning_language/specs/Value.antt |
 | the names of .mmregs | `register_names` of crates/c25_meaning_assembly/specs/Sections.antt |
 | subcommands, options, their texts, the version | crates/c25_options/src/program.rt and arguments.rt |
-| numbers and names of faults | the explanations in crates/c25_explain/src |
+| numbers and names of faults, names of ends of runs and of warnings | the explanations in crates/c25_explain/src and crates/c25_warning_pages/src |
 
 A file has its names between a line with `[names]` and a line with `[end]`; in the two files of JSON they are the values of some members.
 All else in these files is written by hand. The version is also put into docs/manual/program.md and into the case `option-version` of
@@ -69,6 +69,12 @@ def predefined():
 def memory_mapped():
     text = text_of(CRATES + "c25_meaning_assembly/specs/Sections.antt").partition("\nregister_names =\n")[2].partition("\n\n")[0]
     return re.findall(r'codes "(\w+)"', text)
+
+
+def ends_and_warnings():
+    """The names of the ends of runs and of the warnings, in the order of their pages."""
+    texts = text_of(CRATES + "c25_explain/src/run_end_texts.rt") + text_of(CRATES + "c25_warning_pages/src/texts.rt")
+    return re.findall(r'(?m)^ +name: "(\w+)",$', texts)
 
 
 def faults():
@@ -246,7 +252,7 @@ def bash():
     """The subcommands, the options of each, and the options that a word that is not a file follows."""
     program = command_line()
     made = f"_c25_subcommands='{' '.join(it.name for it in program.subcommand)}'\n"
-    made += f"_c25_faults='{' '.join(faults())}'\n_c25_options() {{\n  case $1 in\n"
+    made += f"_c25_explained='{' '.join(faults() + ends_and_warnings())}'\n_c25_options() {{\n  case $1 in\n"
     others = {"--all", "--explain", "--help", "--version"}
     for it in program.subcommand:
         found = [name for names, _, _ in options(it) for name in names if name.startswith("--")]

@@ -56,7 +56,7 @@ LIBRARY = ("read_hex", "read_map", "run_chain", "line_of", "list", "values")
 OTHERS = ("ls", "od ", "cmp ")
 # The subcommands that take `--explain`.
 EXPLAINING = ("asm", "link", "build", "run", "debug", "dis")
-# For the examples whose fault is in a body or in a copied file: the lines of `a.asm` that led there, the innermost first, and how
+# For the examples whose fault is in a body or in a copied file, or is a copied file: the lines of `a.asm` that led there, the innermost first, and how
 # often each did: calls, `.copy`, and `.endloop`, which starts the turns of its loop.
 LED = {
     "a.asm:2: 53 FieldRange, 1": [(4, 1)],
@@ -67,12 +67,47 @@ LED = {
     "a.asm:1: 33 Depth, 1": [(1, 32)],
     "a.asm:2: 34 Lines, 1": [(3, 1)],
     "a.asm:3: 38 LongLine, 1": [(4, 1)],
+    "b.inc: 8 CannotRead, 1": [(1, 1)],
 }
 
-# For the examples with a file that is no text, a fault of the command file, or a section or a field that linking refuses: what is printed
-# in addition.
+# For the examples of a block that is not closed, or of a line that ends none: the line of `a.asm` that began the block that is open.
+OPEN = {
+    "a.asm:1: 31 OpenBlock, 1": 1,
+    "a.asm:3: 31 OpenBlock, 1": 3,
+    "a.asm:3: 31 OpenBlock, 2": 1,
+    "a.asm:3: 32 StrayEnd, 1": 1,
+}
+
+# For the examples of a name that is defined again: the line of `a.asm` that defined it first, as it was read.
+FIRST = {
+    "a.asm:2: 26 Defined, 1": (1, "X NOP"),
+    "a.asm:2: 26 Defined, 2": (1, "IMR .set 4"),
+    "a.asm:2: 26 Defined, 3": (2, "S NOP"),
+    "a.asm:2: 26 Defined, 4": (2, "S_0 NOP"),
+}
+
+# For the examples with a file that is no text or no object, a fault of the command file, of samples, of a schedule or of a script, or a name, a section
+# or a field that linking refuses: what is printed in addition.
 KNOWN = {
     "a.obj: 8 CannotRead, 1": ["a.obj:1: the first line that is not UTF-8"],
+    "a.asm: 40 BadMagic, 1": ["a.asm: it is a text: of a source c25 asm makes an object"],
+    "a.s19: 40 BadMagic, 1": [
+        "a.s19: it begins as Motorola S-records: srec_cat X.s19 -Motorola -o X.hex -Intel makes a hex text for c25 dis",
+    ],
+    "samples:1: 91 BadSamples, 1": ["samples:1: the first part is a port, a decimal number from 0 to 15"],
+    "samples:1: 91 BadSamples, 2": ["samples:1: the second part is a word of four hexadecimal digits, without h"],
+    "samples:1: 91 BadSamples, 3": ["samples:1: the second part is a word of four hexadecimal digits, without h"],
+    "samples:1: 91 BadSamples, 4": ["samples:1: the first part is a port, a decimal number from 0 to 15"],
+    "samples:1: 91 BadSamples, 5": ["samples:1: a line has two parts, a port and a word"],
+    "schedule:2: 90 BadSchedule, 1": ["schedule:2: the step is less than that of the line before"],
+    "schedule:1: 90 BadSchedule, 1": ["schedule:1: the first part is a step, a decimal number up to 4294967295"],
+    "schedule:1: 90 BadSchedule, 2": ["schedule:1: the second part is INT0, INT1, INT2, BIO0 or BIO1"],
+    "schedule:1: 90 BadSchedule, 3": ["schedule:1: a line has two parts, a step and an event"],
+    "schedule:1: 90 BadSchedule, 4": ["schedule:1: the first part is a step, a decimal number up to 4294967295"],
+    "script:1: 95 BadCommand, 1": ["script:1: a command is step, run, list, break, clear, regs, data, prog, stack, where or symbols"],
+    "script:1: 95 BadCommand, 2": ["script:1: after step, run or list stands a count alone, a decimal number up to 4294967295"],
+    "script:1: 95 BadCommand, 3": ["script:1: after break or clear stands an address alone, one to four hexadecimal digits without h"],
+    "script:1: 95 BadCommand, 4": ["script:1: the words go on past FFFF, the last word of the memory"],
     "command:1: 60 Syntax, 1": ["command:1: the text ends here"],
     "command:1: 60 Syntax, 2": ["command:1: column 18: >"],
     "command:1: 60 Syntax, 3": ["command:1: column 22: a.obj"],
@@ -109,15 +144,37 @@ KNOWN = {
         "b.asm: module 1 defines GO",
     ],
     "link:MAIN: 76 NoEntry, 1": ["a.asm:1: MAIN NOP", "a.asm: module 0 defines MAIN without .def MAIN"],
-    "link:b: 74 Overlap, 1": ["b: words 0001 to 0001 of page 0", ".text: words 0000 to 0001 of page 0"],
-    "link:.text: 72 NoRange, 1": ["command: .text is to stand in ROM, and no range has this name"],
+    "link:.text: 73 DoesNotFit, 1": [".text: 2 words", "P: words 0000 to 0000 of page 0, 1 word"],
+    "link:.text: 73 DoesNotFit, 2": [
+        "command:2: SECTIONS { .text : > 1Fh }",
+        ".text: words 001F to 0020 of page 0, 2 words",
+        "P: words 0010 to 001F of page 0, 16 words",
+    ],
+    "link:.bss: 73 DoesNotFit, 1": [
+        "command:1: SECTIONS { .bss : > 37Fh PAGE 1 }",
+        ".bss: words 037F to 0380 of page 1, 2 words",
+        "DATA: words 0300 to FFFF of page 1, 64768 words",
+    ],
+    "link:.bss: 73 DoesNotFit, 2": [".bss: 300 words", "DATA: words 0300 to FFFF of page 1, 64768 words"],
+    "link:b: 74 Overlap, 1": ["command:2:            b : > 1 }", "b: words 0001 to 0001 of page 0", ".text: words 0000 to 0001 of page 0"],
+    "link:.text: 72 NoRange, 1": ["command:1: SECTIONS { .text : > ROM }", "command: .text is to stand in ROM, and no range has this name"],
     "link:.text: 72 NoRange, 2": ["command: .text is to stand on page 0, which has no range"],
-    "link:.text: 72 NoRange, 3": ["command: .text is to stand in DATA, and no range has this name on page 0"],
+    "link:.text: 72 NoRange, 3": [
+        "command:1: SECTIONS { .text : > DATA PAGE 0 }",
+        "command: .text is to stand in DATA, and no range has this name on page 0",
+    ],
     "link:.text: 75 RelocRange, 1": [
         "a.asm:1: X LAC X-1",
         "a.asm: module 0: the field at 0000 in .text does not take -1, which is .text-1",
     ],
     "link:.text: 75 RelocRange, 2": ["a.asm: module 0: the field at 0000 in .text does not take 65536, which is A"],
+    "link:.text: 78 BadRun, 1": ["command:1: SECTIONS { .text : run = 0 }"],
+    "link:.text: 78 BadRun, 2": ["command:1: SECTIONS { .text : run = 0FEFFh }"],
+    "link:.text: 78 BadRun, 3": ["command:1: SECTIONS { .text : run = 10000h }"],
+    "link:.text: 78 BadRun, 4": ["command:1: SECTIONS { .text : PAGE 1 run = 0FF00h }"],
+    "link:.text: 78 BadRun, 5": ["command:1: SECTIONS { .text : run = 0FFFFh }"],
+    "link:.bss: 78 BadRun, 1": ["command:1: SECTIONS { .bss : PAGE 0 run = 0FF00h }"],
+    "link:b: 78 BadRun, 1": ["command:2:            b : run = 0FF00h }"],
 }
 
 # What the warning of each example of the page of warnings is about, where it is one of a line of a source.
@@ -351,6 +408,18 @@ def beside(name):
     return "".join(line + "\n" for line in KNOWN.get(name, []))
 
 
+def opened(files, name):
+    """The line that shows which block is open at an example's fault."""
+    if name not in OPEN:
+        return ""
+    return "  open: a.asm:%d: %s\n" % (OPEN[name], files["a.asm"][OPEN[name] - 1])
+
+
+def first_defined(name):
+    """The line that shows where the name of an example's fault was defined first."""
+    return "  first: a.asm:%d: %s\n" % FIRST[name] if name in FIRST else ""
+
+
 def parts():
     """For the examples of which `--explain` shows the part that is refused: the line as it is read, and what stands below it."""
     rows = lines_of(os.path.join(TOP, "examples", "parts.txt"))
@@ -365,7 +434,8 @@ def marked(number, part):
 
 def note_of(files, name, told, part):
     """What `--explain` prints for an example's fault: its line, where the file has it, or that the file cannot be opened; the part of
-    the line that is refused, what led to the line or is printed in addition; and what the fault means."""
+    the line that is refused, the block that is open or where the name was defined first, what led to the line or is printed in addition;
+    and what the fault means."""
     place, fault = told.rsplit(": ", 1)
     file, _, number = place.rpartition(":")
     lines, shown = files.get(file, []), ""
@@ -375,7 +445,7 @@ def note_of(files, name, told, part):
         shown = "%s: it cannot be opened\n" % place
     if part is not None:
         shown += marked(number, part)
-    return shown + led(files, name) + beside(name) + notes()[fault.split()[0]]
+    return shown + opened(files, name) + first_defined(name) + led(files, name) + beside(name) + notes()[fault.split()[0]]
 
 
 def packed_case(name, files, words, told, note=""):

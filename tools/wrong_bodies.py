@@ -32,11 +32,16 @@ def crates_with_wrong_bodies(names):
     return [it for it in found if not names or it in names]
 
 
+def not_copied(folder, names):
+    """What is left out of a folder's copy: of a crate's own folder what rt made, and its edits. A folder further in may have such a name."""
+    return {"out", "must-fail", "wrong"} & set(names) if os.path.dirname(folder) == "crates" else set()
+
+
 def copied(folder, crates):
     """A copy of the repository in which the wrong bodies of these crates are the must-fail edits, and no others are."""
     for it in ("crates.txt", "HANDLES"):
         shutil.copy(it, folder)
-    shutil.copytree("crates", f"{folder}/crates", ignore=shutil.ignore_patterns("out", "must-fail", "wrong"))
+    shutil.copytree("crates", f"{folder}/crates", ignore=not_copied)
     for it in crates:
         shutil.copytree(f"crates/{it}/wrong", f"{folder}/crates/{it}/must-fail")
     subprocess.run(["git", "init", "-q", folder], check=True)

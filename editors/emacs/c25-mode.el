@@ -152,12 +152,12 @@
 
 (defun c25--explained (where what)
   "The file and line that --explain prints in the line after the fault, which may also be one of make.
-So the line is WHAT or the file is WHERE, as the fault has them, or the fault is 75, which has neither."
+So the line is WHAT or the file is WHERE, as the fault has them, or the fault names a section and has neither."
   (save-excursion
-    (let ((is-field (looking-at-p "link:.*: 75 ")))
+    (let ((names-section (looking-at-p "link:.*: 7[2-58] ")))
       (forward-line 1)
       (when (and (looking-at "\\(.+?\\):\\([0-9]+\\): ") (c25--readable (match-string-no-properties 1))
-                 (or is-field (equal (match-string-no-properties 2) what) (equal (match-string-no-properties 1) where)))
+                 (or names-section (equal (match-string-no-properties 2) what) (equal (match-string-no-properties 1) where)))
         (cons (match-string-no-properties 1) (string-to-number (match-string 2)))))))
 
 (defconst c25--names

@@ -13,6 +13,7 @@ use Rattle.c25_disk.specs.Held.{Held, IsAllOf, ReadsSources}
 use Rattle.c25_explain.specs.AllFaults.{Follows}
 use Rattle.c25_explain.specs.Details.{Deed, Defines, Keeps, Uses, misfit_text, nowhere_text, site_text, span_text}
 use Rattle.c25_explain.specs.Note.{line_of}
+use Rattle.c25_explain.specs.Unfits.{room_text, section_text}
 use Rattle.c25_explain.specs.declared.again.Asked.{Asked}
 use Rattle.c25_explain.specs.declared.again.Asked.TheVariants as asked
 use Rattle.c25_explain.specs.declared.note_lines.LinkNote.{LinkNote}
@@ -21,6 +22,7 @@ use Rattle.c25_inputs.specs.Objects.{AreFiles, modules_in}
 use Rattle.c25_link.specs.Misfits.{MisfitData, first_misfit}
 use Rattle.c25_link_faults.specs.Faults.{AreLinkFaults}
 use Rattle.c25_link_faults.specs.Overlaps.{OverlapData, SpanData, overlap_of}
+use Rattle.c25_link_faults.specs.Unfits.{UnfitData, unfit_of}
 use Rattle.c25_link_faults.specs.Sites.{SiteData, definition_sites, local_sites, use_sites}
 use Rattle.c25_meaning_common.specs.Faults.{placed_text}
 use Rattle.c25_meaning_common.specs.declared.placed.FileLine.{FileLine}
@@ -95,6 +97,21 @@ abbrev pub AreOverlapNotes : (name : List ℕ) → List Contents → List ℕ �
 AreOverlapNotes name modules text notes =
     (command : CommandData) × (command_of text ≡ Ok command) × ((o : OverlapData) × (overlap_of modules command name ≡ Some o) × (notes ≡ overlap_notes o))
 
+-- ---- 73: a section that does not fit
+
+-- the note about words
+abbrev pub room_note : SpanData → NoteData
+room_note s = record { text = room_text s; line = None }
+
+-- the notes about a section that does not fit: its words, and the ranges that it may be placed in
+abbrev pub unfit_notes : (name : List ℕ) → UnfitData → List NoteData
+unfit_notes name u = record { text = section_text name u; line = None } ∷ map room_note u.ranges
+
+-- the notes about the section of a name that does not fit under the text of a command
+abbrev pub AreUnfitNotes : (name : List ℕ) → List Contents → List ℕ → List NoteData → Type 0
+AreUnfitNotes name modules text notes =
+    (command : CommandData) × (command_of text ≡ Ok command) × (notes ≡ unfit_notes name (unfit_of modules command name))
+
 -- ---- 75: fields
 
 -- the first field of modules under the text of a command that does not take its value
@@ -155,10 +172,12 @@ AreAllNotes explain names modules text notes = (command : CommandData) × (comma
 -- ---- what is asked for
 
 -- what is asked of modules: which use or define the name of a fault (70, 71, 76), which section shares a word
--- with one of a name (74), the first field that does not take its value (75), all faults, to be explained or not
+-- with one of a name (74), why one of a name does not fit (73), the first field that does not take its value (75),
+-- all faults, to be explained or not
 pub data Question : Type 0 where
   AboutName : LinkFault → List ℕ → Question
   AboutOverlap : List ℕ → Question
+  AboutUnfit : List ℕ → Question
   AboutField : Question
   AboutAll : Bool → Question
 
@@ -166,6 +185,7 @@ pub data Question : Type 0 where
 abbrev pub AreNotes : Question → (names : List (List ℕ)) → List Contents → (command : List ℕ) → List NoteData → Type 0
 AreNotes (AboutName fault name) names modules command notes = notes ≡ name_notes names modules fault name
 AreNotes (AboutOverlap name) names modules command notes = AreOverlapNotes name modules command notes
+AreNotes (AboutUnfit name) names modules command notes = AreUnfitNotes name modules command notes
 AreNotes AboutField names modules command notes = AreFieldNotes names modules command notes
 AreNotes (AboutAll explain) names modules command notes = AreAllNotes explain names modules command notes
 
@@ -249,5 +269,6 @@ notes_view notes = map note_view notes
 abbrev pub question : Asked → Question
 question (asked.Name fault name) = AboutName fault name.now
 question (asked.Overlap name) = AboutOverlap name.now
+question (asked.Unfit name) = AboutUnfit name.now
 question asked.Field = AboutField
 question (asked.AllFaults explain) = AboutAll explain

@@ -1,4 +1,5 @@
 pub mod Explanation
+pub mod FileNotes
 pub mod Below
 pub mod RunEnds
 pub mod Sentence
@@ -9,6 +10,8 @@ pub mod LinkNotes
 pub mod Again
 pub mod SiteView
 pub mod Notes
+pub mod OpenBlocks
 pub mod Places
 pub mod Refusals
 pub mod Trails
+pub mod Unfits

@@ -1,18 +1,22 @@
 -- What is shown next to the line of a fault of the command file or of linking.
-use Rattle.std.specs.Prelude.{◌≡◌, ◌⊎◌, ℕ, List, [], Option, Some, None, Ok, String}
+use Rattle.std.specs.Prelude.{◌≡◌, ◌⊎◌, ◌++◌, ℕ, List, [], Option, Some, None, Ok, String}
 use Rattle.std.specs.String.{string_bytes}
 use Rattle.std.specs.declared.alloc.Global.{Global}
 use Rattle.c25_chain.specs.declared.fault.ChainFault.{ChainFault}
 use Rattle.c25_chain.specs.declared.fault.ChainFault.TheVariants.{Source, NoFile, Object, Command, Link, Hex, Schedule, Samples, Script, File}
 use Rattle.c25_cmd.specs.Refused.{RefusedAtData, refused_at}
+use Rattle.c25_cmd.specs.SectionLines.{section_line}
 use Rattle.c25_explain.specs.Details.{missing_text, refused_text}
+use Rattle.c25_explain.specs.FileNotes.{ShowsCommand, ShowsCopied, ShowsEntry, ShowsKind, ShowsSample}
+use Rattle.c25_explain.specs.declared.named.NamedFiles.{NamedFiles}
+use Rattle.c25_options.specs.Task.{text_of, texts_of}
 use Rattle.c25_disk.specs.Held.{Held, IsAllOf}
 use Rattle.c25_meaning_linking.specs.Command.{CommandData}
 use Rattle.c25_meaning_linking.specs.CommandText.{command_of}
 use Rattle.c25_meaning_linking.specs.declared.link_fault.LinkFault.{LinkFault}
 use Rattle.c25_meaning_linking.specs.declared.link_fault.LinkFault.TheVariants.{BadRun, DefinedTwice, DoesNotFit, NoEntry, NoRange, Overlap, RelocRange, Unresolved}
 use Rattle.c25_place.specs.Missing.{MissingData, missing_range}
-use Rattle.c25_explain.specs.Again.{AboutField, AboutName, AboutOverlap, ShowsAsked}
+use Rattle.c25_explain.specs.Again.{AboutField, AboutName, AboutOverlap, AboutUnfit, ShowsAsked, line_text}
 use Rattle.c25_explain.specs.Trails.{IsTrailText}
 
 -- ---- the command file
@@ -27,6 +31,10 @@ ShowsMissing file section text shown =
     ((command : CommandData) × (command_of text ≡ Ok command) × ((range : MissingData) × (missing_range command section ≡ Some range) × (shown ≡ missing_text file section range)))
     ⊎ (shown ≡ [])
 
+-- the line of the text of a command file in which SECTIONS lists a section, or nothing
+abbrev pub ShowsListing : (file section : List ℕ) → (text : List ℕ) → List ℕ → Type 0
+ShowsListing file section text shown = ((line : ℕ) × (section_line text section ≡ Some line) × (shown ≡ line_text file line text)) ⊎ (shown ≡ [])
+
 -- what is shown of the text of a command file, where one is named and can be read, or nothing
 abbrev pub ShowsOf : Held → Option (List ℕ) → (shows : (file text : List ℕ) → List ℕ → Type 0) → List ℕ → Type 0
 ShowsOf held None shows shown = shown ≡ []
@@ -34,7 +42,16 @@ ShowsOf held (Some file) shows shown = ((text : List ℕ) × IsAllOf (held file)
 
 -- ---- linking
 
--- the note of a fault of linking: of 72 the range that the section lacks, of 74 the words of both sections, of
+-- the line in which the command file lists the section that a fault of linking names; of 70, 71 and 76, which
+-- name a symbol, nothing
+abbrev pub ShowsSection : Held → (command : Option (List ℕ)) → LinkFault → (name : List ℕ) → List ℕ → Type 0
+ShowsSection held command Unresolved name shown = shown ≡ []
+ShowsSection held command DefinedTwice name shown = shown ≡ []
+ShowsSection held command NoEntry name shown = shown ≡ []
+ShowsSection held command _ name shown = ShowsOf held command (λ file text. ShowsListing file name text) shown
+
+-- the note of a fault of linking: of 72 the range that the section lacks, of 73 its words and the ranges that it
+-- may be placed in, of 74 the words of both sections, of
 -- 75 the field, of 70, 71 and 76 the modules that use or define the name, of all others nothing
 abbrev pub ShowsLink : Held → (command : Option (List ℕ)) → (sources objects : List (List ℕ)) → LinkFault → (name : List ℕ) → List ℕ → Type 0
 ShowsLink held command sources objects Unresolved name shown = ShowsAsked (AboutName Unresolved name) held command sources objects shown
@@ -42,22 +59,30 @@ ShowsLink held command sources objects DefinedTwice name shown = ShowsAsked (Abo
 ShowsLink held command sources objects NoEntry name shown = ShowsAsked (AboutName NoEntry name) held command sources objects shown
 ShowsLink held command sources objects NoRange name shown = ShowsOf held command (λ file text. ShowsMissing file name text) shown
 ShowsLink held command sources objects RelocRange name shown = ShowsAsked AboutField held command sources objects shown
-ShowsLink held command sources objects DoesNotFit name shown = shown ≡ []
+ShowsLink held command sources objects DoesNotFit name shown = ShowsAsked (AboutUnfit name) held command sources objects shown
 ShowsLink held command sources objects Overlap name shown = ShowsAsked (AboutOverlap name) held command sources objects shown
 ShowsLink held command sources objects BadRun name shown = shown ≡ []
 
+-- the line that lists the section, and the note of the fault after it; or nothing, where memory runs out
+abbrev pub ShowsSectionAndLink : Held → NamedFiles → LinkFault → (name : List ℕ) → List ℕ → Type 0
+ShowsSectionAndLink held named fault name shown =
+    ((line note : List ℕ) × ShowsSection held (text_of named.files.command) fault name line
+    × ShowsLink held (text_of named.files.command) (texts_of named.sources.now) (texts_of named.objects.now) fault name note × (shown ≡ line ++ note))
+    ⊎ (shown ≡ [])
+
 -- ---- refusals
 
--- what is shown next to the line of a fault: these notes of the command file and of linking, and of a line of
--- a source the lines that led there
-abbrev pub IsBehind : Held → (command : Option (List ℕ)) → (sources objects : List (List ℕ)) → ChainFault (String Global) → List ℕ → Type 0
-IsBehind held command sources objects (Command placed) shown = ShowsOf held command (λ file text. ShowsStanding file placed.place text) shown
-IsBehind held command sources objects (Link placed) shown = ShowsLink held command sources objects placed.fault (string_bytes placed.place) shown
-IsBehind held command sources objects (Source placed) shown = IsTrailText held sources (Source placed) shown
-IsBehind held command sources objects (NoFile file line name) shown = shown ≡ []
-IsBehind held command sources objects (Object placed) shown = shown ≡ []
-IsBehind held command sources objects (Hex placed) shown = shown ≡ []
-IsBehind held command sources objects (Schedule line) shown = shown ≡ []
-IsBehind held command sources objects (Samples line) shown = shown ≡ []
-IsBehind held command sources objects (Script line) shown = shown ≡ []
-IsBehind held command sources objects (File placed) shown = shown ≡ []
+-- what is shown next to the line of a fault: these notes of the command file and of linking, of a line of a
+-- source the lines that led there, of samples, a schedule and a script what is wanted, of no object what it may be,
+-- of a file that cannot be read the line that copies it
+abbrev pub IsBehind : Held → NamedFiles → ChainFault (String Global) → List ℕ → Type 0
+IsBehind held named (Command placed) shown = ShowsOf held (text_of named.files.command) (λ file text. ShowsStanding file placed.place text) shown
+IsBehind held named (Link placed) shown = ShowsSectionAndLink held named placed.fault (string_bytes placed.place) shown
+IsBehind held named (Source placed) shown = IsTrailText held (texts_of named.sources.now) (Source placed) shown
+IsBehind held named (NoFile file line name) shown = shown ≡ []
+IsBehind held named (Object placed) shown = ShowsKind held placed.fault (string_bytes placed.place) shown
+IsBehind held named (Hex placed) shown = shown ≡ []
+IsBehind held named (Schedule line) shown = ShowsOf held (text_of named.files.schedule) (λ file text. ShowsEntry file line text) shown
+IsBehind held named (Samples line) shown = ShowsOf held (text_of named.files.samples) (λ file text. ShowsSample file line text) shown
+IsBehind held named (Script line) shown = ShowsOf held (text_of named.script) (λ file text. ShowsCommand file line text) shown
+IsBehind held named (File placed) shown = ShowsCopied held (texts_of named.sources.now) placed.fault (string_bytes placed.place) shown

@@ -109,26 +109,26 @@ IsUnread held file (shown.Unread of_file why) = (of_file.now ≡ file) × IsWhy 
 abbrev pub IsExplainedAt : Held → (file : List ℕ) → (number : ℕ) → (behind : List ℕ) → AnyFault → List ℕ → Type 0
 IsExplainedAt held file number behind fault note = (shows : Shown) × IsLineAt held file number shows × IsNoteOf fault shows behind note
 
--- the explanation of a fault of a file that cannot be read
-abbrev pub IsExplainedUnread : Held → (file : List ℕ) → AnyFault → List ℕ → Type 0
-IsExplainedUnread held file fault note = (shows : Shown) × IsUnread held file shows × IsNoteOf fault shows [] note
+-- the explanation of a fault of a file that cannot be read, with the lines after the reason
+abbrev pub IsExplainedUnread : Held → (file : List ℕ) → (behind : List ℕ) → AnyFault → List ℕ → Type 0
+IsExplainedUnread held file behind fault note = (shows : Shown) × IsUnread held file shows × IsNoteOf fault shows behind note
 
 -- the explanation of a fault in this line of a file, if it is in a line, and else of this file that cannot be
 -- read, if there is one
 abbrev pub IsExplainedBy : Held → (place : Option (List ℕ × ℕ)) → (unread : Option (List ℕ)) → (behind : List ℕ) → AnyFault → List ℕ → Type 0
 IsExplainedBy held (Some place) unread behind fault note = IsExplainedAt held place.0 place.1 behind fault note
-IsExplainedBy held None (Some file) behind fault note = IsExplainedUnread held file fault note
+IsExplainedBy held None (Some file) behind fault note = IsExplainedUnread held file behind fault note
 IsExplainedBy held None None behind fault note = IsNoteOf fault shown.Nothing behind note
 
--- the explanation of a fault at this place, of these sources or objects under this command file
-abbrev pub IsExplained : Held → (place : Option (List ℕ × ℕ)) → (command : Option (List ℕ)) → (sources objects : List (List ℕ)) → ChainFault (String Global) → List ℕ → Type 0
-IsExplained held place command sources objects refusal note =
-    (behind : List ℕ) × IsBehind held command sources objects refusal behind × IsExplainedBy held place (unread_name refusal) behind (of_refusal refusal) note
+-- the explanation of a fault at this place, of these files
+abbrev pub IsExplained : Held → (place : Option (List ℕ × ℕ)) → NamedFiles → ChainFault (String Global) → List ℕ → Type 0
+IsExplained held place named refusal note =
+    (behind : List ℕ) × IsBehind held named refusal behind × IsExplainedBy held place (unread_name refusal) behind (of_refusal refusal) note
 
 -- the explanation of a fault where it is asked for, unless memory runs out
 abbrev pub IsExplanation : Held → (explain : Bool) → NamedFiles → ChainFault (String Global) → List ℕ → Type 0
 IsExplanation held true named refusal text =
-    IsExplained held (place_of named refusal) (text_of named.files.command) (texts_of named.sources.now) (texts_of named.objects.now) refusal text ⊎ (text ≡ [])
+    IsExplained held (place_of named refusal) named refusal text ⊎ (text ≡ [])
 IsExplanation held false named refusal text = text ≡ []
 
 -- the lines of all other faults of the sources or of linking, where they are asked for and the fault is one of

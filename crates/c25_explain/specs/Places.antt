@@ -3,7 +3,7 @@ use Rattle.std.specs.Fmt.{decimal, signed_decimal}
 use Rattle.std.specs.Option.{option_map, option_or}
 use Rattle.std.specs.Prelude.{ℕ, ◌==◌, ◌&&◌, Bool, if◌then◌else◌, nat_le, nat_lt, List, [], ◌∷◌, ◌++◌, codes, drop, take, Option, Some, None, ℤ}
 use Rattle.c25_asm.specs.Seen.{Seen}
-use Rattle.c25_hints.specs.Similar.{remark_text}
+use Rattle.c25_hints.specs.Similar.{remark_among}
 use Rattle.c25_meaning_language.specs.ExpansionFault.{ExpansionFault, Faulty, Missing}
 use Rattle.c25_meaning_language.specs.declared.statement.FaultKind.{FaultKind}
 use Rattle.c25_places.specs.Refused.{refused_part}
@@ -93,13 +93,13 @@ abbrev pub lines_with : ℕ → List ℕ → (hint : Option (List ℕ)) → Opti
 lines_with number text hint None = []
 lines_with number text hint (Some r) = number_line number text ++ caret_line number text r.part (remark_on r.misfit hint)
 
--- the two lines of a line of this number with this fault, which is seen so, with the hint on it; nothing where it
--- is not seen
-abbrev pub part_text : ℕ → FaultKind → Option Seen → List ℕ
-part_text number kind None = []
-part_text number kind (Some seen) = lines_with number seen.text (remark_text seen.text kind seen.table) (refused_of seen kind)
+-- the two lines of a line of this number with this fault, which is seen so, with the hint on it, where there are
+-- these macros; nothing where it is not seen
+abbrev pub part_text : ℕ → FaultKind → (macros : List (List ℕ)) → Option Seen → List ℕ
+part_text number kind macros None = []
+part_text number kind macros (Some seen) = lines_with number seen.text (remark_among seen.text kind seen.table macros) (refused_of seen kind)
 
 -- the two lines of the line with this fault
-abbrev pub place_text : ExpansionFault → Option Seen → List ℕ
-place_text (Faulty file line kind) seen = part_text line kind seen
-place_text (Missing file line name) seen = []
+abbrev pub place_text : ExpansionFault → (macros : List (List ℕ)) → Option Seen → List ℕ
+place_text (Faulty file line kind) macros seen = part_text line kind macros seen
+place_text (Missing file line name) macros seen = []

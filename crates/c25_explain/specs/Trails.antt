@@ -9,8 +9,11 @@ use Rattle.c25_chain.specs.declared.fault.ChainFault.{ChainFault}
 use Rattle.c25_chain.specs.declared.fault.ChainFault.TheVariants.{Source, NoFile, Object, Command, Link, Hex, Schedule, Samples, Script, File}
 use Rattle.c25_disk.specs.Copies.{HasCopied}
 use Rattle.c25_disk.specs.Held.{Held, ReadsSources}
+use Rattle.c25_earlier.specs.Shown.{ShowsEarlier}
 use Rattle.c25_explain.specs.Note.{line_of}
+use Rattle.c25_explain.specs.OpenBlocks.{open_text}
 use Rattle.c25_explain.specs.Places.{place_text}
+use Rattle.c25_outline.specs.Macros.{macros_in_files}
 use Rattle.c25_meaning_common.specs.Faults.{placed_text}
 use Rattle.c25_meaning_expansion.specs.Files.{Files, file_name, text_named}
 use Rattle.c25_meaning_common.specs.declared.placed.FileLine.{FileLine}
@@ -37,11 +40,13 @@ abbrev pub IsFirstTrail : Files → (sources : List (List ℕ)) → ExpansionFau
 IsFirstTrail files [] fault trail seen = ⊥
 IsFirstTrail files (name ∷ names) fault trail seen = IsTrail files name fault trail seen ⊎ IsWhole files name × IsFirstTrail files names fault trail seen
 
--- a text shows the part of the line with this fault that is refused, if it is known, and then the trail of the
--- fault
+-- a text shows the part of the line with this fault that is refused, if it is known, with a remark that knows the
+-- macros of all files that were read; then the line that opened the block that is open at 31 and 32, or that defined the
+-- name first at 26; and then the trail of the fault
 abbrev pub ShowsTrail : Files → (sources : List (List ℕ)) → ExpansionFault → List ℕ → Type 0
 ShowsTrail files sources fault text =
-    (trail : List (FileLine ℕ)) × (seen : Option Seen) × IsFirstTrail files sources fault trail seen × (text ≡ place_text fault seen ++ openings_text files trail)
+    (trail : List (FileLine ℕ)) × (seen : Option Seen) × (earlier : List ℕ) × IsFirstTrail files sources fault trail seen × ShowsEarlier files sources fault earlier
+    × (text ≡ place_text fault (macros_in_files files) seen ++ open_text files fault ++ earlier ++ openings_text files trail)
 
 -- a text shows that part and that trail in sources on a disk, over their files and at most 256 others that they
 -- copy, or is empty

@@ -11,6 +11,7 @@ use crate::named::NamedFiles;
 use crate::named_sites::{About, name_notes};
 use crate::note_lines::{LinkNote, notes_shown};
 use crate::overlaps::overlap_notes;
+use crate::unfits::unfit_notes;
 use c25_chain::assemble_all;
 use c25_chain::fault::{ChainFault, Fault};
 use c25_disk::disk::Disk;
@@ -32,6 +33,8 @@ pub(crate) enum Asked<'a> {
     Name { fault: LinkFault, name: &'a str },
     /// The section of this name, and the one that shares a word with it (74).
     Overlap(&'a str),
+    /// The section of this name, and the ranges that it may be placed in (73).
+    Unfit(&'a str),
     /// The first field that does not take its value (75).
     Field,
     /// All faults of linking, and, where they are to be explained, which modules use or define their names.
@@ -62,6 +65,7 @@ fn notes_of(
             name_notes(alloc, modules, fault, About { names, name }).map(Some)
         }
         Asked::Overlap(name) => overlap_notes(alloc, modules, command, name),
+        Asked::Unfit(name) => unfit_notes(alloc, modules, command, name),
         Asked::Field => field_notes(alloc, names, modules, command),
         Asked::AllFaults { explain } => {
             let among = Among {

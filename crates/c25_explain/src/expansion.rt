@@ -51,8 +51,9 @@ Reported:
     a.asm:1: 31 OpenBlock
 "#,
         ),
-        advice: r#"Do: look upwards from that line for the block without its .endif, .endloop or .endm. A block cannot
-begin in one file or body and end in another.
+        advice: r#"Do: write the .endif, .endloop or .endm of the block; --explain shows the line that opened it, after
+open:. Where that block looks whole, look upwards for one without its end. A block cannot begin in
+one file or body and end in another.
 "#,
     }
 }

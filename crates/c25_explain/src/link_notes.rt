@@ -80,7 +80,8 @@ fn range_text<D: Disk>(alloc: Global, disk: &D, file: Option<&str>, section: &st
     }
 }
 
-/// The note of a fault of linking: of 72 the range that the section lacks, of 74 the words of both sections, of
+/// The note of a fault of linking: of 72 the range that the section lacks, of 73 its words and the ranges that
+/// it may be placed in, of 74 the words of both sections, of
 /// 75 the field that does not take its value, of 70, 71 and 76 the modules that use or define the name. The
 /// files are read again; the note is empty where they cannot be read or memory runs out.
 pub(crate) fn link_text<D: Disk>(
@@ -100,6 +101,7 @@ pub(crate) fn link_text<D: Disk>(
         LinkFault::NoRange => range_text(alloc, disk, named.files.command, name),
         LinkFault::RelocRange => asked_text(alloc, disk, named, Asked::Field),
         LinkFault::Overlap => asked_text(alloc, disk, named, Asked::Overlap(name)),
-        LinkFault::DoesNotFit | LinkFault::BadRun => String::new(alloc),
+        LinkFault::DoesNotFit => asked_text(alloc, disk, named, Asked::Unfit(name)),
+        LinkFault::BadRun => String::new(alloc),
     }
 }

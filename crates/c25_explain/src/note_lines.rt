@@ -55,7 +55,12 @@ pub(crate) fn name_at(names: &[String], number: usize) -> &str
 }
 
 /// A line of a file's text with its file and number; empty where there is no such line.
-fn line_text(alloc: Global, file: &str, number: usize, text: &str) -> Result<String, NoMemory>
+pub(crate) fn line_text(
+    alloc: Global,
+    file: &str,
+    number: usize,
+    text: &str,
+) -> Result<String, NoMemory>
     ensures { IfOk result (λ shown. string_bytes shown ≡ line_text file.now number text.now) }
 {
     match line_of(text, number) {

@@ -3,16 +3,18 @@
 ghost use Rattle.std.specs.Option.{option_map};
 ghost use Rattle.std.specs.Prelude.{◌≡◌, ◌⊎◌, ◌++◌, [], IfOk, string_bytes};
 ghost use Rattle.c25_options.specs.Task.{text_of, texts_of};
-ghost use Rattle.c25_explain.specs.LinkNotes.{IsBehind};
+ghost use Rattle.c25_explain.specs.LinkNotes.{IsBehind, ShowsSectionAndLink};
 ghost use Rattle.c25_explain.specs.Notes.{AreNotesFor, AreOthers, IsExplained, IsExplainedAt, IsExplainedUnread, IsExplanation, IsLineOf, IsLineOfNoText, IsNoted, IsWhy, at_line, place_of, unread_name};
 
 use crate::all_faults::others_text;
 use crate::fault::AnyFault;
+use crate::file_notes::{command_text, copied_text, entry_text, kind_text, sample_text};
 use crate::link_faults::other_links_text;
 use crate::link_notes::{link_text, standing_text};
 use crate::named::NamedFiles;
 use crate::note::{Shown, Unread, explained, line_of};
 use crate::refusals::of_refusal;
+use crate::section_lines::section_text;
 use crate::trails::trail_text;
 use c25_chain::fault::ChainFault;
 use c25_disk::disk::Disk;
@@ -20,7 +22,8 @@ use c25_disk::fault::FileFault;
 use c25_disk::{read_binary, read_file};
 use c25_meaning_common::failure::Failure;
 use c25_meaning_common::no_memory::NoMemory;
-use c25_meaning_common::placed::FileLine;
+use c25_meaning_common::placed::{FileLine, Placed};
+use c25_meaning_linking::link_fault::LinkFault;
 use c25_options::task::{FaultOptions, RunFiles};
 use std::alloc::Global;
 
@@ -159,44 +162,73 @@ fn why_unread<D: Disk>(alloc: Global, disk: &D, name: &str) -> Option<Unread>
     }
 }
 
-/// The explanation of a fault of a file that cannot be read, after the reason for it, where that is known.
+/// The explanation of a fault of a file that cannot be read, after the reason for it, where that is known, and the
+/// text `after` it.
 fn explained_unread<D: Disk>(
     alloc: Global,
     disk: &D,
     fault: AnyFault,
     file: &str,
+    after: &str,
 ) -> Result<String, NoMemory>
-    ensures { IfOk result (λ note. IsExplainedUnread (D.bytes_of disk.now) file.now fault (string_bytes note)) }
+    ensures { IfOk result (λ note. IsExplainedUnread (D.bytes_of disk.now) file.now after.now fault (string_bytes note)) }
 {
     match why_unread(alloc, disk, file) {
-        Some(why) => explained(alloc, fault, Shown::Unread { file, why }, ""),
-        None => explained(alloc, fault, Shown::Nothing, ""),
+        Some(why) => explained(alloc, fault, Shown::Unread { file, why }, after),
+        None => explained(alloc, fault, Shown::Nothing, after),
     }
 }
 
+/// A text with another one after it; empty where memory runs out.
+fn joined(alloc: Global, first: String, second: &str) -> String
+    ensures { (string_bytes result ≡ string_bytes first ++ second.now) ⊎ (string_bytes result ≡ []) }
+{
+    let mut text = first;
+    match text.push_str(second) {
+        Ok(()) => text,
+        Err(_) => String::new(alloc),
+    }
+}
+
+/// The line of the command file that lists the section which a fault of linking names, and the note of the fault
+/// after it; empty where memory runs out.
+fn link_lines<D: Disk>(
+    alloc: Global,
+    disk: &D,
+    named: NamedFiles<'_>,
+    refusal: &Placed<String, LinkFault>,
+) -> String
+    ensures { ShowsSectionAndLink (D.bytes_of disk.now) named.entry refusal.now.fault (string_bytes refusal.now.place) (string_bytes result) }
+{
+    let line = section_text(alloc, disk, named.files.command, refusal);
+    let note = link_text(alloc, disk, named, refusal);
+    joined(alloc, line, note.as_str())
+}
+
 /// The lines that are shown after the line of a fault: for a line of a source the part of it that is refused and
-/// the lines that led there, for the command file what stands at the fault, for linking the range or the field.
+/// the lines that led there, for the command file what stands at the fault, for linking the line that lists the
+/// section and the range or the field, for samples, a schedule and a script what is wanted there, for a file that
+/// is no object what it may be, for a file that cannot be read the line that copies it.
 fn text_after<D: Disk>(
     alloc: Global,
     disk: &D,
     named: NamedFiles<'_>,
     refusal: &ChainFault<String>,
 ) -> String
-    ensures { IsBehind (D.bytes_of disk.now) (text_of named.entry.files.command) (texts_of named.entry.sources.now) (texts_of named.entry.objects.now) refusal.now (string_bytes result) }
+    ensures { IsBehind (D.bytes_of disk.now) named.entry refusal.now (string_bytes result) }
 {
     match refusal {
         ChainFault::Command(placed) => {
             standing_text(alloc, disk, named.files.command, placed.place)
         }
-        ChainFault::Link(placed) => link_text(alloc, disk, named, placed),
+        ChainFault::Link(placed) => link_lines(alloc, disk, named, placed),
         ChainFault::Source(placed) => trail_text(alloc, disk, named.sources, placed),
-        ChainFault::NoFile { .. }
-        | ChainFault::Object(_)
-        | ChainFault::Hex(_)
-        | ChainFault::Schedule { .. }
-        | ChainFault::Samples { .. }
-        | ChainFault::Script { .. }
-        | ChainFault::File(_) => String::new(alloc),
+        ChainFault::Object(placed) => kind_text(alloc, disk, placed),
+        ChainFault::Schedule { line } => entry_text(alloc, disk, named.files.schedule, *line),
+        ChainFault::Samples { line } => sample_text(alloc, disk, named.files.samples, *line),
+        ChainFault::Script { line } => command_text(alloc, disk, named.script, *line),
+        ChainFault::File(placed) => copied_text(alloc, disk, named.sources, placed),
+        ChainFault::NoFile { .. } | ChainFault::Hex(_) => String::new(alloc),
     }
 }
 
@@ -209,7 +241,7 @@ fn explanation_of<D: Disk>(
     refusal: &ChainFault<String>,
     named: NamedFiles<'_>,
 ) -> Result<String, NoMemory>
-    ensures { IfOk result (λ note. IsExplained (D.bytes_of disk.now) (place_of named.entry refusal.now) (text_of named.entry.files.command) (texts_of named.entry.sources.now) (texts_of named.entry.objects.now) refusal.now (string_bytes note)) }
+    ensures { IfOk result (λ note. IsExplained (D.bytes_of disk.now) (place_of named.entry refusal.now) named.entry refusal.now (string_bytes note)) }
 {
     let fault = of_refusal(refusal);
     let after = text_after(alloc, disk, named, refusal);
@@ -217,7 +249,7 @@ fn explanation_of<D: Disk>(
         return explained_at(alloc, disk, fault, place, after.as_str());
     }
     match unread_name(refusal) {
-        Some(file) => explained_unread(alloc, disk, fault, file),
+        Some(file) => explained_unread(alloc, disk, fault, file, after.as_str()),
         None => explained(alloc, fault, Shown::Nothing, after.as_str()),
     }
 }
@@ -267,17 +299,6 @@ fn other_faults<D: Disk>(
         | ChainFault::Samples { .. }
         | ChainFault::Script { .. }
         | ChainFault::File(_) => String::new(alloc),
-    }
-}
-
-/// A text with another one after it; empty where memory runs out.
-fn joined(alloc: Global, first: String, second: &str) -> String
-    ensures { (string_bytes result ≡ string_bytes first ++ second.now) ⊎ (string_bytes result ≡ []) }
-{
-    let mut text = first;
-    match text.push_str(second) {
-        Ok(()) => text,
-        Err(_) => String::new(alloc),
     }
 }
 

@@ -15,7 +15,7 @@ use std::alloc::Global;
 
 /// Appends the first and the last word of a section.
 #[tactic(auto, unfolding(crate::specs::Details::words_text))]
-fn push_words(text: &mut String, span: &Span<'_>) -> Result<(), NoMemory>
+pub(crate) fn push_words(text: &mut String, span: &Span<'_>) -> Result<(), NoMemory>
     ensures { OnOk result (string_bytes text.new ≡ string_bytes text.old ++ words_text (span_data span.now)) }
 {
     text.push_str(": words ")?;

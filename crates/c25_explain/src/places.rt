@@ -1,12 +1,12 @@
 //! The part of a source's line that is refused, shown by carets below the line.
 
 ghost use Rattle.std.specs.Option.{option_map};
-ghost use Rattle.std.specs.Prelude.{◌≡◌, ◌++◌, IfOk, OnOk, Some, drop, string_bytes, take};
+ghost use Rattle.std.specs.Prelude.{◌≡◌, ◌++◌, IfOk, OnOk, Some, drop, map, string_bytes, take};
 ghost use Rattle.c25_asm.specs.Seen.{seen_of};
 ghost use Rattle.c25_explain.specs.Places.{blank_below, blanks_below, caret_below, caret_line, carets_below, goes_on, hint_after, lines_with, margin, misfit_remark, number_line, part_below, part_text, range_text, refused_of, remark_on, value_text};
 
 use c25_asm::SeenLine;
-use c25_hints::remark;
+use c25_hints::remark_among;
 use c25_meaning_common::no_memory::NoMemory;
 use c25_meaning_language::statement::FaultKind;
 use c25_places::{Misfit, Part, RefusedValue, refused_part, refused_value};
@@ -224,38 +224,41 @@ fn lines_with(
     Ok(lines)
 }
 
-/// The same of a line that was read, with the hint on its fault; empty where no part is known.
+/// The same of a line that was read, with the hint on its fault, where there are these macros; empty where no part
+/// is known.
 fn seen_lines(
     alloc: Global,
     number: usize,
     kind: FaultKind,
+    macros: &[&str],
     seen: &SeenLine<'_>,
 ) -> Result<String, NoMemory>
-    ensures { IfOk result (λ text. string_bytes text ≡ part_text number kind (Some (seen_of seen.now))) }
+    ensures { IfOk result (λ text. string_bytes text ≡ part_text number kind (map (λ n. n.now) macros.now) (Some (seen_of seen.now))) }
 {
     let Some(refused) = refused_of(alloc, seen, kind)? else {
         return Ok(String::new(alloc));
     };
     let text = seen.text.as_str();
-    match remark(alloc, text, kind, &seen.symbols)? {
+    match remark_among(alloc, text, kind, &seen.symbols, macros)? {
         Some(hint) => lines_with(alloc, number, text, Some(hint.as_str()), refused),
         None => lines_with(alloc, number, text, None, refused),
     }
 }
 
 /// Two lines that show which part of a line of this number is refused with this fault: the line as it was read,
-/// and carets below the part, with a remark. The text is empty where the line was not read, or the part is not
-/// known.
+/// and carets below the part, with a remark, which knows these macros. The text is empty where the line was not
+/// read, or the part is not known.
 pub(crate) fn part_text(
     alloc: Global,
     number: usize,
     kind: FaultKind,
+    macros: &[&str],
     seen: &Option<SeenLine<'_>>,
 ) -> Result<String, NoMemory>
-    ensures { IfOk result (λ text. string_bytes text ≡ part_text number kind (option_map seen_of seen.now)) }
+    ensures { IfOk result (λ text. string_bytes text ≡ part_text number kind (map (λ n. n.now) macros.now) (option_map seen_of seen.now)) }
 {
     match seen {
-        Some(seen) => seen_lines(alloc, number, kind, seen),
+        Some(seen) => seen_lines(alloc, number, kind, macros, seen),
         None => Ok(String::new(alloc)),
     }
 }

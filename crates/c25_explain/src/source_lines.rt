@@ -134,6 +134,7 @@ Reported:
         ),
         advice: r#"    Where there is | As in | Write
     a comment without `;` | LACK 5 load it | `;` before the comment
+    two values without a comma or an operator | .word 1 2 | .word 1,2
     a local label | B $1 | a name of its own, in a macro name?
     `>` for hexadecimal | LALK >10, LALK >FF | LALK 10h, LALK 0FFh
     a next register without a comma | MPY *AR1 | MPY *,AR1
@@ -365,7 +366,23 @@ Reported:
     a.asm:1: 51 OperandCount
 "#,
         ),
-        advice: r#"Do: see the instruction's syntax in SPRU014, and put a comma between two operands. A next auxiliary
+        advice: r#"    Instructions | Operands
+    most that read or write a word of data memory, as MPY, LT, SST | dma, or ind[,next]
+    ADD, SUB, LAC, SACL, SACH | dma[,shift], or ind[,shift[,next]]
+    LAR, SAR | ar,dma, or ar,ind[,next]
+    IN, OUT; BIT | dma,port, or ind,port[,next]; bit in place of port
+    ADDK, SUBK, LACK, RPTK, ADRK, SBRK, LDPK, MPYK, SPM, FORT, CMPR | constant
+    LARK, LRLK | ar,constant
+    LALK, ADLK, SBLK, ANDK, ORK, XORK | constant[,shift]
+    MAC, MACD, BLKP; BLKD | pma,dma, or pma,ind[,next]; dma for the first
+    branches, CALL | pma[,ind[,next]]
+    NORM; LARP | [ind]; ar
+    the others | none
+
+There dma is an address of data memory and pma one of program memory, ind an indirect operand, as
+`*+`, ar and next are auxiliary registers, and what stands in brackets may be left out.
+
+Do: find the instruction in this table, and put a comma between two operands. A next auxiliary
 register goes only with an indirect operand, and never with NORM; NOP and .endif have no operands,
 so begin the comment with `;`. .usect has no third operand.
 "#,
@@ -393,8 +410,8 @@ Reported:
     a.asm:1: 52 OperandForm
 "#,
         ),
-        advice: r#"Do: put quotes around the name of a file; use .string for characters and .word for numbers; use two
-names for two kinds of section.
+        advice: r#"Do: find the operands of an instruction in the table of 51 OperandCount; put quotes around the name
+of a file; use .string for characters and .word for numbers; use two names for two kinds of section.
 "#,
     }
 }

@@ -1,26 +1,32 @@
-//! What is shown of a faulty line of a source: the part of it that is refused, and its trail, the lines that led
-//! there.
+//! What is shown of a faulty line of a source: the part of it that is refused, the line that opened the block that is
+//! open there or that defined its name first, and its trail, the lines that led there.
 
 ghost use Rattle.std.specs.Option.{option_map};
-ghost use Rattle.std.specs.Prelude.{◌≡◌, IfOk, IsTrue, string_bytes};
+ghost use Rattle.std.specs.Prelude.{◌≡◌, ◌++◌, IfOk, IsTrue, string_bytes};
 ghost use Rattle.c25_asm.specs.Seen.{seen_of};
 ghost use Rattle.c25_macro.specs.Tracers.{fault_in};
 ghost use Rattle.c25_meaning_language.specs.ExpansionFault.{Faulty};
 ghost use Rattle.c25_options.specs.Task.{texts_of};
+ghost use Rattle.c25_explain.specs.OpenBlocks.{open_text};
+ghost use Rattle.c25_explain.specs.Places.{place_text};
 ghost use Rattle.c25_explain.specs.Trails.{IsFirstTrail, ShowsTrailOver, openings_text, opening_text, text_at, wanted_by};
+ghost use Rattle.c25_outline.specs.Macros.{macros_in_files};
 
 use crate::note::line_of;
+use crate::open_blocks::open_text;
 use crate::places::part_text;
-use c25_asm::{Refused, Traced, trace};
+use c25_asm::{Refused, SeenLine, Traced, trace};
 use c25_disk::disk::Disk;
 use c25_disk::work::Work;
 use c25_disk::{read_sources, with_copies};
+use c25_earlier::earlier_text;
 use c25_macro::files::Files;
 use c25_macro::tracer::StepFault;
 use c25_meaning_common::failure::Failure;
 use c25_meaning_common::no_memory::NoMemory;
 use c25_meaning_common::placed::{FileLine, Placed};
 use c25_meaning_language::statement::FaultKind;
+use c25_outline::macros::macros_in_files;
 use std::alloc::Global;
 
 /// A line of a source with a fault.
@@ -86,6 +92,23 @@ fn openings_text(
     Ok(text)
 }
 
+/// What is shown of a faulty line before its trail: the part that is refused, where it is known, and at 31 and 32 the
+/// block that is open.
+fn line_text(
+    alloc: Global,
+    files: &Files,
+    refused: &FaultyLine<'_>,
+    seen: &Option<SeenLine<'_>>,
+) -> Result<String, NoMemory>
+    ensures { IfOk result (λ text. string_bytes text ≡ place_text (Faulty refused.now.file.now refused.now.line refused.now.kind) (macros_in_files files.now) (option_map seen_of seen.now) ++ open_text files.now (Faulty refused.now.file.now refused.now.line refused.now.kind)) }
+{
+    let macros = macros_in_files(alloc, files)?;
+    let mut text = part_text(alloc, refused.line, refused.kind, macros.as_slice(), seen)?;
+    let open = open_text(alloc, files, refused.file, refused.line, refused.kind)?;
+    text.push_str(open.as_str())?;
+    Ok(text)
+}
+
 /// Whether `fault` is the fault of the line `refused`.
 fn is_same(fault: &StepFault<'_>, refused: &FaultyLine<'_>) -> bool
     ensures { IsTrue result → fault_in fault.now ≡ Faulty refused.now.file.now refused.now.line refused.now.kind }
@@ -143,7 +166,7 @@ impl Work for Trace<'_> {
     ghost use Rattle.c25_options.specs.Task.{texts_of};
     ghost use Rattle.c25_explain.specs.Trails.{ShowsTrail, wanted_by};
 
-    /// The part of the line and the trail, as they are shown.
+    /// The part of the line, the other line that the fault is about and the trail, as they are shown.
     type Answer = String;
 
     type Fault = NoTrail;
@@ -154,7 +177,9 @@ impl Work for Trace<'_> {
 
     fn answer(&self, alloc: Global, files: &Files) -> Result<String, Failure<NoTrail>> {
         let Refused { trail, seen, .. } = first_refused(alloc, files, self.sources, &self.refused)?;
-        let mut text = part_text(alloc, self.refused.line, self.refused.kind, &seen)?;
+        let mut text = line_text(alloc, files, &self.refused, &seen)?;
+        let earlier = earlier_text(alloc, files, self.sources, self.refused.kind)?;
+        text.push_str(earlier.as_str())?;
         text.push_str(openings_text(alloc, files, trail.as_slice())?.as_str())?;
         Ok(text)
     }
@@ -169,9 +194,10 @@ impl Work for Trace<'_> {
     }
 }
 
-/// What is shown of a faulty line of a source: the part of it that is refused, where that is known, and its
-/// trail, the lines that called, copied or repeated it. The sources are read again. The text is empty where they
-/// cannot be read, their first fault is another, or memory runs out.
+/// What is shown of a faulty line of a source: the part of it that is refused, where that is known; at 31 and 32 the
+/// line that began the block that is open, for 26 the line that defined the name first; and its trail, the lines that
+/// called, copied or repeated it. The sources are read again. The text is empty where they cannot be read, their first
+/// fault is another, or memory runs out.
 pub(crate) fn trail_text<D: Disk>(
     alloc: Global,
     disk: &D,

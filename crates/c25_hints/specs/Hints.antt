@@ -1,6 +1,5 @@
 -- The remark on a line that is refused.
-use Rattle.std.specs.Prelude.{ℕ, List, Option, Some, None, Result, Ok, Err}
-use Rattle.std.specs.Option.{option_map}
+use Rattle.std.specs.Prelude.{ℕ, List, Option, None, Result, Ok, Err}
 use Rattle.c25_meaning_language.specs.Line.{Parts, line_of}
 use Rattle.c25_meaning_language.specs.Operands.{operands_of}
 use Rattle.c25_meaning_language.specs.Value.{Table}
@@ -8,7 +7,7 @@ use Rattle.c25_meaning_language.specs.declared.line.LineFault.{LineFault}
 use Rattle.c25_meaning_language.specs.declared.statement.FaultKind.{FaultKind}
 use Rattle.c25_meaning_language.specs.declared.statement.FaultKind.TheVariants as fault
 use Rattle.c25_hints.specs.Operands as operands
-use Rattle.c25_hints.specs.Remark.{Remark, text_of}
+use Rattle.c25_hints.specs.Remark.{Remark}
 use Rattle.c25_hints.specs.Texts.{of_text}
 use Rattle.c25_hints.specs.Values as values
 use Rattle.c25_hints.specs.Words.{of_word}

@@ -5,4 +5,5 @@ pub mod Operands
 pub mod Texts
 pub mod Values
 pub mod Hints
+pub mod Macros
 pub mod Similar

@@ -17,7 +17,7 @@ use Rattle.c25_meaning_instructions.specs.declared.mnemonic.Spelling.TheVariants
 use Rattle.c25_meaning_language.specs.DirectiveOperands.{is_name}
 use Rattle.c25_meaning_language.specs.Forms.{is_expression}
 use Rattle.c25_meaning_language.specs.Line.{Piece, Part}
-use Rattle.c25_meaning_language.specs.Operands.{operands_of, written_of}
+use Rattle.c25_meaning_language.specs.Operands.{written_of}
 use Rattle.c25_meaning_language.specs.Value.{predefined}
 use Rattle.c25_meaning_language.specs.declared.line.Sign.TheVariants as sign
 use Rattle.c25_meaning_language.specs.declared.line.TokenKind.{TokenKind}

@@ -65,6 +65,8 @@ front cause.NoComma = codes "a comma is missing before "
 front cause.TakesNothing = []
 front cause.Form = codes "the form is "
 front cause.Longer = []
+front cause.NeededAtOnce = []
+front cause.MacroElsewhere = codes "the .macro of "
 front cause.Similar = codes "similar: "
 
 -- the sentence after the word
@@ -78,6 +80,8 @@ back cause.CommentInExpression = codes " if a comment begins there"
 back cause.TakesNothing = codes " has no operand; a comment begins with ;"
 back cause.Form = codes " "
 back cause.Longer = codes " takes a longer number"
+back cause.NeededAtOnce = codes " has no value above this line, and this directive needs it at once"
+back cause.MacroElsewhere = codes " comes before its first call, in the same module"
 back _ = []
 
 -- the text of a remark

@@ -12,9 +12,10 @@ use Rattle.c25_meaning_language.specs.Value.{Table}
 use Rattle.c25_meaning_language.specs.declared.statement.FaultKind.{FaultKind}
 use Rattle.c25_meaning_language.specs.declared.statement.FaultKind.TheVariants as fault
 use Rattle.c25_hints.specs.Hints.{remark_on}
+use Rattle.c25_hints.specs.Macros.{of_macros}
 use Rattle.c25_hints.specs.Remark.{Remark, text_of}
 use Rattle.c25_hints.specs.Tables.{directive_forms}
-use Rattle.c25_hints.specs.Values.{defined_names, refused_name}
+use Rattle.c25_hints.specs.Values.{defined_names, needed_at_once, refused_name}
 use Rattle.c25_hints.specs.declared.cause.Cause.TheVariants as cause
 
 -- ---- which names are near
@@ -49,9 +50,10 @@ mnemonics = map spelling_text spellings
 abbrev pub directives : List (List ℕ)
 directives = map (λ r. r.0) directive_forms
 
--- the names that a word in the mnemonic field may stand for: directives for one with a dot, else mnemonics
-abbrev pub operations : List ℕ → List (List ℕ)
-operations word = if slice_index word 0 == 46 then directives else mnemonics
+-- the names that a word in the mnemonic field may stand for: directives for one with a dot, else these macros and
+-- the mnemonics
+abbrev pub operations : List (List ℕ) → List ℕ → List (List ℕ)
+operations macros word = if slice_index word 0 == 46 then directives else macros ++ mnemonics
 
 -- ---- the remark
 
@@ -64,20 +66,27 @@ abbrev pub of_names : List (List ℕ) → Option Remark
 of_names [] = None
 of_names (n ∷ names) = Some (of_joined (n ∷ names))
 
--- the remark that lists names like the first word of a line
-abbrev pub of_first_word : List ℕ → Option Remark
-of_first_word text = option_and_then (λ w. of_names (similar w (operations w))) (first_word text)
+-- the remark that lists names like the first word of a line, where there are these macros
+abbrev pub of_first_word : List ℕ → List (List ℕ) → Option Remark
+of_first_word text macros = option_and_then (λ w. of_names (similar w (operations macros w))) (first_word text)
 
 -- the remark that lists names like the name of a line that stands for nothing
 abbrev pub of_refused_name : List ℕ → Table → Option Remark
 of_refused_name text table = option_and_then (λ w. of_names (similar w (defined_names table))) (refused_name text table)
 
--- the remark on a line with this fault that lists names like the word that is refused
-abbrev pub of_similar : List ℕ → FaultKind → Table → Option Remark
-of_similar text fault.UnknownMnemonic table = of_first_word text
-of_similar text fault.Undefined table = of_refused_name text table
-of_similar text _ table = None
+-- the remark on a line with this fault that lists names like the word that is refused, or says that its value is
+-- needed at once
+abbrev pub of_similar : List ℕ → FaultKind → Table → (macros : List (List ℕ)) → Option Remark
+of_similar text fault.UnknownMnemonic table macros = of_first_word text macros
+of_similar text fault.Undefined table macros = option_or (of_refused_name text table) (needed_at_once text table)
+of_similar text _ table macros = None
 
--- the text of the remark on a line: what the line shows, or else the names like its word
+-- the text of the remark on a line, where these macros are known: that its word is the name of one, what the line
+-- shows, or else the names like its word
+abbrev pub remark_among : List ℕ → FaultKind → Table → (macros : List (List ℕ)) → Option (List ℕ)
+remark_among text kind table macros =
+    option_map text_of (option_or (option_or (of_macros text kind macros) (remark_on text kind table)) (of_similar text kind table macros))
+
+-- the same, where no macro is known
 abbrev pub remark_text : List ℕ → FaultKind → Table → Option (List ℕ)
-remark_text text kind table = option_map text_of (option_or (remark_on text kind table) (of_similar text kind table))
+remark_text text kind table = remark_among text kind table []

@@ -1,6 +1,5 @@
 -- Remarks on a name that stands for nothing (22) and on a number that is too large (53).
-use Rattle.std.specs.Prelude.{ℕ, ◌-◌, ◌==◌, ◌||◌, ◌&&◌, Bool, true, false, if◌then◌else◌, pos, ℤ, List, [], ◌∷◌, length, slice_index, take, map, Option, Some, None, Result, Ok, Err}
-use Rattle.std.specs.List.{find}
+use Rattle.std.specs.Prelude.{ℕ, ◌-◌, ◌==◌, ◌||◌, ◌&&◌, Bool, false, if◌then◌else◌, pos, List, [], ◌∷◌, length, slice_index, take, map, codes, Option, Some, None, is_some, Result, Ok, Err}
 use Rattle.std.specs.Ordering.{int_eq}
 use Rattle.std.specs.Option.{option_map, option_and_then, option_or}
 use Rattle.c25_meaning_assembly.specs.Sections.{register_names}
@@ -10,10 +9,8 @@ use Rattle.c25_meaning_language.specs.Line.{Parts, Piece, first_word, line_of}
 use Rattle.c25_meaning_language.specs.Value.{Table}
 use Rattle.c25_meaning_language.specs.declared.line.LineFault.{LineFault}
 use Rattle.c25_meaning_language.specs.declared.statement.FaultKind.TheVariants as fault
-use Rattle.c25_meaning_language.specs.declared.value.Value.{Value}
 use Rattle.c25_places.specs.Values.{refused_value}
 use Rattle.c25_places.specs.declared.value_parts.Misfit.{Misfit}
-use Rattle.c25_places.specs.declared.value_parts.RefusedValue.{RefusedValue}
 use Rattle.c25_hints.specs.Remark.{Remark, about}
 use Rattle.c25_hints.specs.Tables.{is_spelled, longer, text_in}
 use Rattle.c25_hints.specs.declared.cause.Cause.TheVariants as cause
@@ -66,6 +63,24 @@ refused_name text table = option_and_then (λ r. name_in r.part.start (line_of t
 -- the remark on a line of which a name is refused (22)
 abbrev pub undefined : List ℕ → Table → Option Remark
 undefined text table = option_and_then (of_name (defined_names table)) (refused_name text table)
+
+-- the directives that need the values of their operands at once; `.if` and its like are gone after expansion
+abbrev pub at_once : List (List ℕ)
+at_once = codes ".set" ∷ codes ".equ" ∷ codes ".space" ∷ codes ".bss" ∷ codes ".usect" ∷ []
+
+-- whether a word is one of these, letters in either case
+abbrev pub needs_values : List ℕ → Bool
+needs_values word = is_some (same_letters at_once word)
+
+-- whether a line has one of these directives
+abbrev pub is_at_once : Option (List ℕ) → Bool
+is_at_once None = false
+is_at_once (Some word) = needs_values word
+
+-- the remark on a line of which a name is refused (22), where its value is needed at once
+abbrev pub needed_at_once : List ℕ → Table → Option Remark
+needed_at_once text table =
+    if is_at_once (first_word text) then option_map (about cause.NeededAtOnce) (refused_name text table) else None
 
 -- ---- numbers (53)
 

@@ -1,13 +1,15 @@
 -- Remarks on a word that is no mnemonic, directive or macro (50).
 use Rattle.std.specs.Prelude.{ℕ, Bool, true, false, ◌&&◌, if◌then◌else◌, List, [], ◌∷◌, slice_index, Option, Some, None, is_ok}
 use Rattle.std.specs.Option.{option_map, option_or}
-use Rattle.c25_meaning_assembly.specs.StatementLine.{spelled}
+use Rattle.c25_meaning_assembly.specs.StatementLine.{operation_of, spelled}
 use Rattle.c25_meaning_common.specs.Bytes.{begins_name}
+use Rattle.c25_meaning_common.specs.Results.{◌>>=◌}
 use Rattle.c25_meaning_language.specs.Line.{Piece, Part}
+use Rattle.c25_meaning_language.specs.Operands.{operands_of}
 use Rattle.c25_meaning_language.specs.declared.line.TokenKind.{TokenKind}
 use Rattle.c25_meaning_language.specs.declared.line.TokenKind.TheVariants as kind
 use Rattle.c25_hints.specs.Remark.{Remark, about}
-use Rattle.c25_hints.specs.Tables.{Rows, directive_forms, instead, is_without_dot, text_in}
+use Rattle.c25_hints.specs.Tables.{directive_forms, instead, is_without_dot, text_in}
 use Rattle.c25_hints.specs.declared.cause.Cause.TheVariants as cause
 
 abbrev pub is_mnemonic : List ℕ → Bool
@@ -21,17 +23,21 @@ abbrev pub of_label : Option (List ℕ) → Option Remark
 of_label None = None
 of_label (Some label) = if is_mnemonic label then Some (about cause.MnemonicAsLabel label) else None
 
--- whether a token is a mnemonic, or begins with a dot as a directive does
-abbrev pub begins_statement : TokenKind → List ℕ → Bool
-begins_statement kind.DottedName text = true
-begins_statement kind.Name text = is_mnemonic text
-begins_statement _ text = false
+-- whether a word and the tokens after it are an instruction: the word is a mnemonic that takes them for its operands
+abbrev pub is_instruction : List ℕ → List Piece → Bool
+is_instruction word operands = is_ok (spelled word >>= λ s. operation_of s (operands_of operands))
 
--- a name with a mnemonic or a directive after it: a label that does not begin in column 1
+-- whether a token and those after it are a statement: an instruction, or what begins with a dot as a directive does
+abbrev pub is_statement : TokenKind → List ℕ → List Piece → Bool
+is_statement kind.DottedName text after = true
+is_statement kind.Name text after = is_instruction text after
+is_statement _ text after = false
+
+-- a name with a statement after it: a label that does not begin in column 1
 abbrev pub of_statement : List ℕ → List Piece → Option Remark
 of_statement word [] = None
 of_statement word (p ∷ ps) =
-    if is_name word && begins_statement p.kind p.text then Some (about cause.LabelAsMnemonic word) else None
+    if is_name word && is_statement p.kind p.text ps then Some (about cause.LabelAsMnemonic word) else None
 
 -- a word of another assembler, with what is written here
 abbrev pub of_other : List ℕ → Option Remark

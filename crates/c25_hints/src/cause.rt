@@ -88,6 +88,10 @@ pub enum Cause {
     Form,
     /// A number that another instruction or directive takes (53).
     Longer,
+    /// A name without a value where the value is needed at once (22).
+    NeededAtOnce,
+    /// A macro that is not defined so far (50).
+    MacroElsewhere,
     /// A word like others (22, 50).
     Similar,
 }
@@ -143,11 +147,13 @@ impl Cause {
             Cause::NothingAfter => "nothing stands after ",
             Cause::NoComma => "a comma is missing before ",
             Cause::Form => "the form is ",
+            Cause::MacroElsewhere => "the .macro of ",
             Cause::Similar => "similar: ",
             Cause::RegisterName
             | Cause::RegisterInExpression
             | Cause::TakesNothing
-            | Cause::Longer => "",
+            | Cause::Longer
+            | Cause::NeededAtOnce => "",
         }
     }
 
@@ -167,6 +173,10 @@ impl Cause {
             Cause::TakesNothing => " has no operand; a comment begins with ;",
             Cause::Form => " ",
             Cause::Longer => " takes a longer number",
+            Cause::NeededAtOnce => {
+                " has no value above this line, and this directive needs it at once"
+            }
+            Cause::MacroElsewhere => " comes before its first call, in the same module",
             _ => "",
         }
     }

@@ -4,6 +4,7 @@
 pub mod cause;
 mod forms;
 pub mod hint;
+mod macros;
 mod operands;
 mod remarks;
 mod similar;
@@ -12,4 +13,4 @@ mod texts;
 mod values;
 mod words;
 
-pub use remarks::{hint_on, remark};
+pub use remarks::{hint_on, remark, remark_among};

@@ -1,14 +1,16 @@
 //! The remark on a line that is refused.
 
-ghost use Rattle.std.specs.Prelude.{◌≡◌, IfOk, Ok, string_bytes};
-ghost use Rattle.std.specs.Option.{option_map};
+ghost use Rattle.std.specs.Prelude.{◌≡◌, IfOk, Ok, map, string_bytes};
+ghost use Rattle.std.specs.Option.{option_map, option_or};
 ghost use Rattle.c25_meaning_language.specs.Line.{line_of};
 ghost use Rattle.c25_text.specs.View.{parts_of};
 ghost use Rattle.c25_hints.specs.Hints as hints;
+ghost use Rattle.c25_hints.specs.Macros as meaning;
 ghost use Rattle.c25_hints.specs.Remark.{remark_of};
-ghost use Rattle.c25_hints.specs.Similar.{remark_text};
+ghost use Rattle.c25_hints.specs.Similar.{remark_among, remark_text};
 
 use crate::hint::Hint;
+use crate::macros::of_macros;
 use crate::operands::{counted, formed, of_operands};
 use crate::similar;
 use crate::texts::of_text;
@@ -31,7 +33,7 @@ fn of_parts<'a>(
 {
     let tokens = tokens_of(alloc, line)?;
     match kind {
-        FaultKind::UnknownMnemonic => Ok(of_word(line.label, line.word, tokens.as_slice())),
+        FaultKind::UnknownMnemonic => of_word(alloc, line.label, line.word, tokens.as_slice()),
         FaultKind::BadExpression => of_operands(alloc, tokens.as_slice()),
         FaultKind::OperandCount => Ok(counted(line.word, tokens.as_slice())),
         FaultKind::OperandForm => Ok(formed(line.word)),
@@ -75,9 +77,43 @@ pub fn hint_on<'a>(
     }
 }
 
-/// The text of the remark on an expanded line that is refused with this fault: why, as `hint_on` has it; or
-/// else up to three names that are spelled like the word, in at most two steps: mnemonics or directives for
-/// `UnknownMnemonic` (50), symbols for `Undefined` (22).
+/// The remark on an expanded line that the line shows, or its word where it is the name of one of these macros.
+fn hint_among<'a>(
+    alloc: Global,
+    text: &'a str,
+    kind: FaultKind,
+    symbols: &'a Symbols,
+    macros: &[&'a str],
+) -> Result<Option<Hint<'a>>, NoMemory>
+    ensures { IfOk result (λ o. option_map remark_of o ≡ option_or (meaning.of_macros text.now kind (map (λ n. n.now) macros.now)) (hints.remark_on text.now kind symbols.now)) }
+{
+    match of_macros(text, kind, macros) {
+        Some(hint) => Ok(Some(hint)),
+        None => hint_on(alloc, text, kind, symbols),
+    }
+}
+
+/// The text of the remark on an expanded line that is refused with this fault, where the macros of these names
+/// are known: for `UnknownMnemonic` (50) that its word is the name of one, or has its letters in other case; or why,
+/// as `hint_on` has it; or up to three names that are spelled like the word, in at most two steps: macros,
+/// mnemonics or directives for 50, symbols for `Undefined` (22); or, for 22, that the value is needed at once.
+pub fn remark_among(
+    alloc: Global,
+    text: &str,
+    kind: FaultKind,
+    symbols: &Symbols,
+    macros: &[&str],
+) -> Result<Option<String>, NoMemory>
+    ensures { IfOk result (λ o. option_map string_bytes o ≡ remark_among text.now kind symbols.now (map (λ n. n.now) macros.now)) }
+{
+    match hint_among(alloc, text, kind, symbols, macros)? {
+        Some(hint) => Ok(Some(hint.text(alloc)?)),
+        None => similar::on_line(alloc, text, kind, symbols, macros),
+    }
+}
+
+/// The text of the remark on an expanded line that is refused with this fault, as `remark_among` has it where no
+/// macro is known.
 pub fn remark(
     alloc: Global,
     text: &str,
@@ -86,8 +122,5 @@ pub fn remark(
 ) -> Result<Option<String>, NoMemory>
     ensures { IfOk result (λ o. option_map string_bytes o ≡ remark_text text.now kind symbols.now) }
 {
-    match hint_on(alloc, text, kind, symbols)? {
-        Some(hint) => Ok(Some(hint.text(alloc)?)),
-        None => similar::on_line(alloc, text, kind, symbols),
-    }
+    remark_among(alloc, text, kind, symbols, &[])
 }

@@ -1,14 +1,15 @@
 //! Names that are spelled like a word that stands for nothing (22, 50).
 
 ghost use Rattle.std.specs.Prelude.{◌≡◌, ◌++◌, IfOk, OnOk, map, string_bytes};
-ghost use Rattle.std.specs.Option.{option_map};
+ghost use Rattle.std.specs.Option.{option_map, option_or};
 ghost use Rattle.c25_hints.specs.Remark as remark;
 ghost use Rattle.c25_hints.specs.Similar as similar;
+ghost use Rattle.c25_hints.specs.Values.{needed_at_once};
 
 use crate::cause::Cause;
 use crate::hint::Hint;
 use crate::tables::directive_names;
-use crate::values::{defined_names, refused_name};
+use crate::values::{self, defined_names, refused_name};
 use c25_expr::Symbols;
 use c25_meaning_common::bytes::byte_at;
 use c25_meaning_common::no_memory::NoMemory;
@@ -111,30 +112,44 @@ fn mnemonics() -> &'static [&'static str]
     &MNEMONICS
 }
 
-/// The text of the remark that lists directives for a word with a dot, else mnemonics.
-fn text_of_operations(alloc: Global, word: &str) -> Result<Option<String>, NoMemory>
-    ensures { IfOk result (λ o. option_map string_bytes o ≡ option_map remark.text_of (similar.of_names (similar.similar word.now (similar.operations word.now)))) }
+/// These macros, and the mnemonics.
+fn with_mnemonics<'a>(alloc: Global, macros: &[&'a str]) -> Result<Vec<&'a str>, NoMemory>
+    ensures { IfOk result (λ v. map (λ n. n.now) v.items ≡ map (λ n. n.now) macros.now ++ similar.mnemonics) }
+{
+    let mut names = macros.to_vec(alloc)?;
+    names.extend_from_slice(mnemonics())?;
+    Ok(names)
+}
+
+/// The text of the remark that lists directives for a word with a dot, else these macros and mnemonics.
+fn text_of_operations(
+    alloc: Global,
+    word: &str,
+    macros: &[&str],
+) -> Result<Option<String>, NoMemory>
+    ensures { IfOk result (λ o. option_map string_bytes o ≡ option_map remark.text_of (similar.of_names (similar.similar word.now (similar.operations (map (λ n. n.now) macros.now) word.now)))) }
 {
     if byte_at(word.as_bytes(), 0) == b'.' {
         let directives = directive_names(alloc)?;
         text_of(alloc, word, directives.as_slice())
     } else {
-        text_of(alloc, word, mnemonics())
+        let names = with_mnemonics(alloc, macros)?;
+        text_of(alloc, word, names.as_slice())
     }
 }
 
-/// The text of the remark on the first word of a line.
-fn on_word(alloc: Global, text: &str) -> Result<Option<String>, NoMemory>
-    ensures { IfOk result (λ o. option_map string_bytes o ≡ option_map remark.text_of (similar.of_first_word text.now)) }
+/// The text of the remark on the first word of a line, where there are these macros.
+fn on_word(alloc: Global, text: &str, macros: &[&str]) -> Result<Option<String>, NoMemory>
+    ensures { IfOk result (λ o. option_map string_bytes o ≡ option_map remark.text_of (similar.of_first_word text.now (map (λ n. n.now) macros.now))) }
 {
     match first_word(text) {
-        Some(word) => text_of_operations(alloc, word),
+        Some(word) => text_of_operations(alloc, word, macros),
         None => Ok(None),
     }
 }
 
-/// The text of the remark on a name of a line that stands for nothing.
-fn on_name(alloc: Global, text: &str, symbols: &Symbols) -> Result<Option<String>, NoMemory>
+/// The text of the remark that lists symbols like the name of a line that stands for nothing.
+fn like_name(alloc: Global, text: &str, symbols: &Symbols) -> Result<Option<String>, NoMemory>
     ensures { IfOk result (λ o. option_map string_bytes o ≡ option_map remark.text_of (similar.of_refused_name text.now symbols.now)) }
 {
     let names = defined_names(alloc, symbols)?;
@@ -144,17 +159,39 @@ fn on_name(alloc: Global, text: &str, symbols: &Symbols) -> Result<Option<String
     }
 }
 
-/// The text of the remark on a line with this fault that lists names like the word that is refused.
+/// The text of the remark that says that a value is needed at once.
+fn at_once(alloc: Global, text: &str, symbols: &Symbols) -> Result<Option<String>, NoMemory>
+    ensures { IfOk result (λ o. option_map string_bytes o ≡ option_map remark.text_of (needed_at_once text.now symbols.now)) }
+{
+    match values::needed_at_once(alloc, text, symbols)? {
+        Some(hint) => Ok(Some(hint.text(alloc)?)),
+        None => Ok(None),
+    }
+}
+
+/// The text of the remark on a name of a line that stands for nothing.
+fn on_name(alloc: Global, text: &str, symbols: &Symbols) -> Result<Option<String>, NoMemory>
+    ensures { IfOk result (λ o. option_map string_bytes o ≡ option_map remark.text_of (option_or (similar.of_refused_name text.now symbols.now) (needed_at_once text.now symbols.now))) }
+{
+    match like_name(alloc, text, symbols)? {
+        Some(remark) => Ok(Some(remark)),
+        None => at_once(alloc, text, symbols),
+    }
+}
+
+/// The text of the remark on a line with this fault that lists names like the word that is refused, these macros
+/// among them, or says that its value is needed at once.
 pub(crate) fn on_line(
     alloc: Global,
     text: &str,
     kind: FaultKind,
     symbols: &Symbols,
+    macros: &[&str],
 ) -> Result<Option<String>, NoMemory>
-    ensures { IfOk result (λ o. option_map string_bytes o ≡ option_map remark.text_of (similar.of_similar text.now kind symbols.now)) }
+    ensures { IfOk result (λ o. option_map string_bytes o ≡ option_map remark.text_of (similar.of_similar text.now kind symbols.now (map (λ n. n.now) macros.now))) }
 {
     match kind {
-        FaultKind::UnknownMnemonic => on_word(alloc, text),
+        FaultKind::UnknownMnemonic => on_word(alloc, text, macros),
         FaultKind::Undefined => on_name(alloc, text, symbols),
         _ => Ok(None),
     }

@@ -26,6 +26,9 @@ use std::alloc::Global;
 /// The names that `.mmregs` defines.
 static REGISTERS: [&str; 6] = ["DRR", "DXR", "TIM", "PRD", "IMR", "GREG"];
 
+/// The directives that need the values of their operands at once.
+static AT_ONCE: [&str; 5] = [".set", ".equ", ".space", ".bss", ".usect"];
+
 /// The names of symbols, in order of definition.
 pub(crate) fn defined_names<'a>(
     alloc: Global,
@@ -57,7 +60,7 @@ fn same_letters<'a>(names: &[&'a str], name: &str) -> Option<&'a str>
 }
 
 /// A name that is defined in other case.
-fn of_case<'a>(names: &[&'a str], name: &str) -> Option<Hint<'a>>
+pub(crate) fn of_case<'a>(names: &[&'a str], name: &str) -> Option<Hint<'a>>
     ensures { option_map remark_of result ≡ values.of_case (map (λ n. n.now) names.now) name.now }
 {
     match same_letters(names, name) {
@@ -156,6 +159,33 @@ pub(crate) fn undefined<'a>(
     let names = defined_names(alloc, symbols)?;
     match refused_name(alloc, text, symbols)? {
         Some(name) => Ok(of_name(names.as_slice(), name)),
+        None => Ok(None),
+    }
+}
+
+/// Whether a line has a directive that needs the values of its operands at once.
+fn is_at_once(word: Option<&str>) -> bool
+    ensures { result ≡ values.is_at_once (option_map (λ s. s.now) word.entry) }
+{
+    match word {
+        Some(word) => same_letters(&AT_ONCE, word).is_some(),
+        None => false,
+    }
+}
+
+/// The remark on a line of which a name is refused (22), where its value is needed at once.
+pub(crate) fn needed_at_once<'a>(
+    alloc: Global,
+    text: &'a str,
+    symbols: &Symbols,
+) -> Result<Option<Hint<'a>>, NoMemory>
+    ensures { IfOk result (λ o. option_map remark_of o ≡ values.needed_at_once text.now symbols.now) }
+{
+    if !is_at_once(first_word(text)) {
+        return Ok(None);
+    }
+    match refused_name(alloc, text, symbols)? {
+        Some(name) => Ok(Some(Hint::about(Cause::NeededAtOnce, name))),
         None => Ok(None),
     }
 }

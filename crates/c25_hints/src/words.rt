@@ -1,6 +1,6 @@
 //! Remarks on a word that is no mnemonic, directive or macro (50).
 
-ghost use Rattle.std.specs.Prelude.{◌≡◌};
+ghost use Rattle.std.specs.Prelude.{◌≡◌, IfOk};
 ghost use Rattle.std.specs.Option.{option_map};
 ghost use Rattle.c25_text.specs.View.{part_of, piece_of};
 ghost use Rattle.c25_expr.specs.Pieces.{pieces_of};
@@ -10,11 +10,15 @@ ghost use Rattle.c25_hints.specs.Words as words;
 use crate::cause::Cause;
 use crate::hint::Hint;
 use crate::tables::{instead_of, is_without_dot};
+use c25_expr::operands::operands_of;
 use c25_meaning_common::bytes::{begins_name, byte_at};
+use c25_meaning_common::failure::Failure;
+use c25_meaning_common::no_memory::NoMemory;
 use c25_meaning_language::line::TokenKind;
-use c25_statements::spelled;
+use c25_statements::{operation_of, spelled};
 use c25_text::line::Word;
 use c25_text::tokens::Token;
+use std::alloc::Global;
 
 fn is_mnemonic(word: &str) -> bool
     ensures { result ≡ words.is_mnemonic word.now }
@@ -32,14 +36,29 @@ fn of_label<'a>(label: Option<&'a str>) -> Option<Hint<'a>>
     }
 }
 
-/// Whether a token is a mnemonic, or begins with a dot as a directive does.
-fn begins_statement(token: &Token<'_>) -> bool
-    ensures { result ≡ words.begins_statement token.now.kind token.now.text.now }
+/// Whether a word is a mnemonic that takes these tokens for its operands.
+fn is_instruction(alloc: Global, word: &str, operands: &[Token<'_>]) -> Result<bool, NoMemory>
+    ensures { IfOk result (λ b. b ≡ words.is_instruction word.now (pieces_of operands.now)) }
 {
-    match token.kind {
-        TokenKind::DottedName => true,
-        TokenKind::Name => is_mnemonic(token.text),
-        _ => false,
+    let Ok(spelling) = spelled(word) else {
+        return Ok(false);
+    };
+    let operands = operands_of(alloc, operands)?;
+    match operation_of(alloc, spelling, operands.as_slice()) {
+        Ok(_) => Ok(true),
+        Err(Failure::Fault(_)) => Ok(false),
+        Err(Failure::NoMemory(error)) => Err(error),
+    }
+}
+
+/// Whether a token and those after it are an instruction, or begin with a dot as a directive does.
+fn is_statement(alloc: Global, first: &Token<'_>, after: &[Token<'_>]) -> Result<bool, NoMemory>
+    ensures { IfOk result (λ b. b ≡ words.is_statement first.now.kind first.now.text.now (pieces_of after.now)) }
+{
+    match first.kind {
+        TokenKind::DottedName => Ok(true),
+        TokenKind::Name => is_instruction(alloc, first.text, after),
+        _ => Ok(false),
     }
 }
 
@@ -49,15 +68,21 @@ fn is_name(word: &str) -> bool
     begins_name(byte_at(word.as_bytes(), 0))
 }
 
-/// A name with a mnemonic or a directive after it: a label that does not begin in column 1.
-fn of_statement<'a>(word: &'a str, tokens: &[Token<'_>]) -> Option<Hint<'a>>
-    ensures { option_map remark_of result ≡ words.of_statement word.now (pieces_of tokens.now) }
+/// A name with a statement after it: a label that does not begin in column 1.
+fn of_statement<'a>(
+    alloc: Global,
+    word: &'a str,
+    tokens: &[Token<'_>],
+) -> Result<Option<Hint<'a>>, NoMemory>
+    ensures { IfOk result (λ o. option_map remark_of o ≡ words.of_statement word.now (pieces_of tokens.now)) }
 {
-    match tokens {
-        [first, ..] if is_name(word) && begins_statement(first) => {
-            Some(Hint::about(Cause::LabelAsMnemonic, word))
-        }
-        _ => None,
+    let Some((first, after)) = tokens.split_first() else {
+        return Ok(None);
+    };
+    if is_name(word) && is_statement(alloc, first, after)? {
+        Ok(Some(Hint::about(Cause::LabelAsMnemonic, word)))
+    } else {
+        Ok(None)
     }
 }
 
@@ -96,25 +121,35 @@ fn of_directive<'a>(operands: bool, word: &'a str) -> Option<Hint<'a>>
 }
 
 /// The first of these remarks on a word that there is.
-fn of_text<'a>(label: Option<&'a str>, word: &'a str, tokens: &[Token<'_>]) -> Option<Hint<'a>>
-    ensures { option_map remark_of result ≡ words.of_text (option_map (λ s. s.now) label.entry) word.now (pieces_of tokens.now) }
+fn of_text<'a>(
+    alloc: Global,
+    label: Option<&'a str>,
+    word: &'a str,
+    tokens: &[Token<'_>],
+) -> Result<Option<Hint<'a>>, NoMemory>
+    ensures { IfOk result (λ o. option_map remark_of o ≡ words.of_text (option_map (λ s. s.now) label.entry) word.now (pieces_of tokens.now)) }
 {
-    of_label(label)
-        .or(of_statement(word, tokens))
-        .or(of_other(word))
-        .or(of_directive(has_some(tokens), word))
+    let statement = of_statement(alloc, word, tokens)?;
+    let operands = has_some(tokens);
+    Ok(
+        of_label(label)
+            .or(statement)
+            .or(of_other(word))
+            .or(of_directive(operands, word)),
+    )
 }
 
 /// The remark on the mnemonic field of a line with this label and these tokens of operands.
 pub(crate) fn of_word<'a>(
+    alloc: Global,
     label: Option<&'a str>,
     word: Option<Word<'a>>,
     tokens: &[Token<'_>],
-) -> Option<Hint<'a>>
-    ensures { option_map remark_of result ≡ words.of_word (option_map (λ s. s.now) label.entry) (option_map part_of word.entry) (pieces_of tokens.now) }
+) -> Result<Option<Hint<'a>>, NoMemory>
+    ensures { IfOk result (λ o. option_map remark_of o ≡ words.of_word (option_map (λ s. s.now) label.entry) (option_map part_of word.entry) (pieces_of tokens.now)) }
 {
     match word {
-        Some(word) => of_text(label, word.text, tokens),
-        None => None,
+        Some(word) => of_text(alloc, label, word.text, tokens),
+        None => Ok(None),
     }
 }

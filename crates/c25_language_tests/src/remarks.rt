@@ -3,7 +3,7 @@
 
 use c25_expr::Symbols;
 use c25_expr::symbols::Defined;
-use c25_hints::remark;
+use c25_hints::{remark, remark_among};
 use c25_meaning_common::failure::Failure;
 use c25_meaning_language::statement::FaultKind;
 use c25_meaning_language::value::{Base, Value};
@@ -208,7 +208,15 @@ fn undefined_names_are_remarked_on(rt: HostRuntime) -> Result<(), Fail> {
         (" B h", NOTHING),
         (" SACL IMR", "IMR is a name that .mmregs defines"),
         (" SACL greg", "GREG is a name that .mmregs defines"),
-        ("N .set M*2", NOTHING),
+        (
+            "N .set M*2",
+            "M has no value above this line, and this directive needs it at once",
+        ),
+        (
+            " .SPACE N*16",
+            "N has no value above this line, and this directive needs it at once",
+        ),
+        ("N .set STRAT-1", "similar: START"),
         (
             " .bss X,k",
             "upper and lower case differ in names: K is defined",
@@ -225,6 +233,10 @@ fn unknown_words_are_remarked_on(rt: HostRuntime) -> Result<(), Fail> {
     let rows = [
         (" LOOP LACK 5", "a label begins in column 1: LOOP"),
         (" LOOP .word 5", "a label begins in column 1: LOOP"),
+        (" LOOP RET", "a label begins in column 1: LOOP"),
+        (" LACC LAC", "similar: LACT, LAC, LACK"),
+        (" LACC B", "similar: LACT, LAC, LACK"),
+        (" LACC B 5,6", "similar: LACT, LAC, LACK"),
         (
             "LACK 5",
             "in column 1 LACK is a label: put a blank before it",
@@ -254,6 +266,44 @@ fn unknown_words_are_remarked_on(rt: HostRuntime) -> Result<(), Fail> {
         (" ENDIF", "a directive begins with a dot: .ENDIF"),
     ];
     remarks_are(&rt, rt.alloc(), FaultKind::UnknownMnemonic, &rows)
+}
+
+#[test]
+fn calls_of_macros_are_remarked_on(rt: HostRuntime) -> Result<(), Fail> {
+    let symbols = symbols(rt.alloc())?;
+    let macros = ["SETUP", "SAVEX"];
+    let rows = [
+        (" SETPU", "similar: SETUP"),
+        (" SAVX 5", "similar: SAVEX, SACL, SACH"),
+        (
+            " Setup 1",
+            "upper and lower case differ in names: SETUP is defined",
+        ),
+        (
+            "X SETUP 1",
+            "the .macro of SETUP comes before its first call, in the same module",
+        ),
+        (" LACC 5", "similar: LACT, LAC, LACK"),
+    ];
+    for (line, wanted) in &rows {
+        let found = remark_among(
+            rt.alloc(),
+            line,
+            FaultKind::UnknownMnemonic,
+            &symbols,
+            &macros,
+        )?;
+        assert_eq!(&rt; found.as_deref(), Some(*wanted));
+    }
+    let other = remark_among(
+        rt.alloc(),
+        " SETUP 1",
+        FaultKind::StrayText,
+        &symbols,
+        &macros,
+    )?;
+    assert!(&rt; other.is_none());
+    Ok(())
 }
 
 #[test]

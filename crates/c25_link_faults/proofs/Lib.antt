@@ -3,5 +3,6 @@ pub mod First
 pub mod Lacked
 pub mod More
 pub mod Others
-pub mod Twice
 pub mod Spanned
+pub mod Twice
+pub mod Usable

@@ -11,9 +11,11 @@ mod ranges;
 mod sections;
 mod sites;
 mod spans;
+mod unfits;
 mod uses;
 
 pub use all::all_link_faults;
 pub use overlaps::{Overlap, overlap_of};
 pub use sites::{Site, definition_sites, local_sites, use_sites};
 pub use spans::Span;
+pub use unfits::{Unfit, unfit_of};

@@ -3,7 +3,7 @@
 ghost use Rattle.std.specs.List.{list_any};
 ghost use Rattle.std.specs.Prelude.{◌≡◌, not, IfOk};
 ghost use Rattle.c25_cmd.specs.View.{command_data, ranges_of, target_of};
-ghost use Rattle.c25_meaning_linking.specs.GoodMap.{Request, default_page, default_ranges, is_named_on, is_usable, ranges_for};
+ghost use Rattle.c25_meaning_linking.specs.GoodMap.{Request, default_page, default_ranges, is_named_on, is_usable, page_for, ranges_for};
 ghost use Rattle.c25_link_faults.specs.Faults.{lacks_range};
 ghost use Rattle.c25_link_faults.specs.View.{range_view, ranges_view};
 
@@ -76,7 +76,7 @@ fn is_named_on(range: &Range<'_>, name: &str, page: u8) -> bool
 }
 
 /// Whether a range is one for a target on a page.
-fn is_usable(range: &Range<'_>, target: &Target, page: u8) -> bool
+pub(crate) fn is_usable(range: &Range<'_>, target: &Target, page: u8) -> bool
     ensures { result ≡ is_usable (target_of target.now) page (range_view range.now) }
 {
     match target {
@@ -120,6 +120,21 @@ fn has_range(ranges: &[Range<'_>], target: &Target, page: u8) -> bool
     false
 }
 
+/// The page of a section with a target, from the command where that names one.
+pub(crate) fn page_for(
+    ranges: &[Range<'_>],
+    target: &Target,
+    page: Option<u8>,
+    initialised: bool,
+) -> u8
+    ensures { (r : Request) → r.target ≡ target_of target.now → r.page ≡ page → r.initialised ≡ initialised → result ≡ page_for (ranges_view ranges.now) r }
+{
+    match page {
+        Some(page) => page,
+        None => default_page(ranges, target, initialised),
+    }
+}
+
 /// Whether there is no range for a section with a target and, where one is named, a page.
 pub(crate) fn lacks_range(
     ranges: &[Range<'_>],
@@ -129,8 +144,5 @@ pub(crate) fn lacks_range(
 ) -> bool
     ensures { (r : Request) → r.target ≡ target_of target.now → r.page ≡ page → r.initialised ≡ initialised → result ≡ lacks_range (ranges_view ranges.now) r }
 {
-    match page {
-        Some(page) => !has_range(ranges, target, page),
-        None => !has_range(ranges, target, default_page(ranges, target, initialised)),
-    }
+    !has_range(ranges, target, page_for(ranges, target, page, initialised))
 }

@@ -60,7 +60,7 @@ fn with_sections(total: Option<u32>, name: &str, sections: &[Section]) -> Option
 }
 
 /// How many words the modules have in sections of a name; `None` where a page has no room for them.
-fn words_of(modules: &[Module], name: &str) -> Option<u32>
+pub(crate) fn words_of(modules: &[Module], name: &str) -> Option<u32>
     ensures { result ≡ within_page (size_of_parts name.now modules.now) }
 {
     let mut words = Some(0);
@@ -71,7 +71,12 @@ fn words_of(modules: &[Module], name: &str) -> Option<u32>
 }
 
 /// A section of so many words at an address, if it has words and all of them are words of a page.
-fn span_from<'a>(name: &'a str, page: u8, first: u32, size: Option<u32>) -> Option<Span<'a>>
+pub(crate) fn span_from<'a>(
+    name: &'a str,
+    page: u8,
+    first: u32,
+    size: Option<u32>,
+) -> Option<Span<'a>>
     ensures { (n : ℕ) → size ≡ within_page n → option_map span_data result ≡ span_from name.now page first n }
 {
     let size = size?;
@@ -100,7 +105,7 @@ fn span_at<'a>(modules: &[Module], placing: &'a Placing, first: u32) -> Option<S
 }
 
 /// A section that a command lists, where it gives an address.
-fn span_of<'a>(modules: &[Module], placing: &'a Placing) -> Option<Span<'a>>
+pub(crate) fn span_of<'a>(modules: &[Module], placing: &'a Placing) -> Option<Span<'a>>
     ensures { option_map span_data result ≡ span_of modules.now (placing_of placing.now) }
 {
     match &placing.target {

@@ -149,7 +149,7 @@ debug_each words e =
       link = λ is. absurd (true≢false (sym is));
       build = λ is. absurd (true≢false (sym is));
       run = λ is. absurd (true≢false (sym is));
-      debug = λ is. (given_there (parser_at (sub 4)) (codes "source") rows kept.0 (found.0 refl), given_there (parser_at (sub 4)) (codes "script") rows kept.0 (found.1.0 refl), flag_fine (parser_at (sub 4)) (codes "explain") refl rows kept.0, flag_fine (parser_at (sub 4)) (codes "all") refl rows kept.0);
+      debug = λ is. (given_there (parser_at (sub 4)) (codes "source") rows kept.0 (found.0 refl), flag_fine (parser_at (sub 4)) (codes "interactive") refl rows kept.0, flag_fine (parser_at (sub 4)) (codes "explain") refl rows kept.0, flag_fine (parser_at (sub 4)) (codes "all") refl rows kept.0);
       dis = λ is. absurd (true≢false (sym is));
       check = λ is. absurd (true≢false (sym is));
     }

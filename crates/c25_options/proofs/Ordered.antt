@@ -1,5 +1,5 @@
 -- Words in the order in which they are read.
-use Rattle.std.proofs.Common.{◌≡◌, ◌∙◌, ◌+◌, ◌<◌, ◌≤◌, ◌++◌, ℕ, zero, suc, Bool, cond, true, false, refl, sym, ap, subst, arith, drop, length, map, min, take, List, [], ◌∷◌, append-nil, append_assoc, take_all, string_bytes, length-append}
+use Rattle.std.proofs.Common.{◌≡◌, ◌∙◌, ◌+◌, ◌<◌, ◌≤◌, ◌++◌, ℕ, zero, suc, Bool, cond, true, false, refl, sym, ap, arith, drop, length, map, min, take, List, [], ◌∷◌, append-nil, append_assoc, take_all, string_bytes, length-append}
 use Rattle.std.specs.Prelude.{String, codes}
 use Rattle.std.specs.Str.{bytes_eq}
 use Rattle.std.specs.declared.alloc.Global.{Global}

@@ -13,6 +13,10 @@ use Rattle.clap.specs.declared.builder.value_parser.ValueParser.TheVariants as p
 abbrev pub flag_rule : Text → Rule
 flag_rule name = record (new_rule name) { long = Some name; action = Some SetTrue }
 
+-- the flag `--interactive` or `-i`
+abbrev pub interactive_rule : Rule
+interactive_rule = record (flag_rule (codes "interactive")) { short = Some 105 }
+
 -- the option `--name VALUE`
 abbrev pub option_rule : Text → Rule
 option_rule name = record (new_rule name) { long = Some name; value_names = 1 }
@@ -81,9 +85,10 @@ build_shape = with_fault_options (shape_with (codes "build") (operands_rule (cod
 abbrev pub run_shape : Shape
 run_shape = with_fault_options (with_run_files (shape_with (codes "run") (operands_rule (codes "source") ∷ steps_rule ∷ flag_rule (codes "regs") ∷ [])))
 
--- debug SOURCE.. --script F [--command F] [--samples F] [--schedule F] [--explain] [--all]
+-- debug SOURCE.. [--script F] [--interactive] [--command F] [--samples F] [--schedule F] [--explain] [--all];
+-- here `-i` may be written for `--interactive`
 abbrev pub debug_shape : Shape
-debug_shape = with_fault_options (with_run_files (shape_with (codes "debug") (operands_rule (codes "source") ∷ needed_rule (codes "script") ∷ [])))
+debug_shape = with_fault_options (with_run_files (shape_with (codes "debug") (operands_rule (codes "source") ∷ option_rule (codes "script") ∷ interactive_rule ∷ [])))
 
 -- explain [FAULT]
 abbrev pub explain_shape : Shape

@@ -78,10 +78,11 @@ Asks name rows (Run sources steps files regs faults) =
     × AreRunFiles rows files
     × IsFlag (one_of (codes "regs") rows) regs
     × AreFaultOptions rows faults
-Asks name rows (Debug sources script files faults) =
+Asks name rows (Debug sources script interactive files faults) =
     (name ≡ codes "debug")
     × (all_of (codes "source") rows ≡ Some (texts_of sources.items))
-    × (first_of (codes "script") rows ≡ Some script.now)
+    × (first_of (codes "script") rows ≡ text_of script)
+    × IsFlag (one_of (codes "interactive") rows) interactive
     × AreRunFiles rows files
     × AreFaultOptions rows faults
 Asks name rows (Explain fault) = (name ≡ codes "explain") × (first_of (codes "fault") rows ≡ text_of fault)

@@ -2,7 +2,7 @@
 
 ghost use Rattle.std.specs.Prelude.{◌≡◌, codes, false};
 ghost use Rattle.clap.specs.Words.{rule_of};
-ghost use Rattle.c25_options.specs.Program.{flag_rule, needed_rule, operand_rule, operands_rule, optional_rule, option_rule, output_rule, steps_rule};
+ghost use Rattle.c25_options.specs.Program.{flag_rule, interactive_rule, needed_rule, operand_rule, operands_rule, optional_rule, option_rule, output_rule, steps_rule};
 
 use clap::{Arg, ArgAction, value_parser};
 use std::alloc::Global;
@@ -16,6 +16,15 @@ pub(crate) fn flag<'a>(alloc: Global, name: &'a str, help: &'a str) -> Arg<'a>
         .long(name)
         .action(ArgAction::SetTrue)
         .help(help)
+}
+
+/// The flag `--interactive` or `-i`.
+pub(crate) fn interactive<'a>(alloc: Global) -> Arg<'a>
+    ensures rule { rule_of result ≡ interactive_rule }
+    ensures local { result.global ≡ false }
+{
+    let help = "Reads the commands from standard input, and answers each before the next";
+    flag(alloc, "interactive", help).short('i')
 }
 
 /// The option `--name FILE`.

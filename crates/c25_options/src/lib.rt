@@ -8,3 +8,4 @@ mod matched;
 mod program;
 pub mod read;
 pub mod task;
+pub mod tips;

@@ -6,7 +6,7 @@ ghost use Rattle.clap.specs.Words.{App, Rule, Shape, app_of, rule_of, with_subco
 ghost use Rattle.c25_options.specs.Program.{IsSubcommand, added, asm_shape, bare_program, build_shape, check_shape, debug_shape, dis_shape, explain_shape, link_shape, program, run_shape, with_explain, with_fault_options, with_run_files, with_sources};
 
 use crate::arguments::{
-    base_name, command_file, first_address, flag, needed, operand, operands, option, optional,
+    base_name, command_file, first_address, flag, interactive, operand, operands, option, optional,
     output, steps,
 };
 use clap::{Arg, Command};
@@ -14,7 +14,7 @@ use std::alloc::{AllocError, Global};
 
 /// The version that `--version` prints after the program's name. It rises with each change of what the
 /// program reads, writes or answers.
-const VERSION: &str = "1.10.0";
+const VERSION: &str = "1.11.0";
 
 /// The text that help prints after the list of subcommands.
 const MORE: &str =
@@ -155,12 +155,13 @@ fn debug<'a>(alloc: Global) -> Made<'a>
     let command = subcommand(
         alloc,
         "debug",
-        "Runs sources under a debugger's script: prints the answers to its commands",
+        "Runs sources under a debugger: prints the answers to the commands of a script or of standard input",
         "Example: c25 debug fir.asm --script fir.dbg --samples in.txt",
     );
     let command = with_sources(alloc, command);
-    let script = needed(alloc, "script", "The debugger's commands, a line each");
+    let script = option(alloc, "script", "The debugger's commands, a line each");
     let command = with_argument(command, script);
+    let command = with_argument(command, interactive(alloc));
     let command = with_run_files(alloc, command);
     with_fault_options(alloc, command)
 }

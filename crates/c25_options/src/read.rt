@@ -73,12 +73,13 @@ fn run<'a>(alloc: Global, matches: &ArgMatches<'a>) -> Result<Task<'a>, NoMemory
 
 /// The task of the subcommand `debug`.
 fn debug<'a>(alloc: Global, matches: &ArgMatches<'a>) -> Result<Task<'a>, NoMemory>
-    requires { IsThere (rows_in matches.now) (codes "source") × IsThere (rows_in matches.now) (codes "script") × IsFlagIn (rows_in matches.now) (codes "explain") × IsFlagIn (rows_in matches.now) (codes "all") }
+    requires { IsThere (rows_in matches.now) (codes "source") × IsFlagIn (rows_in matches.now) (codes "interactive") × IsFlagIn (rows_in matches.now) (codes "explain") × IsFlagIn (rows_in matches.now) (codes "all") }
     ensures { IfOk result (Asks (codes "debug") (rows_in matches.now)) }
 {
     Ok(Task::Debug {
         sources: all(alloc, matches, "source")?,
-        script: needed(matches, "script"),
+        script: optional(matches, "script"),
+        interactive: flag(matches, "interactive"),
         files: run_files(matches),
         faults: fault_options(matches),
     })

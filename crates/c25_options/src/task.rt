@@ -62,11 +62,13 @@ pub enum Task<'a> {
         regs: bool,
         faults: FaultOptions,
     },
-    /// `debug SOURCE.. --script FILE [--command FILE] [--samples FILE] [--schedule FILE]
-    /// [--explain] [--all]`: prints the answers to a debugger's script.
+    /// `debug SOURCE.. [--script FILE] [--interactive] [--command FILE] [--samples FILE] [--schedule FILE]
+    /// [--explain] [--all]`: prints the answers to a debugger's script, or to the commands of standard input,
+    /// each before the next is read. It is no task with neither or with both.
     Debug {
         sources: Vec<&'a str>,
-        script: &'a str,
+        script: Option<&'a str>,
+        interactive: bool,
         files: RunFiles<'a>,
         faults: FaultOptions,
     },

@@ -5,6 +5,7 @@ use c25_options::arranged::arranged;
 use c25_options::fault::is_want_of_memory;
 use c25_options::read::read_words;
 use c25_options::task::{FaultOptions, RunFiles, Task};
+use c25_options::tips::tip_on;
 use std::alloc::{AllocError, Global};
 use std::fmt;
 use std::fmt::{Display, Formatter, Write};
@@ -134,12 +135,14 @@ fn show(alloc: Global, task: &Task<'_>) -> Result<String, AllocError> {
         Task::Debug {
             sources,
             script,
+            interactive,
             files,
             faults,
         } => {
             let (sources, files) = (Operands(sources), Files(files));
-            let faults = Faults(faults);
-            format!(in alloc; "debug{sources} script={script}{files}{faults}")
+            let (script, faults) = (Value("script", *script), Faults(faults));
+            let interactive = Flag("interactive", *interactive);
+            format!(in alloc; "debug{sources}{script}{interactive}{files}{faults}")
         }
         Task::Explain { fault } => {
             let fault = Value("fault", *fault);
@@ -246,6 +249,40 @@ fn disordered(alloc: Global, cases: &str) -> Result<String, Fail> {
     Ok(out)
 }
 
+/// The tip on a line that is not read, without the blanks around it.
+fn tip(alloc: Global, line: &str) -> Result<String, Fail> {
+    let arguments = arguments_of(alloc, line)?;
+    match read_words(alloc, &arguments) {
+        Ok(_) => Err("a task".into()),
+        Err(fault) => {
+            let tip = tip_on(&fault, &arguments).trim();
+            String::from_str(alloc, tip).map_err(Fail::from)
+        }
+    }
+}
+
+/// The cases of a text that have another tip than they say, a line each, with the tip.
+fn tipped_otherwise(alloc: Global, cases: &str) -> Result<String, Fail> {
+    let mut out = String::new(alloc);
+    for case in cases.lines() {
+        let Some((wanted, line)) = case.split_once(" | ") else {
+            return Err(Fail::from("no bar"));
+        };
+        let tip = tip(alloc, line)?;
+        if tip.as_str() != wanted {
+            write!(out, "{line}: {tip}\n")?;
+        }
+    }
+    Ok(out)
+}
+
+#[test]
+fn refused_words_have_tips(rt: HostRuntime) -> Result<(), Fail> {
+    let otherwise = tipped_otherwise(rt.alloc(), TIPS)?;
+    assert_eq!(rt; otherwise.as_str(), "");
+    Ok(())
+}
+
 #[test]
 fn help_and_flags_stand_before_subcommands(rt: HostRuntime) -> Result<(), Fail> {
     let disordered = disordered(rt.alloc(), ARRANGED)?;
@@ -310,6 +347,10 @@ run a.asm steps=1000 command=f samples=f schedule=f | run a.asm --command f --sa
 run a.asm steps=1000 samples=s | run a.asm --samples s
 run a.asm steps=1000 schedule=w | run a.asm --schedule w
 debug a.asm script=d | debug a.asm --script d
+debug a.asm interactive | debug a.asm -i
+debug a.asm b.asm interactive samples=s | debug --interactive a.asm b.asm --samples s
+debug a.asm script=d interactive | debug a.asm -i --script d
+debug a.asm | debug a.asm
 debug a.asm b.asm script=d command=c samples=s schedule=w | debug a.asm --schedule w --samples s b.asm --script d --command c
 check a.asm | check a.asm
 check a.asm b.asm command=c | check a.asm --command c b.asm
@@ -373,6 +414,22 @@ explain --help | help explain
 --help --help | help --help
 help --explain run | --explain help run
 Help run | Help run
+";
+
+const TIPS: &str = "\
+tip: build, run, debug and check take a command file as '--command FILE' | run a -c f
+tip: build, run, debug and check take a command file as '--command FILE' | asm a -o b -c f
+tip: build, run, debug and check take a command file as '--command FILE' | run a -v -c f
+tip: 'c25 --version' prints the version | -v
+tip: 'c25 --version' prints the version | run a -v
+tip: 'c25 help' lists the subcommands, and 'c25 help run' prints the options of one | help help
+tip: 'c25 help' lists the subcommands, and 'c25 help run' prints the options of one | help biuld
+ | run a -x
+ | run a -x -- -c
+ | run a --steps ten -- -c
+ | run a --help -c
+ | biuld a -c f
+ | -V
 ";
 
 const STEPS: &str = "\
@@ -510,7 +567,10 @@ const REFUSED: &str = "\
 refused | run
 refused | run --steps 5
 refused | run --
-refused | debug a.asm
+refused | debug -i
+refused | debug a.asm -i -i
+refused | debug a.asm --interactive=true
+refused | run a.asm -i
 refused | debug --script d
 refused | debug a.asm --script
 refused | debug a.asm --script d --steps 5

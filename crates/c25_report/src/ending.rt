@@ -21,6 +21,9 @@ const UNPRINTED: &str = "stdout: 7 CannotWrite";
 /// The line for a command line that is not UTF-8.
 const NO_TEXT: &str = "c25: a word is not UTF-8";
 
+/// The line for a debugger without commands, or with commands of both kinds.
+const NO_COMMANDS: &str = "c25: debug takes --script FILE or --interactive";
+
 /// How the program ends, with its status.
 #[derive(Drop)]
 pub enum Ending {
@@ -41,6 +44,8 @@ pub enum Ending {
     NoTask(WordsFault),
     /// An argument of the command line is not UTF-8 (2).
     NoText,
+    /// A debugger has neither a script nor commands of standard input, or both (2).
+    NoCommands,
 }
 
 /// What the program reports on standard error: its ending, and a note after that.
@@ -93,7 +98,7 @@ impl Ended {
                 ExitCode::FAILURE
             }
             Ending::NoTask(fault) => words_status(fault),
-            Ending::NoText => ExitCode::from(2),
+            Ending::NoText | Ending::NoCommands => ExitCode::from(2),
         }
     }
 }
@@ -119,6 +124,7 @@ fn tell<E: Write>(ending: &Ending, err: &mut E) -> io::Result<()>
         Ending::Unprinted => print_line(UNPRINTED, err),
         Ending::NoTask(fault) => tell_words(fault, err),
         Ending::NoText => print_line(NO_TEXT, err),
+        Ending::NoCommands => print_line(NO_COMMANDS, err),
     }
 }
 

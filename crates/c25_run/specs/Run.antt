@@ -11,7 +11,7 @@ use Rattle.c25_chain.specs.declared.chain.Chain.{Chain}
 use Rattle.c25_chain.specs.declared.ready.Ready.{Ready}
 use Rattle.c25_chain.specs.Inspection.{TellsWhere}
 use Rattle.c25_meaning_linking.specs.Linking.{ImageData}
-use Rattle.c25_meaning_processor.specs.Run.{Ending, Runs}
+use Rattle.c25_meaning_processor.specs.Run.{Ending, Left, Runs}
 use Rattle.c25_meaning_processor.specs.State.{State}
 use Rattle.c25_meaning_processor.specs.WordStep.{WordStep}
 use Rattle.c25_meaning_processor.specs.Signals.{signals_of}
@@ -21,6 +21,7 @@ use Rattle.c25_report.specs.declared.ending.Ending as report_ending
 use Rattle.c25_report.specs.Ending.{HasFront, IsShort}
 use Rattle.c25_report.specs.declared.ending.Ending.TheVariants as ending
 use Rattle.c25_run.specs.Printed.{PrintsFront}
+use Rattle.c25_run.specs.declared.run.LeftAt.{LeftAt}
 
 -- what is reported: an ending and a note
 abbrev pub Telling : Type 1
@@ -78,6 +79,16 @@ TellsAnswer regs given n chain a = TellsOutcome regs a.image (a.inputs).entries 
 abbrev pub PrintsAnswer : Given → ℕ → (regs : Bool) → Printing
 PrintsAnswer given n regs e note old new =
     ((chain : Chain) → (a : IsAnswer given n chain) → PrintsText (run_text chain) (TellsAnswer regs given n chain a) e note old new) ⊎ IsShortBefore e note old new
+
+-- ---- where a run leaves the code
+
+-- of n steps from a state on, this one stops, for this reason
+abbrev pub LeavesFrom : List ScheduleEntry → ℕ → State → LeftAt → Type 0
+LeavesFrom entries n s left = (t : State) × Runs WordStep (signals_of entries) 0 n s (Left left.step left.stop t)
+
+-- of n steps of a program this one stops, for this reason
+abbrev pub LeavesRun : Ready → ℕ → LeftAt → Type 0
+LeavesRun ready n left = (t : State) × RunsReady ready n (Left left.step left.stop t)
 
 -- ---- what the code has
 

@@ -8,4 +8,4 @@ mod lines;
 mod printing;
 mod run;
 
-pub use run::print_run;
+pub use run::{LeftAt, PrintedRun, print_run};

@@ -1,6 +1,7 @@
 //! The printed run of a linked program.
 
-ghost use Rattle.std.specs.Prelude.{◌≡◌, ℕ, IfOk, List, string_bytes, true};
+ghost use Rattle.std.specs.Prelude.{◌≡◌, ◌⊎◌, ℕ, [], IfNone, IfOk, IfSome, List, None, string_bytes, true};
+ghost use Rattle.c25_board.specs.declared.board.Outcome.TheVariants as outcomes;
 ghost use Rattle.c25_board.specs.Board.{entries, signals, state, steps};
 ghost use Rattle.c25_chain.specs.Chain.{Given};
 ghost use Rattle.c25_chain.specs.OutcomeText.{outcome_of, steps_of};
@@ -10,9 +11,11 @@ ghost use Rattle.c25_meaning_image.specs.Marks.{fit_from, run_fit};
 ghost use Rattle.c25_meaning_processor.specs.FirstState.{first_of_pages};
 ghost use Rattle.c25_meaning_processor.specs.Run as runs;
 ghost use Rattle.c25_meaning_processor.specs.Samples.{samples_at};
+ghost use Rattle.c25_report.specs.Ending as endings;
+ghost use Rattle.c25_report.specs.declared.ending.Ending.TheVariants as reported;
 ghost use Rattle.c25_run_laws.specs.Behind.{behind};
 ghost use Rattle.c25_run.specs.Printed.{IsFresh};
-ghost use Rattle.c25_run.specs.Run.{PrintsAnswer, PrintsFrom, PrintsRun, PrintsStatements, TellsEnd};
+ghost use Rattle.c25_run.specs.Run.{LeavesFrom, LeavesRun, PrintsAnswer, PrintsFrom, PrintsRun, PrintsStatements, TellsEnd};
 
 use crate::batch::Batch;
 use crate::printing::{BatchBoard, print_board};
@@ -25,6 +28,7 @@ use c25_chain::ready::Ready;
 use c25_chain::where_it_stands;
 use c25_link::Image;
 use c25_meaning_common::no_memory::NoMemory;
+use c25_meaning_processor::stop::Stop;
 use c25_report::ending::{Ending, Report};
 use c25_report::printing::ending_of;
 use c25_run_laws::outputs::{outputs_have_no_part_in_runs, steps_put_one_output_at_most};
@@ -45,6 +49,48 @@ struct RunOptions {
     steps: u32,
     /// Whether the registers after the run are reported.
     regs: bool,
+}
+
+/// The step that stopped, and why.
+#[derive(Clone, Copy)]
+pub struct LeftAt {
+    /// The number of the step, counted from 0: so many steps were done.
+    pub step: u32,
+    pub stop: Stop,
+}
+
+/// A printed run.
+#[derive(Drop)]
+pub struct PrintedRun {
+    pub report: Report,
+    /// Where the run left the code; `None` where it did not, or was not printed to its end.
+    pub left: Option<LeftAt>,
+}
+
+/// The report of a run that is not printed to its end.
+fn not_printed(alloc: Global, ending: Ending) -> PrintedRun
+    ensures ending { result.report.ending ≡ ending }
+    ensures note { string_bytes result.report.note ≡ [] }
+    ensures left { result.left ≡ None }
+{
+    PrintedRun {
+        report: Report::without_note(alloc, ending),
+        left: None,
+    }
+}
+
+/// Where a run with this outcome left the code, if it did.
+fn left_at(outcome: &Outcome) -> Option<LeftAt>
+    ensures some { IfSome result (λ left. outcome.now ≡ outcomes.Left left.step left.stop) }
+    ensures none { IfNone result (endings.ending_of outcome.now ≡ reported.Left → ⊥) }
+{
+    match outcome {
+        Outcome::Left(step, stop) => Some(LeftAt {
+            step: *step,
+            stop: *stop,
+        }),
+        Outcome::Ran | Outcome::SinkFault(_) => None,
+    }
 }
 
 /// The board of a linked program after a reset, with a sink for one batch of outputs.
@@ -76,7 +122,8 @@ fn report_of(
     outcome: Outcome,
     regs: bool,
 ) -> Report
-    ensures { (n : ℕ) (end : runs.Ending) (outputs : List (ℕ × ℕ)) → outcome ≡ outcome_of end → steps board ≡ steps_of n end
+    ensures ending { (result.ending ≡ endings.ending_of outcome) ⊎ endings.IsShort result.ending }
+    ensures told { (n : ℕ) (end : runs.Ending) (outputs : List (ℕ × ℕ)) → outcome ≡ outcome_of end → steps board ≡ steps_of n end
         → last_state end ≡ behind outputs (state board) → TellsEnd regs image.now (entries board) n end result.ending (string_bytes result.note) }
 {
     outputs_have_no_part_in_runs();
@@ -99,20 +146,27 @@ fn print_linked<O: Write>(
     stimulus: Stimulus,
     options: RunOptions,
     out: &mut O,
-) -> Report
+) -> PrintedRun
     requires marks { fit_from 0 linked.now.image.marks ≡ true }
     requires run_marks { run_fit linked.now.image.marks linked.now.image.run_marks ≡ true }
-    ensures { PrintsFrom options.regs linked.now.image stimulus.schedule options.steps
+    ensures printed { PrintsFrom options.regs linked.now.image stimulus.schedule options.steps
         (first_of_pages linked.now.page0.words linked.now.page1.words linked.now.image.marks linked.now.image.run_marks (samples_at stimulus.samples))
-        result.ending (string_bytes result.note) (O.contents out.old) (O.contents out.new) }
+        result.report.ending (string_bytes result.report.note) (O.contents out.old) (O.contents out.new) }
+    ensures left { IfSome result.left (LeavesFrom stimulus.schedule options.steps
+        (first_of_pages linked.now.page0.words linked.now.page1.words linked.now.image.marks linked.now.image.run_marks (samples_at stimulus.samples))) }
+    ensures none { IfNone result.left (result.report.ending ≡ reported.Left → ⊥) }
 {
     let mut board = match board_of(alloc, linked, stimulus) {
         Ok(board) => board,
-        Err(error) => return Report::without_note(alloc, Ending::NoMemory(error)),
+        Err(error) => return not_printed(alloc, Ending::NoMemory(error)),
     };
     match print_board(&mut board, options.steps, out) {
-        Ok(outcome) => report_of(alloc, board, &linked.image, outcome, options.regs),
-        Err(_) => Report::without_note(alloc, Ending::Unprinted),
+        Ok(outcome) => {
+            let left = left_at(&outcome);
+            let report = report_of(alloc, board, &linked.image, outcome, options.regs);
+            PrintedRun { report, left }
+        }
+        Err(_) => not_printed(alloc, Ending::Unprinted),
     }
 }
 
@@ -124,15 +178,25 @@ fn print_linked<O: Write>(
 /// Where the registers are asked for, the note has what a debugger answers to `regs` and `where` after the
 /// run; memory may run out for it after the run is printed.
 ///
+/// `left` of the answer says which step left the code.
+///
 /// The printed run is that of the statements of the sources, and has the outputs, the outcome, the number of
 /// steps and the registers that `run_chain` answers of the same texts.
-pub fn print_run<O: Write>(alloc: Global, ready: Ready, n: u32, regs: bool, out: &mut O) -> Report
+pub fn print_run<O: Write>(
+    alloc: Global,
+    ready: Ready,
+    n: u32,
+    regs: bool,
+    out: &mut O,
+) -> PrintedRun
     ensures run { (given : Given) → IsReady given ready
-        → PrintsRun ready n regs result.ending (string_bytes result.note) (O.contents out.old) (O.contents out.new) }
+        → PrintsRun ready n regs result.report.ending (string_bytes result.report.note) (O.contents out.old) (O.contents out.new) }
     ensures statements { (given : Given) → IsReady given ready
-        → PrintsStatements given ready n regs result.ending (string_bytes result.note) (O.contents out.old) (O.contents out.new) }
+        → PrintsStatements given ready n regs result.report.ending (string_bytes result.report.note) (O.contents out.old) (O.contents out.new) }
     ensures answer { (given : Given) → IsReady given ready
-        → PrintsAnswer given n regs result.ending (string_bytes result.note) (O.contents out.old) (O.contents out.new) }
+        → PrintsAnswer given n regs result.report.ending (string_bytes result.report.note) (O.contents out.old) (O.contents out.new) }
+    ensures left { (given : Given) → IsReady given ready → IfSome result.left (LeavesRun ready n) }
+    ensures none { IfNone result.left (result.report.ending ≡ reported.Left → ⊥) }
 {
     ready_programs_run_as_their_sources();
     ready_programs_run_as_answered();

@@ -1,7 +1,7 @@
 -- A run that ends with status 0 or 3 is printed as its statements run and as the chain answers.
-use Rattle.std.proofs.Common.{◌≡◌, ◌∙◌, ap, inl, inr, refl, subst, sym, ℕ, Bool, List, [], ◌∷◌}
+use Rattle.std.proofs.Common.{◌≡◌, ◌∙◌, ap, inl, inr, refl, subst, sym, ℕ, Bool, true, List, [], ◌∷◌}
 use Rattle.std.specs.Io.KnownBytes.{Appends}
-use Rattle.std.specs.Prelude.{IfOk, Option, Result, Ok, Err}
+use Rattle.std.specs.Prelude.{IfOk, IfSome, Option, Some, None, Result, Ok, Err}
 use Rattle.c25_chain.specs.Chain.{Given, given_of}
 use Rattle.c25_chain.specs.OutcomeText.{end_text, run_text}
 use Rattle.c25_chain.specs.Ready.{IsReady, statements_end}
@@ -13,10 +13,14 @@ use Rattle.c25_meaning_common.specs.declared.failure.Failure.TheVariants as fail
 use Rattle.c25_meaning_expansion.specs.Files.{Files}
 use Rattle.c25_report.specs.Ending.{IsShort, status_of}
 use Rattle.c25_report.specs.declared.ending.Ending.{Ending}
-use Rattle.c25_run.specs.Run.{PrintsAnswer, PrintsRun, PrintsStatements, PrintsText, TellsAnswer, TellsEnd, Telling}
+use Rattle.c25_run.specs.Run.{PrintsAnswer, PrintsRun, PrintsStatements, PrintsText, TellsAnswer, TellsEnd, Telling, LeavesRun}
 use Rattle.c25_options.specs.declared.task.RunFiles.{RunFiles}
-use Rattle.c25_tasks.specs.Running.{IsGivenFrom, IsGivenInput, ReadiesFrom, ReadiesInput, ReadiesOver, stdin}
-use Rattle.c25_tasks.specs.Tells.{IsOfSources, IsReportOf, IsRun, IsRunOfAnswers, IsRunOfStatements, Printed, PrintsGiven, TellsRun}
+use Rattle.c25_inputs.specs.Files.{IsOptional}
+use Rattle.c25_options.specs.Task.{text_of}
+use Rattle.c25_run_ends.specs.EndNote.{ExplainsEnd}
+use Rattle.c25_tasks.specs.Running.{HasLeft, IsExplainedEnd, IsGivenFrom, IsGivenInput, IsWhyLeft, is_explained, ReadiesFrom, ReadiesInput, ReadiesOver, stdin}
+use Rattle.c25_run.specs.declared.run.LeftAt.{LeftAt}
+use Rattle.c25_tasks.specs.Tells.{IsOfSources, IsReportOf, IsRun, IsRunOfAnswers, IsRunOfStatements, LeavesAnswer, Printed, PrintsGiven, TellsRun}
 use Rattle.c25_explain.specs.declared.notes.Notes.{Notes}
 
 -- ---- other statuses
@@ -61,6 +65,12 @@ tells_ready held notes n regs answer ready e note out is run statements answers 
     subst (λ (a : Result Ready Fault). IfOk a IsOfSources → TellsRun held notes n regs a e note out) (sym is)
     (λ of. (run of.0 of.1, λ given ready_of. (statements given ready_of, answers given ready_of)))
 
+-- where the run of a program that is ready left the code
+pub leaves_ready : (n : ℕ) (answer : Result Ready Fault) (ready : Ready) (left : Option LeftAt) → answer ≡ Ok ready → ((given : Given) → IsReady given ready → IfSome left (LeavesRun ready n))
+    → IfOk answer IsOfSources → IfSome left (LeavesAnswer n answer)
+leaves_ready n answer ready left is leaves =
+    subst (λ (a : Result Ready Fault). IfOk a IsOfSources → IfSome left (LeavesAnswer n a)) (sym is) (λ of. leaves of.0 of.1)
+
 -- what is ready is of something that is given so
 abbrev pub HasGiven : (Given → Type 0) → Result Ready Fault → Type 0
 HasGiven is_given (Ok ready) = (given : Given) × is_given given × IsReady given ready
@@ -100,3 +110,24 @@ given_input held input (Ok ready) (inl (text, read, over)) =
     let g = given_over held ((stdin, text) ∷ []) (stdin ∷ []) [] [] [] ready over in
     (given_of g.0 (stdin ∷ []) [] [] [], record { text = text; read = read; copied = g.1; alone = refl }, g.2)
 given_input held input (Ok ready) (inr unread) = absurd unread
+
+-- ---- why a run left the code
+
+pub left_from : (held : Held) (names : List (List ℕ)) (n : ℕ) (files : RunFiles) (answer : Result Ready Fault) (left : Option LeftAt) → ReadiesFrom held names files answer → IfSome left (LeavesAnswer n answer)
+    → IfSome left (HasLeft held names n files)
+left_from held names n files answer None from leaves = tt
+left_from held names n files answer (Some left) from leaves = (answer, from, leaves)
+
+pub why_from : (held : Held) (names : List (List ℕ)) (files : RunFiles) (left : LeftAt) (ready : Ready) (text samples why : List ℕ) → ReadiesFrom held names files (Ok ready) → IsOptional held (text_of files.samples) text
+    → samples ≡ text → ((given : Given) → IsReady given ready → ExplainsEnd ready samples left.step left.stop why) → IsWhyLeft held names files left why
+why_from held names files left ready text samples why from read same explains =
+    let g = given_from held names files (Ok ready) from in
+    let of_samples = subst (IsOptional held (text_of files.samples)) (sym same) read in
+    record { given = g.0; is_given = g.1; ready = ready; is_ready = g.2; samples = samples; read = of_samples; explains = explains g.0 g.2 }
+
+pub why_added : (held : Held) (names : List (List ℕ)) (n : ℕ) (files : RunFiles) (notes : Notes) (explain : Bool) (found : Option LeftAt) (left : LeftAt) (front note : List ℕ)
+    → explain ≡ is_explained notes → explain ≡ true → found ≡ Some left → IfSome found (HasLeft held names n files)
+    → ((steps : ℕ) → HasLeft held names steps files left → IsExplainedEnd held true names steps files front note) → IsExplainedEnd held (is_explained notes) names n files front note
+why_added held names n files notes explain found left front note of_notes asked is has added =
+    let there : HasLeft held names n files left = subst (λ (o : Option LeftAt). IfSome o (HasLeft held names n files)) is has in
+    subst (λ (b : Bool). IsExplainedEnd held b names n files front note) (sym asked ∙ of_notes) (added n there)

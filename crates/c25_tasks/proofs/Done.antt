@@ -20,7 +20,7 @@ use Rattle.c25_options.specs.declared.task.Task.TheVariants.{Assemble, Link, Bui
 use Rattle.c25_tasks.specs.Assembly.{Assembles}
 use Rattle.c25_tasks.specs.Building.{WritesProgram}
 use Rattle.c25_tasks.specs.Checking.{ChecksTold}
-use Rattle.c25_tasks.specs.Debugging.{DebugsTold}
+use Rattle.c25_tasks.specs.Debugging.{DebugsAsked}
 use Rattle.c25_tasks.specs.Disassembly.{DisassemblesTold}
 use Rattle.c25_tasks.specs.Linking.{LinksFrom}
 use Rattle.c25_explain.specs.Notes.{AreNotesFor, IsNoted}
@@ -78,11 +78,11 @@ does_run held input task sources steps files regs faults notes noted names e is 
     let of_noted = subst (λ (ns : List (Bor (List ℕ))). AreNotesFor faults files None (texts_of ns) [] notes) of asked in
     subst (λ (t : Task). Does held input t e) (sym is) ((notes, of_noted, of_sources), stay)
 
-pub does_debug : (held : Held) (input : Option (List ℕ)) (task : Task) (sources : Vec (Bor (List ℕ)) Global) (script : Bor (List ℕ)) (files : RunFiles) (faults : FaultOptions) (notes : Notes) (noted names : List (Bor (List ℕ))) (e : Effect)
-    → task ≡ Debug sources script files faults → noted ≡ sources.items → AreNotesFor faults files (Some script) (texts_of noted) [] notes → names ≡ sources.items → DebugsTold held notes (texts_of names) script.now files e.ending e.note e.out → Stay e.written.0 e.written.1 → Does held input task e
-does_debug held input task sources script files faults notes noted names e is of asked same told stay =
-    let of_sources = subst (λ (ns : List (Bor (List ℕ))). DebugsTold held notes (texts_of ns) script.now files e.ending e.note e.out) same told in
-    let of_noted = subst (λ (ns : List (Bor (List ℕ))). AreNotesFor faults files (Some script) (texts_of ns) [] notes) of asked in
+pub does_debug : (held : Held) (input : Option (List ℕ)) (task : Task) (sources : Vec (Bor (List ℕ)) Global) (script : Option (Bor (List ℕ))) (interactive : Bool) (files : RunFiles) (faults : FaultOptions) (notes : Notes) (noted names : List (Bor (List ℕ))) (e : Effect)
+    → task ≡ Debug sources script interactive files faults → noted ≡ sources.items → AreNotesFor faults files script (texts_of noted) [] notes → names ≡ sources.items → DebugsAsked held notes (texts_of names) (text_of script) interactive files input e.ending e.note e.out → Stay e.written.0 e.written.1 → Does held input task e
+does_debug held input task sources script interactive files faults notes noted names e is of asked same told stay =
+    let of_sources = subst (λ (ns : List (Bor (List ℕ))). DebugsAsked held notes (texts_of ns) (text_of script) interactive files input e.ending e.note e.out) same told in
+    let of_noted = subst (λ (ns : List (Bor (List ℕ))). AreNotesFor faults files script (texts_of ns) [] notes) of asked in
     subst (λ (t : Task). Does held input t e) (sym is) ((notes, of_noted, of_sources), stay)
 
 pub does_disassemble : (held : Held) (input : Option (List ℕ)) (task : Task) (file : Bor (List ℕ)) (from : Option (Bor (List ℕ))) (explain : Bool) (notes : Notes) (e : Effect)

@@ -1,3 +1,4 @@
+pub mod Asked
 pub mod Quiet
 pub mod Gathered
 pub mod Answered

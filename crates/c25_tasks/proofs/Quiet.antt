@@ -23,7 +23,9 @@ use Rattle.c25_report.specs.ProgramFiles.{files_of}
 use Rattle.c25_report.specs.declared.texts.ProgramFileTexts.{ProgramFileTexts}
 use Rattle.c25_tasks.specs.Building.{WritesProgram, texts_in}
 use Rattle.c25_inputs.specs.Files.{IsToldOfFile}
+use Rattle.c25_explain.specs.FileNotes.{ShowsCopied}
 use Rattle.c25_explain.specs.Notes.{AreOthers, IsExplainedBy, IsExplanation, IsNoted, name_by}
+use Rattle.c25_options.specs.Task.{texts_of}
 use Rattle.c25_tasks.specs.Symbols.{WritesWithSymbols}
 use Rattle.c25_tasks.specs.declared.symbols.BuiltWithSymbols.{BuiltWithSymbols}
 use Rattle.c25_tasks.specs.Tells.{IsReportOf, IsUnwrittenAmong, Wrote, Writes, WritesTexts, WritesTold}
@@ -56,8 +58,15 @@ explained_anew held other f kind trail note is explained =
     let With : Held → FileFault → Type 0 = λ h k. IsExplainedBy h None (name_by k (string_bytes f.place)) trail (any.File f.fault) note in
     subst (λ (k : FileFault). With other k) (sym is) (subst (λ (k : FileFault). With held k) is explained)
 
+-- what is shown next to the line of such a fault is nothing, whatever the disk holds
+behind_anew : (held other : Held) (sources : List (List ℕ)) (name shown : List ℕ) (kind : FileFault) → kind ≡ CannotWrite → ShowsCopied held sources kind name shown → ShowsCopied other sources kind name shown
+behind_anew held other sources name shown kind is shows =
+    let With : Held → FileFault → Type 0 = λ h k. ShowsCopied h sources k name shown in
+    subst (λ (k : FileFault). With other k) (sym is) (subst (λ (k : FileFault). With held k) is shows)
+
 explanation_anew : (held other : Held) (explain : Bool) (named : NamedFiles) (f : Placed (String Global) FileFault) (text : List ℕ) → f.fault ≡ CannotWrite → IsExplanation held explain named (File f) text → IsExplanation other explain named (File f) text
-explanation_anew held other true named f text is (inl (behind, none, explained)) = inl (behind, none, explained_anew held other f f.fault behind text is explained)
+explanation_anew held other true named f text is (inl (behind, shows, explained)) =
+    inl (behind, behind_anew held other (texts_of named.sources.now) (string_bytes f.place) behind f.fault is shows, explained_anew held other f f.fault behind text is explained)
 explanation_anew held other true named f text is (inr none) = inr none
 explanation_anew held other false named f text is none = none
 

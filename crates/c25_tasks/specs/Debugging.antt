@@ -1,5 +1,6 @@
 -- The task `debug`: a debugging session with sources on a disk.
-use Rattle.std.specs.Prelude.{ℕ, List, Result, String}
+use Rattle.std.specs.Prelude.{◌≡◌, ℕ, Bool, true, false, List, [], Option, Some, None, Result, String}
+use Rattle.std.specs.Io.KnownBytes.{Keeps}
 use Rattle.std.specs.declared.alloc.Global.{Global}
 use Rattle.c25_chain.specs.Chain.{given_of}
 use Rattle.c25_chain.specs.Refusal.{Fault}
@@ -7,9 +8,11 @@ use Rattle.c25_chain.specs.Debug.{Debugs}
 use Rattle.c25_disk.specs.Held.{Held}
 use Rattle.c25_meaning_expansion.specs.Files.{Files}
 use Rattle.c25_report.specs.declared.ending.Ending.{Ending}
+use Rattle.c25_report.specs.declared.ending.Ending.TheVariants.{NoCommands}
 use Rattle.c25_options.specs.Task.{text_of}
 use Rattle.c25_options.specs.declared.task.RunFiles.{RunFiles}
 use Rattle.c25_inputs.specs.Files.{AfterNamed, AfterOptional, AfterSources, ComesTo}
+use Rattle.c25_tasks.specs.Prompting.{PromptsTold}
 use Rattle.c25_tasks.specs.Tells.{Printed, TellsAnswers}
 use Rattle.c25_explain.specs.declared.notes.Notes.{Notes}
 
@@ -32,3 +35,16 @@ DebugsFrom held names script files answer =
 abbrev pub DebugsTold : Held → Notes → List (List ℕ) → (script : List ℕ) → RunFiles → Ending → (note : List ℕ) → Printed → Type 0
 DebugsTold held notes names script files e note out =
     (answer : Result (String Global) Fault) × DebugsFrom held names script files answer × TellsAnswers held notes answer e note out
+
+-- ---- a script, or the commands of standard input
+
+-- there are no commands, and nothing is printed to standard output
+abbrev pub HasNoCommands : Ending → (note : List ℕ) → Printed → Type 0
+HasNoCommands e note out = (e ≡ NoCommands) × (note ≡ []) × Keeps out.0 out.1
+
+-- what is done where a script is named or not, and commands of standard input are asked for or not
+abbrev pub DebugsAsked : Held → Notes → List (List ℕ) → (script : Option (List ℕ)) → (interactive : Bool) → RunFiles → (input : Option (List ℕ)) → Ending → (note : List ℕ) → Printed → Type 0
+DebugsAsked held notes names (Some script) false files input e note out = DebugsTold held notes names script files e note out
+DebugsAsked held notes names None true files input e note out = PromptsTold held notes names files input e note out
+DebugsAsked held notes names None false files input e note out = HasNoCommands e note out
+DebugsAsked held notes names (Some script) true files input e note out = HasNoCommands e note out

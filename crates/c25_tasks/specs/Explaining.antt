@@ -21,7 +21,7 @@ unknown_line number = codes "explain: no fault has the number " ++ decimal numbe
 
 -- the line of a word that is no number from 0 to 255, and that no fault, end of a run or warning has as its name
 abbrev pub unknown_name_line : List ℕ → List ℕ
-unknown_name_line word = codes "explain: no fault has the number or the name " ++ word
+unknown_name_line word = codes "explain: no fault, end of a run or warning has the number or the name " ++ word ++ codes ": c25 explain lists all"
 
 -- a text is printed part by part; where that fails, nothing is known of what was printed
 abbrev pub PrintsParts : List ℕ → Ending → Printed → Type 0

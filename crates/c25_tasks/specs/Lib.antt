@@ -10,4 +10,5 @@ pub mod Debugging
 pub mod Explaining
 pub mod Disassembly
 pub mod Program
+pub mod Prompting
 pub mod Lines

@@ -14,13 +14,14 @@ use Rattle.c25_report.specs.declared.ending.Ending.TheVariants as ending
 use Rattle.c25_report.specs.declared.ending.Report.{Report}
 use Rattle.c25_options.specs.Arranged.{arranged}
 use Rattle.c25_options.specs.Task.{Reads, text_of, texts_of}
+use Rattle.c25_options.specs.Tips.{tip_on}
 use Rattle.c25_options.specs.declared.task.FaultOptions.{FaultOptions}
 use Rattle.c25_options.specs.declared.task.Task.{Task}
 use Rattle.c25_options.specs.declared.task.Task.TheVariants.{RunStandardInput, Assemble, Link, Build, Run, Debug, Explain, Disassemble, Check}
 use Rattle.c25_tasks.specs.Assembly.{Assembles}
 use Rattle.c25_tasks.specs.Building.{WritesProgram}
 use Rattle.c25_tasks.specs.Checking.{ChecksTold}
-use Rattle.c25_tasks.specs.Debugging.{DebugsTold}
+use Rattle.c25_tasks.specs.Debugging.{DebugsAsked}
 use Rattle.c25_tasks.specs.Disassembly.{DisassemblesTold}
 use Rattle.c25_tasks.specs.Explaining.{ExplainedTold}
 use Rattle.c25_tasks.specs.Linking.{LinksFrom}
@@ -46,6 +47,10 @@ effect_of report out written = record { ending = report.ending; note = string_by
 -- nothing is written, and no note is reported
 abbrev pub OnlyPrints : Effect → Type 0
 OnlyPrints e = Stay e.written.0 e.written.1 × (e.note ≡ [])
+
+-- nothing is printed to standard output and nothing is written
+abbrev pub DoesNothing : Effect → Type 0
+DoesNothing e = Keeps e.out.0 e.out.1 × Stay e.written.0 e.written.1
 
 -- nothing is printed to standard output and nothing is written, and no note is reported
 abbrev pub IsQuiet : Effect → Type 0
@@ -81,9 +86,9 @@ Does held input (Run sources steps files regs faults) e =
     Noting (AreNotesFor faults files None (texts_of sources.items) [])
     (λ notes. RunsTold held notes (texts_of sources.items) steps regs files e.ending e.note e.out)
     × Stay e.written.0 e.written.1
-Does held input (Debug sources script files faults) e =
-    Noting (AreNotesFor faults files (Some script) (texts_of sources.items) [])
-    (λ notes. DebugsTold held notes (texts_of sources.items) script.now files e.ending e.note e.out)
+Does held input (Debug sources script interactive files faults) e =
+    Noting (AreNotesFor faults files script (texts_of sources.items) [])
+    (λ notes. DebugsAsked held notes (texts_of sources.items) (text_of script) interactive files input e.ending e.note e.out)
     × Stay e.written.0 e.written.1
 Does held input (Explain fault) e = ExplainedTold (text_of fault) e.ending e.out × OnlyPrints e
 Does held input (Disassemble file from explain) e =
@@ -97,10 +102,14 @@ Does held input (Check sources command faults) e =
 
 -- ---- command lines
 
--- what the program does where this is read of the command line: the task, or the report that there is none
-abbrev pub DoesRead : Held → Option (List ℕ) → Result Task (Failure Error) → Effect → Type 0
-DoesRead held input (Ok task) e = Does held input task e
-DoesRead held input (Err fault) e = (e.ending ≡ ending.NoTask fault) × IsQuiet e
+-- after the report that these words ask for no task stands the tip on them, unless memory runs out for it
+abbrev pub IsTip : List (List ℕ) → Failure Error → (note : List ℕ) → Type 0
+IsTip words fault note = (note ≡ tip_on fault words) ⊎ (note ≡ [])
+
+-- what the program does where this is read of these words: the task, or the report that there is none
+abbrev pub DoesRead : Held → Option (List ℕ) → List (List ℕ) → Result Task (Failure Error) → Effect → Type 0
+DoesRead held input words (Ok task) e = Does held input task e
+DoesRead held input words (Err fault) e = (e.ending ≡ ending.NoTask fault) × IsTip words fault e.note × DoesNothing e
 
 -- how a command line is read, the program's name first: without arguments it asks for the run of standard
 -- input; else its words are read in their order, in which flags of faults and `help` may stand before a subcommand
@@ -109,7 +118,7 @@ AreRead words answer = (length words < 2 → answer ≡ Ok RunStandardInput) × 
 
 -- what the program does for a command line
 abbrev pub DoesWords : Held → Option (List ℕ) → List (List ℕ) → Effect → Type 0
-DoesWords held input words e = (answer : Result Task (Failure Error)) × AreRead words answer × DoesRead held input answer e
+DoesWords held input words e = (answer : Result Task (Failure Error)) × AreRead words answer × DoesRead held input words answer e
 
 -- there is no command line: an argument is not UTF-8, or memory ran out
 abbrev pub HasNoWords : Ending → Type 0

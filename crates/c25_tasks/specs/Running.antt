@@ -1,7 +1,7 @@
 -- The task `run`, and the run of a source on standard input.
-use Rattle.std.specs.Prelude.{◌≡◌, ◌⊎◌, ℕ, Bool, false, List, [], ◌∷◌, codes, Option, Result, Ok}
+use Rattle.std.specs.Prelude.{◌≡◌, ◌⊎◌, ℕ, Bool, true, false, List, [], ◌∷◌, ◌++◌, codes, Option, Result, Ok}
 use Rattle.c25_chain.specs.Chain.{Given, given_of}
-use Rattle.c25_chain.specs.Ready.{Readies}
+use Rattle.c25_chain.specs.Ready.{IsReady, Readies}
 use Rattle.c25_chain.specs.Refusal.{Fault}
 use Rattle.c25_chain.specs.declared.ready.Ready.{Ready}
 use Rattle.c25_disk.specs.Copies.{HasCopied}
@@ -11,9 +11,11 @@ use Rattle.c25_report.specs.declared.ending.Ending.{Ending}
 use Rattle.c25_options.specs.Task.{text_of}
 use Rattle.c25_options.specs.declared.task.RunFiles.{RunFiles}
 use Rattle.c25_inputs.specs.Files.{AfterOptional, AfterSources, ComesTo, FailsWith, IsOptional, IsUnread, ReadsAll}
-use Rattle.c25_tasks.specs.Tells.{Printed, PrintsGiven, TellsRun}
+use Rattle.c25_run.specs.declared.run.LeftAt.{LeftAt}
+use Rattle.c25_run_ends.specs.EndNote.{ExplainsEnd}
+use Rattle.c25_tasks.specs.Tells.{LeavesAnswer, Printed, PrintsGiven, TellsRun}
 use Rattle.c25_explain.specs.declared.notes.Notes.{Notes}
-use Rattle.c25_explain.specs.declared.notes.Notes.TheVariants.{Nothing}
+use Rattle.c25_explain.specs.declared.notes.Notes.TheVariants.{After, Nothing}
 
 -- ---- sources on a disk
 
@@ -42,10 +44,48 @@ pub record IsGivenFrom (held : Held) (names : List (List ℕ)) (files : RunFiles
   pub schedule : IsOptional held (text_of files.schedule) given.schedule
 
 -- the named sources are run and printed, or why they are not is reported
-abbrev pub RunsTold : Held → Notes → List (List ℕ) → ℕ → (regs : Bool) → RunFiles → Ending → (note : List ℕ) → Printed → Type 0
-RunsTold held notes names steps regs files e note out =
+abbrev pub RunsAlone : Held → Notes → List (List ℕ) → ℕ → (regs : Bool) → RunFiles → Ending → (note : List ℕ) → Printed → Type 0
+RunsAlone held notes names steps regs files e note out =
     ((answer : Result Ready Fault) × ReadiesFrom held names files answer × TellsRun held notes steps regs answer e note out)
     × PrintsGiven (IsGivenFrom held names files) steps regs e note out
+
+-- ---- why a run left the code
+
+-- a run of so many steps of the named sources left the code in this step, for this reason
+abbrev pub HasLeft : Held → List (List ℕ) → ℕ → RunFiles → LeftAt → Type 0
+HasLeft held names steps files left = (answer : Result Ready Fault) × ReadiesFrom held names files answer × LeavesAnswer steps answer left
+
+-- why a run of the named sources left the code in this step, for this reason
+pub record IsWhyLeft (held : Held) (names : List (List ℕ)) (files : RunFiles) (left : LeftAt) (why : List ℕ) : Type 0 where
+  pub given : Given
+  pub is_given : IsGivenFrom held names files given
+  pub ready : Ready
+  pub is_ready : IsReady given ready
+  pub samples : List ℕ
+  pub read : IsOptional held (text_of files.samples) samples
+  pub explains : ExplainsEnd ready samples left.step left.stop why
+
+-- a note is another one, and after it why a run left the code
+abbrev pub HasWhy : Held → List (List ℕ) → ℕ → RunFiles → (front note : List ℕ) → Type 0
+HasWhy held names steps files front note =
+    (left : LeftAt) × HasLeft held names steps files left × ((why : List ℕ) × IsWhyLeft held names files left why × (note ≡ front ++ why))
+
+-- whether an explanation is asked for
+abbrev pub is_explained : Notes → Bool
+is_explained Nothing = false
+is_explained (After options named) = options.explain
+
+-- a note is another one; where an explanation is asked for and the run left the code, why it did stands after that, unless memory
+-- runs out
+abbrev pub IsExplainedEnd : Held → (explain : Bool) → List (List ℕ) → ℕ → RunFiles → (front note : List ℕ) → Type 0
+IsExplainedEnd held false names steps files front note = note ≡ front
+IsExplainedEnd held true names steps files front note = (note ≡ front) ⊎ HasWhy held names steps files front note
+
+-- the named sources are run and printed, or why they are not is reported; after that, where an explanation is
+-- asked for, why the run left the code
+abbrev pub RunsTold : Held → Notes → List (List ℕ) → ℕ → (regs : Bool) → RunFiles → Ending → (note : List ℕ) → Printed → Type 0
+RunsTold held notes names steps regs files e note out =
+    (front : List ℕ) × RunsAlone held notes names steps regs files e front out × IsExplainedEnd held (is_explained notes) names steps files front note
 
 -- ---- standard input
 

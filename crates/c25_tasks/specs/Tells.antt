@@ -20,7 +20,8 @@ use Rattle.c25_meaning_expansion.specs.Files.{Files}
 use Rattle.c25_report.specs.Ending.{IsPrinted, IsShort, status_of}
 use Rattle.c25_report.specs.declared.ending.Ending.{Ending}
 use Rattle.c25_report.specs.declared.ending.Ending.TheVariants as ending
-use Rattle.c25_run.specs.Run.{PrintsAnswer, PrintsRun, PrintsStatements, TellsAnswer, TellsEnd}
+use Rattle.c25_run.specs.declared.run.LeftAt.{LeftAt}
+use Rattle.c25_run.specs.Run.{LeavesRun, PrintsAnswer, PrintsRun, PrintsStatements, TellsAnswer, TellsEnd}
 use Rattle.c25_explain.specs.Notes.{IsNoted}
 use Rattle.c25_explain.specs.declared.notes.Notes.{Notes}
 
@@ -61,6 +62,11 @@ TellsRun held notes n regs (Ok ready) e note out =
     PrintsRun ready n regs e note out.0 out.1
     × ((given : Given) → IsReady given ready → PrintsStatements given ready n regs e note out.0 out.1 × PrintsAnswer given n regs e note out.0 out.1)
 TellsRun held notes n regs (Err fault) e note out = IsReportOf held notes fault e note × Keeps out.0 out.1
+
+-- of n steps of a program that is ready this one stops, for this reason
+abbrev pub LeavesAnswer : ℕ → Result Ready Fault → LeftAt → Type 0
+LeavesAnswer n (Ok ready) left = LeavesRun ready n left
+LeavesAnswer n (Err fault) left = ⊥
 
 -- the program ends with status 0, or with 3, as a run that left the code
 abbrev pub IsRun : Ending → Type 0

@@ -1,10 +1,11 @@
 //! The task `debug`.
 
 ghost use Rattle.std.specs.Prelude.{string_bytes};
-ghost use Rattle.c25_options.specs.Task.{texts_of};
-ghost use Rattle.c25_tasks.specs.Debugging.{DebugsFrom, DebugsTold};
+ghost use Rattle.c25_options.specs.Task.{text_of, texts_of};
+ghost use Rattle.c25_tasks.specs.Debugging.{DebugsAsked, DebugsFrom, DebugsTold};
 
 use crate::copies::Debug;
+use crate::prompting::{PromptOptions, prompt_sources};
 use crate::report::report_answers;
 use c25_chain::RunTexts;
 use c25_chain::fault::Fault;
@@ -14,17 +15,18 @@ use c25_inputs::files::read_named;
 use c25_inputs::sources::{Inputs, inputs_of};
 use c25_inputs::work::work_over;
 use c25_options::task::RunFiles;
-use c25_report::ending::Report;
+use c25_prompting::prompting::PromptNames;
+use c25_report::ending::{Ending, Report};
 use std::alloc::Global;
-use std::io::Write;
+use std::io::{Read, Write};
 
 /// The names of the files of a session of the debugger: the sources, the script, and the files that the run
 /// reads in addition to them.
 #[derive(Clone, Copy)]
-pub(crate) struct DebugNames<'a> {
-    pub(crate) sources: &'a [&'a str],
-    pub(crate) script: &'a str,
-    pub(crate) files: RunFiles<'a>,
+struct DebugNames<'a> {
+    sources: &'a [&'a str],
+    script: &'a str,
+    files: RunFiles<'a>,
 }
 
 /// Reads the sources, then the command file, the samples, the schedule and the script, and answers the
@@ -52,7 +54,7 @@ fn answer<D: Disk>(alloc: Global, disk: &D, named: DebugNames<'_>) -> Result<Str
 }
 
 /// Debugs sources by a script, and prints the answers.
-pub(crate) fn debug_sources<D: Disk, O: Write>(
+fn debug_sources<D: Disk, O: Write>(
     alloc: Global,
     named: DebugNames<'_>,
     notes: Notes<'_>,
@@ -63,4 +65,56 @@ pub(crate) fn debug_sources<D: Disk, O: Write>(
 {
     let answers = answer(alloc, disk, named);
     report_answers(alloc, disk, answers, notes, out)
+}
+
+/// Sources to debug by a script or by the commands of standard input, and what is reported of a fault.
+#[derive(Clone, Copy)]
+pub(crate) struct DebugAsked<'a> {
+    pub(crate) sources: &'a [&'a str],
+    pub(crate) script: Option<&'a str>,
+    pub(crate) interactive: bool,
+    pub(crate) files: RunFiles<'a>,
+    pub(crate) notes: Notes<'a>,
+}
+
+/// Debugs sources by a script, or by the commands of standard input. Where neither or both is asked for, there are
+/// no commands, and nothing is read.
+#[tactic(auto, using(crate::proofs::Asked::neither, crate::proofs::Asked::both, crate::proofs::Asked::at_prompt, crate::proofs::Asked::by_script, crate::proofs::Quiet::keeps))]
+pub(crate) fn debug<D: Disk, R: Read, O: Write>(
+    alloc: Global,
+    asked: DebugAsked<'_>,
+    disk: &D,
+    input: &mut R,
+    out: &mut O,
+) -> Report
+    ensures { DebugsAsked (D.bytes_of disk.now) asked.entry.notes (texts_of asked.entry.sources.now) (text_of asked.entry.script) asked.entry.interactive asked.entry.files (R.remaining input.old) result.ending (string_bytes result.note) (O.contents out.old, O.contents out.new) }
+{
+    let DebugAsked {
+        sources,
+        script,
+        interactive,
+        files,
+        notes,
+    } = asked;
+    match script {
+        None => {
+            if !interactive {
+                return Report::without_note(alloc, Ending::NoCommands);
+            }
+            let named = PromptNames { sources, files };
+            let options = PromptOptions { named, notes };
+            prompt_sources(alloc, options, disk, input, out)
+        }
+        Some(script) => {
+            if interactive {
+                return Report::without_note(alloc, Ending::NoCommands);
+            }
+            let named = DebugNames {
+                sources,
+                script,
+                files,
+            };
+            debug_sources(alloc, named, notes, disk, out)
+        }
+    }
 }

@@ -40,7 +40,9 @@ fn unknown(alloc: Global, number: u8) -> Ending
 fn unknown_name(alloc: Global, word: &str) -> Ending
     ensures { IsLineOf (unknown_name_line word.now) result }
 {
-    match format!(in alloc; "explain: no fault has the number or the name {word}") {
+    match format!(in alloc;
+        "explain: no fault, end of a run or warning has the number or the name {word}: c25 explain lists all"
+    ) {
         Ok(line) => Ending::Faulty(line),
         Err(error) => Ending::NoMemory(NoMemory::from(error)),
     }

@@ -11,6 +11,7 @@ mod explaining;
 pub mod laws;
 mod linking;
 mod program;
+mod prompting;
 mod report;
 mod running;
 mod standard_input;

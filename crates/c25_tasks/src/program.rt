@@ -1,9 +1,10 @@
 //! The program: the command line, the task, and the report.
 
-ghost use Rattle.std.specs.Prelude.{◌≤◌, IfErr, IfOk, OnOk, length, map, string_bytes};
+ghost use Rattle.std.specs.Prelude.{◌≡◌, ◌≤◌, IfErr, IfOk, OnOk, length, map, string_bytes};
 ghost use Rattle.c25_options.specs.Arranged.{IsArranged};
 ghost use Rattle.c25_report.specs.Ending.{IsReported};
-ghost use Rattle.c25_tasks.specs.Program.{AreRead, DoesRead, DoesWords, HasNoWords, IsProgram, effect_of};
+ghost use Rattle.c25_report.specs.declared.ending.Ending.TheVariants as ending;
+ghost use Rattle.c25_tasks.specs.Program.{AreRead, DoesWords, HasNoWords, IsProgram, IsTip, effect_of};
 
 use crate::task::do_task;
 use c25_disk::disk::Disk;
@@ -13,6 +14,7 @@ use c25_options::arranged::arranged;
 use c25_options::fault::WordsFault;
 use c25_options::read::read_words;
 use c25_options::task::Task;
+use c25_options::tips::tip_on;
 use c25_report::ending::{Ended, Ending, Report, finish};
 use std::alloc::{AllocError, Global};
 use std::io::{ErrorKind, Read, Write};
@@ -37,23 +39,20 @@ fn task_of_words<'a>(
     }
 }
 
-/// Runs a task that was read, or reports that there is none, and answers the report.
-fn report_of_task<D: Disk, R: Read, O: Write>(
-    alloc: Global,
-    task: Result<Task<'_>, WordsFault>,
-    disk: &mut D,
-    input: &mut R,
-    out: &mut O,
-) -> Report
-    ensures { DoesRead (D.bytes_of disk.old) (R.remaining input.old) task.entry (effect_of result (O.contents out.old, O.contents out.new) (D.written disk.old, D.written disk.new)) }
+/// The report that a command line asks for no task, with the tip on its words.
+fn report_without_task(alloc: Global, fault: WordsFault, words: &[String]) -> Report
+    ensures ending { result.ending ≡ ending.NoTask fault }
+    ensures tip { IsTip (map string_bytes words.now) fault (string_bytes result.note) }
 {
-    match task {
-        Ok(task) => do_task(alloc, &task, disk, input, out),
-        Err(fault) => Report::without_note(alloc, Ending::NoTask(fault)),
-    }
+    let note = match String::from_str(alloc, tip_on(&fault, words)) {
+        Ok(tip) => tip,
+        Err(_) => String::new(alloc),
+    };
+    let ending = Ending::NoTask(fault);
+    Report { ending, note }
 }
 
-/// Runs the task of a command line, and answers its report.
+/// Runs the task of a command line, or reports that it asks for none, and answers the report.
 fn report_of_words<D: Disk, R: Read, O: Write>(
     alloc: Global,
     words: &[String],
@@ -64,8 +63,10 @@ fn report_of_words<D: Disk, R: Read, O: Write>(
     ensures { DoesWords (D.bytes_of disk.old) (R.remaining input.old) (map string_bytes words.now) (effect_of result (O.contents out.old, O.contents out.new) (D.written disk.old, D.written disk.new)) }
 {
     let arranged = arranged(alloc, words);
-    let task = task_of_words(alloc, words, &arranged);
-    report_of_task(alloc, task, disk, input, out)
+    match task_of_words(alloc, words, &arranged) {
+        Ok(task) => do_task(alloc, &task, disk, input, out),
+        Err(fault) => report_without_task(alloc, fault, words),
+    }
 }
 
 /// Standard input, standard output and standard error.

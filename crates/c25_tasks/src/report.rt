@@ -1,7 +1,7 @@
 //! Answers and faults as endings and reports.
 
-ghost use Rattle.std.specs.Prelude.{IfOk, string_bytes};
-ghost use Rattle.c25_tasks.specs.Tells.{IsOfSources, IsReportOf, TellsAnswers, TellsRun};
+ghost use Rattle.std.specs.Prelude.{IfOk, IfSome, string_bytes};
+ghost use Rattle.c25_tasks.specs.Tells.{IsOfSources, IsReportOf, LeavesAnswer, TellsAnswers, TellsRun};
 
 use c25_chain::fault::Fault;
 use c25_chain::ready::Ready;
@@ -11,7 +11,7 @@ use c25_explain::notes::{Notes, note_of};
 use c25_meaning_common::failure::Failure;
 use c25_report::ending::{Ending, Report};
 use c25_report::printing::print_answers;
-use c25_run::print_run;
+use c25_run::{PrintedRun, print_run};
 use std::alloc::Global;
 use std::io::Write;
 
@@ -66,18 +66,23 @@ pub(crate) struct RunOptions<'a> {
     pub(crate) notes: Notes<'a>,
 }
 
-/// Runs a program and prints the run as it goes, or answers the report of the failure.
+/// Runs a program and prints the run as it goes, or answers the report of the failure; and where the run left
+/// the code.
 pub(crate) fn report_run<D: Disk, O: Write>(
     alloc: Global,
     disk: &D,
     answer: Result<Ready, Fault>,
     options: RunOptions<'_>,
     out: &mut O,
-) -> Report
-    ensures { IfOk answer IsOfSources → TellsRun (D.bytes_of disk.now) options.entry.notes options.entry.steps options.entry.regs answer result.ending (string_bytes result.note) (O.contents out.old, O.contents out.new) }
+) -> PrintedRun
+    ensures told { IfOk answer IsOfSources → TellsRun (D.bytes_of disk.now) options.entry.notes options.entry.steps options.entry.regs answer result.report.ending (string_bytes result.report.note) (O.contents out.old, O.contents out.new) }
+    ensures left { IfOk answer IsOfSources → IfSome result.left (LeavesAnswer options.entry.steps answer) }
 {
     match answer {
         Ok(ready) => print_run(alloc, ready, options.steps, options.regs, out),
-        Err(fault) => report_of_fault(alloc, disk, fault, options.notes),
+        Err(fault) => PrintedRun {
+            report: report_of_fault(alloc, disk, fault, options.notes),
+            left: None,
+        },
     }
 }

@@ -1,8 +1,8 @@
 //! The task `run`.
 
-ghost use Rattle.std.specs.Prelude.{string_bytes};
+ghost use Rattle.std.specs.Prelude.{◌≡◌, ℕ, IfOk, IfSome, string_bytes, true};
 ghost use Rattle.c25_options.specs.Task.{texts_of};
-ghost use Rattle.c25_tasks.specs.Running.{ReadiesFrom, RunsTold};
+ghost use Rattle.c25_tasks.specs.Running.{HasLeft, IsExplainedEnd, IsWhyLeft, ReadiesFrom, RunsAlone, RunsTold, is_explained};
 
 use crate::copies::Run;
 use crate::report::{RunOptions, report_run};
@@ -10,10 +10,14 @@ use c25_chain::RunTexts;
 use c25_chain::fault::Fault;
 use c25_chain::ready::Ready;
 use c25_disk::disk::Disk;
+use c25_explain::notes::Notes;
+use c25_inputs::files::read_optional;
 use c25_inputs::sources::{Inputs, inputs_of};
 use c25_inputs::work::work_over;
 use c25_options::task::RunFiles;
 use c25_report::ending::Report;
+use c25_run::{LeftAt, PrintedRun};
+use c25_run_ends::end_note;
 use std::alloc::Global;
 use std::io::Write;
 
@@ -47,8 +51,71 @@ fn answer<D: Disk>(alloc: Global, disk: &D, named: RunNames<'_>) -> Result<Ready
     work_over(alloc, disk, files, &work)
 }
 
-/// Runs sources, and prints the run as it goes. The note has the registers at the end of the run, or the
-/// explanation of a fault, where these are asked for.
+/// Runs sources, and prints the run as it goes, or answers the report of a failure; and where the run left the
+/// code.
+fn run_named<D: Disk, O: Write>(
+    alloc: Global,
+    named: RunNames<'_>,
+    options: RunOptions<'_>,
+    disk: &D,
+    out: &mut O,
+) -> PrintedRun
+    ensures told { RunsAlone (D.bytes_of disk.now) options.entry.notes (texts_of named.entry.sources.now) options.entry.steps options.entry.regs named.entry.files result.report.ending (string_bytes result.report.note) (O.contents out.old, O.contents out.new) }
+    ensures left { IfSome result.left (HasLeft (D.bytes_of disk.now) (texts_of named.entry.sources.now) options.entry.steps named.entry.files) }
+{
+    let ready = answer(alloc, disk, named);
+    report_run(alloc, disk, ready, options, out)
+}
+
+/// Why a run of sources left the code. The files are read again for it.
+fn why_it_left<D: Disk>(
+    alloc: Global,
+    disk: &D,
+    named: RunNames<'_>,
+    left: LeftAt,
+) -> Result<String, Fault>
+    ensures { IfOk result (λ why. IsWhyLeft (D.bytes_of disk.now) (texts_of named.entry.sources.now) named.entry.files left (string_bytes why)) }
+{
+    let ready = answer(alloc, disk, named)?;
+    let samples = read_optional(alloc, disk, named.files.samples)?;
+    match end_note(alloc, ready, samples.as_str(), left.step, left.stop) {
+        Ok(note) => Ok(note),
+        Err(error) => Err(error.into()),
+    }
+}
+
+/// A note, and after it why a run of sources left the code, unless memory runs out for that.
+fn with_why<D: Disk>(
+    alloc: Global,
+    disk: &D,
+    named: RunNames<'_>,
+    left: LeftAt,
+    mut note: String,
+) -> String
+    ensures { (steps : ℕ) → HasLeft (D.bytes_of disk.now) (texts_of named.entry.sources.now) steps named.entry.files left
+        → IsExplainedEnd (D.bytes_of disk.now) true (texts_of named.entry.sources.now) steps named.entry.files (string_bytes note) (string_bytes result) }
+{
+    let Ok(why) = why_it_left(alloc, disk, named, left) else {
+        return note;
+    };
+    match note.push_str(why.as_str()) {
+        Ok(()) => note,
+        Err(_) => note,
+    }
+}
+
+/// Whether an explanation is asked for.
+fn is_explained(notes: Notes<'_>) -> bool
+    ensures { result ≡ is_explained notes.entry }
+{
+    match notes {
+        Notes::Nothing => false,
+        Notes::After(options, _) => options.explain,
+    }
+}
+
+/// Runs sources, and prints the run as it goes. The note has the registers at the end of the run, and why it
+/// left the code, or the explanation of a fault, where these are asked for.
 pub(crate) fn run_sources<D: Disk, O: Write>(
     alloc: Global,
     named: RunNames<'_>,
@@ -58,6 +125,14 @@ pub(crate) fn run_sources<D: Disk, O: Write>(
 ) -> Report
     ensures { RunsTold (D.bytes_of disk.now) options.entry.notes (texts_of named.entry.sources.now) options.entry.steps options.entry.regs named.entry.files result.ending (string_bytes result.note) (O.contents out.old, O.contents out.new) }
 {
-    let ready = answer(alloc, disk, named);
-    report_run(alloc, disk, ready, options, out)
+    let PrintedRun { report, left } = run_named(alloc, named, options, disk, out);
+    let Some(left) = left else {
+        return report;
+    };
+    if !is_explained(options.notes) {
+        return report;
+    }
+    let Report { ending, note } = report;
+    let note = with_why(alloc, disk, named, left, note);
+    Report { ending, note }
 }

@@ -20,6 +20,7 @@ use c25_meaning_common::failure::Failure;
 use c25_meaning_common::placed::Placed;
 use c25_options::task::DEFAULT_STEPS;
 use c25_report::ending::Report;
+use c25_run::PrintedRun;
 use std::alloc::Global;
 use std::io::{Read, Write};
 
@@ -78,5 +79,6 @@ pub(crate) fn run_standard_input<D: Disk, R: Read, O: Write>(
         regs: false,
         notes: Notes::Nothing,
     };
-    report_run(alloc, disk, ready, options, out)
+    let PrintedRun { report, .. } = report_run(alloc, disk, ready, options, out);
+    report
 }

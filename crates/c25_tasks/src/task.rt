@@ -13,7 +13,7 @@ ghost use Rattle.c25_tasks.specs.Tells.{Writes, WritesTexts, WritesTold};
 use crate::assembly::{Assembly, asm_outputs};
 use crate::building::built;
 use crate::checking::{Checked, report_checked};
-use crate::debugging::{DebugNames, debug_sources};
+use crate::debugging::{DebugAsked, debug};
 use crate::disassembly::{Disassembly, disassemble};
 use crate::explaining::explain;
 use crate::linking::linked;
@@ -304,16 +304,19 @@ pub(crate) fn do_task<D: Disk, R: Read, O: Write>(
         Task::Debug {
             sources,
             script,
+            interactive,
             files,
             faults,
         } => {
-            let notes = notes_for(*faults, *files, Some(*script), sources, &[]);
-            let named = DebugNames {
+            let notes = notes_for(*faults, *files, *script, sources, &[]);
+            let asked = DebugAsked {
                 sources,
-                script,
+                script: *script,
+                interactive: *interactive,
                 files: *files,
+                notes,
             };
-            debug_sources(alloc, named, notes, disk, out)
+            debug(alloc, asked, disk, input, out)
         }
         Task::Explain { fault } => {
             let ending = explain(alloc, *fault, out);

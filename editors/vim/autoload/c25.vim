@@ -62,12 +62,12 @@ function! s:Naming(items, index, words) abort
 endfunction
 
 " What --explain prints in the line after the fault: its file and line; and the column, in the line after that. The line
-" after may also be one of make: so the line or the file is that of the fault, or the fault is 75, which has neither.
+" after may also be one of make: so the line or the file is that of the fault, or the fault names a section and has neither.
 function! s:Explained(items, index) abort
   let line = matchlist(get(a:items, a:index + 1, {'text': ''}).text, '^\(.\{-1,}\):\(\d\+\): ')
   let item = a:items[a:index]
   if empty(line) || !filereadable(s:Seen(a:items, a:index, line[1]))
-        \ || line[2] != item.lnum && line[1] !=# item.module && item.nr != 75
+        \ || line[2] != item.lnum && line[1] !=# item.module && index([72, 73, 74, 75, 78], item.nr) < 0
     return {}
   endif
   let column = matchstr(get(a:items, a:index + 2, {'text': ''}).text, '^\V' . escape(line[1], '\') . '\m:\d\+: column \zs\d\+')

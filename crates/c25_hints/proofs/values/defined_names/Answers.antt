@@ -1,5 +1,4 @@
-use Rattle.std.proofs.Common.{◌≡◌, Some, sym}
-use Rattle.std.specs.Prelude.{slice_get}
+use Rattle.std.proofs.Common.{sym}
 use Rattle.c25_hints.proofs.Named.{one_named}
 use Rattle.c25_hints.proofs.values.defined_names.Goals as goal
 

@@ -10,7 +10,7 @@ returns g c =
     let held = g.D.Disk.bytes_of c.args.disk.now in
     let input = g.R.Read.remaining c.args.input.now in
     let ready = c.answer-ready.result in
-    let tells = c.report_run.ensures (of_input held input ready c.answer-ready.ensures) in (
+    let tells = c.report_run-report.ensures.told (of_input held input ready c.answer-ready.ensures) in (
       (ready, c.answer-ready.ensures, tells),
-      answered held Nothing (IsGivenInput held input) 1000 false ready c.report_run.result.ending (string_bytes c.report_run.result.note) _ (given_input held input ready c.answer-ready.ensures) tells,
+      answered held Nothing (IsGivenInput held input) 1000 false ready c.report_run-report.result.report.ending (string_bytes c.report_run-report.result.report.note) _ (given_input held input ready c.answer-ready.ensures) tells,
     )

@@ -22,7 +22,7 @@ returns-in-Run g c =
 
 pub returns-in-Debug : goal.returns-in-Debug
 returns-in-Debug g c =
-    does_debug (g.D.Disk.bytes_of c.args.disk.now) _ c.args.task.now c.in-Debug.sources c.in-Debug.script c.in-Debug.files c.in-Debug.faults c.notes_for-notes-in-Debug.result c.deref-in-Debug.result.now c.deref-in-Debug-2.result.now _ c.in-Debug.is c.deref-in-Debug.ensures.value c.notes_for-notes-in-Debug.ensures c.deref-in-Debug-2.ensures.value c.debug_sources.ensures (stays _)
+    does_debug (g.D.Disk.bytes_of c.args.disk.now) _ c.args.task.now c.in-Debug.sources c.in-Debug.script c.in-Debug.interactive c.in-Debug.files c.in-Debug.faults c.notes_for-notes-in-Debug.result c.deref-in-Debug.result.now c.deref-in-Debug-2.result.now _ c.in-Debug.is c.deref-in-Debug.ensures.value c.notes_for-notes-in-Debug.ensures c.deref-in-Debug-2.ensures.value c.debug.ensures (stays _)
 
 pub returns-in-Explain : goal.returns-in-Explain
 returns-in-Explain g c =

@@ -1,0 +1,3 @@
+ .copy "filter.inc"
+GAIN .set 3
+ NOP

@@ -1,0 +1,5 @@
+TABLE .macro
+ .copy "gone.inc"
+ .endm
+ NOP
+ TABLE

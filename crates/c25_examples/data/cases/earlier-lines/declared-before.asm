@@ -1,0 +1,3 @@
+ .global X
+X NOP
+X NOP

@@ -1,0 +1,3 @@
+X .set 1
+A NOP
+A .bss X,1

@@ -1,0 +1,6 @@
+WAIT .macro n
+LOOP RPTK n
+ NOP
+ .endm
+ WAIT 3
+ WAIT 4

@@ -1,0 +1,2 @@
+X .set 1
+A .bss X,1

@@ -1,0 +1,2 @@
+X .set 1
+AR1 .bss X,1

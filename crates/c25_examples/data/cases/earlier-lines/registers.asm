@@ -1,0 +1,3 @@
+IMR .set 4
+DRR .set 0
+ .mmregs

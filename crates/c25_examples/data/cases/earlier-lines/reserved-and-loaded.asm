@@ -1,0 +1,3 @@
+ .bss COUNT,2
+ NOP
+ .label COUNT

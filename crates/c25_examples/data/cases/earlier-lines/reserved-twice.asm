@@ -1,0 +1,3 @@
+ .bss COUNT,2
+TOTAL .usect "sums",1
+ .bss TOTAL,1

@@ -1,0 +1,2 @@
+ NOP
+X .bss X,1

@@ -1,0 +1,1 @@
+TWICE   NOP

@@ -1,0 +1,2 @@
+        LACK    1
+        TBLW    60h

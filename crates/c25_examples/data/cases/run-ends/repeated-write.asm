@@ -1,0 +1,3 @@
+        LACK    0
+        RPTK    1
+        TBLW    60h

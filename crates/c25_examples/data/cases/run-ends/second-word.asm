@@ -1,0 +1,2 @@
+        LALK    1
+        BACC

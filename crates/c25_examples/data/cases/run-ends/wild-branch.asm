@@ -1,0 +1,2 @@
+        LALK    300h
+        BACC

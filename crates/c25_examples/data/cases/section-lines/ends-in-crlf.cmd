@@ -1,0 +1,2 @@
+sections {
+ .text : > ROM }

@@ -1,0 +1,2 @@
+SECTIONS { .data : > TABLE
+           .text : > ROM }

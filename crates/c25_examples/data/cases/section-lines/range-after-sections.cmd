@@ -1,0 +1,2 @@
+SECTIONS { b : > .text PAGE 1 }
+MEMORY { PAGE 1 : .text : o = 300h, l = 16 }

@@ -1,0 +1,2 @@
+
+SECTIONS { b : .text : > 0 run = 0 }

@@ -1,0 +1,3 @@
+ NOP
+ .data
+ .word 1

@@ -1,0 +1,2 @@
+MEMORY { P : o = 0, l = 1 }
+SECTIONS { .text : > P }

@@ -1,0 +1,5 @@
+//! What the texts of files show before expansion: the macros that they define, and the blocks that are open at a line.
+#![tactic(auto)]
+
+pub mod blocks;
+pub mod macros;

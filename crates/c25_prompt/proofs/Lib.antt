@@ -1,0 +1,12 @@
+pub mod Alike
+pub mod AlikeTalks
+pub mod BackAgain
+pub mod Conversed
+pub mod Next
+pub mod OnTheRun
+pub mod OneAnswer
+pub mod OneEnd
+pub mod Restored
+pub mod Sessions
+pub mod Stepped
+pub mod Went

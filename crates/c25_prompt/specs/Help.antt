@@ -1,0 +1,5 @@
+-- The text that shows the commands (this project's own).
+use Rattle.std.specs.Prelude.{ℕ, List, codes}
+
+unfoldable pub help_text : List ℕ
+help_text = codes "step N, run N, next [N], finish, until A [N], back N; break A, tbreak A, clear A; watch A, unwatch A; regs, stack, where, list N, symbols, data A N, prog A N; help, quit\nA is a number of one to four hexadecimal digits, NAME, SOURCE:NAME or FILE:LINE, the last three also with +WORDS; N is a decimal number.\n"

@@ -1,0 +1,192 @@
+-- What the prompt answers to commands, over an image and the states of a run, whatever one step is (this
+-- project's own). No command changes a register or a word of memory: each leads to a state of the run from the
+-- first state on.
+use Rattle.std.specs.Prelude.{◌≡◌, ℕ, zero, suc, ◌+◌, ◌-◌, ◌%◌, ◌==◌, ◌&&◌, Bool, true, false, not, List, [], Option, Some, None, slice_index, if◌then◌else◌}
+use Rattle.c25_meaning_debugger.specs.Debugger.{Answers, Point, beginning, program_word, tried}
+use Rattle.c25_meaning_debugger.specs.Texts.{cleared_text, set_text}
+use Rattle.c25_meaning_instructions.specs.Table.{Reads}
+use Rattle.c25_meaning_instructions.specs.declared.insn.Insn.{Insn}
+use Rattle.c25_meaning_instructions.specs.declared.insn.Insn.TheVariants as insn
+use Rattle.c25_meaning_instructions.specs.declared.mnemonic.JumpName.TheVariants as jump
+use Rattle.c25_meaning_instructions.specs.declared.mnemonic.PlainName.TheVariants as plain
+use Rattle.c25_meaning_linking.specs.Linking.{ImageData}
+use Rattle.c25_meaning_processor.specs.Goes.{is_breakpoint}
+use Rattle.c25_meaning_processor.specs.Run.{Reaches, Signals, Stepping}
+use Rattle.c25_meaning_processor.specs.Set.{can_set, with_breakpoint, without_breakpoint}
+use Rattle.c25_meaning_processor.specs.State.{State}
+use Rattle.c25_meaning_processor.specs.declared.script.Cmd.{Cmd}
+use Rattle.c25_meaning_processor.specs.declared.script.Cmd.TheVariants as cmd
+use Rattle.c25_prompt.specs.Help.{help_text}
+use Rattle.c25_prompt.specs.Runs.{Goes, end_text}
+use Rattle.c25_prompt_lines.specs.declared.command.PromptCommand.{PromptCommand}
+use Rattle.c25_prompt_lines.specs.declared.command.PromptCommand.TheVariants as prompt
+use Rattle.c25_prompt.specs.declared.ended.Ended.{Ended}
+use Rattle.c25_prompt.specs.declared.ended.Ended.TheVariants as ended
+
+-- a point of a session at the prompt: that of a debugger, those of its breakpoints that are cleared when they
+-- are met, and the data addresses that are watched, in the order in which they were set
+pub record PromptPoint : Type 0 where
+  pub at : Point
+  pub once : List ℕ
+  pub watches : List ℕ
+
+-- the point at which a session begins
+abbrev pub first_point : State → PromptPoint
+first_point s = record { at = beginning s; once = []; watches = [] }
+
+-- a point with other breakpoints
+abbrev pub with_breaks : PromptPoint → (breaks once : List ℕ) → PromptPoint
+with_breaks p breaks once = record {
+  at = record { steps = p.at.steps; state = p.at.state; breaks = breaks };
+  once = once;
+  watches = p.watches;
+}
+
+-- ---- runs
+
+-- whether a run ended at a breakpoint that is cleared when it is met
+abbrev pub met_once : Ended → (pc : ℕ) → (once : List ℕ) → Bool
+met_once ended.Met pc once = is_breakpoint once pc
+met_once ended.Ran pc once = false
+met_once (ended.Left stop) pc once = false
+met_once (ended.Changed address old new) pc once = false
+met_once ended.Full pc once = false
+
+-- the breakpoints that are left after a run
+abbrev pub left_after : Ended → (pc : ℕ) → (once breaks : List ℕ) → List ℕ
+left_after end pc once breaks = if met_once end pc once then without_breakpoint breaks pc else breaks
+
+-- n steps at most, with these breakpoints and these watches, lead from one point to another and end so
+pub record Went (step : Stepping) (signals : Signals) (breaks watches : List ℕ) (n : ℕ) (p : PromptPoint) (end : Ended) (q : PromptPoint) : Type 0 where
+  pub goes : Goes step signals breaks watches p.at.steps (tried p.at.steps n) p.at.state end q.at.steps q.at.state
+  pub breaks_left : q.at.breaks ≡ left_after end q.at.state.registers.pc p.once p.at.breaks
+  pub once_left : q.once ≡ left_after end q.at.state.registers.pc p.once p.once
+  pub same : q.watches ≡ p.watches
+
+-- n steps at most, with one more breakpoint, which is not kept; where as many as may be are set, none is done
+abbrev pub WentTo : Stepping → Signals → (can : Bool) → (address n : ℕ) → PromptPoint → Ended → PromptPoint → Type 0
+WentTo step signals true address n p end q = Went step signals (with_breakpoint p.at.breaks address) p.watches n p end q
+WentTo step signals false address n p end q = (end ≡ ended.Full) × (q ≡ p)
+
+-- this text says how a run ended that led to a point
+abbrev pub Says : List ℕ → Ended → PromptPoint → Type 0
+Says text end q = text ≡ end_text end q.at.steps q.at.state.registers.pc
+
+-- n steps at most, and this text says how they ended
+pub record Runs (step : Stepping) (signals : Signals) (breaks watches : List ℕ) (n : ℕ) (p : PromptPoint) (text : List ℕ) (q : PromptPoint) : Type 0 where
+  pub end : Ended
+  pub went : Went step signals breaks watches n p end q
+  pub says : Says text end q
+
+-- a run up to an address, and this text says how it ended
+pub record RunsTo (step : Stepping) (signals : Signals) (address n : ℕ) (p : PromptPoint) (text : List ℕ) (q : PromptPoint) : Type 0 where
+  pub end : Ended
+  pub went : WentTo step signals (can_set p.at.breaks address) address n p end q
+  pub says : Says text end q
+
+-- where this call returns to: the address on the top of the stack
+abbrev pub return_address : State → ℕ
+return_address s = slice_index s.registers.stack 0
+
+-- the point so many steps before, but not before the first, as the run from the first state reached it; the
+-- breakpoints and watches stay
+pub record Backs (step : Stepping) (signals : Signals) (first : State) (n : ℕ) (p : PromptPoint) (text : List ℕ) (q : PromptPoint) : Type 0 where
+  pub steps : q.at.steps ≡ p.at.steps - n
+  pub reached : Reaches step signals 0 q.at.steps first q.at.state
+  pub breaks : q.at.breaks ≡ p.at.breaks
+  pub once : q.once ≡ p.once
+  pub watches : q.watches ≡ p.watches
+  pub says : Says text ended.Ran q
+
+-- ---- breakpoints and watches
+
+-- the breakpoints for once after one was asked for: it is one where this sets it
+abbrev pub with_once : (breaks once : List ℕ) → ℕ → List ℕ
+with_once breaks once address =
+    if not (is_breakpoint breaks address) && can_set breaks address then with_breakpoint once address else once
+
+-- ---- commands of a script
+
+-- what a command of a script answers, and the point after it: as in a script, but that a run stops after a
+-- step that changes a watched word, too
+abbrev pub ScriptAnswers : Stepping → Signals → ImageData → Cmd → PromptPoint → List ℕ → PromptPoint → Type 0
+ScriptAnswers step signals image (cmd.Run n) p text q = Runs step signals p.at.breaks p.watches n p text q
+ScriptAnswers step signals image (cmd.Clear address) p text q =
+    (text ≡ cleared_text (is_breakpoint p.at.breaks address) address)
+    × (q ≡ with_breaks p (without_breakpoint p.at.breaks address) (without_breakpoint p.once address))
+ScriptAnswers step signals image c p text q = Answers step signals image c p.at text q.at × (q.once ≡ p.once) × (q.watches ≡ p.watches)
+
+-- ---- over a call
+
+-- where the call that an instruction makes returns to, if it is a CALL or a CALA
+abbrev pub returns_to : Option Insn → (pc : ℕ) → Option ℕ
+returns_to (Some (insn.Jump jump.Call target change next)) pc = Some ((pc + 2) % 65536)
+returns_to (Some (insn.Plain plain.Cala operand)) pc = Some ((pc + 1) % 65536)
+returns_to _ pc = None
+
+-- the instruction that two words read as, if they read as one
+abbrev pub IsRead : ℕ → ℕ → Option Insn → Type 0
+IsRead word next None = (i : Insn) → Reads word next i → ⊥
+IsRead word next (Some i) = Reads word next i
+
+-- the words at PC read as this instruction
+abbrev pub StandsAtPc : State → Option Insn → Type 0
+StandsAtPc s i = IsRead (program_word s s.registers.pc) (program_word s ((s.registers.pc + 1) % 65536)) i
+
+-- one step, or a run to where a call returns to
+abbrev pub WentOver : Stepping → Signals → Option ℕ → PromptPoint → Ended → PromptPoint → Type 0
+WentOver step signals None p end q = Went step signals p.at.breaks p.watches 1 p end q
+WentOver step signals (Some address) p end q = WentTo step signals (can_set p.at.breaks address) address 4294967295 p end q
+
+-- the address at which `next` alone has a breakpoint: that where a call returns to, unless one is set there
+abbrev pub only_next : (breaks : List ℕ) → Option ℕ → Option ℕ
+only_next breaks None = None
+only_next breaks (Some address) = if is_breakpoint breaks address then None else Some address
+
+-- whether this is the address
+abbrev pub is_address : Option ℕ → ℕ → Bool
+is_address None pc = false
+is_address (Some address) pc = address == pc
+
+-- whether `next` goes on after a step that ended so: where it was done, and where the call has returned
+abbrev pub goes_on : Ended → (only : Option ℕ) → (pc : ℕ) → Bool
+goes_on ended.Ran only pc = true
+goes_on ended.Met only pc = is_address only pc
+goes_on (ended.Left stop) only pc = false
+goes_on (ended.Changed address old new) only pc = false
+goes_on ended.Full only pc = false
+
+-- whether `next` goes on after a step from one point to another over this instruction
+abbrev pub next_goes_on : Ended → Option Insn → PromptPoint → PromptPoint → Bool
+next_goes_on end i p m = goes_on end (only_next p.at.breaks (returns_to i p.at.state.registers.pc)) m.at.state.registers.pc
+
+-- what is answered after one of the steps of `next`: what the others answer, or how it ended
+abbrev pub NextAfter : (going : Bool) → (more : PromptPoint → List ℕ → PromptPoint → Type 0) → Ended → PromptPoint → List ℕ → PromptPoint → Type 0
+NextAfter true more end m text q = more m text q
+NextAfter false more end m text q = Says text end m × (q ≡ m)
+
+-- n steps, each over the whole of a routine that it calls
+abbrev pub Nexts : Stepping → Signals → ℕ → PromptPoint → List ℕ → PromptPoint → Type 0
+Nexts step signals zero p text q = Says text ended.Ran p × (q ≡ p)
+Nexts step signals (suc n) p text q =
+    (i : Option Insn) × (end : Ended) × (m : PromptPoint) × StandsAtPc p.at.state i × WentOver step signals (returns_to i p.at.state.registers.pc) p end m
+    × NextAfter (next_goes_on end i p m) (λ m text q. Nexts step signals n m text q) end m text q
+
+-- ---- commands
+
+-- what a command answers at a point of a run from the first state on, and the point after it
+abbrev pub PromptAnswers : Stepping → Signals → ImageData → (first : State) → PromptCommand → PromptPoint → List ℕ → PromptPoint → Type 0
+PromptAnswers step signals image first (prompt.Script c) p text q = ScriptAnswers step signals image c p text q
+PromptAnswers step signals image first (prompt.Next n) p text q = Nexts step signals n p text q
+PromptAnswers step signals image first prompt.Finish p text q = RunsTo step signals (return_address p.at.state) 4294967295 p text q
+PromptAnswers step signals image first (prompt.Until address n) p text q = RunsTo step signals address n p text q
+PromptAnswers step signals image first (prompt.Watch address) p text q =
+    (text ≡ set_text (can_set p.watches address) address) × (q ≡ record p { watches = with_breakpoint p.watches address })
+PromptAnswers step signals image first (prompt.Unwatch address) p text q =
+    (text ≡ cleared_text (is_breakpoint p.watches address) address) × (q ≡ record p { watches = without_breakpoint p.watches address })
+PromptAnswers step signals image first (prompt.Once address) p text q =
+    (text ≡ set_text (can_set p.at.breaks address) address)
+    × (q ≡ with_breaks p (with_breakpoint p.at.breaks address) (with_once p.at.breaks p.once address))
+PromptAnswers step signals image first (prompt.Back n) p text q = Backs step signals first n p text q
+PromptAnswers step signals image first prompt.Help p text q = (text ≡ help_text) × (q ≡ p)
+PromptAnswers step signals image first prompt.Quit p text q = (text ≡ []) × (q ≡ p)

@@ -1,0 +1,251 @@
+//! Sessions at the prompt: commands over a board, answered one by one.
+
+ghost use Rattle.std.specs.Prelude.{◌≡◌, [], IfOk, IfSome, false, Ok, option_map, Some, string_bytes};
+ghost use Rattle.c25_board.specs.Board.{entries, signals, state, steps};
+ghost use Rattle.c25_meaning_processor.specs.Signals.{signals_of};
+ghost use Rattle.c25_meaning_processor.specs.WordStep.{WordStep};
+ghost use Rattle.c25_prompt.specs.Help.{help_text};
+ghost use Rattle.c25_prompt.specs.Point.{point_of};
+ghost use Rattle.c25_meaning_debugger.specs.Texts.{set_text};
+ghost use Rattle.c25_meaning_processor.specs.Set.{can_set, with_breakpoint};
+ghost use Rattle.c25_prompt.specs.Prompt.{PromptAnswers, return_address, with_once};
+ghost use Rattle.c25_prompt_lines.specs.Addresses.{program_view};
+ghost use Rattle.c25_prompt.specs.Session.{IsOnRun, LineAnswers, ReadAnswers, here};
+ghost use Rattle.c25_prompt_lines.specs.Commands.{command_of};
+ghost use Rattle.c25_prompt.specs.Each.{is_quit};
+ghost use Rattle.c25_meaning_linking.specs.Linking.{line_at};
+ghost use Rattle.c25_prompt_lines.specs.WithinMemory.{IsWithinPrompt};
+ghost use Rattle.c25_prompt_lines.specs.Wrong.{wrong_line};
+
+use crate::going::PromptBoard;
+use crate::laws::commands_stay_on_the_run;
+use crate::over::answer_next;
+use crate::running::answer_until;
+use crate::script::answer_script;
+use crate::start::{Start, answer_back};
+use crate::stops::Stops;
+use c25_debug::breakpoints::{answer_cleared, answer_set};
+use c25_debug::steps::{Answer, shown};
+use c25_link::Image;
+use c25_meaning_common::no_memory::NoMemory;
+use c25_prompt_lines::command::{PromptCommand, Wrong};
+use c25_prompt_lines::line::{Read, command_of};
+use c25_prompt_lines::program::Program;
+use c25_texts::appending::push_texts;
+use std::alloc::Global;
+
+/// The text that shows the commands.
+const HELP: &str =
+    "step N, run N, next [N], finish, until A [N], back N; break A, tbreak A, clear A; watch A, unwatch A; regs, stack, where, list N, symbols, data A N, prog A N; help, quit\nA is a number of one to four hexadecimal digits, NAME, SOURCE:NAME or FILE:LINE, the last three also with +WORDS; N is a decimal number.\n";
+
+/// The answer to `tbreak`: a breakpoint that is cleared when it is met. One that is set already is kept.
+fn answer_once(alloc: Global, stops: &mut Stops, address: u16) -> Result<Answer, NoMemory>
+    ensures text { IfOk result (λ answer. string_bytes answer.text ≡ set_text (can_set stops.old.breakpoints address) address) }
+    ensures breakpoints { IfOk result (λ answer. stops.new.breakpoints ≡ with_breakpoint stops.old.breakpoints address) }
+    ensures once { IfOk result (λ answer. stops.new.once ≡ with_once stops.old.breakpoints stops.old.once address) }
+    ensures watches { stops.new.watches ≡ stops.old.watches }
+{
+    if !stops.breakpoints.contains(address) && stops.can_set(address) {
+        stops.once.set(address);
+    }
+    answer_set(alloc, &mut stops.breakpoints, address)
+}
+
+/// The answer to `help`.
+#[tactic(auto, unfolding(crate::specs::Help::help_text))]
+fn answer_help(alloc: Global) -> Result<Answer, NoMemory>
+    ensures { IfOk result (λ answer. string_bytes answer.text ≡ help_text) }
+{
+    let mut text = String::new(alloc);
+    text.push_str(HELP)?;
+    Ok(shown(text))
+}
+
+/// The address to which this call returns: that on the top of the stack.
+fn return_address(board: &PromptBoard) -> u16
+    ensures { result ≡ return_address (state board.now) }
+{
+    board.regs().stack[0]
+}
+
+/// The line that says why a line is invalid.
+fn answer_wrong(alloc: Global, wrong: Wrong) -> Result<Answer, NoMemory>
+    ensures { IfOk result (λ answer. string_bytes answer.text ≡ wrong_line wrong) }
+{
+    let mut text = String::new(alloc);
+    push_texts(&mut text, &["? ", wrong.text(), "\n"])?;
+    Ok(shown(text))
+}
+
+/// No answer.
+fn answer_nothing(alloc: Global) -> Answer
+    ensures { string_bytes result.text ≡ [] }
+{
+    shown(String::new(alloc))
+}
+
+/// The answer to a line, and whether it ends the session.
+#[derive(Drop)]
+pub struct Reply {
+    pub text: String,
+    pub is_last: bool,
+}
+
+/// An answer that does not end the session.
+fn not_last(answer: Answer) -> Reply
+    ensures text { string_bytes result.text ≡ string_bytes answer.text }
+    ensures last { result.is_last ≡ false }
+{
+    Reply {
+        text: answer.text,
+        is_last: false,
+    }
+}
+
+/// The file of the instruction at an address, if it is known.
+fn file_at(image: &Image, address: u16) -> Option<&str>
+    ensures { option_map (λ s. s.now) result ≡ option_map (λ r. r.0) (line_at address image.now.lines) }
+{
+    match image.line_of(address) {
+        Some((file, _)) => Some(file),
+        None => None,
+    }
+}
+
+/// A session at the prompt: a board that runs a program from its first state on, and where its runs stop.
+#[derive(Drop)]
+pub struct Prompt<'a, B: Start> {
+    alloc: Global,
+    program: Program<'a>,
+    start: &'a B,
+    board: PromptBoard,
+    stops: Stops,
+}
+
+impl<'a, B: Start> Prompt<'a, B> {
+    /// A session at the first state of a run, without breakpoints and watches.
+    pub fn new(alloc: Global, program: Program<'a>, start: &'a B) -> Result<Self, NoMemory>
+        ensures program { IfOk result (λ prompt. prompt.program ≡ program.entry) }
+        ensures start { IfOk result (λ prompt. prompt.start ≡ start.entry) }
+        ensures state { IfOk result (λ prompt. state prompt.board ≡ B.first start.entry.now) }
+        ensures steps { IfOk result (λ prompt. steps prompt.board ≡ 0) }
+        ensures schedule { IfOk result (λ prompt. entries prompt.board ≡ B.schedule start.entry.now) }
+        ensures breakpoints { IfOk result (λ prompt. prompt.stops.breakpoints ≡ []) }
+        ensures once { IfOk result (λ prompt. prompt.stops.once ≡ []) }
+        ensures watches { IfOk result (λ prompt. prompt.stops.watches ≡ []) }
+    {
+        let board = start.board()?;
+        Ok(Prompt {
+            alloc,
+            program,
+            start,
+            board,
+            stops: Stops::new(),
+        })
+    }
+
+    /// Does what a command asks for, and gives its answer.
+    fn answer(&mut self, command: &PromptCommand) -> Result<Answer, NoMemory>
+        requires within { IsWithinPrompt command.now }
+        requires reached { IsOnRun (B.schedule self.old.start.now) (B.first self.old.start.now) (entries self.old.board) (steps self.old.board) (state self.old.board) }
+        ensures answer { IfOk result (λ answer. PromptAnswers WordStep (signals self.old.board) self.old.program.image.now (B.first self.old.start.now) command.now
+            (point_of self.old.board self.old.stops) (string_bytes answer.text) (point_of self.new.board self.new.stops)) }
+        ensures program { self.new.program ≡ self.old.program }
+        ensures start { self.new.start ≡ self.old.start }
+        ensures schedule { IfOk result (λ answer. entries self.new.board ≡ entries self.old.board) }
+    {
+        let (alloc, image, start) = (self.alloc, self.program.image, self.start);
+        match command {
+            PromptCommand::Script(command) => {
+                answer_script(alloc, image, &mut self.board, &mut self.stops, command)
+            }
+            PromptCommand::Next(n) => answer_next(alloc, &mut self.board, *n, &mut self.stops),
+            PromptCommand::Finish => {
+                let address = return_address(&self.board);
+                answer_until(alloc, &mut self.board, address, u32::MAX, &mut self.stops)
+            }
+            PromptCommand::Until { address, count } => {
+                answer_until(alloc, &mut self.board, *address, *count, &mut self.stops)
+            }
+            PromptCommand::Watch(address) => answer_set(alloc, &mut self.stops.watches, *address),
+            PromptCommand::Unwatch(address) => {
+                answer_cleared(alloc, &mut self.stops.watches, *address)
+            }
+            PromptCommand::Once(address) => answer_once(alloc, &mut self.stops, *address),
+            PromptCommand::Back(n) => answer_back(alloc, start, &mut self.board, *n),
+            PromptCommand::Help => answer_help(alloc),
+            PromptCommand::Quit => Ok(answer_nothing(alloc)),
+        }
+    }
+
+    /// Does what a command asks for, and answers its text. `NoMemory` where memory ran out for the answer, for
+    /// an output or for the way back; the session is at its end then.
+    pub fn command(&mut self, command: &PromptCommand) -> Result<String, NoMemory>
+        requires within { IsWithinPrompt command.now }
+        requires reached { IsOnRun (B.schedule self.old.start.now) (B.first self.old.start.now) (entries self.old.board) (steps self.old.board) (state self.old.board) }
+        ensures answer { IfOk result (λ text. PromptAnswers WordStep (signals_of (B.schedule self.old.start.now)) self.old.program.image.now (B.first self.old.start.now) command.now
+            (point_of self.old.board self.old.stops) (string_bytes text) (point_of self.new.board self.new.stops)) }
+        ensures reached { IfOk result (λ text. IsOnRun (B.schedule self.old.start.now) (B.first self.old.start.now) (entries self.new.board) (steps self.new.board) (state self.new.board)) }
+        ensures program { self.new.program ≡ self.old.program }
+        ensures start { self.new.start ≡ self.old.start }
+    {
+        commands_stay_on_the_run();
+        let answer = self.answer(command)?;
+        Ok(answer.text)
+    }
+
+    /// The allocator of the session.
+    pub(crate) fn alloc(&self) -> Global {
+        self.alloc
+    }
+
+    /// The answer to a command that was read, and whether it ends the session.
+    fn reply(&mut self, command: &PromptCommand) -> Result<Reply, NoMemory>
+        requires within { IsWithinPrompt command.now }
+        requires reached { IsOnRun (B.schedule self.old.start.now) (B.first self.old.start.now) (entries self.old.board) (steps self.old.board) (state self.old.board) }
+        ensures answer { IfOk result (λ reply. PromptAnswers WordStep (signals_of (B.schedule self.old.start.now)) self.old.program.image.now (B.first self.old.start.now) command.now
+            (point_of self.old.board self.old.stops) (string_bytes reply.text) (point_of self.new.board self.new.stops)) }
+        ensures last { IfOk result (λ reply. reply.is_last ≡ is_quit (Ok (Some command.now))) }
+        ensures reached { IfOk result (λ reply. IsOnRun (B.schedule self.old.start.now) (B.first self.old.start.now) (entries self.new.board) (steps self.new.board) (state self.new.board)) }
+        ensures program { self.new.program ≡ self.old.program }
+        ensures start { self.new.start ≡ self.old.start }
+    {
+        let text = self.command(command)?;
+        let is_last = matches!(command, PromptCommand::Quit);
+        Ok(Reply { text, is_last })
+    }
+
+    /// Answers what a line was read as: it does what its command asks for, or says why it is wrong.
+    fn answer_read(&mut self, read: Read) -> Result<Reply, NoMemory>
+        requires within { IfOk read (λ c. IfSome c (λ d. IsWithinPrompt d)) }
+        requires reached { IsOnRun (B.schedule self.old.start.now) (B.first self.old.start.now) (entries self.old.board) (steps self.old.board) (state self.old.board) }
+        ensures answer { IfOk result (λ reply. ReadAnswers WordStep (signals_of (B.schedule self.old.start.now)) (program_view self.old.program) (B.first self.old.start.now) read
+            (point_of self.old.board self.old.stops) (string_bytes reply.text) (point_of self.new.board self.new.stops)) }
+        ensures last { IfOk result (λ reply. reply.is_last ≡ is_quit read) }
+        ensures reached { IfOk result (λ reply. IsOnRun (B.schedule self.old.start.now) (B.first self.old.start.now) (entries self.new.board) (steps self.new.board) (state self.new.board)) }
+        ensures program { self.new.program ≡ self.old.program }
+        ensures start { self.new.start ≡ self.old.start }
+    {
+        match read {
+            Ok(Some(command)) => self.reply(&command),
+            Ok(None) => Ok(not_last(answer_nothing(self.alloc))),
+            Err(wrong) => Ok(not_last(answer_wrong(self.alloc, wrong)?)),
+        }
+    }
+
+    /// Answers a line: it does what its command asks for, or says why it is wrong.
+    pub fn line(&mut self, line: &[u8]) -> Result<Reply, NoMemory>
+        requires reached { IsOnRun (B.schedule self.old.start.now) (B.first self.old.start.now) (entries self.old.board) (steps self.old.board) (state self.old.board) }
+        ensures answer { IfOk result (λ reply. LineAnswers WordStep (signals_of (B.schedule self.old.start.now)) (program_view self.old.program) (B.first self.old.start.now) line.now
+            (point_of self.old.board self.old.stops) (string_bytes reply.text) (point_of self.new.board self.new.stops)) }
+        ensures last { IfOk result (λ reply. reply.is_last ≡ is_quit (command_of (program_view self.old.program) (here (program_view self.old.program) (point_of self.old.board self.old.stops)) line.now)) }
+        ensures reached { IfOk result (λ reply. IsOnRun (B.schedule self.old.start.now) (B.first self.old.start.now) (entries self.new.board) (steps self.new.board) (state self.new.board)) }
+        ensures program { self.new.program ≡ self.old.program }
+        ensures start { self.new.start ≡ self.old.start }
+    {
+        let program = self.program;
+        let here = file_at(program.image, self.board.pc());
+        let read = command_of(self.alloc, &program, here, line)?;
+        self.answer_read(read)
+    }
+}

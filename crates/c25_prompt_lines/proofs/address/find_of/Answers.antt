@@ -1,0 +1,12 @@
+use Rattle.std.proofs.Common.{rules, tests}
+use Rattle.std.proofs.lemmas.Iterator.{YieldsList-from_slice}
+use Rattle.std.proofs.lemmas.Iterator.Search.{find_from_yields_List}
+use Rattle.c25_symbols.specs.View.{entry_view}
+use Rattle.c25_prompt_lines.specs.Addresses.{is_of}
+use Rattle.c25_prompt_lines.proofs.Found.{viewed}
+use Rattle.c25_prompt_lines.proofs.address.find_of.Goals as goal
+
+pub returns : goal.returns
+returns c =
+    viewed (is_of c.args.source.now c.args.name.now) _ c.find.result
+    (find_from_yields_List (λ y. is_of c.args.source.now c.args.name.now (entry_view y)) _ _ c.find.result c.find.ensures.ran (YieldsList-from_slice _ c.iter.ensures.rest) (λ x b q k. search (rules, tests)))

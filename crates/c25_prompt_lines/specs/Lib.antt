@@ -1,0 +1,5 @@
+-- Lines at the prompt, and the commands that they are.
+pub mod Addresses
+pub mod Commands
+pub mod WithinMemory
+pub mod Wrong

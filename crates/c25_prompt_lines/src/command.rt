@@ -1,0 +1,70 @@
+//! The commands at the prompt, and why a line is invalid.
+
+ghost use Rattle.std.specs.Prelude.{◌≡◌};
+ghost use Rattle.c25_prompt_lines.specs.Wrong.{wrong_text};
+
+use c25_meaning_processor::script::Cmd;
+
+/// A command at the prompt.
+#[derive(Clone, Copy)]
+pub enum PromptCommand {
+    /// A command of a script.
+    Script(Cmd),
+    /// Do so many steps, each over the whole of a routine that it calls.
+    Next(u32),
+    /// Run to the return of this call.
+    Finish,
+    /// Run so many steps at most, with a breakpoint at a program address that is not kept.
+    Until { address: u16, count: u32 },
+    /// Let runs stop after a step that changes the word at a data address.
+    Watch(u16),
+    /// Watch a data address no longer.
+    Unwatch(u16),
+    /// Set a breakpoint that is cleared when it is met.
+    Once(u16),
+    /// Go to the point that was so many steps before.
+    Back(u32),
+    /// Show the commands.
+    Help,
+    /// End the session.
+    Quit,
+}
+
+/// Why a line is invalid.
+#[derive(Clone, Copy, PartialEq, Debug)]
+pub enum Wrong {
+    /// There is no command of this name.
+    NoCommand,
+    /// The command has other operands.
+    Operands,
+    /// A count is not a decimal number, or is too large.
+    Count,
+    /// The program has no symbol of this name.
+    NoName,
+    /// Several sources have a symbol of this name.
+    SeveralNames,
+    /// No instruction begins at this line of a source.
+    NoLine,
+    /// The number is too large for an address.
+    TooFar,
+    /// Some of the words are not in the memory.
+    Outside,
+}
+
+impl Wrong {
+    /// The reason in words.
+    pub fn text(&self) -> &'static str
+        ensures { result.now ≡ wrong_text self.now }
+    {
+        match self {
+            Wrong::NoCommand => "no command has this name: `help` shows those that there are",
+            Wrong::Operands => "this command has other operands: `help` shows them",
+            Wrong::Count => "a count is a decimal number, at most 4294967295",
+            Wrong::NoName => "the program has no symbol of this name",
+            Wrong::SeveralNames => "several sources have a symbol of this name: write SOURCE:NAME",
+            Wrong::NoLine => "no instruction begins at this line",
+            Wrong::TooFar => "an address is at most FFFF",
+            Wrong::Outside => "the memory ends before the last of these words",
+        }
+    }
+}

@@ -1,0 +1,65 @@
+//! The names of commands.
+
+ghost use Rattle.std.specs.Prelude.{◌≡◌};
+ghost use Rattle.c25_prompt_lines.specs.Commands.{verb_of};
+
+use c25_texts::is_word;
+
+/// What a command does, by its name.
+#[derive(Clone, Copy)]
+pub(crate) enum Verb {
+    Step,
+    Run,
+    Break,
+    Clear,
+    Regs,
+    Data,
+    Prog,
+    Stack,
+    Where,
+    List,
+    Symbols,
+    Next,
+    Finish,
+    Until,
+    Watch,
+    Unwatch,
+    Once,
+    Back,
+    Help,
+    Quit,
+}
+
+/// The commands by their names.
+static VERBS: [(&str, Verb); 20] = [
+    ("step", Verb::Step),
+    ("run", Verb::Run),
+    ("break", Verb::Break),
+    ("clear", Verb::Clear),
+    ("regs", Verb::Regs),
+    ("data", Verb::Data),
+    ("prog", Verb::Prog),
+    ("stack", Verb::Stack),
+    ("where", Verb::Where),
+    ("list", Verb::List),
+    ("symbols", Verb::Symbols),
+    ("next", Verb::Next),
+    ("finish", Verb::Finish),
+    ("until", Verb::Until),
+    ("watch", Verb::Watch),
+    ("unwatch", Verb::Unwatch),
+    ("tbreak", Verb::Once),
+    ("back", Verb::Back),
+    ("help", Verb::Help),
+    ("quit", Verb::Quit),
+];
+
+/// What the command of a name does, its letters in either case. None where there is no command of this name.
+pub(crate) fn verb_of(word: &[u8]) -> Option<Verb>
+    ensures { result ≡ verb_of word.now }
+{
+    match VERBS.iter().find(|(name, _)| is_word(word, name)) {
+        Some((_, verb)) => Some(*verb),
+        None => None,
+    }
+}

@@ -1,0 +1,5 @@
+-- Sources on a disk, debugged at the prompt.
+pub mod Debugged
+pub mod Prompting
+pub mod View
+pub mod Unread

@@ -1,0 +1,4 @@
+mod Ended
+mod Found
+mod Stood
+mod Taken
