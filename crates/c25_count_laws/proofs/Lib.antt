@@ -1,0 +1,5 @@
+pub mod OneCount
+pub mod Alike
+pub mod Sums
+pub mod Acting
+pub mod AllSteps

@@ -1,0 +1,3 @@
+pub mod LinesReserve
+pub mod ReservedInModules
+pub mod Reserving

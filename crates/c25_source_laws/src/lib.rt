@@ -1,0 +1,4 @@
+//! Laws of what sources reserve, each the contract of a function with an empty body.
+#![tactic(auto)]
+
+pub mod reservation_laws;
