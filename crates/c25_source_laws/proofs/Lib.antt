@@ -1,3 +1,5 @@
+pub mod BlocksPlaced
 pub mod LinesReserve
+pub mod ReservedApart
 pub mod ReservedInModules
 pub mod Reserving

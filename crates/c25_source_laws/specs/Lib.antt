@@ -1,1 +1,2 @@
+pub mod LinkedReservations
 pub mod Reservations
