@@ -1,5 +1,5 @@
 -- The task `run`, and the run of a source on standard input.
-use Rattle.std.specs.Prelude.{◌≡◌, ◌⊎◌, ℕ, Bool, true, false, List, [], ◌∷◌, ◌++◌, codes, Option, Result, Ok}
+use Rattle.std.specs.Prelude.{◌≡◌, ◌⊎◌, ℕ, Bool, true, false, List, [], ◌∷◌, ◌++◌, codes, Option, Some, None, Result, Ok}
 use Rattle.c25_chain.specs.Chain.{Given, given_of}
 use Rattle.c25_chain.specs.Ready.{IsReady, Readies}
 use Rattle.c25_chain.specs.Refusal.{Fault}
@@ -10,12 +10,16 @@ use Rattle.c25_meaning_expansion.specs.Files.{Files}
 use Rattle.c25_report.specs.declared.ending.Ending.{Ending}
 use Rattle.c25_options.specs.Task.{text_of}
 use Rattle.c25_options.specs.declared.task.RunFiles.{RunFiles}
-use Rattle.c25_inputs.specs.Files.{AfterOptional, AfterSources, ComesTo, FailsWith, IsOptional, IsUnread, ReadsAll}
+use Rattle.c25_inputs.specs.Files.{AfterOptional, AfterSources, ComesTo, FailsWith, IsOptional, IsUnread, ReadsAll, SourceNames, assembled_in}
+use Rattle.c25_meaning_processor.specs.declared.stop.Stop.{Stop}
 use Rattle.c25_run.specs.declared.run.LeftAt.{LeftAt}
 use Rattle.c25_run_ends.specs.EndNote.{ExplainsEnd}
 use Rattle.c25_tasks.specs.Tells.{LeavesAnswer, Printed, PrintsGiven, TellsRun}
 use Rattle.c25_explain.specs.declared.notes.Notes.{Notes}
+use Rattle.c25_source_notes.specs.declared.notes.SourceNotes.{SourceNotes}
 use Rattle.c25_explain.specs.declared.notes.Notes.TheVariants.{After, Nothing}
+use Rattle.c25_source_notes.specs.declared.notes.SourceNotes.TheVariants.{Plain, Defined}
+use Rattle.c25_unused_inputs.specs.declared.requests.RunEnd.{RunEnd}
 
 -- ---- sources on a disk
 
@@ -26,66 +30,85 @@ ReadiesOver held given names command samples schedule answer =
     ComesTo held given (λ all result. Readies (given_of all names command samples schedule) result) answer
 
 -- the program with its inputs of files on a disk, which are read in this order
-abbrev pub ReadiesFrom : Held → List (List ℕ) → RunFiles → Result Ready Fault → Type 0
-ReadiesFrom held names files answer =
-    AfterSources held names (λ given.
+abbrev pub ReadiesFrom : Held → SourceNames → RunFiles → Result Ready Fault → Type 0
+ReadiesFrom held sources files answer =
+    AfterSources held sources (λ given.
     AfterOptional held (text_of files.command) (λ command.
     AfterOptional held (text_of files.samples) (λ samples.
-    AfterOptional held (text_of files.schedule) (ReadiesOver held given names command samples)))) answer
+    AfterOptional held (text_of files.schedule) (ReadiesOver held given (assembled_in sources) command samples)))) answer
 
--- what the chain is given: the named sources and the files that they copy, and the texts of the other files
-pub record IsGivenFrom (held : Held) (names : List (List ℕ)) (files : RunFiles) (given : Given) : Type 0 where
+-- what the chain is given: what is assembled for the named sources and the files that they copy, and the texts of the other
+-- files
+pub record IsGivenFrom (held : Held) (sources : SourceNames) (files : RunFiles) (given : Given) : Type 0 where
   pub named : Files
-  pub read : ReadsAll held names (Ok named)
+  pub read : ReadsAll held sources (Ok named)
   pub copied : HasCopied held named 256 given.files
-  pub sources : given.sources ≡ names
+  pub names : given.sources ≡ assembled_in sources
   pub command : IsOptional held (text_of files.command) given.command
   pub samples : IsOptional held (text_of files.samples) given.samples
   pub schedule : IsOptional held (text_of files.schedule) given.schedule
 
 -- the named sources are run and printed, or why they are not is reported
-abbrev pub RunsAlone : Held → Notes → List (List ℕ) → ℕ → (regs : Bool) → RunFiles → Ending → (note : List ℕ) → Printed → Type 0
-RunsAlone held notes names steps regs files e note out =
-    ((answer : Result Ready Fault) × ReadiesFrom held names files answer × TellsRun held notes steps regs answer e note out)
-    × PrintsGiven (IsGivenFrom held names files) steps regs e note out
+abbrev pub RunsAlone : Held → SourceNotes → SourceNames → ℕ → (regs : Bool) → RunFiles → Ending → (note : List ℕ) → Printed → Type 0
+RunsAlone held notes sources steps regs files e note out =
+    ((answer : Result Ready Fault) × ReadiesFrom held sources files answer × TellsRun held notes steps regs answer e note out)
+    × PrintsGiven (IsGivenFrom held sources files) steps regs e note out
 
--- ---- why a run left the code
+-- ---- how a run ended
 
 -- a run of so many steps of the named sources left the code in this step, for this reason
-abbrev pub HasLeft : Held → List (List ℕ) → ℕ → RunFiles → LeftAt → Type 0
-HasLeft held names steps files left = (answer : Result Ready Fault) × ReadiesFrom held names files answer × LeavesAnswer steps answer left
+abbrev pub HasLeft : Held → SourceNames → ℕ → RunFiles → LeftAt → Type 0
+HasLeft held sources steps files left = (answer : Result Ready Fault) × ReadiesFrom held sources files answer × LeavesAnswer steps answer left
 
--- why a run of the named sources left the code in this step, for this reason
-pub record IsWhyLeft (held : Held) (names : List (List ℕ)) (files : RunFiles) (left : LeftAt) (why : List ℕ) : Type 0 where
+-- so many steps of the named sources are all, or they are those before the one that left the code
+abbrev pub EndsAfter : Held → SourceNames → ℕ → RunFiles → (done : ℕ) → Option Stop → Type 0
+EndsAfter held sources steps files done None = done ≡ steps
+EndsAfter held sources steps files done (Some stop) = HasLeft held sources steps files (record { step = done; stop = stop })
+
+-- a run of so many steps of the named sources ended so
+abbrev pub HasEnded : Held → SourceNames → ℕ → RunFiles → RunEnd → Type 0
+HasEnded held sources steps files end = EndsAfter held sources steps files end.steps end.stop
+
+-- how a run of so many steps ended, by where it left the code, if it did
+abbrev pub IsEndOf : Option LeftAt → ℕ → RunEnd → Type 0
+IsEndOf (Some left) steps end = end ≡ record { steps = left.step; stop = Some left.stop }
+IsEndOf None steps end = end ≡ record { steps = steps; stop = None }
+
+-- what is said of the end of a run of the named sources
+pub record IsWhyEnded (held : Held) (sources : SourceNames) (files : RunFiles) (end : RunEnd) (why : List ℕ) : Type 0 where
   pub given : Given
-  pub is_given : IsGivenFrom held names files given
+  pub is_given : IsGivenFrom held sources files given
   pub ready : Ready
   pub is_ready : IsReady given ready
   pub samples : List ℕ
   pub read : IsOptional held (text_of files.samples) samples
-  pub explains : ExplainsEnd ready samples left.step left.stop why
+  pub explains : ExplainsEnd ready samples end why
 
--- a note is another one, and after it why a run left the code
-abbrev pub HasWhy : Held → List (List ℕ) → ℕ → RunFiles → (front note : List ℕ) → Type 0
-HasWhy held names steps files front note =
-    (left : LeftAt) × HasLeft held names steps files left × ((why : List ℕ) × IsWhyLeft held names files left why × (note ≡ front ++ why))
+-- a note is another one, and after it what is said of the end of the run
+abbrev pub HasWhy : Held → SourceNames → ℕ → RunFiles → (front note : List ℕ) → Type 0
+HasWhy held sources steps files front note =
+    (end : RunEnd) × HasEnded held sources steps files end × ((why : List ℕ) × IsWhyEnded held sources files end why × (note ≡ front ++ why))
 
 -- whether an explanation is asked for
-abbrev pub is_explained : Notes → Bool
-is_explained Nothing = false
-is_explained (After options named) = options.explain
+abbrev pub is_explained_in : Notes → Bool
+is_explained_in Nothing = false
+is_explained_in (After options named) = options.explain
 
--- a note is another one; where an explanation is asked for and the run left the code, why it did stands after that, unless memory
--- runs out
-abbrev pub IsExplainedEnd : Held → (explain : Bool) → List (List ℕ) → ℕ → RunFiles → (front note : List ℕ) → Type 0
-IsExplainedEnd held false names steps files front note = note ≡ front
-IsExplainedEnd held true names steps files front note = (note ≡ front) ⊎ HasWhy held names steps files front note
+abbrev pub is_explained : SourceNotes → Bool
+is_explained (Plain notes) = is_explained_in notes
+is_explained (Defined notes definitions) = is_explained_in notes
+
+-- a note is another one; where an explanation is asked for, what is said of the end of the run stands after that, unless the run was
+-- not printed to its end, or memory runs out
+abbrev pub IsExplainedEnd : Held → (explain : Bool) → SourceNames → ℕ → RunFiles → (front note : List ℕ) → Type 0
+IsExplainedEnd held false sources steps files front note = note ≡ front
+IsExplainedEnd held true sources steps files front note = (note ≡ front) ⊎ HasWhy held sources steps files front note
 
 -- the named sources are run and printed, or why they are not is reported; after that, where an explanation is
--- asked for, why the run left the code
-abbrev pub RunsTold : Held → Notes → List (List ℕ) → ℕ → (regs : Bool) → RunFiles → Ending → (note : List ℕ) → Printed → Type 0
-RunsTold held notes names steps regs files e note out =
-    (front : List ℕ) × RunsAlone held notes names steps regs files e front out × IsExplainedEnd held (is_explained notes) names steps files front note
+-- asked for, what is said of the end of the run
+abbrev pub RunsTold : Held → SourceNotes → SourceNames → ℕ → (regs : Bool) → RunFiles → Ending → (note : List ℕ) → Printed → Type 0
+RunsTold held notes sources steps regs files e note out =
+    (front : List ℕ) × RunsAlone held notes sources steps regs files e front out × IsExplainedEnd held (is_explained notes) sources steps files front note
 
 -- ---- standard input
 
@@ -111,5 +134,5 @@ pub record IsGivenInput (held : Held) (input : Option (List ℕ)) (given : Given
 -- the source on standard input is run for 1,000 steps and printed, or why it is not is reported
 abbrev pub Runs : Held → Option (List ℕ) → Ending → (note : List ℕ) → Printed → Type 0
 Runs held input e note out =
-    ((answer : Result Ready Fault) × ReadiesInput held input answer × TellsRun held Nothing 1000 false answer e note out)
+    ((answer : Result Ready Fault) × ReadiesInput held input answer × TellsRun held (Plain Nothing) 1000 false answer e note out)
     × PrintsGiven (IsGivenInput held input) 1000 false e note out

@@ -1,17 +1,30 @@
-use Rattle.std.proofs.Common.{◌∙◌, ap}
+use Rattle.std.proofs.Common.{◌∙◌, suc, ap, arith, string_bytes}
 use Rattle.c25_board.specs.Board.{entries, state, steps}
-use Rattle.c25_run_ends.proofs.Stood.{arrived, stopped_then}
 use Rattle.c25_run_ends.specs.Texts.{before_text}
+use Rattle.c25_run_ends.proofs.Stood.{arrived, come_first, stopped_first, stopped_then}
 use Rattle.c25_run_ends.proofs.standing.told_step.Goals as goal
 
-pub returns-then-not-branch-2 : goal.returns-then-not-branch-2
-returns-then-not-branch-2 c =
-    stopped_then c.two_runs_are_one.ensures.words c.args.image.now (entries c.args.board.now) (steps c.args.board.now) c.args.n (state c.args.board.now) c.requires.first
-    (entries c.goes.new.board) (steps c.goes.new.board) (steps c.goes-2.new.board) (state c.goes.new.board) (state c.goes-2.new.board) c.in_ok-goes.ensures.schedule
-    c.in_ok-goes.field-0 c.if-not-branch.false c.in_ok-goes.ensures.goes c.in_ok-goes-2.field-0 c.if-not-branch-2.true c.in_ok-goes-2.ensures.goes
+pub returns-in_default-clause-arrives : goal.returns-in_default-clause-arrives
+returns-in_default-clause-arrives c =
+    λ known.
+    stopped_first (entries c.args.board.now) (steps c.args.board.now) c.args.n (steps c.watched.new.board) (state c.args.board.now) (state c.watched.new.board) c.args.requests c.requires.first known
+    c.in_ok-after.after (suc c.args.n) c.in_default.is (omega arith) c.in_ok-after.ensures.watches
 
-pub returns : goal.returns
-returns c =
-    arrived c.two_runs_are_one.ensures.words c.args.image.now (entries c.args.board.now) (steps c.args.board.now) c.args.n (state c.args.board.now) c.requires.first
-    (entries c.goes.new.board) (steps c.goes.new.board) (steps c.goes-2.new.board) (state c.goes.new.board) (state c.goes-2.new.board) _ _ c.in_ok-goes.ensures.schedule
-    c.in_ok-goes.field-0 c.if-not-branch.false c.in_ok-goes.ensures.goes c.in_ok-goes-2.field-0 c.if-not-branch-2.false c.in_ok-goes-2.ensures.goes c.in_ok-place.ensures (c.in_ok-before.ensures ∙ ap before_text c.as_str.ensures.value)
+pub returns-in_default-last-clause-arrives : goal.returns-in_default-last-clause-arrives
+returns-in_default-last-clause-arrives c =
+    λ known.
+    stopped_then (entries c.args.board.now) (entries c.watched.new.board) c.args.n (steps c.watched.new.board) (steps c.watched-2.new.board) (state c.args.board.now) (state c.watched.new.board) (state c.watched-2.new.board)
+    c.args.requests c.in-Some.requests c.in_ok-after.ensures.schedule
+    (come_first (entries c.args.board.now) (steps c.args.board.now) c.args.n (steps c.watched.new.board) (state c.args.board.now) (state c.watched.new.board) c.args.requests c.requires.first known
+    c.in_ok-after.after c.in-Some.requests c.in-Some.is c.in_ok-after.ensures.watches)
+    c.in_ok-last.last c.in_default-last.is c.in_ok-last.ensures.watches
+
+pub returns-clause-arrives : goal.returns-clause-arrives
+returns-clause-arrives c =
+    λ known.
+    arrived (entries c.args.board.now) (entries c.watched.new.board) c.args.n (steps c.watched.new.board) (steps c.watched-2.new.board) (state c.args.board.now) (state c.watched.new.board) (state c.watched-2.new.board)
+    c.args.requests c.in-Some.requests c.in_ok-after.ensures.schedule
+    (come_first (entries c.args.board.now) (steps c.args.board.now) c.args.n (steps c.watched.new.board) (state c.args.board.now) (state c.watched.new.board) c.args.requests c.requires.first known
+    c.in_ok-after.after c.in-Some.requests c.in-Some.is c.in_ok-after.ensures.watches)
+    c.args.image.now c.in_ok-last.last c.in-Some-last.requests (string_bytes c.in_ok-place.place) (string_bytes c.in_ok-text.text) c.in-Some-last.is c.in_ok-last.ensures.watches
+    c.in_ok-place.ensures (c.in_ok-text.ensures ∙ ap before_text c.as_str.ensures.value)
