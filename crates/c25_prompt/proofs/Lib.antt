@@ -2,11 +2,15 @@ pub mod Alike
 pub mod AlikeTalks
 pub mod BackAgain
 pub mod Conversed
+pub mod Jumped
 pub mod Next
 pub mod OnTheRun
+pub mod OnceMore
 pub mod OneAnswer
 pub mod OneEnd
+pub mod OneStop
 pub mod Restored
+pub mod Rewound
 pub mod Sessions
 pub mod Stepped
 pub mod Went
