@@ -86,10 +86,13 @@ FIRST = {
     "a.asm:2: 26 Defined, 4": (2, "S_0 NOP"),
 }
 
+# For the examples of a name that a macro has already: the line of `a.asm` before that begins a macro of that name.
+BEGUN = {"a.asm:3: 36 Redefined, 1": 1}
+
 # For the examples with a file that is no text or no object, a fault of the command file, of samples, of a schedule or of a script, or a name, a section
 # or a field that linking refuses: what is printed in addition.
 KNOWN = {
-    "a.obj: 8 CannotRead, 1": ["a.obj:1: the first line that is not UTF-8"],
+    "a.obj: 8 CannotRead, 1": ["a.obj: it is an object, which link takes after the command file: name a text here"],
     "a.asm: 40 BadMagic, 1": ["a.asm: it is a text: of a source c25 asm makes an object"],
     "a.s19: 40 BadMagic, 1": [
         "a.s19: it begins as Motorola S-records: srec_cat X.s19 -Motorola -o X.hex -Intel makes a hex text for c25 dis",
@@ -113,12 +116,15 @@ KNOWN = {
     "script:1: 95 BadCommand, 3": ["script:1: after break or clear stands an address alone, one to four hexadecimal digits without h"],
     "script:1: 95 BadCommand, 4": ["script:1: the words go on past FFFF, the last word of the memory"],
     "script:1: 95 BadCommand, 5": ["script:1: there are no comments in samples, schedules and scripts: take it out"],
-    "command:1: 60 Syntax, 1": ["command:1: the text ends here"],
+    "command:1: 60 Syntax, 1": ["command:1: the text ends here", "command:1: a } is missing at the end: the { of line 1 is still open"],
     "command:1: 60 Syntax, 2": ["command:1: column 18: >"],
     "command:1: 60 Syntax, 3": ["command:1: column 22: a.obj"],
     "command:1: 60 Syntax, 4": ["command:1: column 24: .data"],
     "command:1: 60 Syntax, 5": ["command:1: column 34: ="],
-    "command:1: 60 Syntax, 6": ["command:1: column 34: PROG"],
+    "command:1: 60 Syntax, 6": [
+        "command:1: column 34: PROG",
+        "command:1: run = takes a number from 0FF00h on, where block B0 is program memory",
+    ],
     "command:1: 60 Syntax, 7": ["command:1: column 34: >"],
     "command:1: 60 Syntax, 8": ["command:1: column 33: PAGE"],
     "command:1: 60 Syntax, 9": ["command:1: column 25: }"],
@@ -127,7 +133,10 @@ KNOWN = {
     "command:1: 60 Syntax, 12": ["command:1: column 1: a.obj"],
     "command:1: 60 Syntax, 13": ["command:1: column 1: -o"],
     "command:1: 60 Syntax, 14": ["command:1: the text ends here"],
-    "command:4: 60 Syntax, 1": ["command:4: column 1: SECTIONS"],
+    "command:4: 60 Syntax, 1": [
+        "command:4: column 1: SECTIONS",
+        "command:4: a } is missing before SECTIONS: the { of line 2 is still open",
+    ],
     "command:2: 61 RangeOverlap, 1": ["command:2: column 25: 2"],
     "command:1: 62 RangeSize, 1": ["command:1: column 25: 0"],
     "command:1: 62 RangeSize, 2": ["command:1: column 30: 101h"],
@@ -150,18 +159,25 @@ KNOWN = {
         "b.asm: module 1 defines GO",
     ],
     "link:MAIN: 76 NoEntry, 1": ["a.asm:1: MAIN NOP", "a.asm: module 0 defines MAIN without .def MAIN"],
-    "link:.text: 73 DoesNotFit, 1": [".text: 2 words", "P: words 0000 to 0000 of page 0, 1 word"],
+    "link:.text: 73 DoesNotFit, 1": [".text: 2 words", "P: words 0000 to 0000 of page 0, 1 word, 1 free, largest hole 1"],
     "link:.text: 73 DoesNotFit, 2": [
         "command:2: SECTIONS { .text : > 1Fh }",
         ".text: words 001F to 0020 of page 0, 2 words",
-        "P: words 0010 to 001F of page 0, 16 words",
+        "P: words 0010 to 001F of page 0, 16 words, 16 free, largest hole 16",
     ],
     "link:.bss: 73 DoesNotFit, 1": [
         "command:1: SECTIONS { .bss : > 37Fh PAGE 1 }",
         ".bss: words 037F to 0380 of page 1, 2 words",
-        "DATA: words 0300 to FFFF of page 1, 64768 words",
+        "DATA: words 0300 to FFFF of page 1, 64768 words, 64768 free, largest hole 64768",
+        ".bss: its block of 2 words at offset 0 crosses a page of 128 words at that address",
+        ".bss HOLE,1 before that block would keep it inside one page",
     ],
-    "link:.bss: 73 DoesNotFit, 2": [".bss: 300 words", "DATA: words 0300 to FFFF of page 1, 64768 words"],
+    "link:.bss: 73 DoesNotFit, 2": [
+        ".bss: 300 words",
+        "DATA: words 0300 to FFFF of page 1, 64768 words, 64768 free, largest hole 64768",
+        ".bss: its block of 100 words at offset 200 crosses a page of 128 words wherever the section may stand",
+        ".bss HOLE,28 before that block would keep it inside one page",
+    ],
     "link:b: 74 Overlap, 1": ["command:2:            b : > 1 }", "b: words 0001 to 0001 of page 0", ".text: words 0000 to 0001 of page 0"],
     "link:.text: 72 NoRange, 1": ["command:1: SECTIONS { .text : > ROM }", "command: .text is to stand in ROM, and no range has this name"],
     "link:.text: 72 NoRange, 2": ["command: .text is to stand on page 0, which has no range"],
@@ -237,6 +253,8 @@ class Folder:
         for option, value in zip(words, words[1:]):
             if option in ("--obj", "--list", "--symbols"):
                 self.made.add(value)
+            elif option == "--rom":
+                self.made.update("%s.%s" % (words[words.index("--out") + 1], end) for end in ["hi.bin", "lo.bin", "bin"])
             elif option == "--out":
                 listings = ["%d.lst" % number for number in range(1, len(words))] if words[1] == "build" else []
                 self.made.update("%s.%s" % (value, end) for end in ["p0.hex", "p1.hex", "map"] + listings)
@@ -253,6 +271,8 @@ class Folder:
             self.run(first, [] if then.startswith(OTHERS) else shown)
             if status:
                 self.run(then, status)
+        elif command.startswith("od ") and command.endswith(".bin"):
+            self.run(command, shown)
         elif command.startswith("od "):
             # (for a command that cuts it; the program writes it)
             with open(os.path.join(self.path, command.split()[-1]), "wb") as file:
@@ -421,6 +441,11 @@ def opened(files, name):
     return "  open: a.asm:%d: %s\n" % (OPEN[name], files["a.asm"][OPEN[name] - 1])
 
 
+def begun(files, name):
+    """The line that begins a macro of the same name as the line of an example's fault."""
+    return "  macro: a.asm:%d: %s\n" % (BEGUN[name], files["a.asm"][BEGUN[name] - 1]) if name in BEGUN else ""
+
+
 def first_defined(name):
     """The line that shows where the name of an example's fault was defined first."""
     return "  first: a.asm:%d: %s\n" % FIRST[name] if name in FIRST else ""
@@ -440,8 +465,8 @@ def marked(number, part):
 
 def note_of(files, name, told, part):
     """What `--explain` prints for an example's fault: its line, where the file has it, or that the file cannot be opened; the part of
-    the line that is refused, the block that is open or where the name was defined first, what led to the line or is printed in addition;
-    and what the fault means."""
+    the line that is refused, the block that is open, the line that begins a macro of the same name or where the name was defined first, what
+    led to the line or is printed in addition; and what the fault means."""
     place, fault = told.rsplit(": ", 1)
     file, _, number = place.rpartition(":")
     lines, shown = files.get(file, []), ""
@@ -451,7 +476,7 @@ def note_of(files, name, told, part):
         shown = "%s: it cannot be opened\n" % place
     if part is not None:
         shown += marked(number, part)
-    return shown + opened(files, name) + first_defined(name) + led(files, name) + beside(name) + notes()[fault.split()[0]]
+    return shown + opened(files, name) + begun(files, name) + first_defined(name) + led(files, name) + beside(name) + notes()[fault.split()[0]]
 
 
 def packed_case(name, files, words, told, note=""):

@@ -6,6 +6,7 @@ pub mod Sentence
 pub mod Note
 pub mod AllFaults
 pub mod Details
+pub mod CommandNotes
 pub mod LinkNotes
 pub mod Again
 pub mod SiteView
@@ -13,5 +14,6 @@ pub mod Notes
 pub mod OpenBlocks
 pub mod Places
 pub mod Refusals
+pub mod TakenNames
 pub mod Trails
 pub mod Unfits

@@ -4,6 +4,7 @@
 mod again;
 mod all_faults;
 mod command_file;
+mod command_notes;
 mod expansion;
 pub mod explanation;
 pub mod fault;
@@ -35,7 +36,9 @@ mod sentence;
 mod source_lines;
 mod standing;
 pub mod summaries;
+mod taken_names;
 mod texts;
 mod trails;
+mod unfit_texts;
 mod unfits;
 mod written_texts;

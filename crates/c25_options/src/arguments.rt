@@ -73,6 +73,15 @@ pub(crate) fn definitions<'a>(alloc: Global) -> Arg<'a>
     repeated(alloc, "define", 'D', help).value_name("NAME=VALUE")
 }
 
+/// The option `--include FOLDER` or `-I FOLDER`, which may be given several times.
+pub(crate) fn folders<'a>(alloc: Global) -> Arg<'a>
+    ensures rule { rule_of result ≡ repeated_rule (codes "include") 73 }
+    ensures local { result.global ≡ false }
+{
+    let help = "A folder in which copied files are looked for";
+    repeated(alloc, "include", 'I', help).value_name("FOLDER")
+}
+
 /// The option `--command FILE`, the linker's command file.
 pub(crate) fn command_file<'a>(alloc: Global) -> Arg<'a>
     ensures rule { rule_of result ≡ option_rule (codes "command") }
@@ -109,6 +118,25 @@ pub(crate) fn first_address<'a>(alloc: Global, help: &'a str) -> Arg<'a>
     ensures local { result.global ≡ false }
 {
     option(alloc, "from", help).value_name("ADDRESS")
+}
+
+/// The option `--rom SIZE`.
+pub(crate) fn rom_size<'a>(alloc: Global) -> Arg<'a>
+    ensures rule { rule_of result ≡ option_rule (codes "rom") }
+    ensures local { result.global ≡ false }
+{
+    let help =
+        "The words of the EPROMs, 1 to 10000 in hexadecimal; 16:SIZE or 16low:SIZE for one file of both bytes";
+    option(alloc, "rom", help).value_name("SIZE")
+}
+
+/// The option `--fill WORD`.
+pub(crate) fn fill_word<'a>(alloc: Global) -> Arg<'a>
+    ensures rule { rule_of result ≡ option_rule (codes "fill") }
+    ensures local { result.global ≡ false }
+{
+    let help = "The word in the EPROMs where the program has none, FFFF by default";
+    option(alloc, "fill", help).value_name("WORD")
 }
 
 /// One operand, which may be left out.
