@@ -133,6 +133,7 @@ KNOWN = {
     "command:1: 60 Syntax, 12": ["command:1: column 1: a.obj"],
     "command:1: 60 Syntax, 13": ["command:1: column 1: -o"],
     "command:1: 60 Syntax, 14": ["command:1: the text ends here"],
+    "command:1: 60 Syntax, 15": ["command:1: column 1: ;"],
     "command:4: 60 Syntax, 1": [
         "command:4: column 1: SECTIONS",
         "command:4: a } is missing before SECTIONS: the { of line 2 is still open",

@@ -1,0 +1,5 @@
+        .space  32*16
+L       LALK    L
+        BACC
+        NOP
+        B       L

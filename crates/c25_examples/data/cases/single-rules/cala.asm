@@ -1,0 +1,6 @@
+        LALK    SUB
+        CALA
+        LACK    1
+END     B       END
+SUB     LACK    2
+        RET

@@ -1,0 +1,2 @@
+        .copy   "names.inc"
+L       B       L

@@ -1,0 +1,1 @@
+X .usect "room",N

@@ -1,0 +1,2 @@
+COUNTED .set 1
+ .word Counter

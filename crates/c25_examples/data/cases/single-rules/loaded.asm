@@ -1,0 +1,3 @@
+        .label  LOADED
+        LAC     LOADED
+L       B       L

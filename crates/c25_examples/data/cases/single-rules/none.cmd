@@ -1,0 +1,1 @@
+SECTIONS { none : load = 300h }

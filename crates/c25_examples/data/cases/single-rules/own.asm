@@ -1,0 +1,3 @@
+        B       MORE
+MORE    NOP
+END     B       END

@@ -1,0 +1,3 @@
+page
+        NOP
+L       B       L

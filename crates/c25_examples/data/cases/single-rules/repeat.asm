@@ -1,0 +1,4 @@
+        RPTK    3
+        SFL
+        NOP
+END     B       END

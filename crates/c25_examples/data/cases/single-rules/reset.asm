@@ -1,0 +1,2 @@
+RESET   B       L
+L       B       L

@@ -1,0 +1,2 @@
+ZY .set 1
+ .word QX

@@ -1,0 +1,5 @@
+ .sect "none"
+ .bss SUM,1
+ .text
+ LALK 300h
+ BACC
