@@ -1,5 +1,5 @@
 #!/usr/bin/env python3
-"""Changes the meaning of one rule after another, and counts which changes the cases of the gate tell.
+"""Changes the meaning of one rule after another, and counts which changes the cases of the gate show.
 
 usage: python3 tools/wrong_definitions.py build             makes tools/out/wrong-definitions (ten minutes or more, 3 GB)
        python3 tools/wrong_definitions.py run [NUMBER..]    runs the cases on each change, or on those of these numbers
@@ -7,7 +7,7 @@ usage: python3 tools/wrong_definitions.py build             makes tools/out/wron
 
 (from the top of the repository)
 
-A wrong definition with code that follows it is proved like a right one: only cases whose answers were worked out from the rule can tell it. For the
+A wrong definition with code that follows it is proved like a right one: only cases whose answers were worked out from the rule can show it. For the
 program that is a changed body without a proof. tools/wrong_definitions/changes.txt lists single changes of meaning; `build` makes one executable
 of c25_examples without proofs that has all of them, each off until its number is put into the executable. `run` runs what
 crates/c25_examples/args names, one part after another, on each change until a part prints something else than crates/c25_examples/stdout
@@ -33,7 +33,7 @@ CRATE = "crates/c25_examples"
 # The longest that a part may run: one takes some seconds at most where no other process wants the processor.
 SECONDS = 600
 NOTHING = "-"
-# Where a change of a subject is told most likely; what is told does not depend on it.
+# Where a change of a subject shows most likely; what is counted does not depend on it.
 LIKELY = {
     "opcodes": "instructions instructions-printed disassembly", "effects": "arithmetic registers rules.cases programs runs",
     "interrupts": "runs schedules.cases debugged-runs copied-to-b0", "board": "runs samples.cases schedules.cases",
@@ -76,12 +76,12 @@ def difference(ran, wanted):
     if ran.stdout == wanted:
         return None
     pairs = zip(ran.stdout.split(b"\n"), wanted.split(b"\n"))
-    number, (told, right) = next(((i, it) for i, it in enumerate(pairs, 1) if it[0] != it[1]), (0, (b"", b"")))
-    return "line %d: %r for %r" % (number, told[:60], right[:60])
+    number, (given, right) = next(((i, it) for i, it in enumerate(pairs, 1) if it[0] != it[1]), (0, (b"", b"")))
+    return "line %d: %r for %r" % (number, given[:60], right[:60])
 
 
-def told_by(program, name, wanted):
-    """Runs one part in a folder of its own, and returns how it tells that something is wrong, or None."""
+def shown_by(program, name, wanted):
+    """Runs one part in a folder of its own, and returns how its answer differs, or None."""
     with tempfile.TemporaryDirectory(prefix="wrong-definitions-") as folder:
         source, target = os.path.join(CRATE, "data", name), os.path.join(folder, name)
         os.makedirs(os.path.dirname(target), exist_ok=True)
@@ -95,19 +95,19 @@ def told_by(program, name, wanted):
 
 
 def tried(number, subject, wanted):
-    """The part that tells a change first, and how; `-` where none does."""
+    """The part that shows a change first, and how; `-` where none does."""
     with tempfile.TemporaryDirectory(prefix="wrong-definitions-") as folder:
         program = os.path.join(folder, "program")
         build.executable_of(number, PROGRAM, program)
         for name in in_order(subject, list(wanted)):
-            how = told_by(program, name, wanted[name])
+            how = shown_by(program, name, wanted[name])
             if how:
                 return name, how
     return NOTHING, ""
 
 
 def results():
-    """What was run: for each number the part that told it."""
+    """What was run: for each number the part that showed it."""
     if not os.path.exists(RESULTS):
         return {}
     with open(RESULTS, encoding="utf-8") as file:
@@ -135,20 +135,20 @@ def kind_of(name):
 
 
 def table():
-    """Prints for each subject how many changes were run and what told them, and the changes that nothing told."""
-    told, rows = results(), changes.changes()
-    if told.get(build.NO_CHANGE, NOTHING) != NOTHING:
-        print("without a change %s differs: nothing is told by this" % told[build.NO_CHANGE])
-    rows = [it for it in rows if it.number in told]
+    """Prints for each subject how many changes were run and what showed them, and the changes that nothing showed."""
+    shown, rows = results(), changes.changes()
+    if shown.get(build.NO_CHANGE, NOTHING) != NOTHING:
+        print("without a change %s differs: this table says nothing" % shown[build.NO_CHANGE])
+    rows = [it for it in rows if it.number in shown]
     subjects = list(dict.fromkeys(it.subject for it in rows))
     print(time.strftime("%Y-%m-%d") + "\n\n| Subject | Changes | Cases made by hand | Random files alone | Nothing |\n|---|---|---|---|---|")
     for subject in [*subjects, "all"]:
-        kinds = [kind_of(told[it.number]) for it in rows if subject in (it.subject, "all")]
+        kinds = [kind_of(shown[it.number]) for it in rows if subject in (it.subject, "all")]
         print("| %s | %d | %d | %d | %d |" % (subject, len(kinds), *(kinds.count(it) for it in range(3))))
-    for kind, head in ((1, "Told by the random files alone:"), (2, "Told by nothing:")):
+    for kind, head in ((1, "Shown by the random files alone:"), (2, "Shown by nothing:")):
         print("\n" + head + "\n")
         for it in rows:
-            if kind_of(told[it.number]) == kind:
+            if kind_of(shown[it.number]) == kind:
                 print("- %d, %s, %s: %s" % (it.number, it.subject, it.rule, it.text))
 
 
