@@ -80,18 +80,14 @@ def difference(ran, wanted):
     return "line %d: %r for %r" % (number, given[:60], right[:60])
 
 
-def shown_by(program, name, wanted):
-    """Runs one part in a folder of its own, and returns how its answer differs, or None."""
-    with tempfile.TemporaryDirectory(prefix="wrong-definitions-") as folder:
-        source, target = os.path.join(CRATE, "data", name), os.path.join(folder, name)
-        os.makedirs(os.path.dirname(target), exist_ok=True)
-        (shutil.copytree if os.path.isdir(source) else shutil.copy)(source, target)
-        try:
-            ran = subprocess.run(["nice", "-n", "19", program, name], cwd=folder, stdin=subprocess.DEVNULL, stdout=subprocess.PIPE,
-                                 stderr=subprocess.DEVNULL, timeout=SECONDS)
-        except subprocess.TimeoutExpired:
-            return "does not end"
-        return difference(ran, wanted)
+def shown_by(program, name, wanted, data):
+    """Runs one part in a copy of the data, and returns how its answer differs, or None."""
+    try:
+        ran = subprocess.run(["nice", "-n", "19", program, name], cwd=data, stdin=subprocess.DEVNULL, stdout=subprocess.PIPE,
+                             stderr=subprocess.DEVNULL, timeout=SECONDS)
+    except subprocess.TimeoutExpired:
+        return "does not end"
+    return difference(ran, wanted)
 
 
 def tried(number, subject, wanted):
@@ -99,8 +95,11 @@ def tried(number, subject, wanted):
     with tempfile.TemporaryDirectory(prefix="wrong-definitions-") as folder:
         program = os.path.join(folder, "program")
         build.executable_of(number, PROGRAM, program)
+        # (a part may name files of another one)
+        data = os.path.join(folder, "data")
+        shutil.copytree(os.path.join(CRATE, "data"), data)
         for name in in_order(subject, list(wanted)):
-            how = shown_by(program, name, wanted[name])
+            how = shown_by(program, name, wanted[name], data)
             if how:
                 return name, how
     return NOTHING, ""
