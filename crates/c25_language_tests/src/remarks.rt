@@ -160,7 +160,7 @@ fn characters_are_remarked_on(rt: HostRuntime) -> Result<(), Fail> {
             " .word é",
             "characters that are not ASCII stand in comments alone",
         ),
-        (" .word @", NOTHING),
+        (" .word @", "there is no @ before an operand"),
         (" LACK n?", "substitution left this: nothing has the name"),
         (
             " NOP \x1a",
