@@ -1,0 +1,2 @@
+ .bss X,1
+ .sect ".bss"
