@@ -3,3 +3,4 @@ pub mod Definitions
 pub mod Fronts
 pub mod Fronted
 pub mod Folders
+pub mod Adding

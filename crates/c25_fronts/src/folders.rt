@@ -8,6 +8,7 @@ use c25_disk::disk::{Disk, DiskFault};
 
 /// A disk whose files are looked for in folders too: a name is tried as it stands, and then in each folder, in
 /// their order. It is read and not written.
+#[derive(Drop)]
 pub struct InFolders<'a, D> {
     pub disk: &'a D,
     pub folders: &'a [&'a str],

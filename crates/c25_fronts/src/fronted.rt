@@ -7,6 +7,7 @@ use std::io;
 use std::io::Read;
 
 /// A disk that has fronts in addition to its files. It is read and not written.
+#[derive(Drop)]
 pub struct Fronted<'a, D> {
     pub disk: &'a D,
     pub fronts: &'a [Front],

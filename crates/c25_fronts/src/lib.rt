@@ -2,6 +2,7 @@
 //! defines them and then copies the source; and folders in which copied files are looked for.
 #![tactic(auto)]
 
+pub mod adding;
 pub mod definition;
 mod find;
 pub mod folders;

@@ -1,7 +1,8 @@
 //! Tests of fronts of sources, and of files that are looked for in folders.
 
-use c25_disk::read_file;
+use c25_disk::{read_file, read_sources};
 use c25_disk_tests::shelf::Shelf;
+use c25_fronts::adding::with_fronts;
 use c25_fronts::definition::{Definition, definition_of};
 use c25_fronts::folders::InFolders;
 use c25_fronts::front::fronts_of;
@@ -48,6 +49,18 @@ fn a_front_defines_and_copies(rt: HostRuntime) -> Result<(), Fail> {
     assert_eq!(rt; front.as_str(), "N .set 5\nDEBUG .set 1\n .copy \"a\"\n");
     let source = read_file(rt.alloc(), &disk, "a")?;
     assert_eq!(rt; source.as_str(), " NOP\n");
+    Ok(())
+}
+
+#[test]
+fn fronts_join_the_sources(rt: HostRuntime) -> Result<(), Fail> {
+    let shelf = shelf(rt.alloc(), &[("a", b" NOP\n")]);
+    let fronts = fronts_of(rt.alloc(), &[definition_of("N=5")], &["a"])?;
+    let sources = read_sources(rt.alloc(), &shelf, &["a"])?;
+    let files = with_fronts(rt.alloc(), sources, &fronts)?;
+    let texts = [files.text("a"), files.text("-D a")];
+    assert_eq!(rt; texts, [Some(" NOP\n"), Some("N .set 5\n .copy \"a\"\n")]);
+    assert!(rt; with_fronts(rt.alloc(), files, &fronts).is_err());
     Ok(())
 }
 
