@@ -4,19 +4,19 @@ use Rattle.std.specs.List.{flat_map}
 use Rattle.std.specs.String.{string_bytes}
 use Rattle.c25_meaning_expansion.specs.Files.{Files, text_named}
 use Rattle.c25_disk.specs.Held.{Held}
-use Rattle.c25_fronts.specs.declared.definition.Definition.{Definition}
+use Rattle.c25_fronts.specs.Definitions.{name_of, value_of}
 use Rattle.c25_fronts.specs.declared.front.Front.{Front}
 
--- the line that defines a symbol
-abbrev pub set_line : Definition → List ℕ
-set_line d = d.name.now ++ codes " .set " ++ d.value.now ++ codes "\n"
+-- the line that defines the symbol of NAME=VALUE, or of NAME alone
+abbrev pub set_line : List ℕ → List ℕ
+set_line definition = name_of definition ++ codes " .set " ++ value_of definition ++ codes "\n"
 
 -- a line for each definition, in their order
-abbrev pub set_lines : List Definition → List ℕ
+abbrev pub set_lines : List (List ℕ) → List ℕ
 set_lines = flat_map set_line
 
 -- the text that stands for a source: the definitions, and then the source
-abbrev pub front : List Definition → List ℕ → List ℕ
+abbrev pub front : List (List ℕ) → List ℕ → List ℕ
 front definitions source = set_lines definitions ++ codes " .copy \"" ++ source ++ codes "\"\n"
 
 -- the name under which that text stands on a disk
@@ -24,7 +24,7 @@ abbrev pub front_name : List ℕ → List ℕ
 front_name source = codes "-D " ++ source
 
 -- the fronts of sources, as files
-abbrev pub fronts : List Definition → List (List ℕ) → Files
+abbrev pub fronts : List (List ℕ) → List (List ℕ) → Files
 fronts definitions sources = map (λ source. (front_name source, front definitions source)) sources
 
 -- the name and the text of a front

@@ -4,7 +4,7 @@ ghost use Rattle.std.specs.Prelude.{◌≡◌, ◌++◌, IfOk, OnOk, map, string
 ghost use Rattle.std.specs.List.{flat_map};
 ghost use Rattle.c25_fronts.specs.Fronts.{entry_of, front, front_name, fronts, set_line, set_lines};
 
-use crate::definition::Definition;
+use crate::definition::{Definition, definition_of};
 use c25_meaning_common::no_memory::NoMemory;
 use c25_texts::appending::push_texts;
 use std::alloc::Global;
@@ -16,16 +16,17 @@ pub struct Front {
     pub text: String,
 }
 
-/// Appends the line that defines a symbol.
-fn push_set_line(text: &mut String, definition: &Definition<'_>) -> Result<(), NoMemory>
+/// Appends the line that defines the symbol of `NAME=VALUE`, or of `NAME` alone.
+fn push_set_line(text: &mut String, definition: &str) -> Result<(), NoMemory>
     ensures { OnOk result (string_bytes text.new ≡ string_bytes text.old ++ set_line definition.now) }
 {
-    push_texts(text, &[definition.name, " .set ", definition.value, "\n"])
+    let Definition { name, value } = definition_of(definition);
+    push_texts(text, &[name, " .set ", value, "\n"])
 }
 
 /// Appends a line for each definition.
-fn push_set_lines(text: &mut String, definitions: &[Definition<'_>]) -> Result<(), NoMemory>
-    ensures { OnOk result (string_bytes text.new ≡ string_bytes text.old ++ set_lines definitions.now) }
+fn push_set_lines(text: &mut String, definitions: &[&str]) -> Result<(), NoMemory>
+    ensures { OnOk result (string_bytes text.new ≡ string_bytes text.old ++ set_lines (map (λ definition. definition.now) definitions.now)) }
 {
     for definition in definitions {
         push_set_line(text, definition)?;
@@ -34,12 +35,8 @@ fn push_set_lines(text: &mut String, definitions: &[Definition<'_>]) -> Result<(
 }
 
 /// The text of a front: the definitions, and then the source.
-fn front_text(
-    alloc: Global,
-    definitions: &[Definition<'_>],
-    source: &str,
-) -> Result<String, NoMemory>
-    ensures { IfOk result (λ text. string_bytes text ≡ front definitions.now source.now) }
+fn front_text(alloc: Global, definitions: &[&str], source: &str) -> Result<String, NoMemory>
+    ensures { IfOk result (λ text. string_bytes text ≡ front (map (λ definition. definition.now) definitions.now) source.now) }
 {
     let mut text = String::new(alloc);
     push_set_lines(&mut text, definitions)?;
@@ -48,7 +45,7 @@ fn front_text(
 }
 
 /// The name under which the front of a source stands on a disk.
-fn front_name(alloc: Global, source: &str) -> Result<String, NoMemory>
+pub(crate) fn front_name(alloc: Global, source: &str) -> Result<String, NoMemory>
     ensures { IfOk result (λ name. string_bytes name ≡ front_name source.now) }
 {
     let mut name = String::new(alloc);
@@ -57,8 +54,8 @@ fn front_name(alloc: Global, source: &str) -> Result<String, NoMemory>
 }
 
 /// The front of a source.
-fn front_of(alloc: Global, definitions: &[Definition<'_>], source: &str) -> Result<Front, NoMemory>
-    ensures { IfOk result (λ made. entry_of made ≡ (front_name source.now, front definitions.now source.now)) }
+fn front_of(alloc: Global, definitions: &[&str], source: &str) -> Result<Front, NoMemory>
+    ensures { IfOk result (λ made. entry_of made ≡ (front_name source.now, front (map (λ definition. definition.now) definitions.now) source.now)) }
 {
     let name = front_name(alloc, source)?;
     let text = front_text(alloc, definitions, source)?;
@@ -68,10 +65,10 @@ fn front_of(alloc: Global, definitions: &[Definition<'_>], source: &str) -> Resu
 /// The fronts of sources, in their order.
 pub fn fronts_of(
     alloc: Global,
-    definitions: &[Definition<'_>],
+    definitions: &[&str],
     sources: &[&str],
 ) -> Result<Vec<Front>, NoMemory>
-    ensures { IfOk result (λ made. map entry_of made.items ≡ fronts definitions.now (map (λ source. source.now) sources.now)) }
+    ensures { IfOk result (λ made. map entry_of made.items ≡ fronts (map (λ definition. definition.now) definitions.now) (map (λ source. source.now) sources.now)) }
 {
     let mut made = Vec::new(alloc);
     for source in sources {

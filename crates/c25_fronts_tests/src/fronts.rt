@@ -39,8 +39,7 @@ fn definitions_end_at_the_first_equals_sign(rt: HostRuntime) -> Result<(), Fail>
 #[test]
 fn a_front_defines_and_copies(rt: HostRuntime) -> Result<(), Fail> {
     let shelf = shelf(rt.alloc(), &[("a", b" NOP\n")]);
-    let definitions = [definition_of("N=5"), definition_of("DEBUG")];
-    let fronts = fronts_of(rt.alloc(), &definitions, &["a"])?;
+    let fronts = fronts_of(rt.alloc(), &["N=5", "DEBUG"], &["a"])?;
     let disk = Fronted {
         disk: &shelf,
         fronts: &fronts,
@@ -55,7 +54,7 @@ fn a_front_defines_and_copies(rt: HostRuntime) -> Result<(), Fail> {
 #[test]
 fn fronts_join_the_sources(rt: HostRuntime) -> Result<(), Fail> {
     let shelf = shelf(rt.alloc(), &[("a", b" NOP\n")]);
-    let fronts = fronts_of(rt.alloc(), &[definition_of("N=5")], &["a"])?;
+    let fronts = fronts_of(rt.alloc(), &["N=5"], &["a"])?;
     let sources = read_sources(rt.alloc(), &shelf, &["a"])?;
     let files = with_fronts(rt.alloc(), sources, &fronts)?;
     let texts = [files.text("a"), files.text("-D a")];
