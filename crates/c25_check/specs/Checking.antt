@@ -7,7 +7,7 @@ use Rattle.c25_chain.specs.Linked.{places_of}
 use Rattle.c25_chain.specs.Modules.{Modules, modules_of}
 use Rattle.c25_chain.specs.Refusal.{Fault, refusal_of}
 use Rattle.c25_disk.specs.Held.{Held}
-use Rattle.c25_inputs.specs.Files.{AfterOptional, AfterSources, ComesTo}
+use Rattle.c25_inputs.specs.Files.{AfterOptional, AfterSources, ComesTo, SourceNames, modules_in}
 use Rattle.c25_meaning_common.specs.declared.failure.Failure.TheVariants as failure
 use Rattle.c25_meaning_expansion.specs.Files.{Files}
 use Rattle.c25_meaning_linking.specs.Command.{CommandData}
@@ -49,5 +49,5 @@ abbrev pub ChecksOver : (explain : Bool) → Held → Files → List (List ℕ) 
 ChecksOver explain held given sources command answer = ComesTo held given (λ files result. Checks explain files sources command result) answer
 
 -- the same of sources on a disk: the sources are read first, and then the command file, where one is named
-abbrev pub ChecksFrom : (explain : Bool) → Held → List (List ℕ) → Option (List ℕ) → Result (String Global) Fault → Type 0
-ChecksFrom explain held sources command answer = AfterSources held sources (λ given. AfterOptional held command (ChecksOver explain held given sources)) answer
+abbrev pub ChecksFrom : (explain : Bool) → Held → SourceNames → Option (List ℕ) → Result (String Global) Fault → Type 0
+ChecksFrom explain held sources command answer = AfterSources held sources (λ given. AfterOptional held command (ChecksOver explain held given (modules_in sources))) answer

@@ -3,15 +3,15 @@
 ghost use Rattle.std.specs.Option.{option_map};
 ghost use Rattle.std.specs.Prelude.{◌≡◌};
 ghost use Rattle.c25_check.specs.Checking.{ChecksFrom};
-ghost use Rattle.c25_inputs.specs.Files.{missing_name};
-ghost use Rattle.c25_options.specs.Task.{text_of, texts_of};
+ghost use Rattle.c25_inputs.specs.Files.{missing_name, source_names};
+ghost use Rattle.c25_options.specs.Task.{text_of};
 
 use crate::check::check;
 use c25_chain::fault::{ChainFault, Fault};
 use c25_disk::disk::Disk;
 use c25_disk::work::Work;
 use c25_inputs::files::missing_name;
-use c25_inputs::sources::{Inputs, command_alone, inputs_of};
+use c25_inputs::sources::{Inputs, Sources, command_alone, inputs_of};
 use c25_inputs::work::work_over;
 use c25_macro::files::Files;
 use std::alloc::Global;
@@ -53,11 +53,11 @@ impl<'a> Work for Check<'a> {
 pub fn check_sources<D: Disk>(
     alloc: Global,
     disk: &D,
-    sources: &[&str],
+    sources: Sources<'_>,
     command: Option<&str>,
     explain: bool,
 ) -> Result<String, Fault>
-    ensures { ChecksFrom explain (D.bytes_of disk.now) (texts_of sources.now) (text_of command.entry) result }
+    ensures { ChecksFrom explain (D.bytes_of disk.now) (source_names sources.entry) (text_of command.entry) result }
 {
     let inputs = inputs_of(alloc, disk, sources, command_alone(command))?;
     let Inputs {
